@@ -3,7 +3,7 @@
 use crate::given::{
     IDLE, LONE_TONE, ONES, PageRow, SECOND, Sent, TIGHT, cut, pages, transmission, words,
 };
-use crate::{THREE_PAGES_TIGHT, round_of, tour_of};
+use crate::{THREE_PAGES_TIGHT, round_of, same, tour_of};
 use pocsag_batch::{
     FirstFault, Slots, first_stream, in_order_batches, lay_in_order, lay_out, order_of, write,
     write_slots,
@@ -66,46 +66,45 @@ const TIGHT_PAGES: &[PageRow] = &[
     (3, 0, &[0x88888; 9]),
 ];
 
+// A page file of one tone.
+const TONE_FILE: &[u8] = b"address,kind,message\n8,tone0,\n";
+
 #[test]
-fn layouts(rt: HostRuntime) {
+fn layouts_in_file_order(rt: HostRuntime) {
     let alloc = rt.alloc();
     for (pages, sent) in IN_ORDER {
         let round = round_of(alloc, pages).expect(&rt, "an answer");
         let batches = lay_in_order(alloc, &round).expect(&rt, "an answer");
         let due = words(alloc, sent).expect(&rt, "an answer");
-        assert_eq!(rt;
-            raws(alloc, batches.words())
-                .expect(&rt, "an answer")
-                .as_slice(),
-            due.as_slice(),
-            "{pages:?}"
-        );
-        assert_eq!(rt;
-            16 * in_order_batches(&round) as usize,
-            due.len(),
-            "{pages:?}"
-        );
+        let told = raws(alloc, batches.words()).expect(&rt, "an answer");
+        same!(rt; told.as_slice(), due.as_slice(), pages);
+        same!(rt; 16 * in_order_batches(&round) as usize, due.len(), pages);
     }
+}
+
+#[test]
+fn layouts_of_tours(rt: HostRuntime) {
+    let alloc = rt.alloc();
     for (pages, late, batches, end, sent) in LAID {
         let round = round_of(alloc, pages).expect(&rt, "an answer");
         assert!(rt; 0 < *batches);
         let steps = tour_of(alloc, &round, *late, *batches, *end).expect(&rt, "an answer");
         let laid = lay_out(alloc, &round, steps.as_slice(), *end).expect(&rt, "an answer");
         let due = words(alloc, *sent).expect(&rt, "an answer");
-        assert_eq!(rt;
-            raws(alloc, laid.words())
-                .expect(&rt, "an answer")
-                .as_slice(),
-            due.as_slice(),
-            "{pages:?}"
-        );
+        let told = raws(alloc, laid.words()).expect(&rt, "an answer");
+        same!(rt; told.as_slice(), due.as_slice(), pages);
     }
+}
+
+#[test]
+fn orders_of_tours(rt: HostRuntime) {
+    let alloc = rt.alloc();
     for (pages, batches, order) in ORDERS {
         let round = round_of(alloc, pages).expect(&rt, "an answer");
         assert!(rt; 0 < *batches);
         let steps = tour_of(alloc, &round, None, *batches, End::Open).expect(&rt, "an answer");
         let told = order_of(alloc, &round, steps.as_slice(), End::Open).expect(&rt, "an answer");
-        assert_eq!(rt; told.as_slice(), *order, "{pages:?}");
+        same!(rt; told.as_slice(), *order, pages);
     }
 }
 
@@ -115,65 +114,73 @@ fn bytes_of_a_tour(rt: HostRuntime) {
     let alloc = rt.alloc();
     let round = round_of(alloc, &THREE_PAGES_TIGHT).expect(&rt, "an answer");
     let steps = tour_of(alloc, &round, None, 2, End::Open).expect(&rt, "an answer");
-    assert_eq!(rt; steps.len(), 3);
+    same!(rt; steps.len(), 3);
     let order = order_of(alloc, &round, steps.as_slice(), End::Open).expect(&rt, "an answer");
     let mut listed = Vec::new(alloc);
     for word in Slots::new(&round, steps.as_slice(), order.as_slice()) {
         listed.push(word.raw()).expect(&rt, "an answer");
     }
-    assert_eq!(rt;
-        listed.as_slice(),
-        words(alloc, TIGHT).expect(&rt, "an answer").as_slice()
-    );
+    same!(rt; listed.as_slice(), words(alloc, TIGHT).expect(&rt, "an answer").as_slice());
     let due = transmission(alloc, TIGHT).expect(&rt, "an answer");
     for step in [64, 1] {
         let mut sink = MemorySink::<208>::new(step, 1000);
         let slots = Slots::new(&round, steps.as_slice(), order.as_slice());
-        assert_eq!(rt; write_slots(slots, &mut sink), Ok(()));
-        assert_eq!(rt; sink.bytes(), due.as_slice());
+        same!(rt; write_slots(slots, &mut sink), Ok(()));
+        same!(rt; sink.bytes(), due.as_slice());
     }
     let told = decode(alloc, due.as_slice()).expect(&rt, "an answer");
-    assert_eq!(rt;
-        told.as_slice(),
-        pages(alloc, TIGHT_PAGES)
-            .expect(&rt, "an answer")
-            .as_slice()
-    );
+    let due = pages(alloc, TIGHT_PAGES).expect(&rt, "an answer");
+    same!(rt; told.as_slice(), due.as_slice());
+}
+
+#[test]
+fn tours_on_failing_devices(rt: HostRuntime) {
+    let alloc = rt.alloc();
+    let round = round_of(alloc, &THREE_PAGES_TIGHT).expect(&rt, "an answer");
+    let steps = tour_of(alloc, &round, None, 2, End::Open).expect(&rt, "an answer");
+    let order = order_of(alloc, &round, steps.as_slice(), End::Open).expect(&rt, "an answer");
+    let due = transmission(alloc, TIGHT).expect(&rt, "an answer");
     for place in 0..208u64 {
         let mut sink = MemorySink::<208>::new(64, place);
         let slots = Slots::new(&round, steps.as_slice(), order.as_slice());
-        assert_eq!(rt; write_slots(slots, &mut sink), Err(WriteFault));
-        assert_eq!(rt; sink.bytes(), cut(due.as_slice(), place as usize));
+        same!(rt; write_slots(slots, &mut sink), Err(WriteFault));
+        same!(rt; sink.bytes(), cut(due.as_slice(), place as usize));
     }
 }
 
-// Writers and readers that fail at each place.
+// The writer fails at each place.
 #[test]
-fn failing_devices(rt: HostRuntime) {
+fn failing_writes(rt: HostRuntime) {
     let alloc = rt.alloc();
-    let batches = lay_in_order(alloc, &round_of(alloc, &[(8, 0)]).expect(&rt, "an answer")).expect(
-        &rt,
-        "an answer",
-    );
-    assert_eq!(rt; batches.count(), 1);
+    let round = round_of(alloc, &[(8, 0)]).expect(&rt, "an answer");
+    let batches = lay_in_order(alloc, &round).expect(&rt, "an answer");
+    same!(rt; batches.count(), 1);
     let due = transmission(alloc, LONE_TONE).expect(&rt, "an answer");
     let mut whole = MemorySink::<140>::new(7, 140);
-    assert_eq!(rt; write(&batches, &mut whole), Ok(()));
-    assert_eq!(rt; whole.bytes(), due.as_slice());
-    let file = b"address,kind,message\n8,tone0,\n".as_slice();
+    same!(rt; write(&batches, &mut whole), Ok(()));
+    same!(rt; whole.bytes(), due.as_slice());
     for place in 0..140u64 {
         let mut tx = MemorySink::<140>::new(64, place);
-        assert_eq!(rt; write(&batches, &mut tx), Err(WriteFault));
-        assert_eq!(rt; tx.bytes(), cut(due.as_slice(), place as usize));
+        same!(rt; write(&batches, &mut tx), Err(WriteFault));
+        same!(rt; tx.bytes(), cut(due.as_slice(), place as usize));
+    }
+}
+
+// The writer, and then the reader, fails at each place.
+#[test]
+fn streams_that_fail(rt: HostRuntime) {
+    let alloc = rt.alloc();
+    let due = transmission(alloc, LONE_TONE).expect(&rt, "an answer");
+    for place in 0..140u64 {
         let mut tx = MemorySink::<140>::new(64, place);
-        let told = first_stream(alloc, &mut MemorySource::new(file, 7, 1000), &mut tx);
-        assert_eq!(rt; told, Err(FirstFault::WriteFault));
-        assert_eq!(rt; tx.bytes(), cut(due.as_slice(), place as usize));
+        let told = first_stream(alloc, &mut MemorySource::new(TONE_FILE, 7, 1000), &mut tx);
+        same!(rt; told, Err(FirstFault::WriteFault));
+        same!(rt; tx.bytes(), cut(due.as_slice(), place as usize));
     }
     for place in 0..30u64 {
         let mut tx = MemorySink::<140>::new(64, 1000);
-        let told = first_stream(alloc, &mut MemorySource::new(file, 7, place), &mut tx);
-        assert_eq!(rt; told, Err(FirstFault::Round(RoundFault::ReadFault)));
+        let told = first_stream(alloc, &mut MemorySource::new(TONE_FILE, 7, place), &mut tx);
+        same!(rt; told, Err(FirstFault::Round(RoundFault::ReadFault)));
         assert!(rt; tx.bytes().is_empty());
     }
 }

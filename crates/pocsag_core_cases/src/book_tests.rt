@@ -1,7 +1,7 @@
 //! Open rounds.
 
 use crate::given::{IDLE, LONE_TONE, PageRow, SECOND, Sent, transmission};
-use crate::round_of;
+use crate::{round_of, same};
 use pocsag_pages::{Page, PageFault, Payload};
 use pocsag_plan::{AddFault, Book, BookFault, Bounded, Edit, NotThere, PlanFault};
 use pocsag_words::{End, MemorySink};
@@ -49,10 +49,10 @@ fn pages_added(rt: HostRuntime) {
         for (row, due) in *rows {
             let count = book.len();
             match book.add(made(&rt, rt.alloc(), *row)) {
-                Ok(()) => assert_eq!(rt; (book.len(), *due), (count.saturating_add(1), None)),
+                Ok(()) => same!(rt; (book.len(), *due), (count.saturating_add(1), None)),
                 Err(refused) => {
-                    assert_eq!(rt; (book.len(), *due), (count, Some(refused.fault)));
-                    assert_eq!(rt; refused.page, made(&rt, rt.alloc(), *row));
+                    same!(rt; (book.len(), *due), (count, Some(refused.fault)));
+                    same!(rt; refused.page, made(&rt, rt.alloc(), *row));
                 }
             }
         }
@@ -81,7 +81,7 @@ fn tones(rt: &impl Abort, alloc: Global, addresses: &[u32]) -> Book {
 fn expect_batches(rt: &impl Abort, book: &Book, batches: Option<u32>) {
     match (book.plan(100_000, End::Open), batches) {
         (Ok(plan), Some(batches)) => {
-            assert_eq!(rt; (plan.batches, plan.pages as usize), (batches, book.len()));
+            same!(rt; (plan.batches, plan.pages as usize), (batches, book.len()));
         }
         (Err(BookFault::NoPages), None) => {}
         _ => assert!(rt; false, "another plan"),
@@ -97,29 +97,26 @@ fn pages_cancelled(rt: HostRuntime) {
                 Ok(page) => {
                     assert!(rt; *is_there && page == made(&rt, rt.alloc(), (*address, 0, &[])));
                 }
-                Err(NotThere) => assert!(rt; !*is_there, "{address}"),
+                Err(NotThere) => same!(rt; *is_there, false, address),
             }
         }
-        assert_eq!(rt;
-            (book.len(), book.is_empty()),
-            (left.len(), left.is_empty())
-        );
+        same!(rt; (book.len(), book.is_empty()), (left.len(), left.is_empty()));
         for (place, address) in left.iter().enumerate() {
             let page = book.page(place).expect(&rt, "a page");
-            assert_eq!(rt; page.address, *address);
+            same!(rt; page.address, *address);
         }
         assert!(rt; book.page(left.len()).is_none());
         let (open, closed) = (book.classes(End::Open), book.classes(End::Closed));
-        assert_eq!(rt; [open.count[81], closed.count[133]], *counts, "{left:?}");
-        assert_eq!(rt; book.classes(End::Idle).count[81], open.count[81]);
-        assert_eq!(rt; closed.count[81], 0);
+        same!(rt; [open.count[81], closed.count[133]], *counts, left);
+        same!(rt; book.classes(End::Idle).count[81], open.count[81]);
+        same!(rt; closed.count[81], 0);
         expect_batches(&rt, &book, *batches);
     }
 }
 
 fn expect_bound(rt: &impl Abort, answer: Result<Bounded, BookFault>, batches: u32, bound: u32) {
     match answer {
-        Ok(bounded) => assert_eq!(rt; (bounded.plan.batches, bounded.bound), (batches, bound)),
+        Ok(bounded) => same!(rt; (bounded.plan.batches, bounded.bound), (batches, bound)),
         Err(_) => assert!(rt; false, "no plan"),
     }
 }
@@ -132,11 +129,11 @@ fn rounds_reopened(rt: HostRuntime) {
     let alloc = rt.alloc();
     let round = round_of(alloc, &[(8, 0)]).expect(&rt, "a round");
     let book = Book::of_round(alloc, &round).expect(&rt, "memory");
-    assert_eq!(rt; book.pages(), round.pages());
+    same!(rt; book.pages(), round.pages());
     let mut tx = MemorySink::<400>::new(64, u64::MAX);
     let mut cert = MemorySink::<100>::new(64, u64::MAX);
     let plan = book.plan_stream(&mut tx, &mut cert, 100_000, End::Open);
-    assert_eq!(rt; plan.expect(&rt, "a plan").batches, 1);
+    same!(rt; plan.expect(&rt, "a plan").batches, 1);
     let mut is_due = false;
     for sent in TONE_SENT {
         let due = transmission(alloc, sent).expect(&rt, "an answer");
@@ -159,9 +156,9 @@ fn idle_last(rt: HostRuntime) {
     let mut tx = MemorySink::<400>::new(64, u64::MAX);
     let mut cert = MemorySink::<100>::new(64, u64::MAX);
     let plan = book.plan_stream(&mut tx, &mut cert, 100_000, End::Idle);
-    assert_eq!(rt; plan.expect(&rt, "a plan").batches, 1);
+    same!(rt; plan.expect(&rt, "a plan").batches, 1);
     let due = transmission(alloc, (16, IDLE, &[(14, 0)])).expect(&rt, "an answer");
-    assert_eq!(rt; tx.bytes(), due.as_slice());
+    same!(rt; tx.bytes(), due.as_slice());
     assert!(rt;
         cert.bytes()
             .starts_with(b"PCB4\x00\x00\x00\x01\x00".as_slice())
@@ -178,8 +175,8 @@ fn loops_apart_within_one_batch(rt: HostRuntime) {
     let mut cert = MemorySink::<100>::new(64, u64::MAX);
     let answer = book.plan_stream_always(&mut tx, &mut cert, 1, End::Open);
     let bounded = answer.expect(&rt, "a plan");
-    assert_eq!(rt; (bounded.plan.batches, bounded.bound), (3, 2));
-    assert_eq!(rt; tx.bytes().len(), 72 + 3 * 68);
+    same!(rt; (bounded.plan.batches, bounded.bound), (3, 2));
+    same!(rt; tx.bytes().len(), 72 + 3 * 68);
     assert!(rt;
         cert.bytes()
             .starts_with(b"PCB2\x00\x00\x00\x00\x02\x00".as_slice())
@@ -208,14 +205,14 @@ fn full_books(rt: HostRuntime) {
         book.add(made(&rt, alloc, (address, 0, &[])))
             .expect(&rt, "added");
     }
-    assert_eq!(rt; book.len(), 20_000);
+    same!(rt; book.len(), 20_000);
     for (address, due) in [
         (20_000, AddFault::Full),
         (19_999, AddFault::DuplicateAddress),
     ] {
         match book.add(made(&rt, alloc, (address, 0, &[]))) {
             Ok(()) => assert!(rt; false, "{address} is added"),
-            Err(refused) => assert_eq!(rt; refused.fault, due),
+            Err(refused) => same!(rt; refused.fault, due),
         }
     }
 }
@@ -234,5 +231,5 @@ fn edits_in_a_row(rt: HostRuntime) {
     }
     let mut book = Book::new(alloc);
     book.edit_all(edits).expect(&rt, "memory");
-    assert_eq!(rt; book.pages(), [made(&rt, alloc, (16, 0, &[]))].as_slice());
+    same!(rt; book.pages(), [made(&rt, alloc, (16, 0, &[]))].as_slice());
 }

@@ -1,7 +1,7 @@
 //! Worked examples of the search.
 
 use crate::given::tones;
-use crate::{has_page, round_of};
+use crate::{has_page, round_of, same};
 use pocsag_branch::{FreeFault, SearchFault, near, search, search_freely};
 use pocsag_check::{check, check_open};
 use pocsag_pages::Round;
@@ -107,15 +107,9 @@ fn expect_fewest(rt: &impl Abort, alloc: Global, round: &Round, end: End, batche
     let classes = classes_of(round, end);
     assert!(rt; has_page(&classes));
     let found = search(alloc, &classes, 100_000, end).expect(rt, "an answer");
-    assert_eq!(rt; found.batches, batches);
-    assert!(rt;
-        check(round, batches, &found.tree, end),
-        "{batches} batches"
-    );
-    assert!(rt;
-        !check(round, batches.saturating_add(1), &found.tree, end),
-        "{batches} batches"
-    );
+    same!(rt; found.batches, batches);
+    same!(rt; check(round, batches, &found.tree, end), true, batches);
+    same!(rt; check(round, batches.saturating_add(1), &found.tree, end), false, batches);
 }
 
 #[test]
@@ -142,13 +136,10 @@ fn fewest_batches(rt: HostRuntime) {
         let classes = classes_of(&round, end);
         assert!(rt; has_page(&classes) && 0 < limit && limit <= 1_000_000);
         let found = search_freely(alloc, &classes, limit, end).expect(&rt, "an answer");
-        assert_eq!(rt; found.batches, batches, "{pages:?}");
-        assert!(rt; check(&round, batches, &found.tree, end), "{pages:?}");
-        assert!(rt;
-            !check(&round, batches.saturating_add(1), &found.tree, end),
-            "{pages:?}"
-        );
-        assert!(rt; nodes(&found.tree) <= most, "{pages:?}");
+        same!(rt; found.batches, batches, pages);
+        same!(rt; check(&round, batches, &found.tree, end), true, pages);
+        same!(rt; check(&round, batches.saturating_add(1), &found.tree, end), false, pages);
+        same!(rt; nodes(&found.tree) <= most, true, pages);
     }
 }
 
@@ -158,18 +149,22 @@ fn node_limits(rt: HostRuntime) {
     let round = round_of(alloc, LOOPS_APART).expect(&rt, "an answer");
     let classes = classes_of(&round, End::Open);
     assert!(rt; has_page(&classes));
-    assert_eq!(rt;
-        search(alloc, &classes, 3, End::Open)
-            .expect(&rt, "an answer")
-            .batches,
-        3
-    );
+    let found = search(alloc, &classes, 3, End::Open).expect(&rt, "an answer");
+    same!(rt; found.batches, 3);
     let Err(SearchFault::SearchLimit(stop)) = search(alloc, &classes, 2, End::Open) else {
         panic!(rt; "the limit is not reached");
     };
-    assert_eq!(rt; (stop.least, stop.found, nodes(&stop.tree)), (2, 3, 2));
-    assert_eq!(rt; check(&round, 3, &stop.tree, End::Open), false);
-    assert_eq!(rt; check_open(&round, 3, &stop.tree, End::Open), true);
+    same!(rt; (stop.least, stop.found, nodes(&stop.tree)), (2, 3, 2));
+    same!(rt; check(&round, 3, &stop.tree, End::Open), false);
+    same!(rt; check_open(&round, 3, &stop.tree, End::Open), true);
+}
+
+#[test]
+fn node_limits_of_the_free_search(rt: HostRuntime) {
+    let alloc = rt.alloc();
+    let round = round_of(alloc, LOOPS_APART).expect(&rt, "an answer");
+    let classes = classes_of(&round, End::Open);
+    assert!(rt; has_page(&classes));
     let Err(FreeFault::SearchLimit { near: found, stop }) = search_freely(
         alloc,
         &classes,
@@ -178,12 +173,12 @@ fn node_limits(rt: HostRuntime) {
     ) else {
         panic!(rt; "the limit is not reached freely");
     };
-    assert_eq!(rt; found.least, 2);
-    assert_eq!(rt; check(&round, 2, &found.tree, End::Open), true);
-    assert_eq!(rt; found.steps.len(), 2 + 16);
-    assert_eq!(rt; (stop.least, stop.found, nodes(&stop.tree)), (2, 3, 1));
-    assert_eq!(rt; check_open(&round, 3, &stop.tree, End::Open), true);
+    same!(rt; found.least, 2);
+    same!(rt; check(&round, 2, &found.tree, End::Open), true);
+    same!(rt; found.steps.len(), 2 + 16);
+    same!(rt; (stop.least, stop.found, nodes(&stop.tree)), (2, 3, 1));
+    same!(rt; check_open(&round, 3, &stop.tree, End::Open), true);
     let at_once = near(alloc, &classes, End::Open).expect(&rt, "an answer");
-    assert_eq!(rt; at_once.least, 2);
-    assert_eq!(rt; at_once.steps.as_slice(), found.steps.as_slice());
+    same!(rt; at_once.least, 2);
+    same!(rt; at_once.steps.as_slice(), found.steps.as_slice());
 }

@@ -1,6 +1,6 @@
 //! Worked examples of the checker.
 
-use crate::round_of;
+use crate::{round_of, same};
 use pocsag_check::{accepts, check, check_open};
 use pocsag_slots::{all_limits, classes_of};
 use pocsag_tree::{Tree, read_certificate};
@@ -147,7 +147,7 @@ fn certificates(rt: HostRuntime) {
         let mut source = MemorySource::new(bytes, 1, 100_000);
         let read = read_certificate(alloc, &mut source).expect(&rt, "an answer");
         let told = check(&round, read.batches, &read.tree, read.end);
-        assert_eq!(rt; told, *is_accepted, "{pages:?} {bytes:?}");
+        same!(rt; told, *is_accepted, (pages, bytes));
     }
     let round = round_of(alloc, LONE_TONE).expect(&rt, "an answer");
     let mut deep = Vec::from_slice(alloc, b"PCB1\x00\x00\x00\x01".as_slice()).expect(
@@ -176,16 +176,10 @@ fn trees(rt: HostRuntime) {
         (1, Tree::Overload(3), false),
     ] {
         let limits = all_limits(&classes, batches);
-        assert_eq!(rt;
-            accepts(&classes, &limits, batches, &tree, End::Open),
-            is_accepted
-        );
+        same!(rt; accepts(&classes, &limits, batches, &tree, End::Open), is_accepted);
     }
     for (batches, is_accepted) in [(0, false), (1, true), (2, false)] {
-        assert_eq!(rt;
-            check(&round, batches, &Tree::Overload(3), End::Open),
-            is_accepted
-        );
+        same!(rt; check(&round, batches, &Tree::Overload(3), End::Open), is_accepted);
     }
     assert!(rt; !check(&round, 1, &Tree::Open, End::Open));
     assert!(rt; check_open(&round, 1, &Tree::Open, End::Open));

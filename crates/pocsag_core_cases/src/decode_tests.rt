@@ -4,6 +4,7 @@ use crate::given::{
     ACROSS, DIGITS, IDLE, LONE_TONE, ONES, PageRow, SECOND, SYNC, Sent, TIGHT, bytes_of, cut,
     pages, transmission,
 };
+use crate::same;
 use pocsag_decode::{DecodeFault, Decoder, ListFault, decode, list, repair_all};
 use pocsag_text::pack_alpha;
 use pocsag_words::{MemorySink, OutOfMemory, address_word, message_word};
@@ -43,13 +44,13 @@ fn transmissions(rt: HostRuntime) {
         match (decode(alloc, cut(bytes.as_slice(), *len)), wanted) {
             (Ok(told), Ok(rows)) => {
                 let due = pages(alloc, rows).expect(&rt, "memory");
-                assert_eq!(rt; told.as_slice(), due.as_slice(), "{sent:?}");
+                same!(rt; told.as_slice(), due.as_slice(), sent);
             }
-            (told, wanted) => assert_eq!(rt; told.err(), wanted.err(), "{sent:?} to {len}"),
+            (told, wanted) => same!(rt; told.err(), wanted.err(), (sent, len)),
         }
     }
     let bytes = transmission(alloc, TIGHT).expect(&rt, "an answer");
-    assert_eq!(rt; bytes.len(), 208);
+    same!(rt; bytes.len(), 208);
     for n in 0..208 {
         let due = match n {
             0..=71 => Some(DecodeFault::ShortPreamble),
@@ -57,7 +58,7 @@ fn transmissions(rt: HostRuntime) {
             140 => None,
             _ => Some(DecodeFault::Truncated),
         };
-        assert_eq!(rt; decode(alloc, cut(bytes.as_slice(), n)).err(), due, "{n}");
+        same!(rt; decode(alloc, cut(bytes.as_slice(), n)).err(), due, n);
     }
 }
 
@@ -66,7 +67,7 @@ fn transmissions(rt: HostRuntime) {
 fn wrong_bits(rt: HostRuntime) {
     let alloc = rt.alloc();
     let mut bytes = transmission(alloc, LONE_TONE).expect(&rt, "an answer");
-    assert_eq!(rt; bytes.len(), 140);
+    assert!(rt; bytes.len() == 140);
     for place in 0..140usize {
         let due = match place {
             0..=71 => DecodeFault::ShortPreamble,
@@ -77,7 +78,7 @@ fn wrong_bits(rt: HostRuntime) {
         for bit in [place as u32 % 8, 0] {
             let right = bytes[place];
             bytes[place] = right ^ 1u8 << bit;
-            assert_eq!(rt; decode(alloc, bytes.as_slice()).err(), Some(due), "{place}");
+            same!(rt; decode(alloc, bytes.as_slice()).err(), Some(due), place);
             bytes[place] = right;
         }
     }
@@ -114,21 +115,17 @@ fn repairs(rt: HostRuntime) {
             }
         }
         let told = repair_all(bytes.as_mut_slice());
-        assert_eq!(rt; (told.words, told.bits), (words, bits), "{wrong:?}");
-        assert_eq!(rt;
-            decode(alloc, cut(bytes.as_slice(), 140)).err(),
-            fault,
-            "{wrong:?}"
-        );
+        same!(rt; (told.words, told.bits), (words, bits), wrong);
+        same!(rt; decode(alloc, cut(bytes.as_slice(), 140)).err(), fault, wrong);
         if fault.is_none() {
-            assert_eq!(rt; cut(bytes.as_slice(), 140), right.as_slice(), "{wrong:?}");
+            same!(rt; cut(bytes.as_slice(), 140), right.as_slice(), wrong);
         }
-        assert_eq!(rt; bytes.as_slice().ends_with(b"end"), true, "{wrong:?}");
+        same!(rt; bytes.as_slice().ends_with(b"end"), true, wrong);
     }
 }
 
 #[test]
-fn pieces(rt: HostRuntime) {
+fn bytes_one_by_one(rt: HostRuntime) {
     let alloc = rt.alloc();
     let bytes = transmission(alloc, ACROSS).expect(&rt, "an answer");
     let mut decoder = Decoder::new(alloc);
@@ -136,12 +133,14 @@ fn pieces(rt: HostRuntime) {
         decoder.feed(&[*byte]).expect(&rt, "an answer");
         decoder.feed(&[]).expect(&rt, "an answer");
     }
-    assert_eq!(rt;
-        decoder.finish().expect(&rt, "an answer").as_slice(),
-        pages(alloc, &[(7, 0, &[0x84C2A])])
-            .expect(&rt, "an answer")
-            .as_slice()
-    );
+    let told = decoder.finish().expect(&rt, "an answer");
+    let due = pages(alloc, &[(7, 0, &[0x84C2A])]).expect(&rt, "an answer");
+    same!(rt; told.as_slice(), due.as_slice());
+}
+
+#[test]
+fn an_orphan_in_pieces(rt: HostRuntime) {
+    let alloc = rt.alloc();
     let bytes = transmission(alloc, FIRST_ORPHAN).expect(&rt, "an answer");
     let mut decoder = Decoder::new(alloc);
     for (index, byte) in bytes.as_slice().iter().enumerate() {
@@ -150,18 +149,23 @@ fn pieces(rt: HostRuntime) {
             83 => Some(DecodeFault::Orphan(1)),
             _ => Some(DecodeFault::Failed),
         };
-        assert_eq!(rt; decoder.feed(&[*byte]).err(), due, "{index}");
+        same!(rt; decoder.feed(&[*byte]).err(), due, index);
     }
-    assert_eq!(rt; decoder.finish().err(), Some(DecodeFault::Failed));
+    same!(rt; decoder.finish().err(), Some(DecodeFault::Failed));
+}
+
+#[test]
+fn a_short_transmission_in_pieces(rt: HostRuntime) {
+    let alloc = rt.alloc();
     let bytes = transmission(alloc, LONE_TONE).expect(&rt, "an answer");
     let short = cut(bytes.as_slice(), 139);
     let (first, second) = short.split_at(short.len().min(79));
     let mut decoder = Decoder::new(alloc);
     decoder.feed(first).expect(&rt, "an answer");
     decoder.feed(second).expect(&rt, "an answer");
-    assert_eq!(rt; decoder.finish().err(), Some(DecodeFault::Truncated));
-    assert_eq!(rt; decoder.finish().err(), Some(DecodeFault::Failed));
-    assert_eq!(rt; decoder.feed(&[]).err(), Some(DecodeFault::Failed));
+    same!(rt; decoder.finish().err(), Some(DecodeFault::Truncated));
+    same!(rt; decoder.finish().err(), Some(DecodeFault::Failed));
+    same!(rt; decoder.feed(&[]).err(), Some(DecodeFault::Failed));
 }
 
 // Pages of functions 1 to 3: the message of the second goes across a batch, the third is `a,b`.
@@ -207,7 +211,7 @@ fn listings(rt: HostRuntime) {
         for step in [1, 64] {
             let mut sink = MemorySink::<128>::new(step, listing.len() as u64);
             list(alloc, pages.as_slice(), &mut sink).expect(&rt, "an answer");
-            assert_eq!(rt; sink.bytes(), listing);
+            same!(rt; sink.bytes(), listing);
         }
     }
     let pages = decode(
@@ -221,8 +225,8 @@ fn listings(rt: HostRuntime) {
         for step in [3, 64] {
             let mut sink = MemorySink::<64>::new(step, k as u64);
             let told = list(alloc, pages.as_slice(), &mut sink);
-            assert_eq!(rt; told.err(), Some(ListFault::WriteFault), "{k}");
-            assert_eq!(rt; sink.bytes(), cut(ACROSS_LISTED, k));
+            same!(rt; told.err(), Some(ListFault::WriteFault), k);
+            same!(rt; sink.bytes(), cut(ACROSS_LISTED, k));
         }
     }
 }

@@ -1,5 +1,6 @@
 //! The text of every fault.
 
+use crate::same;
 use pocsag_batch::FirstFault;
 use pocsag_branch::{FreeFault, Near, SearchFault, SearchLimit};
 use pocsag_decode::{DecodeFault, ListFault};
@@ -20,7 +21,7 @@ use std::process::Abort;
 fn expect_texts<D: Display>(rt: &impl Abort, alloc: Global, rows: &[(D, &str)]) {
     for (fault, text) in rows {
         let told = format!(in alloc; "{fault}").expect(rt, "memory");
-        assert_eq!(rt; told.as_str(), *text);
+        same!(rt; told.as_str(), *text);
     }
 }
 

@@ -1,7 +1,7 @@
 //! Worked examples of choices of starts.
 
 use crate::given::tones;
-use crate::round_of;
+use crate::{round_of, same};
 use pocsag_flow::{ChooseFault, choose, choose_from};
 use pocsag_pages::Round;
 use pocsag_slots::{Choice, all_limits, classes_of, loads};
@@ -34,7 +34,7 @@ fn expect_least(rt: &impl Abort, name: &str, round: &Round, least: u32) {
         let classes = classes_of(round, end);
         for (batches, is_carried) in [(least, true), (least.saturating_sub(1), false)] {
             let answer = choose(&classes, &all_limits(&classes, batches));
-            assert_eq!(rt; answer.is_ok(), is_carried, "{name} in {batches}");
+            same!(rt; answer.is_ok(), is_carried, (name, batches));
         }
     }
 }
@@ -70,7 +70,7 @@ fn choices(rt: HostRuntime) {
             End::Open,
         );
         let answer = choose(&classes, &all_limits(&classes, 1));
-        assert_eq!(rt; answer, Err(ChooseFault::Overload(set)));
+        same!(rt; answer, Err(ChooseFault::Overload(set)));
     }
     let full_batch: &[(u32, usize)] = &[(0, 15)];
     for (pages, batches) in [(full_batch, 1), (last_frame, 2)] {
@@ -79,14 +79,14 @@ fn choices(rt: HostRuntime) {
             End::Open,
         );
         let limits = all_limits(&classes, batches);
-        assert!(rt; choose_from(&classes, &limits, &late).is_ok(), "{pages:?}");
+        same!(rt; choose_from(&classes, &limits, &late).is_ok(), true, pages);
     }
     let classes = classes_of(
         &round_of(rt.alloc(), full_batch).expect(&rt, "an answer"),
         End::Open,
     );
     match choose(&classes, &all_limits(&classes, 1)) {
-        Ok(choice) => assert_eq!(rt; loads(&classes, &choice), [1; 16]),
+        Ok(choice) => same!(rt; loads(&classes, &choice), [1; 16]),
         Err(fault) => assert!(rt; false, "{fault:?}"),
     }
 }

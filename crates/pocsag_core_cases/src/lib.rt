@@ -11,6 +11,8 @@ mod branch_tests;
 #[cfg(test)]
 mod check_tests;
 #[cfg(test)]
+pub mod comparison;
+#[cfg(test)]
 mod decode_tests;
 #[cfg(test)]
 mod fault_texts;

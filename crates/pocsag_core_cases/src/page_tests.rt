@@ -1,7 +1,7 @@
 //! Page files, rounds and pages.
 
 use crate::given::{PageRow, page, page_file, pages, tones};
-use crate::{THREE_PAGES_TIGHT, ones};
+use crate::{THREE_PAGES_TIGHT, ones, same};
 use pocsag_batch::{FirstFault, first_stream};
 use pocsag_pages::{
     FieldFault, PageFault, Payload, RecordFault, Round, RoundFault, WholeFault,
@@ -102,29 +102,30 @@ fn page_files(rt: HostRuntime) {
         match (read, wanted) {
             (Ok(round), Ok(rows)) => {
                 let due = pages(alloc, rows).expect(&rt, "memory");
-                assert_eq!(rt; round.pages(), due.as_slice(), "{records:?}");
+                same!(rt; round.pages(), due.as_slice(), records);
             }
-            (read, wanted) => assert_eq!(rt; read.err(), wanted.err(), "{records:?}"),
+            (read, wanted) => same!(rt; read.err(), wanted.err(), records),
         }
     }
+}
+
+#[test]
+fn page_files_that_cannot_be_read(rt: HostRuntime) {
+    let alloc = rt.alloc();
     for bytes in UNHEADED {
         let read = read_round(alloc, &mut MemorySource::new(bytes, 7, u64::MAX));
-        assert_eq!(rt; read.err(), Some(RoundFault::BadHeader));
+        same!(rt; read.err(), Some(RoundFault::BadHeader));
     }
     let bytes = b"address,kind,message\n8,tone0,".as_slice();
     for place in 0..30u64 {
         let all = read_whole(alloc, &mut MemorySource::new(bytes, 1, place), 1000);
         let round = read_round(alloc, &mut MemorySource::new(bytes, 1, place));
-        assert_eq!(rt; all.err(), Some(WholeFault::ReadFault));
-        assert_eq!(rt; round.err(), Some(RoundFault::ReadFault));
+        same!(rt; all.err(), Some(WholeFault::ReadFault));
+        same!(rt; round.err(), Some(RoundFault::ReadFault));
     }
     let read = read_round(alloc, &mut MemorySource::new(bytes, 1, 30)).expect(&rt, "an answer");
-    assert_eq!(rt;
-        read.pages(),
-        pages(alloc, &[(8, 0, &[])])
-            .expect(&rt, "an answer")
-            .as_slice()
-    );
+    let due = pages(alloc, &[(8, 0, &[])]).expect(&rt, "an answer");
+    same!(rt; read.pages(), due.as_slice());
 }
 
 // What stands before more commas than are few, and the fault of the file.
@@ -173,7 +174,7 @@ fn records_too_wide(rt: HostRuntime) {
             alloc,
             &mut MemorySource::new(bytes.as_slice(), 8192, u64::MAX),
         );
-        assert_eq!(rt; read.err(), Some(*fault), "{before:?}");
+        same!(rt; read.err(), Some(*fault), before);
     }
 }
 
@@ -237,28 +238,19 @@ fn sizes(rt: HostRuntime) {
         &rt,
         "an answer",
     );
-    assert_eq!(rt; read.pages().len(), 20_000);
+    same!(rt; read.pages().len(), 20_000);
     bytes
         .extend_from_slice(b"20000,tone0,\n".as_slice())
         .expect(&rt, "an answer");
     let read = read_round(alloc, &mut MemorySource::new(bytes.as_slice(), 7, u64::MAX));
-    assert_eq!(rt;
-        read.err(),
-        Some(RoundFault::Record(20_001, RecordFault::TooManyPages))
-    );
+    same!(rt; read.err(), Some(RoundFault::Record(20_001, RecordFault::TooManyPages)));
     let round = Round::from_pages(alloc, tones(alloc, 20_000).expect(&rt, "an answer")).expect(
         &rt,
         "an answer",
     );
-    assert_eq!(rt;
-        round.pages(),
-        tones(alloc, 20_000).expect(&rt, "an answer").as_slice()
-    );
+    same!(rt; round.pages(), tones(alloc, 20_000).expect(&rt, "an answer").as_slice());
     let fault = Round::from_pages(alloc, tones(alloc, 20_001).expect(&rt, "an answer")).err();
-    assert_eq!(rt;
-        fault,
-        Some(RoundFault::Record(20_001, RecordFault::TooManyPages))
-    );
+    same!(rt; fault, Some(RoundFault::Record(20_001, RecordFault::TooManyPages)));
     // A file of 268,435,456 bytes is read by the built program (tests/program/edges.py): with checks it takes minutes.
 }
 
@@ -266,18 +258,18 @@ fn sizes(rt: HostRuntime) {
 fn files_too_large(rt: HostRuntime) {
     let alloc = rt.alloc();
     let fault = read_round(alloc, &mut long_file(268_435_457)).err();
-    assert_eq!(rt; fault, Some(RoundFault::TooLarge));
+    same!(rt; fault, Some(RoundFault::TooLarge));
     let mut tx = MemorySink::<140>::new(64, 1000);
     let told = first_stream(alloc, &mut long_file(268_435_457), &mut tx);
-    assert_eq!(rt; told, Err(FirstFault::Round(RoundFault::TooLarge)));
+    same!(rt; told, Err(FirstFault::Round(RoundFault::TooLarge)));
     let bytes = [0xAAu8; 140];
     let refused = read_whole(alloc, &mut MemorySource::new(&bytes, 9, u64::MAX), 139);
-    assert_eq!(rt; refused.err(), Some(WholeFault::TooLarge));
+    same!(rt; refused.err(), Some(WholeFault::TooLarge));
     let all = read_whole(alloc, &mut MemorySource::new(&bytes, 9, u64::MAX), 140).expect(
         &rt,
         "an answer",
     );
-    assert_eq!(rt; all.as_slice(), bytes.as_slice());
+    same!(rt; all.as_slice(), bytes.as_slice());
 }
 
 // The three fields of a record, and its page or its fault.
@@ -323,17 +315,19 @@ fn records_and_pages(rt: HostRuntime) {
     for (address, kind, message, wanted) in FIELDS {
         match (page_of_fields(alloc, address, kind, message), wanted) {
             (Ok(spelled), Ok((address, function, items))) => {
-                assert_eq!(rt;
-                    spelled,
-                    page(alloc, *address, *function, items).expect(&rt, "an answer")
-                );
+                same!(rt; spelled, page(alloc, *address, *function, items).expect(&rt, "an answer"));
             }
-            (told, wanted) => assert_eq!(rt; told.err(), wanted.err(), "{address:?} {kind:?}"),
+            (told, wanted) => same!(rt; told.err(), wanted.err(), (address, kind)),
         }
     }
+}
+
+#[test]
+fn pages_and_addresses(rt: HostRuntime) {
+    let alloc = rt.alloc();
     for ((address, function, items), fault) in JUDGED {
         let judged = page(alloc, *address, *function, items).expect(&rt, "an answer");
-        assert_eq!(rt; page_fault(&judged), *fault, "{address} {function}");
+        same!(rt; page_fault(&judged), *fault, (address, function));
     }
     for (address, is_reserved) in [
         (2_007_663, false),
@@ -345,13 +339,18 @@ fn records_and_pages(rt: HostRuntime) {
         (2_045_063, true),
         (2_045_064, false),
     ] {
-        assert_eq!(rt; is_reserved_address(address), is_reserved, "{address}");
+        same!(rt; is_reserved_address(address), is_reserved, address);
     }
+}
+
+#[test]
+fn leading_bytes(rt: HostRuntime) {
+    let alloc = rt.alloc();
     for count in 71..74 {
         let mut bytes = vec![in alloc; 0xAA; count].expect(&rt, "an answer");
-        assert_eq!(rt; leading_len(bytes.as_slice()), count);
+        same!(rt; leading_len(bytes.as_slice()), count);
         bytes.push(0x2A).expect(&rt, "an answer");
-        assert_eq!(rt; leading_len(bytes.as_slice()), count);
+        same!(rt; leading_len(bytes.as_slice()), count);
     }
 }
 
@@ -372,7 +371,7 @@ fn rounds_of_pages(rt: HostRuntime) {
             .expect(&rt, "an answer");
     }
     let round = Round::from_pages(alloc, given).expect(&rt, "an answer");
-    assert_eq!(rt; round.pages(), tight.as_slice());
+    same!(rt; round.pages(), tight.as_slice());
     let mut twice = Vec::new(alloc);
     for page in round.pages() {
         twice
@@ -383,19 +382,21 @@ fn rounds_of_pages(rt: HostRuntime) {
         .push(page(alloc, 0, 1, &[]).expect(&rt, "an answer"))
         .expect(&rt, "an answer");
     let fault = Round::from_pages(alloc, twice).err();
-    assert_eq!(rt;
-        fault,
-        Some(RoundFault::Record(4, RecordFault::DuplicateAddress))
-    );
+    same!(rt; fault, Some(RoundFault::Record(4, RecordFault::DuplicateAddress)));
     let fault = Round::from_pages(alloc, Vec::new(alloc)).err();
-    assert_eq!(rt; fault, Some(RoundFault::NoPages));
+    same!(rt; fault, Some(RoundFault::NoPages));
+}
+
+#[test]
+fn copies_and_payloads(rt: HostRuntime) {
+    let alloc = rt.alloc();
     let tone = page(alloc, 8, 0, &[]).expect(&rt, "an answer");
-    assert_eq!(rt; tone.copy(alloc).expect(&rt, "an answer"), tone);
+    same!(rt; tone.copy(alloc).expect(&rt, "an answer"), tone);
     let digits = page(alloc, 0, 0, &[0x84C2A]).expect(&rt, "an answer");
-    assert_eq!(rt; digits.copy(alloc).expect(&rt, "an answer"), digits);
-    assert_eq!(rt; Payload::empty(alloc), tone.payload);
-    assert_eq!(rt; digits.payload.as_slice(), [0x84C2A].as_slice());
-    assert_eq!(rt; digits.payload.into_vec().len(), 1);
+    same!(rt; digits.copy(alloc).expect(&rt, "an answer"), digits);
+    same!(rt; Payload::empty(alloc), tone.payload);
+    same!(rt; digits.payload.as_slice(), [0x84C2A].as_slice());
+    same!(rt; digits.payload.into_vec().len(), 1);
 }
 
 // What stands behind the header, before and behind so many commas. Each first record has more than three fields, some of them
@@ -418,7 +419,7 @@ fn records_of_a_long_file(rt: HostRuntime) {
         let mut source = MemorySource::new(file.as_slice(), 65_536, u64::MAX);
         let fault = read_round(alloc, &mut source).err().expect(&rt, "a fault");
         let text = format!(in alloc; "{fault}").expect(&rt, "memory");
-        assert_eq!(rt; text.as_str(), "record 1: three fields are wanted");
+        same!(rt; text.as_str(), "record 1: three fields are wanted");
     }
 }
 
@@ -437,8 +438,8 @@ fn pages_beyond_a_front(rt: HostRuntime) {
     }
     let mut source = MemorySource::new(file.as_slice(), 65_536, u64::MAX);
     let round = read_round(alloc, &mut source).expect(&rt, "a round");
-    assert_eq!(rt; round.pages().len(), 1_100);
-    assert_eq!(rt; round.pages()[1_099].address, 8_792);
+    assert!(rt; round.pages().len() == 1_100);
+    same!(rt; round.pages()[1_099].address, 8_792);
 }
 
 // Bytes, and the fields of their record where they hold one and no more.
@@ -501,11 +502,11 @@ const LONE_ROWS: &[(&[u8], Option<&[&[u8]]>)] = &[
 fn lone_rows(rt: HostRuntime) {
     for (bytes, fields) in LONE_ROWS {
         let row = only_row(rt.alloc(), bytes).expect(&rt, "memory");
-        assert_eq!(rt; row.is_some(), fields.is_some(), "{bytes:?}");
+        same!(rt; row.is_some(), fields.is_some(), bytes);
         if let (Some(row), Some(fields)) = (row, fields) {
-            assert_eq!(rt; row.len(), fields.len(), "{bytes:?}");
+            same!(rt; row.len(), fields.len(), bytes);
             for (i, field) in fields.iter().enumerate() {
-                assert_eq!(rt; row.get(i), Some(*field), "{bytes:?}");
+                same!(rt; row.get(i), Some(*field), bytes);
             }
         }
     }
@@ -531,8 +532,8 @@ fn long_rows(rt: HostRuntime) {
             .expect(&rt, "memory")
             .expect(&rt, "a record");
         let field = vec![in alloc; *byte; *field_count].expect(&rt, "memory");
-        assert_eq!(rt; row.len(), 2);
-        assert_eq!(rt; row.get(0), Some(field.as_slice()));
-        assert_eq!(rt; row.get(1), Some(b"last".as_slice()));
+        same!(rt; row.len(), 2);
+        same!(rt; row.get(0), Some(field.as_slice()));
+        same!(rt; row.get(1), Some(b"last".as_slice()));
     }
 }

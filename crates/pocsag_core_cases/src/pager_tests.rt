@@ -3,6 +3,7 @@
 use crate::given::{
     ACROSS, DIGITS, IDLE, LONE_TONE, PageRow, SECOND, SYNC, Sent, cut, page, pages, transmission,
 };
+use crate::same;
 use pocsag_pager::{Pager, PagerFault, hear_all};
 
 // The page of `12345` for address 0.
@@ -69,16 +70,13 @@ fn transmissions(rt: HostRuntime) {
             }
         }
         let shown = hear_all(alloc, bytes.as_slice(), *address).expect(&rt, "an answer");
-        assert_eq!(rt;
-            shown.as_slice(),
-            pages(alloc, wanted).expect(&rt, "an answer").as_slice(),
-            "{sent:?} {address}"
-        );
+        let due = pages(alloc, wanted).expect(&rt, "an answer");
+        same!(rt; shown.as_slice(), due.as_slice(), (sent, address));
     }
     let bytes = transmission(alloc, LONE_TONE).expect(&rt, "an answer");
     for (len, address, due) in FAULTS {
         let told = hear_all(alloc, cut(bytes.as_slice(), len), address);
-        assert_eq!(rt; told.err(), due, "{len} {address}");
+        same!(rt; told.err(), due, (len, address));
     }
 }
 
@@ -107,14 +105,14 @@ fn words_and_ends(rt: HostRuntime) {
                 )),
                 None => None,
             };
-            assert_eq!(rt; pager.hear(*word).expect(&rt, "an answer"), due);
+            same!(rt; pager.hear(*word).expect(&rt, "an answer"), due);
         }
         let due = match at_end {
             Some(_) => Some(page(alloc, 8, 0, &[]).expect(&rt, "an answer")),
             None => None,
         };
-        assert_eq!(rt; pager.end().expect(&rt, "an answer"), due);
-        assert_eq!(rt; pager.hear(IDLE).err(), Some(PagerFault::Failed));
-        assert_eq!(rt; pager.end().err(), Some(PagerFault::Failed));
+        same!(rt; pager.end().expect(&rt, "an answer"), due);
+        same!(rt; pager.hear(IDLE).err(), Some(PagerFault::Failed));
+        same!(rt; pager.end().err(), Some(PagerFault::Failed));
     }
 }

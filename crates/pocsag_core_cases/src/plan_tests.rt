@@ -1,5 +1,6 @@
 //! Plans of worked examples, as calls and as streams.
 use crate::given::{ONES, Records, Sent, TIGHT, page_file, round_of_file, transmission};
+use crate::same;
 use pocsag_check::{check, check_open};
 use pocsag_pages::RoundFault;
 use pocsag_plan::{
@@ -81,53 +82,30 @@ fn plans(rt: HostRuntime) {
     for (records, end, batches, in_order) in PLANNED {
         let round = round_of_file(alloc, records).expect(&rt, "an answer");
         let fewest = plan(alloc, &round, 100_000, *end).expect(&rt, "an answer");
-        assert_eq!(rt;
-            (fewest.batches, fewest.in_order),
-            (*batches, *in_order),
-            "{records:?}"
-        );
-        assert!(rt; check(&round, *batches, &fewest.tree, *end), "{records:?}");
+        same!(rt; (fewest.batches, fewest.in_order), (*batches, *in_order), records);
+        same!(rt; check(&round, *batches, &fewest.tree, *end), true, records);
         let bounded = plan_always(alloc, &round, 100_000, *end).expect(&rt, "an answer");
-        assert_eq!(rt;
-            (bounded.plan.batches, bounded.bound),
-            (*batches, *batches),
-            "{records:?}"
-        );
-        assert!(rt;
-            check(&round, *batches, &bounded.plan.tree, *end),
-            "{records:?}"
-        );
+        same!(rt; (bounded.plan.batches, bounded.bound), (*batches, *batches), records);
+        same!(rt; check(&round, *batches, &bounded.plan.tree, *end), true, records);
     }
+}
+
+#[test]
+fn plans_within_a_limit(rt: HostRuntime) {
+    let alloc = rt.alloc();
     for (records, limit, batches, bound) in LIMITED {
         let round = round_of_file(alloc, records).expect(&rt, "an answer");
         let told = plan(alloc, &round, limit, End::Open);
-        assert!(rt;
-            matches!(told, Err(PlanFault::SearchLimit(_))),
-            "{records:?}"
-        );
+        same!(rt; matches!(told, Err(PlanFault::SearchLimit(_))), true, records);
         let bounded = plan_always(alloc, &round, limit, End::Open).expect(&rt, "an answer");
-        assert_eq!(rt;
-            (bounded.plan.batches, bounded.bound),
-            (batches, bound),
-            "{records:?}"
-        );
-        assert!(rt;
-            check(&round, bound, &bounded.plan.tree, End::Open),
-            "{records:?}"
-        );
+        same!(rt; (bounded.plan.batches, bounded.bound), (batches, bound), records);
+        same!(rt; check(&round, bound, &bounded.plan.tree, End::Open), true, records);
         let Some(stop) = &bounded.stopped else {
-            assert_eq!(rt; bound, batches, "{records:?}");
+            same!(rt; bound, batches, records);
             continue;
         };
-        assert_eq!(rt;
-            (stop.least, stop.found, nodes(&stop.tree)),
-            (bound, batches, u64::from(limit)),
-            "{records:?}"
-        );
-        assert!(rt;
-            check_open(&round, batches, &stop.tree, End::Open),
-            "{records:?}"
-        );
+        same!(rt; (stop.least, stop.found, nodes(&stop.tree)), (bound, batches, u64::from(limit)), records);
+        same!(rt; check_open(&round, batches, &stop.tree, End::Open), true, records);
     }
 }
 
@@ -137,20 +115,16 @@ fn limits_and_reports(rt: HostRuntime) {
     let round = round_of_file(alloc, LOOPS_APART).expect(&rt, "an answer");
     for limit in [0, 1_000_001] {
         let told = plan(alloc, &round, limit, End::Open);
-        assert!(rt; matches!(told, Err(PlanFault::BadLimit)), "{limit}");
+        same!(rt; matches!(told, Err(PlanFault::BadLimit)), true, limit);
         let told = plan_always(alloc, &round, limit, End::Open);
-        assert!(rt; matches!(told, Err(PlanFault::BadLimit)), "{limit}");
+        same!(rt; matches!(told, Err(PlanFault::BadLimit)), true, limit);
     }
     let Err(PlanFault::SearchLimit(stop)) = plan(alloc, &round, 2, End::Open) else {
         panic!(rt; "planned");
     };
-    assert_eq!(rt; (stop.least, stop.found), (2, 3));
-    assert_eq!(rt;
-        plan(alloc, &round, 3, End::Open)
-            .expect(&rt, "an answer")
-            .batches,
-        3
-    );
+    same!(rt; (stop.least, stop.found), (2, 3));
+    let found = plan(alloc, &round, 3, End::Open).expect(&rt, "an answer");
+    same!(rt; found.batches, 3);
     let fewest = plan(
         alloc,
         &round_of_file(alloc, THREE_TIGHT).expect(&rt, "an answer"),
@@ -162,18 +136,9 @@ fn limits_and_reports(rt: HostRuntime) {
         &rt,
         "an answer",
     );
-    assert_eq!(rt;
-        text.as_str(),
-        "pages 3\ncodewords 32\nin_order 3\nbatches 2\nidles 0\nbits 1664\nairtime_ms 1387\n"
-    );
-    assert_eq!(rt;
-        report(&fewest, 512).expect(&rt, "an answer").airtime_ms,
-        3250
-    );
-    assert_eq!(rt;
-        report(&fewest, 2400).expect(&rt, "an answer").airtime_ms,
-        694
-    );
+    same!(rt; text.as_str(), "pages 3\ncodewords 32\nin_order 3\nbatches 2\nidles 0\nbits 1664\nairtime_ms 1387\n");
+    same!(rt; report(&fewest, 512).expect(&rt, "an answer").airtime_ms, 3250);
+    same!(rt; report(&fewest, 2400).expect(&rt, "an answer").airtime_ms, 694);
     assert!(rt; report(&fewest, 1201).is_err());
 }
 
@@ -275,38 +240,23 @@ fn streams(rt: HostRuntime) {
     let alloc = rt.alloc();
     for (records, way, batches, bound, sent) in STREAMED {
         let streamed = stream(alloc, records, way).expect(&rt, "an answer");
-        assert_eq!(rt;
-            streamed.answer.expect(&rt, "an answer"),
-            (batches, bound),
-            "{records:?}"
-        );
-        assert_eq!(rt;
-            streamed.tx.bytes().len(),
-            72 + 68 * batches as usize,
-            "{records:?}"
-        );
+        same!(rt; streamed.answer.expect(&rt, "an answer"), (batches, bound), records);
+        same!(rt; streamed.tx.bytes().len(), 72 + 68 * batches as usize, records);
         if let Some(sent) = sent {
-            assert_eq!(rt;
-                streamed.tx.bytes(),
-                transmission(alloc, sent)
-                    .expect(&rt, "an answer")
-                    .as_slice(),
-                "{records:?}"
-            );
+            let due = transmission(alloc, sent).expect(&rt, "an answer");
+            same!(rt; streamed.tx.bytes(), due.as_slice(), records);
         }
         let mut source = MemorySource::new(streamed.cert.bytes(), 7, u64::MAX);
         let read = read_certificate(alloc, &mut source).expect(&rt, "an answer");
-        assert_eq!(rt; read.batches, bound, "{records:?}");
+        same!(rt; read.batches, bound, records);
         let round = round_of_file(alloc, records).expect(&rt, "an answer");
-        assert!(rt; check(&round, bound, &read.tree, read.end), "{records:?}");
+        same!(rt; check(&round, bound, &read.tree, read.end), true, records);
     }
 }
 
 #[test]
-fn failing_streams(rt: HostRuntime) {
+fn streams_that_write_nothing(rt: HostRuntime) {
     let alloc = rt.alloc();
-    let whole = stream(alloc, ONE_TONE, AMPLE).expect(&rt, "an answer");
-    assert_eq!(rt; whole.tx.bytes().len(), 140);
     for (limit, read) in [(0, u64::MAX), (100_000, 0), (100_000, 20)] {
         let told = stream(
             alloc,
@@ -319,12 +269,19 @@ fn failing_streams(rt: HostRuntime) {
         )
         .expect(&rt, "an answer");
         match told.answer {
-            Err(StreamFault::Plan(PlanFault::BadLimit)) => assert_eq!(rt; limit, 0),
-            Err(StreamFault::Round(RoundFault::ReadFault)) => assert_eq!(rt; limit, 100_000),
+            Err(StreamFault::Plan(PlanFault::BadLimit)) => same!(rt; limit, 0),
+            Err(StreamFault::Round(RoundFault::ReadFault)) => same!(rt; limit, 100_000),
             _ => assert!(rt; false, "{limit} {read}"),
         }
         assert!(rt; told.tx.bytes().is_empty() && told.cert.bytes().is_empty());
     }
+}
+
+#[test]
+fn streams_that_fail_in_the_transmission(rt: HostRuntime) {
+    let alloc = rt.alloc();
+    let whole = stream(alloc, ONE_TONE, AMPLE).expect(&rt, "an answer");
+    same!(rt; whole.tx.bytes().len(), 140);
     for k in 0..140u64 {
         let told = stream(
             alloc,
@@ -336,16 +293,16 @@ fn failing_streams(rt: HostRuntime) {
             },
         )
         .expect(&rt, "an answer");
-        assert!(rt;
-            matches!(told.answer, Err(StreamFault::Transmission(_))),
-            "{k}"
-        );
-        assert!(rt; whole.tx.bytes().starts_with(told.tx.bytes()), "{k}");
-        assert!(rt;
-            told.tx.bytes().len() as u64 == k && told.cert.bytes().is_empty(),
-            "{k}"
-        );
+        same!(rt; matches!(told.answer, Err(StreamFault::Transmission(_))), true, k);
+        same!(rt; whole.tx.bytes().starts_with(told.tx.bytes()), true, k);
+        same!(rt; told.tx.bytes().len() as u64 == k && told.cert.bytes().is_empty(), true, k);
     }
+}
+
+#[test]
+fn streams_that_fail_in_the_certificate(rt: HostRuntime) {
+    let alloc = rt.alloc();
+    let whole = stream(alloc, ONE_TONE, AMPLE).expect(&rt, "an answer");
     for k in 0..whole.cert.bytes().len() as u64 {
         let told = stream(
             alloc,
@@ -357,12 +314,9 @@ fn failing_streams(rt: HostRuntime) {
             },
         )
         .expect(&rt, "an answer");
-        assert!(rt;
-            matches!(told.answer, Err(StreamFault::Certificate(_))),
-            "{k}"
-        );
-        assert!(rt; told.tx.bytes() == whole.tx.bytes(), "{k}");
-        assert!(rt; whole.cert.bytes().starts_with(told.cert.bytes()), "{k}");
-        assert_eq!(rt; told.cert.bytes().len() as u64, k);
+        same!(rt; matches!(told.answer, Err(StreamFault::Certificate(_))), true, k);
+        same!(rt; told.tx.bytes() == whole.tx.bytes(), true, k);
+        same!(rt; whole.cert.bytes().starts_with(told.cert.bytes()), true, k);
+        same!(rt; told.cert.bytes().len() as u64, k);
     }
 }

@@ -1,5 +1,6 @@
 //! The example of README, which calls the planner from Rattle. A script of `tests/` wants its lines to be README's.
 
+use crate::same;
 use pocsag_plan::plan_stream;
 use pocsag_words::{End, MemorySink, MemorySource};
 use std::alloc::Global;
@@ -24,6 +25,6 @@ fn a_page_file_is_planned_in_memory(rt: HostRuntime) {
     let mut tx = MemorySink::<4000>::new(4096, u64::MAX);
     let mut cert = MemorySink::<400>::new(4096, u64::MAX);
     let batches = batches_of_file(rt.alloc(), file, &mut tx, &mut cert);
-    assert_eq!(rt; batches, Some(1));
-    assert_eq!(rt; tx.bytes().len(), 140);
+    same!(rt; batches, Some(1));
+    same!(rt; tx.bytes().len(), 140);
 }

@@ -1,6 +1,7 @@
 //! Transmissions as they are shown: grids, drawings and listings.
 
 use crate::given::{ACROSS, DIGITS, IDLE, LONE_TONE, ONES, SECOND, Sent, TIGHT, cut, transmission};
+use crate::same;
 use pocsag_decode::DecodeFault;
 use pocsag_show::{Rows, ShowFault, View};
 use pocsag_words::MemorySink;
@@ -137,23 +138,33 @@ fn texts_and_lists(rt: HostRuntime) {
             )
             .expect(&rt, "an answer");
         let mut sink = MemorySink::<512>::new((*step).max(1), 512);
-        assert_eq!(rt; show(alloc, *form, bytes.as_slice(), &mut sink), None);
-        assert_eq!(rt; sink.bytes(), *text);
+        same!(rt; show(alloc, *form, bytes.as_slice(), &mut sink), None);
+        same!(rt; sink.bytes(), *text);
     }
+}
+
+#[test]
+fn transmissions_that_are_refused(rt: HostRuntime) {
+    let alloc = rt.alloc();
     for (form, sent, len, fault) in REFUSED {
         let bytes = transmission(alloc, *sent).expect(&rt, "an answer");
         let mut sink = MemorySink::<512>::new(512, 512);
         let told = show(alloc, *form, cut(bytes.as_slice(), *len), &mut sink);
-        assert_eq!(rt; told, Some(*fault), "{form:?} {len}");
-        assert!(rt; sink.bytes().is_empty(), "{form:?} {len}");
+        same!(rt; told, Some(*fault), (form, len));
+        same!(rt; sink.bytes().is_empty(), true, (form, len));
     }
+}
+
+#[test]
+fn failing_writes(rt: HostRuntime) {
+    let alloc = rt.alloc();
     let bytes = transmission(alloc, LONE_TONE).expect(&rt, "an answer");
     for (form, text) in [(Form::Text, LONE_TEXT), (Form::List, LONE_LIST)] {
         for left in 0..text.len() {
             let mut sink = MemorySink::<512>::new(3, left as u64);
             let told = show(alloc, form, bytes.as_slice(), &mut sink);
-            assert_eq!(rt; told, Some(ShowFault::WriteFault), "{form:?} {left}");
-            assert_eq!(rt; sink.bytes(), &text[..left]);
+            same!(rt; told, Some(ShowFault::WriteFault), (form, left));
+            same!(rt; sink.bytes(), &text[..left]);
         }
     }
 }
@@ -183,10 +194,7 @@ fn rows_that_are_wanted(rt: HostRuntime) {
     for (first, last, text) in ROWS {
         let rows = Rows::new(*first, *last).expect(&rt, "rows");
         let mut sink = MemorySink::<512>::new(512, 512);
-        assert_eq!(rt;
-            pocsag_show::show(alloc, View::Grid(rows), bytes.as_slice(), &mut sink).err(),
-            None
-        );
+        same!(rt; pocsag_show::show(alloc, View::Grid(rows), bytes.as_slice(), &mut sink).err(), None);
         assert!(rt; sink.bytes().starts_with(&ACROSS_TEXT[..113]));
         assert!(rt; sink.bytes().ends_with(text));
     }
@@ -197,15 +205,12 @@ fn large_texts_and_drawings(rt: HostRuntime) {
     let alloc = rt.alloc();
     let bytes = transmission(alloc, (16_000, IDLE, &[])).expect(&rt, "an answer");
     let mut sink = MemorySink::<40000>::new(40_000, 40_000);
-    assert_eq!(rt; show(alloc, Form::Text, bytes.as_slice(), &mut sink), None);
+    same!(rt; show(alloc, Form::Text, bytes.as_slice(), &mut sink), None);
     assert!(rt; sink.bytes().starts_with(TOTALS));
     assert!(rt; sink.bytes().ends_with(LAST_ROWS));
     let bytes = transmission(alloc, LONE_TONE).expect(&rt, "an answer");
     let mut sink = MemorySink::<40000>::new(10_000, 10_000);
-    assert_eq!(rt;
-        show(alloc, Form::Drawing, bytes.as_slice(), &mut sink),
-        None
-    );
+    same!(rt; show(alloc, Form::Drawing, bytes.as_slice(), &mut sink), None);
     assert!(rt;
         sink.bytes()
             .windows(DRAWN.len())
@@ -213,6 +218,6 @@ fn large_texts_and_drawings(rt: HostRuntime) {
     );
     let mut sink = MemorySink::<512>::new(16, 16);
     let told = show(alloc, Form::Drawing, bytes.as_slice(), &mut sink);
-    assert_eq!(rt; told, Some(ShowFault::WriteFault));
-    assert_eq!(rt; sink.bytes(), b"<svg xmlns='http".as_slice());
+    same!(rt; told, Some(ShowFault::WriteFault));
+    same!(rt; sink.bytes(), b"<svg xmlns='http".as_slice());
 }

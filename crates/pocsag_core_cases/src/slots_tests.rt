@@ -1,6 +1,6 @@
 //! Worked examples of classes, ways and loads.
 
-use crate::round_of;
+use crate::{round_of, same};
 use pocsag_slots::{
     Choice, Way, all_limits, carries, classes_of, closing_ways, holds, is_certain, least_load,
     loads, narrow, overloads, size, ways, with_member,
@@ -57,34 +57,42 @@ const CLOSING: &[(End, &[Way])] = &[
 ];
 
 #[test]
-fn classes_and_ways(rt: HostRuntime) {
+fn classes(rt: HostRuntime) {
     for (pages, end, class, count, turns) in COUNTS {
         let classes = classes_of(&round_of(rt.alloc(), pages).expect(&rt, "an answer"), *end);
         assert!(rt; *class < 136);
         let told = (classes.count[*class], classes.turns[*class]);
-        assert_eq!(rt; told, (*count, *turns), "{pages:?} {class}");
+        same!(rt; told, (*count, *turns), (pages, class));
     }
+}
+
+#[test]
+fn ways_across(rt: HostRuntime) {
     for (pages, set, wanted) in WAYS {
         let classes = classes_of(
             &round_of(rt.alloc(), pages).expect(&rt, "an answer"),
             End::Open,
         );
         let out = ways(&classes, &all_limits(&classes, 2), *set, 2);
-        assert!(rt; out.as_slice() == *wanted, "{pages:?} {set}");
+        same!(rt; out.as_slice() == *wanted, true, (pages, set));
     }
+}
+
+#[test]
+fn overloads_and_sets(rt: HostRuntime) {
     let classes = classes_of(
         &round_of(rt.alloc(), THREE_TONES).expect(&rt, "an answer"),
         End::Open,
     );
     for (batches, is_over) in [(1, true), (2, false)] {
         let limits = all_limits(&classes, batches);
-        assert_eq!(rt; overloads(&classes, &limits, 0x0C00), is_over);
+        same!(rt; overloads(&classes, &limits, 0x0C00), is_over);
     }
     let two = with_member(with_member(0, 15), 4);
-    assert_eq!(rt; two, 0x8010);
-    assert_eq!(rt; with_member(two, 4), two);
-    assert_eq!(rt; (holds(two, 15), holds(two, 5)), (true, false));
-    assert_eq!(rt; (size(0), size(two), size(0xFFFF)), (0, 2, 16));
+    same!(rt; two, 0x8010);
+    same!(rt; with_member(two, 4), two);
+    same!(rt; (holds(two, 15), holds(two, 5)), (true, false));
+    same!(rt; (size(0), size(two), size(0xFFFF)), (0, 2, 16));
 }
 
 #[test]
@@ -94,30 +102,30 @@ fn limits_and_loads(rt: HostRuntime) {
         End::Open,
     );
     let limits = all_limits(&classes, 2);
-    assert_eq!(rt; is_certain(&classes, &limits, 0x0001, 48), true);
-    assert_eq!(rt; is_certain(&classes, &limits, 0x0001, 0), false);
+    same!(rt; is_certain(&classes, &limits, 0x0001, 48), true);
+    same!(rt; is_certain(&classes, &limits, 0x0001, 0), false);
     let first = narrow(&classes, &limits, Way::IdleIn(0), 2);
-    assert_eq!(rt; first.cap[0], 1);
-    assert_eq!(rt; least_load(&classes, &first, 0x0001), 2);
-    assert_eq!(rt; overloads(&classes, &first, 0x0001), true);
+    same!(rt; first.cap[0], 1);
+    same!(rt; least_load(&classes, &first, 0x0001), 2);
+    same!(rt; overloads(&classes, &first, 0x0001), true);
     let last = narrow(&classes, &limits, Way::IdleIn(15), 2);
-    assert_eq!(rt; overloads(&classes, &last, 0x8000), true);
-    assert_eq!(rt; overloads(&classes, &last, 0x4000), false);
+    same!(rt; overloads(&classes, &last, 0x8000), true);
+    same!(rt; overloads(&classes, &last, 0x4000), false);
     let classes = classes_of(
         &round_of(rt.alloc(), CLOSED_MIXED).expect(&rt, "an answer"),
         End::Closed,
     );
     let mut early = classes.count;
     early[135] = 0;
-    assert_eq!(rt; loads(&classes, &Choice { early }), [2; 16]);
-    assert_eq!(rt; carries(&classes, &Choice { early }, 2), true);
-    assert_eq!(rt; carries(&classes, &Choice { early }, 1), false);
+    same!(rt; loads(&classes, &Choice { early }), [2; 16]);
+    same!(rt; carries(&classes, &Choice { early }, 2), true);
+    same!(rt; carries(&classes, &Choice { early }, 1), false);
     for (end, wanted) in CLOSING {
         let classes = classes_of(
             &round_of(rt.alloc(), CLOSED_MIXED).expect(&rt, "an answer"),
             *end,
         );
         let out = closing_ways(&classes, *end, &all_limits(&classes, 1));
-        assert!(rt; out.as_slice() == *wanted, "{end:?}");
+        same!(rt; out.as_slice() == *wanted, true, end);
     }
 }

@@ -1,5 +1,6 @@
 //! Texts as items, both ways.
 
+use crate::same;
 use pocsag_text::{TextFault, pack_alpha, pack_numeric, unpack_alpha, unpack_numeric};
 use std::alloc::Global;
 
@@ -43,30 +44,25 @@ const LONG: [(Coding, u8, usize, Result<usize, TextFault>); 5] = [
 fn texts(rt: HostRuntime) {
     let alloc = rt.alloc();
     for (coding, text, items, back) in PACKED {
-        assert_eq!(rt;
-            pack(alloc, coding, text)
-                .expect(&rt, "an answer")
-                .as_slice(),
-            items,
-            "{text:?}"
-        );
+        let packed = pack(alloc, coding, text).expect(&rt, "an answer");
+        same!(rt; packed.as_slice(), items, text);
         let unpacked = match coding {
             Coding::Numeric => unpack_numeric(alloc, items).expect(&rt, "an answer"),
             Coding::Alpha => unpack_alpha(alloc, items).expect(&rt, "an answer"),
         };
-        assert_eq!(rt; unpacked.as_slice(), back, "{text:?}");
+        same!(rt; unpacked.as_slice(), back, text);
     }
     for (coding, text, fault) in REFUSED {
-        assert_eq!(rt; pack(alloc, coding, text).err(), Some(fault), "{text:?}");
+        same!(rt; pack(alloc, coding, text).err(), Some(fault), text);
     }
     for (coding, character, count, wanted) in LONG {
         let text = vec![in alloc; character; count].expect(&rt, "an answer");
         match pack(alloc, coding, text.as_slice()) {
             Ok(items) => {
-                assert_eq!(rt; Ok(items.len()), wanted);
+                same!(rt; Ok(items.len()), wanted);
                 assert!(rt; coding == Coding::Alpha || items.iter().all(|item| *item == 0x88888));
             }
-            Err(fault) => assert_eq!(rt; Err(fault), wanted),
+            Err(fault) => same!(rt; Err(fault), wanted),
         }
     }
 }

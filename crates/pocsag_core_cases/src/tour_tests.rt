@@ -1,6 +1,6 @@
 //! Worked examples of tours.
 
-use crate::{NoTour, round_of, tour_of};
+use crate::{NoTour, round_of, same, tour_of};
 use pocsag_slots::{Choice, Step, classes_of};
 use pocsag_tour::{TourFault, has_run_outside, reached};
 use pocsag_words::End;
@@ -100,9 +100,9 @@ fn tours(rt: HostRuntime) {
         assert!(rt; *batches > 0);
         let found = tour_of(rt.alloc(), &round, *late, *batches, *end);
         match (found, wanted) {
-            (Ok(steps), Ok(due)) => assert_eq!(rt; steps.as_slice(), *due, "{pages:?}"),
+            (Ok(steps), Ok(due)) => same!(rt; steps.as_slice(), *due, pages),
             (Err(fault), Err(due)) => {
-                assert_eq!(rt; fault, NoTour::Refused(*due), "{pages:?}");
+                same!(rt; fault, NoTour::Refused(*due), pages);
             }
             _ => assert!(rt; false, "{pages:?}"),
         }
@@ -125,9 +125,9 @@ fn runs_outside_and_boundaries(rt: HostRuntime) {
     let all = Choice {
         early: classes.count,
     };
-    assert_eq!(rt; has_run_outside(&classes, &all, 0x0001, 48, true), true);
-    assert_eq!(rt; has_run_outside(&classes, &all, 0x0001, 48, false), false);
-    assert_eq!(rt; has_run_outside(&classes, &all, 0x0041, 48, true), false);
+    same!(rt; has_run_outside(&classes, &all, 0x0001, 48, true), true);
+    same!(rt; has_run_outside(&classes, &all, 0x0001, 48, false), false);
+    same!(rt; has_run_outside(&classes, &all, 0x0041, 48, true), false);
     for (pages, batches, set) in REACHED {
         let classes = classes_of(
             &round_of(rt.alloc(), pages).expect(&rt, "an answer"),
@@ -137,10 +137,6 @@ fn runs_outside_and_boundaries(rt: HostRuntime) {
             early: classes.count,
         };
         assert!(rt; batches > 0);
-        assert_eq!(rt;
-            reached(&classes, &early, batches),
-            set,
-            "{pages:?} in {batches}"
-        );
+        same!(rt; reached(&classes, &early, batches), set, (pages, batches));
     }
 }

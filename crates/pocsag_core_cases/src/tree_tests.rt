@@ -1,5 +1,6 @@
 //! Certificates, read and written.
 
+use crate::same;
 use pocsag_tree::{
     CertificateFault, Tree, TreeWriteFault, depth, nodes, read_certificate, write_certificate,
 };
@@ -125,19 +126,19 @@ fn fault(alloc: Global, bytes: &[u8], lasting: u64) -> Option<CertificateFault> 
 fn certificates_read(rt: HostRuntime) {
     let alloc = rt.alloc();
     for (bytes, due) in REFUSED {
-        assert_eq!(rt; fault(alloc, bytes, u64::MAX), Some(*due), "{bytes:?}");
+        same!(rt; fault(alloc, bytes, u64::MAX), Some(*due), bytes);
     }
     for whole in [APART, APART_AGAIN, APART_WITH_IDLE] {
         for len in 0..whole.len() {
             let told = fault(alloc, &whole[..len], u64::MAX);
-            assert_eq!(rt; told, Some(CertificateFault::Truncated), "{len}");
+            same!(rt; told, Some(CertificateFault::Truncated), len);
         }
     }
     for place in 0..21u64 {
         let told = fault(alloc, APART, place);
-        assert_eq!(rt; told, Some(CertificateFault::ReadFault), "{place}");
+        same!(rt; told, Some(CertificateFault::ReadFault), place);
     }
-    assert_eq!(rt; fault(alloc, APART, 21), None);
+    same!(rt; fault(alloc, APART, 21), None);
 }
 
 #[test]
@@ -151,18 +152,28 @@ fn certificates_written(rt: HostRuntime) {
         );
         let mut sink = MemorySink::<64>::new(1, u64::MAX);
         let written = write_certificate(read.end, read.batches, &read.tree, &mut sink);
-        assert_eq!(rt; written, Ok(()));
-        assert_eq!(rt; sink.bytes(), text);
+        same!(rt; written, Ok(()));
+        same!(rt; sink.bytes(), text);
     }
+}
+
+#[test]
+fn failing_writes(rt: HostRuntime) {
+    let alloc = rt.alloc();
     let tree = read_certificate(alloc, &mut MemorySource::new(APART, 1, u64::MAX))
         .expect(&rt, "an answer")
         .tree;
     for place in 0..APART_AGAIN.len() {
         let mut sink = MemorySink::<64>::new(3, place as u64);
         let written = write_certificate(End::Open, 3, &tree, &mut sink);
-        assert_eq!(rt; written, Err(TreeWriteFault::WriteFault), "{place}");
-        assert_eq!(rt; sink.bytes(), &APART_AGAIN[..place]);
+        same!(rt; written, Err(TreeWriteFault::WriteFault), place);
+        same!(rt; sink.bytes(), &APART_AGAIN[..place]);
     }
+}
+
+#[test]
+fn trees_that_have_no_certificate(rt: HostRuntime) {
+    let alloc = rt.alloc();
     let split = Tree::Split {
         class: 200,
         m: 1,
@@ -172,7 +183,7 @@ fn certificates_written(rt: HostRuntime) {
     for (batches, tree) in [(1, Tree::Overload(0)), (0, Tree::Open), (1, split)] {
         let mut sink = MemorySink::<64>::new(64, u64::MAX);
         let written = write_certificate(End::Open, batches, &tree, &mut sink);
-        assert_eq!(rt; written, Err(TreeWriteFault::BadTree));
+        same!(rt; written, Err(TreeWriteFault::BadTree));
         assert!(rt; sink.bytes().is_empty());
     }
 }
@@ -227,20 +238,14 @@ fn deep_and_large_certificates(rt: HostRuntime) {
         (300, CertificateFault::TooDeep),
         (299, CertificateFault::Truncated),
     ] {
-        assert_eq!(rt;
-            fault(
-                alloc,
-                splits(alloc, count, 0).expect(&rt, "an answer").as_slice(),
-                u64::MAX
-            ),
-            Some(due)
-        );
+        let deep = splits(alloc, count, 0).expect(&rt, "an answer");
+        same!(rt; fault(alloc, deep.as_slice(), u64::MAX), Some(due));
     }
     let bytes = splits(alloc, 299, 300).expect(&rt, "an answer");
     let tree = read_certificate(alloc, &mut MemorySource::new(&bytes, 1, u64::MAX))
         .expect(&rt, "an answer")
         .tree;
-    assert_eq!(rt; (depth(&tree), nodes(&tree)), (300, 299));
+    same!(rt; (depth(&tree), nodes(&tree)), (300, 299));
     let first = many_nodes(alloc, b"PCB1\0\0\0\x01", b"\x02\0\x01\0\x01\x10", 272).expect(
         &rt,
         "an answer",

@@ -1,5 +1,6 @@
 //! Codewords and devices.
 
+use crate::same;
 use pocsag_words::{
     DeviceFault, GrowingSink, Kind, MemorySink, MemorySource, Sink, SliceSource, Source, Word,
     address_word, check_all, from_raw, message_word, repair, write_all,
@@ -41,19 +42,19 @@ const KINDS: [(u32, Option<Kind>); 4] = [
 fn codewords(rt: HostRuntime) {
     for (high, function, raw) in ADDRESSES {
         assert!(rt; high < 262_144 && function < 4);
-        assert_eq!(rt; address_word(high, function).raw(), raw);
+        same!(rt; address_word(high, function).raw(), raw);
     }
     for (item, raw) in MESSAGES {
         assert!(rt; item < 1_048_576);
-        assert_eq!(rt; message_word(item).raw(), raw);
+        same!(rt; message_word(item).raw(), raw);
     }
     for (raw, kind) in KINDS {
-        assert!(rt; from_raw(raw).map(Word::kind) == kind, "{raw}");
+        same!(rt; from_raw(raw).map(Word::kind) == kind, true, raw);
     }
     let numbers = [0x0000_26EC, 0x0000_26ED, 0x7A89_C197, 0x7CD2_15D8];
     let mut flags = [false; 4];
     check_all(&numbers, &mut flags);
-    assert_eq!(rt; flags, [true, false, true, true]);
+    same!(rt; flags, [true, false, true, true]);
     let mut numbers = [0x0000_26EC; 40];
     let mut wrong = [false; 40];
     for i in 0..20 {
@@ -64,68 +65,69 @@ fn codewords(rt: HostRuntime) {
         let mut flags = wrong;
         check_all(&numbers[..n], &mut flags[..n]);
         for i in 0..40 {
-            assert_eq!(rt; flags[i], (i % 2 == 0) == (i < n), "flag {i} of {n}");
+            same!(rt; flags[i], (i % 2 == 0) == (i < n), (i, n));
         }
     }
 }
 
 #[test]
 fn repairs(rt: HostRuntime) {
-    assert_eq!(rt; repair(0x0000_0003).map(Word::raw), Some(0));
-    assert_eq!(rt; repair(0x0000_0007), None);
+    same!(rt; repair(0x0000_0003).map(Word::raw), Some(0));
+    same!(rt; repair(0x0000_0007), None);
     let word = 0x0000_26EC;
-    assert_eq!(rt; repair(word).map(Word::raw), Some(word));
+    same!(rt; repair(word).map(Word::raw), Some(word));
     for i in 0..32u32 {
         let one_wrong = word ^ 1u32 << i;
-        assert_eq!(rt; repair(one_wrong).map(Word::raw), Some(word), "bit {i}");
+        same!(rt; repair(one_wrong).map(Word::raw), Some(word), i);
         for j in 0..i {
             let two_wrong = one_wrong ^ 1u32 << j;
-            assert_eq!(rt;
-                repair(two_wrong).map(Word::raw),
-                Some(word),
-                "bits {i} and {j}"
-            );
+            same!(rt; repair(two_wrong).map(Word::raw), Some(word), (i, j));
         }
     }
 }
 
 #[test]
-fn devices(rt: HostRuntime) {
+fn sources(rt: HostRuntime) {
     let bytes = [1, 2, 3, 4, 5, 6, 7, 8, 9, 10];
     let mut source = MemorySource::new(&bytes, 3, 7);
     let mut buffer = [0u8; 5];
-    assert_eq!(rt; source.read(&mut buffer), Ok(3));
-    assert_eq!(rt; buffer, [1, 2, 3, 0, 0]);
-    assert_eq!(rt; source.read(&mut buffer[..2]), Ok(2));
-    assert_eq!(rt; source.read(&mut buffer), Ok(2));
-    assert_eq!(rt; buffer, [6, 7, 3, 0, 0]);
+    same!(rt; source.read(&mut buffer), Ok(3));
+    same!(rt; buffer, [1, 2, 3, 0, 0]);
+    same!(rt; source.read(&mut buffer[..2]), Ok(2));
+    same!(rt; source.read(&mut buffer), Ok(2));
+    same!(rt; buffer, [6, 7, 3, 0, 0]);
     for _ in 0..2 {
-        assert_eq!(rt; source.read(&mut buffer), Err(DeviceFault));
+        same!(rt; source.read(&mut buffer), Err(DeviceFault));
     }
     let mut whole = MemorySource::new(&bytes, 8, u64::MAX);
     let mut wide = [0u8; 16];
     for count in [8, 2, 0] {
-        assert_eq!(rt; whole.read(&mut wide), Ok(count));
+        same!(rt; whole.read(&mut wide), Ok(count));
     }
     let mut slice = SliceSource::new(&bytes);
     for (room, count) in [(4, 4), (0, 0), (16, 6), (16, 0)] {
         assert!(rt; room <= 16);
-        assert_eq!(rt; slice.read(&mut wide[..room]), Ok(count));
+        same!(rt; slice.read(&mut wide[..room]), Ok(count));
     }
-    assert_eq!(rt; wide[..6], bytes[4..]);
+    same!(rt; &wide[..6], &bytes[4..]);
+}
+
+#[test]
+fn sinks(rt: HostRuntime) {
+    let bytes = [1, 2, 3, 4, 5, 6, 7, 8, 9, 10];
     let mut grown = GrowingSink::new(rt.alloc());
     for piece in [&bytes[..3], &bytes[..0], &bytes[3..]] {
-        assert_eq!(rt; grown.write(piece), Ok(piece.len()));
+        same!(rt; grown.write(piece), Ok(piece.len()));
     }
-    assert_eq!(rt; grown.into_bytes().as_slice(), bytes.as_slice());
+    same!(rt; grown.into_bytes().as_slice(), bytes.as_slice());
     let mut full: MemorySink<8> = MemorySink::new(3, u64::MAX);
-    assert_eq!(rt; full.write(&bytes), Ok(3));
-    assert_eq!(rt; write_all(&mut full, &bytes), Err(DeviceFault));
-    assert_eq!(rt; full.bytes(), [1, 2, 3, 1, 2, 3, 4, 5].as_slice());
+    same!(rt; full.write(&bytes), Ok(3));
+    same!(rt; write_all(&mut full, &bytes), Err(DeviceFault));
+    same!(rt; full.bytes(), [1, 2, 3, 1, 2, 3, 4, 5].as_slice());
     for (lasting, written) in [(4, Err(DeviceFault)), (10, Ok(()))] {
         let mut sink: MemorySink<16> = MemorySink::new(3, lasting);
-        assert_eq!(rt; write_all(&mut sink, &bytes), written);
+        same!(rt; write_all(&mut sink, &bytes), written);
         assert!(rt; lasting <= 10);
-        assert_eq!(rt; sink.bytes(), &bytes[..lasting as usize]);
+        same!(rt; sink.bytes(), &bytes[..lasting as usize]);
     }
 }
