@@ -155,9 +155,9 @@ def given(texts, crate, edits):
         behind[path] = function.first
         if is_apart and function.unit not in tried:
             texts[path], own = hollow(texts[path], function), own_name(name)
-            for unit in (function.unit, joined(module_of(path), f"+{own}")):  # the latter where it calls itself alone
+            for folder in function.proof_folders():
                 for file in ("Answers", "Invariants"):
-                    texts.pop(f"{proof_folder(unit)}/{file}.antt", None)
+                    texts.pop(f"{folder}/{file}.antt", None)
             texts[f"{proof_folder(name)}/Proof.antt"] = (
                 f"use {proofs}{name.replace('::', '.')}.Statement.{{statement}}\nuse {proofs}Anything.{{anything}}\n\n"
                 f"pub {own}_spec : {{M : Type 1}} → statement M\n{own}_spec = anything\n")

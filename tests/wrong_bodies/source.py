@@ -30,7 +30,7 @@ class Function(typing.NamedTuple):
         return self._replace(name=full, unit=full, is_recursive=False)
 
     def proof_folders(self):
-        """Where the proof files of the function or of its cycle may stand."""
+        """Where the proof files of the function or of its cycle may stand, which may be of the function alone."""
         alone = joined(self.name.rpartition("::")[0], f"+{own_name(self.name)}")
         return [f"proofs/{it.replace('::', '/')}" for it in dict.fromkeys((self.unit, alone))]
 
