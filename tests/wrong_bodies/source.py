@@ -22,7 +22,7 @@ class Function(typing.NamedTuple):
     first: int
     last: int
     is_of_trait: bool
-    is_recursive: bool  # it stands in a cycle of calls, or calls itself
+    is_recursive: bool  # it stands in a cycle of calls, or calls something of its own name
 
     def named(self, name):
         """The function under another name of its own, which nothing calls."""
@@ -30,7 +30,7 @@ class Function(typing.NamedTuple):
         return self._replace(name=full, unit=full, is_recursive=False)
 
     def proof_folders(self):
-        """Where the proof files of the function or of its cycle may stand, which may be of the function alone."""
+        """Where the proof files of the function or of its cycle may stand; a function that calls itself alone is a cycle."""
         alone = joined(self.name.rpartition("::")[0], f"+{own_name(self.name)}")
         return [f"proofs/{it.replace('::', '/')}" for it in dict.fromkeys((self.unit, alone))]
 
