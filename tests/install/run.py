@@ -13,7 +13,9 @@ import sys
 import tempfile
 
 sys.dont_write_bytecode = True
-sys.path.insert(0, str(pathlib.Path(__file__).resolve().parents[1]))
+TESTS = pathlib.Path(__file__).resolve().parents[1]
+sys.path[:0] = [str(TESTS), str(TESTS.parent / "tools")]
+import version
 from tally import PROGRAM, TOP, Tally, as_nobody
 
 PLACES = ["bin/pocsag", "share/man/man1/pocsag.1", "share/bash-completion/completions/pocsag"]
@@ -101,8 +103,8 @@ def try_moved(tally, folder):
     ran = python(folder, moved, pathlib.Path(MODULE).parent)
     tally.check("and so from another folder", ran.stdout == "2\n", ran)
     text = (moved / PACKAGE).read_text()
-    version = re.search(r"#define POCSAG_VERSION (\d+)u", (moved / "include/pocsag.h").read_text())[1]
-    tally.check("the package has the number of the interface", f"Version: {version}\n" in text, text)
+    number = re.search(r"#define POCSAG_VERSION (\d+)u", (moved / "include/pocsag.h").read_text())[1]
+    tally.check("the package has the version and the number of the interface", f"interface={number}\n" in text and f"Version: {version.VERSION}\n" in text, text)
     tally.check("and no folder of this machine", "prefix=${pcfiledir}/../..\n" in text and str(prefix) not in text, text)
     if shutil.which("pkg-config"):
         environment = {"PATH": "/usr/bin:/bin", "PKG_CONFIG_PATH": str((moved / PACKAGE).parent)}

@@ -62,6 +62,7 @@ class Clone:
         self.commands = folder / "commands"
         self.temporary = folder / "temporary"
         self.calls = folder / "calls"
+        self.compiler = folder / "compiler"
         for made in (self.top, self.commands, self.temporary):
             made.mkdir()
         shutil.copy(TOP / "pocsag", self.top / "pocsag")
@@ -83,6 +84,7 @@ class Clone:
         rt.write_text(
             "#!/bin/bash\n"
             f'echo "$(basename "$(pwd)") $*" >> {self.calls}\n'
+            f'echo "${{RT_BACKEND:-llvm}}" > {self.compiler}\n'
             '[ "$1" = run ] || exit 0\n' + STAND_INS[name]
         )
         rt.chmod(0o755)
@@ -385,6 +387,27 @@ def try_multiples(tally, clone):
         tally.check(f"the multiples {name}", re.search(rf"^pocsag: {wanted}$", err, re.M), err)
 
 
+def try_compilers(tally, clone):
+    """LLVM makes what is installed, and the first program; the toolchain's own compiler makes the program after an edit."""
+    whole = [str(clone.commands / "python3"), str(clone.top / "tools/build.py"), "program"]
+    for name, edit, words, wanted, count in [
+        ("a first build", None, None, "llvm", 1),
+        ("an edit", "edited", None, "rattle", 2),
+        ("another time", None, None, "rattle", 2),
+        ("an installation", None, whole, "llvm", 3),
+        ("nothing after it", None, None, "llvm", 3),
+        ("an edit before an installation", "again", whole, "llvm", 4),
+    ]:
+        if edit:
+            clone.source("low").write_text(edit)
+        os.utime(clone.source("middle"))
+        if words:
+            subprocess.run(words, cwd=clone.top, env=clone.environment(), stdout=subprocess.DEVNULL, stderr=subprocess.DEVNULL, check=True)
+        tally.check(f"{name}: the program runs", clone.run(["w"])[0] == 7)
+        found = clone.compiler.read_text().strip(), clone.builds()[0]
+        tally.check(f"{name}: its compiler", found == (wanted, count), found)
+
+
 def try_gate(tally, clone):
     """The programs that `rt ci` leaves are taken as they are, and only where it passed."""
     rt = clone.commands / "rt"
@@ -408,6 +431,7 @@ TRIALS = [
     ("makes", try_success),
     ("makes", try_first),
     ("makes", try_multiples),
+    ("makes", try_compilers),
     ("makes", try_gate),
     ("makes", try_old_times),
     ("makes", try_forms),

@@ -119,7 +119,7 @@ def main():
 
 def help_version():
     said = subprocess.run([str(PROGRAM), "--version"], capture_output=True, text=True, timeout=60).stdout
-    return re.match(r"pocsag ([\d.]+)", said)[1]
+    return re.match(r"pocsag ([^,]+),", said)[1]
 
 
 if __name__ == "__main__":

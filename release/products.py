@@ -1,0 +1,163 @@
+"""What is packed for each processor: the program and the C library as the toolchain builds them of what is proved, and the
+files beside them."""
+
+import contextlib
+import dataclasses
+import functools
+import os
+import pathlib
+import shutil
+import subprocess
+import sys
+import tempfile
+
+HERE = pathlib.Path(os.path.realpath(__file__)).parent
+TOP = HERE.parent
+sys.path[:0] = [str(TOP / "tools"), str(TOP / "clib")]
+import build
+import kit
+import lanes
+import make
+import workspace
+from packages import File
+from workspace import WHOLE
+
+LIBRARY = make.CRATE.name
+CROSS = TOP / "out/aarch64"  # what the toolchain compiles for ARM64
+C_FLAGS = ("-O2", "-fPIC", "-ffunction-sections", "-Wall", "-Wextra", "-Werror")
+
+
+class Missing(Exception):
+    """A tool that a build needs is not there, and which."""
+
+
+@dataclasses.dataclass(frozen=True)
+class Processor:
+    """A processor, as the system names it, and as Debian does; the triple that Debian's folders are named by; how the names of its
+    compiler and linker begin, and Debian's packages that have them."""
+
+    name: str
+    debian: str
+    triple: str
+    tools: str
+    package: str
+
+    @property
+    def compiler(self):
+        return f"{self.tools}gcc" if self.tools else "cc"
+
+
+NATIVE = Processor("x86_64", "amd64", "x86_64-linux-gnu", "", "gcc libc6-dev")
+ARM = Processor("aarch64", "arm64", "aarch64-linux-gnu", "aarch64-linux-gnu-", "gcc-aarch64-linux-gnu libc6-dev-arm64-cross")
+PROCESSORS = (NATIVE, ARM)
+
+
+@functools.cache
+def toolchain():
+    """The line of the toolchain that is in PATH, or none."""
+    with contextlib.suppress(OSError, subprocess.SubprocessError):
+        return subprocess.run(["rt", "version"], check=True, capture_output=True, text=True, timeout=60).stdout.strip()
+    return ""
+
+
+@functools.cache
+def linker_of(processor):
+    """The compiler and the linker that make the library, as they name themselves."""
+    if processor is ARM and kit.script() is None:
+        raise Missing("the toolchain's command rt is none that is known to build for ARM64")
+    lines = []
+    for tool in (processor.compiler, f"{processor.tools}ld"):
+        if not shutil.which(tool):
+            raise Missing(f"{tool} is missing; on Debian: apt-get install {processor.package}")
+        lines.append(subprocess.run([tool, "--version"], check=True, capture_output=True, text=True).stdout.splitlines()[0])
+    if subprocess.run([processor.compiler, "-E", "c/memory.c"], cwd=HERE, capture_output=True).returncode:
+        raise Missing(f"{processor.compiler} finds no C library; on Debian: apt-get install {processor.package}")
+    return ", ".join(lines)
+
+
+def cross_task(crate, made):
+    """The command by which the toolchain compiles a proved crate for ARM64, over what its check kept."""
+    rtlib, unit = kit.script().rtlib, kit.crate_in(crate.folder)
+    words = [rtlib.RATTLE, "build", *unit.words(["--jobs", "2"]), "--target", "aarch64-unknown-linux-gnu"]
+    words += ["--toolchain", f"{rtlib.KIT}/toolchain", "--backend", "llvm", *rtlib.KEPT, "-o", str(made)]
+    return lanes.Task(crate.name, words, crate.folder)
+
+
+class Cross:
+    """What the toolchain compiles for ARM64 of a crate, and the sum of what it was made from."""
+
+    def __init__(self, crates, name):
+        crate = crates[name]
+        self.path = CROSS / (f"{name}.o" if crate.is_program else f"lib{name}.a")
+        self.record, self.sum = self.path.with_suffix(".sum"), f"{build.Product(crates, name).sum} {toolchain()}"
+        self.task = cross_task(crate, self.path)
+
+    def is_old(self):
+        return not self.path.is_file() or not self.record.is_file() or self.record.read_text() != self.sum
+
+
+def cross_compiled():
+    """The object of the program and the archive of the library for ARM64, made anew where their sources have changed."""
+    crates = workspace.read_crates()
+    build.build(crates, [WHOLE, LIBRARY])
+    CROSS.mkdir(parents=True, exist_ok=True)
+    made = {name: Cross(crates, name) for name in (WHOLE, LIBRARY)}
+    with contextlib.ExitStack() as held:
+        for lock in kit.lock([crates[name].folder for name in made]) if any(it.is_old() for it in made.values()) else ():
+            held.callback(os.close, lock)
+        for ended in lanes.Lanes([it.task for it in made.values() if it.is_old()]).run():
+            if ended.status:
+                raise build.Refused(f"{ended.name} is not built for ARM64:\n{ended.text}")
+            made[ended.name].record.write_text(made[ended.name].sum)
+    return made[WHOLE].path, made[LIBRARY].path
+
+
+def compiled(processor, name, room):
+    """The object of a C file that the toolchain has for its own processor."""
+    made = room / f"{name}.o"
+    subprocess.run([processor.compiler, *C_FLAGS, "-c", f"c/{name}.c", "-o", str(made)], check=True, cwd=HERE)
+    return made
+
+
+def built_for_arm(room):
+    """The program for ARM64, the archive of the library, and the calls for memory that it needs."""
+    linker_of(ARM)
+    program, archive = cross_compiled()
+    memory, system = (compiled(ARM, name, room) for name in ("memory", "system"))
+    linked = room / WHOLE
+    words = [ARM.compiler, "-pie", "-Wl,--gc-sections,-z,relro,-z,now", "-o", linked, program, memory, system]
+    subprocess.run([str(word) for word in words], check=True)
+    return linked, archive, memory
+
+
+def built(processor, room):
+    if processor is ARM:
+        return built_for_arm(room)
+    crates = workspace.read_crates()
+    build.build(crates, [WHOLE, LIBRARY])
+    return build.Product(crates, WHOLE).path, build.Product(crates, LIBRARY).path, None
+
+
+def tree(processor):
+    """The files that are packed for a processor, as they lie below a prefix."""
+    with tempfile.TemporaryDirectory() as name:
+        room = pathlib.Path(name)
+        program, archive, memory = built(processor, room)
+        made = room / "library"
+        make.make(made, archive, memory, processor.tools)
+        shared = (made / make.SONAME).read_bytes()
+        text = lambda path: File((TOP / path).read_bytes())
+        return {
+            "bin/pocsag": File(program.read_bytes(), 0o755),
+            "include/pocsag.h": text("clib/pocsag.h"),
+            "lib/libpocsag.a": File((made / "libpocsag.a").read_bytes()),
+            "lib/libpocsag.so": File(shared, 0o777, make.SONAME),
+            f"lib/{make.SONAME}": File(shared),
+            "lib/pkgconfig/pocsag.pc": File(make.package_file("${pcfiledir}/../..", "${prefix}/lib", "${prefix}/include").encode()),
+            "python/pocsag.py": text("clib/pocsag.py"),
+            "share/bash-completion/completions/pocsag": text("completions/pocsag.bash"),
+            "share/man/man1/pocsag.1": text("docs/pocsag.1"),
+            "LICENSE-APACHE": text("LICENSE-APACHE"),
+            "LICENSE-MIT": text("LICENSE-MIT"),
+            "README": text("release/README"),
+        }

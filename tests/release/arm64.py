@@ -1,0 +1,131 @@
+#!/usr/bin/env python3
+"""Runs the program and the C library for ARM64 under qemu-user, beside those for x86-64 and by the scripts of this repository.
+
+Where the cross compiler of Debian or qemu-user is missing, it is left out. The last line is 'N passed, M failed'.
+"""
+
+import os
+import pathlib
+import random
+import re
+import shutil
+import subprocess
+import sys
+import tempfile
+
+sys.dont_write_bytecode = True
+TOP = pathlib.Path(__file__).resolve().parents[2]
+sys.path[:0] = [str(TOP / it) for it in ("tests", "release", "tools", "clib")]
+import lanes
+import make
+import products
+from tally import PROGRAM, Tally
+
+EMULATOR = "qemu-aarch64"
+SCRIPTS = ("tests/program/run.py", "tests/program/open.py", "tests/journal/run.py", "tests/sound/run.py", "tests/vectors/run.py")
+ROUNDS = 40
+HEADER = "address,kind,message\n"
+
+
+def why_not():
+    """What is missing for this, or nothing."""
+    if not shutil.which(EMULATOR):
+        return f"{EMULATOR} is missing; on Debian: apt-get install qemu-user"
+    try:
+        products.linker_of(products.ARM)
+    except products.Missing as why:
+        return str(why)
+    return ""
+
+
+def emulated(folder, name, program):
+    """A script that runs a program for ARM64."""
+    script = folder / name
+    script.write_text(f'#!/bin/sh\nexec {EMULATOR} -L /usr/{products.ARM.triple} "{program}" "$@"\n')
+    script.chmod(0o755)
+    return script
+
+
+def page_file(chance):
+    """A round of some pages of all kinds."""
+    rows = []
+    for address in chance.sample(range(0, 2_000_000), chance.choice([1, 2, 6, 30, 300])):
+        kind = chance.choice(["tone0", "tone3", "numeric", "alpha"])
+        length = chance.choice([1, 5, 20, 80])
+        text = "".join(chance.choice("0123456789*U -][") for _ in range(length)) if kind == "numeric" else "x" * length if kind == "alpha" else ""
+        rows.append(f'{address},{kind},"{text}"\n' if text else f"{address},{kind},\n")
+    return HEADER + "".join(rows)
+
+
+# What is run of each round, one command after the other in one folder.
+COMMANDS = [
+    ["plan", "p.csv", "t.bin", "c.cert"], ["plan", "p.csv", "idle.bin", "idle.cert", "--idle-last", "--always"], ["check", "p.csv", "c.cert"],
+    ["explain", "p.csv", "c.cert", "--json"], ["decode", "t.bin"], ["decode", "t.bin", "--capture"], ["show", "t.bin"], ["show", "t.bin", "--svg"],
+    ["hear", "8", "t.bin"], ["wav", "t.bin", "--rate", "1200"], ["report", "p.csv", "--rate", "512"], ["check", "p.csv", "t.bin"], ["plan", "none", "t", "c", "--verbose"],
+]
+
+
+def answers(program, folder, file):
+    """All that the commands print and write of a round."""
+    shutil.rmtree(folder, ignore_errors=True)
+    folder.mkdir()
+    (folder / "p.csv").write_text(file)
+    found = []
+    for words in COMMANDS:
+        done = subprocess.run([str(program), *words], cwd=folder, capture_output=True, timeout=300)
+        found.append((words, done.returncode, done.stdout, done.stderr))
+    return found + sorted((it.name, it.read_bytes()) for it in folder.iterdir())
+
+
+def try_beside(tally, folder, program):
+    """Of each round both programs print and write the same bytes."""
+    chance = random.Random(64)
+    files = [path.read_text() for path in sorted((TOP / "examples").glob("*.csv"))] + [page_file(chance) for _ in range(ROUNDS)]
+    for number, file in enumerate(files):
+        ours, theirs = answers(PROGRAM, folder / "x86-64", file), answers(program, folder / "arm64", file)
+        tally.check(f"round {number} as on x86-64", ours == theirs, [pair for pair in zip(ours, theirs) if pair[0] != pair[1]][:1])
+
+
+def try_library(tally, folder, archive, memory):
+    """The example in C, with either library."""
+    made = folder / "library"
+    make.make(made, archive, memory, products.ARM.tools)
+    wanted = re.search(r"```\n(pages 6\n.*?)```", (TOP / "docs/LIBRARY.md").read_text(), re.DOTALL)[1]
+    for name, words in (("archive", [made / "libpocsag.a"]), ("shared library", [f"-L{made}", "-lpocsag", f"-Wl,-rpath,{made}"])):
+        words = [products.ARM.compiler, "-Wall", "-Werror", TOP / "clib/examples/plan.c", f"-I{made}", *words, "-o", folder / name]
+        built = subprocess.run([str(it) for it in words], capture_output=True, text=True)
+        ran = subprocess.run([str(emulated(folder, "example", folder / name)), str(TOP / "examples/round.csv")], capture_output=True, text=True)
+        tally.check(f"the example in C with the {name}", ran.stdout == wanted, (built.stderr, ran))
+
+
+def try_scripts(tally, program):
+    """The scripts that run the program, with this one."""
+    os.environ.update(POCSAG_PROGRAM=str(program), POCSAG_ONE_IN="7")
+    for it in lanes.Lanes([lanes.Task(script, [sys.executable, script], TOP) for script in SCRIPTS]).run():
+        counts = re.findall(r"^(\d+) passed, (\d+) failed$", it.text, re.M)
+        passed, failed = map(int, counts[-1]) if counts else (0, 1)
+        tally.passed += passed
+        tally.failed += failed
+        print(it.text if failed or it.status else f"{it.name}: {passed} passed, {lanes.minutes(it.took)}", flush=True)
+        tally.check(f"{it.name} ended well", not it.status)
+
+
+def main():
+    tally = Tally()
+    if why_not():
+        print(f"skipped: {why_not()}")
+        tally.check("skipped", True)
+        return tally.end()
+    with tempfile.TemporaryDirectory() as name:
+        folder = pathlib.Path(name)
+        folder.chmod(0o755)
+        linked, archive, memory = products.built_for_arm(folder)
+        program = emulated(folder, "pocsag", linked)
+        try_beside(tally, folder, program)
+        try_library(tally, folder, archive, memory)
+        try_scripts(tally, program)
+    return tally.end()
+
+
+if __name__ == "__main__":
+    sys.exit(main())

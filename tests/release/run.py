@@ -1,0 +1,409 @@
+#!/usr/bin/env python3
+"""Packs what is built here, forges and spoils the packages, and has them used by those who have no toolchain.
+
+Without the toolchain it takes the release that is there. Where `lintian`, `dpkg-deb` or `pip` is missing, that part is
+left out. The last line is 'N passed, M failed'.
+"""
+
+import hashlib
+import io
+import lzma
+import os
+import pathlib
+import re
+import shutil
+import subprocess
+import sys
+import tempfile
+import time
+
+sys.dont_write_bytecode = True
+sys.path.insert(0, str(pathlib.Path(__file__).resolve().parent))
+from copies import Copy, User, made_of
+from tally import LIBRARY, TOP, Tally
+
+sys.path[:0] = [str(TOP / "release"), str(TOP / "clib")]
+import packages
+import version
+from packages import File
+
+ENDINGS = (".tar.xz", ".deb", ".whl")
+WORDS = ("plan", "examples/round.csv", "round.bin", "round.cert")
+# A Python that runs in a PATH of its own, and what reads packages.
+PYTHON = ("python3", "uname")
+READERS = [it for it in ("xz", "dpkg-deb", "python3") if shutil.which(it)]
+READER = READERS[0]
+PLANNED = "pages 6\nbatches 2\n"
+COMMANDS = [
+    (WORDS, PLANNED),
+    (("check", "examples/round.csv", "round.cert"), "at least 2 batches\n"),
+    (("hear", "11", "round.bin"), 'address,kind,message\n11,alpha,"Pump 4, hall B: pressure low"\n'),
+    (("show", "round.bin"), "batches 2, codewords 24, idles 8"),
+    (("explain", "examples/loops-apart.csv", "examples/loops-apart.cert"), "at least 3 batches, open end"),
+    (("wav", "round.bin"), "RIFF"),
+]
+
+
+def try_versions(tally):
+    """Each place that names the version names the one of VERSION, as its kind spells it."""
+    python = version.VERSION.replace("-rc.", "rc")
+    places = [
+        ("crates/pocsag_shell/src/tables.rt", f'const VERSION: &str = "{version.VERSION}, proved by '),
+        ("docs/pocsag.1", f'.TH POCSAG 1 "{version.DATE}" "pocsag {version.VERSION}"'),
+        ("clib/pocsag.h", f'#define POCSAG_RELEASE "{version.VERSION}"\n'),
+        ("clib/pocsag.py", f'__version__ = "{python}"\n'),
+        ("CHANGELOG.md", version.VERSION),
+        ("README.md", f"release/pocsag-{version.VERSION}-linux-x86_64.tar.xz"),
+        ("README.md", f"release/pocsag_{version.DEBIAN}_amd64.deb"),
+        ("README.md", f"release/pocsag-{python}-py3-none-manylinux_2_17_x86_64.whl"),
+    ]
+    for path, text in places:
+        tally.check(f"{path} has the version", text in (TOP / path).read_text(), text)
+    spelled = version.DEBIAN, version.PYTHON
+    tally.check("how packages spell it", spelled == (version.VERSION.replace("-rc.", "~rc"), python), spelled)
+    section = re.search(r"^## 1\.0\.0.*?(?=^## )", (TOP / "CHANGELOG.md").read_text(), re.M | re.S)
+    tally.check("CHANGELOG's first section is short", section and section[0].count("\n") <= 41)
+
+
+def try_kinds(tally):
+    """Each kind of package holds what was put into it, and has the same bytes in whatever order that was."""
+    files = {"usr/a": File(b"a", 0o755), "usr/share/b": File(bytes(range(256)) * 40), "usr/z": File(b"a", 0o777, "a")}
+    plain = {name: file for name, file in files.items() if not file.link}
+    for name, held in (("x.tar.xz", files), ("x.deb", {**files, "DEBIAN/control": File(b"Package: x\n")}), ("x.whl", plain)):
+        made = packages.write(name, held, version.SECONDS)
+        tally.check(f"{name} holds what was put into it", packages.read(name, made) == held)
+        tally.check(f"{name} in another order", made == packages.write(name, dict(reversed(held.items())), version.SECONDS))
+    tally.check("a wheel lists its files", packages.record(plain, "RECORD").data.count(b"sha256=") == 2)
+    gz = File(packages.zipped(b"text"))
+    tally.check("a compressed file is its content", packages.plain("b.gz", gz).data == b"text")
+
+
+def renew_sums(copy):
+    """MANIFEST and SHA256SUMS as they would be of the packages that are there now."""
+    module = made_of(copy.top / "release/make", "forger")
+    folder = copy.top / "release"
+    there = {it.name: it.read_bytes() for it in folder.iterdir() if it.name.endswith(ENDINGS)}
+    kept = [line for line in (folder / "MANIFEST").read_text().splitlines(True) if "  " not in line]
+    text = "".join(kept + [line for name, data in sorted(there.items()) for line in module.lines_of(name, packages.read(name, data))])
+    (folder / "MANIFEST").write_text(text)
+    sums = {**there, "MANIFEST": text.encode()}
+    (folder / "SHA256SUMS").write_text("".join(f"{hashlib.sha256(data).hexdigest()}  {name}\n" for name, data in sorted(sums.items())))
+
+
+def flipped(files, name):
+    """The files with one bit in the middle of one of them changed."""
+    data = bytearray(files[name].data)
+    data[len(data) // 2] ^= 1
+    return {**files, name: File(bytes(data), files[name].rights, files[name].link)}
+
+
+def forge(copy, ending, change):
+    """Changes the files of a package."""
+    path = copy.package(ending)
+    path.write_bytes(packages.write(path.name, change(packages.read(path.name, path.read_bytes())), version.SECONDS))
+
+
+# Each forgery with sums to match, and the file that gives it away.
+FORGERIES = [
+    ("a bit of the program", ".tar.xz", lambda it: flipped(it, "bin/pocsag"), "bin/pocsag is what"),
+    ("a bit of the header", ".tar.xz", lambda it: flipped(it, "include/pocsag.h"), "include/pocsag.h is what"),
+    ("rights of the program", ".tar.xz", lambda it: {**it, "bin/pocsag": File(it["bin/pocsag"].data, 0o4755)}, "bin/pocsag is what"),
+    ("one file more", ".tar.xz", lambda it: {**it, "bin/more": File(b"")}, "holds the files"),
+    ("one file less", ".tar.xz", lambda it: {name: file for name, file in it.items() if name != "README"}, "holds the files"),
+    ("a link elsewhere", ".tar.xz", lambda it: {**it, "lib/libpocsag.so": File(it["lib/libpocsag.so"].data, 0o777, "./libpocsag.so.1")}, "libpocsag.so is what"),
+    ("a bit of the program of Debian", ".deb", lambda it: flipped(it, "usr/bin/pocsag"), "usr/bin/pocsag is what"),
+    ("a bit of the library of Python", ".whl", lambda it: flipped(it, "pocsag/libpocsag.so.1"), "libpocsag.so.1 is what"),
+]
+
+
+def kept(copy):
+    """The files of the release, to be put back."""
+    return {it: it.read_bytes() for it in (copy.top / "release").iterdir() if it.is_file()}
+
+
+def put_back(copy, files):
+    for it in (copy.top / "release").iterdir():
+        if it.is_file() and it not in files:
+            it.unlink()
+    for path, data in files.items():
+        path.write_bytes(data)
+
+
+def try_packed(tally, folder):
+    """The same sources give the same packages, in whatever folder, time zone and umask."""
+    copy = Copy(folder)
+    if LIBRARY:
+        return copy
+    status, out = copy.make()
+    tally.check("it is packed", status == 0 and len(out.splitlines()) == 3, out)
+    other = Copy(folder, "another copy")
+    before = os.umask(0o077)
+    other.make(TZ="Asia/Tokyo", LC_ALL="C", TMPDIR=str(folder), PYTHONHASHSEED="7")
+    os.umask(before)
+    tally.check("the same sums in another folder", other.sums() == copy.sums(), (other.sums(), copy.sums()))
+    shutil.rmtree(other.top)
+    return copy
+
+
+def try_forged(tally, copy):
+    """`--check` passes what the sources give, however compressed, and refuses anything else, whatever the sums say."""
+    status, out = copy.make("--check")
+    tally.check("it is what the sources give", status == 0 and "is what the sources give" in out, out)
+    files = kept(copy)
+    for name, ending, change, told in FORGERIES:
+        forge(copy, ending, change)
+        renew_sums(copy)
+        status, out = copy.make("--check")
+        tally.check(f"forged: {name}", status == 1 and told in out and "is what the sources give\n" not in out.replace(told, ""), out)
+        put_back(copy, files)
+    path = copy.package(".tar.xz")
+    path.write_bytes(lzma.compress(lzma.decompress(path.read_bytes()), preset=1))
+    renew_sums(copy)
+    status, out = copy.make("--check")
+    tally.check("compressed anew it passes", status == 0 and "is what the sources give" in out, out)
+    put_back(copy, files)
+
+
+def try_spoiled(tally, copy):
+    """What does not even fit its sums, whatever the sources are."""
+    files = kept(copy)
+    for ending in ENDINGS:
+        path = copy.package(ending)
+        data = bytearray(path.read_bytes())
+        data[len(data) // 2] ^= 1
+        path.write_bytes(data)
+        tally.check(f"a spoiled {ending}", copy.make("--check")[0] == 1)
+        renewed = b"no package at all"
+        path.write_bytes(renewed)
+        status, out = copy.make("--check")
+        tally.check(f"no {ending} at all", status == 1 and "Traceback" not in out, out)
+        path.unlink()
+        tally.check(f"a missing {ending}", copy.make("--check")[0] == 1)
+        put_back(copy, files)
+    more = copy.top / "release/more.deb"
+    more.write_bytes(b"")
+    tally.check("a package that nobody listed", copy.make("--check")[0] == 1)
+    put_back(copy, files)
+
+
+def try_other_sources(tally, copy):
+    """Of other sources, or without the toolchain, the sums alone are compared, and that is said."""
+    files = kept(copy)
+    for part in ("crates/pocsag_words/src/lib.rt", "crates/pocsag_c/src/lib.rt", "clib/pocsag.h", "docs/pocsag.1"):
+        path = copy.top / part
+        before = path.read_bytes()
+        path.write_bytes(before + b"\n")
+        status, out = copy.make("--check")
+        tally.check(f"an edit of {part}", status == 0 and f"release {version.VERSION} is of other sources\n" in out, out)
+        path.write_bytes(before)
+    copy.package(".deb").write_bytes(b"spoiled")
+    (copy.top / "clib/more").write_text("")
+    tally.check("spoiled, and of other sources", copy.make("--check")[0] == 1)
+    (copy.top / "clib/more").unlink()
+    put_back(copy, files)
+    status, out = copy.make("--check", PATH="/usr/bin:/bin")
+    tally.check("without the toolchain", status == 0 and ("here is no toolchain" in out or LIBRARY), out)
+    put_back(copy, {path: data for path, data in files.items() if path.name not in ("MANIFEST", "SHA256SUMS") and not path.name.endswith((*ENDINGS, ".html"))})
+    status, out = copy.make("--check")
+    tally.check("no release", status == 0 and "is not packed" in out, out)
+    put_back(copy, files)
+
+
+def try_first_call(tally, copy):
+    """A fresh clone, and no toolchain, no Python and no xz: each command runs at once."""
+    copy.drop_built()
+    for commands in (*((it,) for it in READERS), (READER, "rt", *PYTHON)):
+        user = User(copy, *commands)
+        for words, printed in COMMANDS:
+            start = time.monotonic()
+            status, out, err = user.run(*words)
+            took = time.monotonic() - start
+            tally.check(f"{words[0]} with {commands}", (status, out[: len(printed)], err) == (0, printed, "") and took < 10, (status, out[:200], err, took))
+        tally.check("nothing is built", not user.calls.exists() and not list(copy.top.glob("crates/*/out")), user.calls)
+        shutil.rmtree(copy.top / "out")
+    user = User(copy)
+    status, out, err = user.run(*WORDS)
+    tally.check("nothing that reads packages", (status, out) == (3, "") and "xz is missing" in err and "python3 is missing" in err, (status, out, err))
+    tally.check("and nothing half unpacked", not list((copy.top / "out").glob("release/*")), list((copy.top / "out").glob("**/*")))
+
+
+def try_later_calls(tally, copy):
+    """It is unpacked once, and runs from each folder."""
+    user = User(copy, READER)
+    user.run(*WORDS)
+    program = copy.top / "out/release/current/bin/pocsag"
+    inode = program.stat().st_ino
+    path = copy.package(".tar.xz")
+    path.rename(path.with_suffix(".away"))
+    tally.check("once unpacked, it needs no package", user.run(*WORDS) == (0, PLANNED, "") and program.stat().st_ino == inode)
+    path.with_suffix(".away").rename(path)
+    os.utime(copy.top / "crates/pocsag_words/src/lib.rt")
+    tally.check("another time of a source changes nothing", user.run(*WORDS) == (0, PLANNED, "") and program.stat().st_ino == inode)
+    elsewhere = copy.top.parent / "elsewhere"
+    elsewhere.mkdir()
+    (elsewhere / "link").symlink_to(copy.top / "pocsag")
+    words = ("check", copy.top / "examples/round.csv", copy.top / "round.cert")
+    tally.check("by a link, from another folder", user.run(*words, folder=elsewhere, script=elsewhere / "link") == (0, "at least 2 batches\n", ""))
+    due = f"pocsag {version.VERSION}, proved by "
+    for option in ("--version", "-V"):
+        status, out, err = user.run(option)
+        tally.check(f"{option} says that it is the release", (status, err) == (0, "") and out.startswith(due) and out.endswith(", from release/\n"), (status, out, err))
+    tally.check("its status is the program's", user.run("decode", "none")[0] == 3 and user.run("nothing")[0] == 2)
+    shutil.rmtree(copy.top / "out")
+
+
+def edited(copy):
+    """Edits a source; gives what puts it back."""
+    path = copy.top / "crates/pocsag_words/src/lib.rt"
+    before = path.read_bytes()
+    path.write_bytes(before + b"\n")
+    return lambda: path.write_bytes(before)
+
+
+def try_edit(tally, copy):
+    """After an edit what changed is built where it can be, and else the release runs and says so."""
+    undo = edited(copy)
+    for commands in ((READER,), (READER, "rt"), (READER, "python3")):
+        user = User(copy, *commands)
+        status, out, err = user.run(*WORDS)
+        tally.check(f"an edit, with {commands}", (status, out) == (0, PLANNED) and f"release {version.VERSION} is of other sources" in err and err.count("\n") == 1, (status, out, err))
+        status, out, err = user.run("--version")
+        tally.check("and its version", out.endswith(", from release/, of other sources\n"), out)
+    user = User(copy, READER, "rt", *PYTHON)
+    status, out, err = user.run("decode")
+    tally.check("an edit, with the toolchain", (status, out) == (0, "built decode\n") and "run --jobs" in user.calls.read_text(), (status, out, err))
+    tally.check("and its version", user.run("--version")[1] == "built --version, built here\n", user.run("--version"))
+    undo()
+    tally.check("the edit undone, it is the release's turn", user.run("--version")[1].endswith(", from release/\n"), user.run("--version"))
+    copy.drop_built()
+
+
+def try_refused(tally, copy):
+    """A spoiled package, another processor, or POCSAG_RELEASE=no: the release is not used."""
+    bare, builder = User(copy, READER), User(copy, READER, "rt", *PYTHON)
+    status, out, err = bare.run(*WORDS, POCSAG_RELEASE="no")
+    tally.check("POCSAG_RELEASE=no", (status, out) == (3, "") and "nothing can be built" in err and not (copy.top / "out").exists(), (status, out, err))
+    tally.check("with the toolchain it builds", builder.run("decode", POCSAG_RELEASE="no")[:2] == (0, "built decode\n"))
+    copy.drop_built()
+    status, out, err = bare.run(*WORDS, HOSTTYPE="riscv64")
+    tally.check("another processor", (status, out) == (3, "") and "nothing can be built" in err, (status, out, err))
+    files = kept(copy)
+    for name, spoil in (("spoiled", flip_in_place), ("forged", forge_program)):
+        spoil(copy)
+        status, out, err = bare.run(*WORDS)
+        tally.check(f"a {name} package", (status, out) == (3, "") and "is not used" in err, (status, out, err))
+        status, out, err = builder.run("decode")
+        tally.check(f"a {name} package, with the toolchain", (status, out) == (0, "built decode\n"), (status, out, err))
+        tally.check("nothing of it is kept", not (copy.top / "out/release/current").exists(), list((copy.top / "out").glob("release/*")))
+        copy.drop_built()
+        put_back(copy, files)
+
+
+def flip_in_place(copy):
+    for ending in (".tar.xz", ".deb"):
+        path = copy.package(ending)
+        data = bytearray(path.read_bytes())
+        data[len(data) // 2] ^= 1
+        path.write_bytes(data)
+
+
+def forge_program(copy):
+    forge(copy, ".tar.xz", lambda it: flipped(it, "bin/pocsag"))
+    forge(copy, ".deb", lambda it: flipped(it, "usr/bin/pocsag"))
+
+
+def try_at_once(tally, copy):
+    user = User(copy, READER)
+    command, environment = [str(copy.top / "pocsag"), "check", "examples/round.csv", "round.cert"], {"PATH": str(user.commands)}
+    calls = [subprocess.Popen(command, cwd=copy.top, env=environment, stdout=subprocess.PIPE, stderr=subprocess.PIPE, text=True) for _ in range(6)]
+    ends = [(*call.communicate(timeout=60), call.returncode) for call in calls]
+    tally.check("six first calls at once", all(it == ("at least 2 batches\n", "", 0) for it in ends), ends)
+    tally.check("nothing half unpacked is left", not list((copy.top / "out/release").glob("unpacking*")))
+    copy.drop_built()
+
+
+def try_installed(tally, copy):
+    """./install copies from the release, also where the program alone was unpacked before, and what it brings runs."""
+    if "dpkg-deb" in READERS:
+        User(copy, "dpkg-deb").run(*WORDS)
+        tally.check("the program alone", not (copy.top / "out/release/current/lib").exists())
+    prefix = copy.top.parent / "prefix"
+    environment = {"PATH": "/usr/bin:/bin"}
+    done = subprocess.run([sys.executable, str(copy.top / "install"), str(prefix)], env=environment, capture_output=True, text=True)
+    path = copy.package(".tar.xz")
+    files = packages.read(path.name, path.read_bytes())
+    tally.check("./install takes the release", done.returncode == 0 and "release of release/" in done.stderr, done)
+    for name in ("bin/pocsag", "lib/libpocsag.a", "lib/libpocsag.so.1", "include/pocsag.h", "share/man/man1/pocsag.1", "lib/pkgconfig/pocsag.pc"):
+        tally.check(f"{name} is the packed one", (prefix / name).read_bytes() == files[name].data)
+    undo = edited(copy)
+    done = subprocess.run([sys.executable, str(copy.top / "install"), "--program", str(prefix)], env=environment, capture_output=True, text=True)
+    tally.check("an edit, and no toolchain", done.returncode == 0 and "is of other sources" in done.stderr, done)
+    undo()
+    copy.drop_built()
+
+
+def try_wheel(tally, copy, folder):
+    """Python installs the wheel and plans by it."""
+    path, target = copy.package(".whl"), folder / "python"
+    has_pip = subprocess.run([sys.executable, "-m", "pip", "--version"], capture_output=True).returncode == 0
+    if has_pip:
+        words = [sys.executable, "-m", "pip", "install", "--quiet", "--no-index", "--no-deps", "--target", str(target), str(path)]
+        done = subprocess.run(words, capture_output=True, text=True)
+        tally.check("pip installs the wheel", done.returncode == 0, done)
+    else:
+        shutil.unpack_archive(str(path), str(target), "zip")
+    script = "import pocsag; p = pocsag.Pocsag(); print(p.plan(open('examples/round.csv', 'rb').read()).batches, pocsag.__version__, p.library._name)"
+    done = subprocess.run([sys.executable, "-c", script], cwd=copy.top, env={"PATH": "/usr/bin:/bin", "PYTHONPATH": str(target)}, capture_output=True, text=True)
+    due = f"2 {version.PYTHON} {target.resolve() / 'pocsag/libpocsag.so.1'}\n"
+    tally.check("and plans by the library in it", done.stdout == due, done)
+
+
+def needs_of(path):
+    """The greatest version of glibc that a program or a library asks for."""
+    told = subprocess.run(["readelf", "-V", str(path)], capture_output=True, text=True).stdout
+    return max((tuple(map(int, it.split("."))) for it in re.findall(r"GLIBC_([\d.]+)", told)), default=(0,))
+
+
+def try_debian(tally, copy, folder):
+    """Debian's own commands read the package, and find no error in it."""
+    path = copy.package(".deb")
+    if shutil.which("dpkg-deb"):
+        told = subprocess.run(["dpkg-deb", "--field", str(path)], capture_output=True, text=True).stdout
+        tally.check("dpkg-deb reads it", f"Version: {version.DEBIAN}\n" in told and "Depends: libc6 (>= 2.34)\n" in told, told)
+        subprocess.run(["dpkg-deb", "-R", str(path), str(folder / "deb")], check=True)
+        done = subprocess.run(["md5sum", "-c", "--quiet", "DEBIAN/md5sums"], cwd=folder / "deb", capture_output=True)
+        tally.check("its sums are right", done.returncode == 0, done)
+        done = subprocess.run([str(folder / "deb/usr/bin/pocsag"), "check", "examples/round.csv", "round.cert"], cwd=copy.top, capture_output=True)
+        tally.check("its program runs", done.stdout == b"at least 2 batches\n", done)
+        if shutil.which("readelf"):
+            (library,) = (folder / "deb/usr/lib").glob("*/libpocsag.so.1")
+            tally.check("the C library that the program needs", needs_of(folder / "deb/usr/bin/pocsag") <= (2, 34))
+            tally.check("and the library", needs_of(library) <= (2, 17), needs_of(library))
+    if shutil.which("lintian"):
+        told = subprocess.run(["lintian", "--allow-root", "--fail-on", "none", str(path)], capture_output=True, text=True).stdout
+        tally.check("lintian finds no error", not re.search("^[EW]: ", told, re.M), told)
+
+
+def main():
+    tally = Tally()
+    try_versions(tally)
+    try_kinds(tally)
+    with tempfile.TemporaryDirectory() as name:
+        folder = pathlib.Path(name).resolve()
+        copy = try_packed(tally, folder)
+        if "is of other sources" in copy.make("--check")[1]:
+            print("skipped: the release is of other sources")
+            return tally.end()
+        if not LIBRARY:
+            try_forged(tally, copy)
+        try_spoiled(tally, copy)
+        try_other_sources(tally, copy)
+        for part in (try_first_call, try_later_calls, try_edit, try_refused, try_at_once, try_installed):
+            part(tally, copy)
+        try_wheel(tally, copy, folder)
+        try_debian(tally, copy, folder)
+    return tally.end()
+
+
+if __name__ == "__main__":
+    sys.exit(main())
