@@ -16,6 +16,10 @@ import subprocess
 import sys
 import tempfile
 
+sys.dont_write_bytecode = True
+sys.path.insert(0, str(pathlib.Path(os.path.realpath(__file__)).parents[1] / "tools"))
+import version
+
 HERE = pathlib.Path(os.path.realpath(__file__)).parent
 TOP = HERE.parent
 CRATE = TOP / "crates/pocsag_c"
@@ -37,15 +41,15 @@ def memory_calls():
     raise SystemExit("make.py: liblibc_c.a of the toolchain is not found beside the command rt")
 
 
-def join(archive, parts):
+def join(archive, parts, tools):
     """One archive of all the parts' objects, as one object that shows the calls alone."""
     joined = archive.with_suffix(".o")
-    run("ld", "-r", "-o", joined, "--whole-archive", *parts)
-    run("objcopy", "--wildcard", "--keep-global-symbol=pocsag_*", joined)
-    run("ar", "rcs", archive, joined)
+    run(f"{tools}ld", "-r", "-o", joined, "--whole-archive", *parts)
+    run(f"{tools}objcopy", "--wildcard", "--keep-global-symbol=pocsag_*", joined)
+    run(f"{tools}ar", "rcsD", archive, joined)
 
 
-def version():
+def interface():
     """The number of the interface, as the header has it."""
     return re.search(r"#define POCSAG_VERSION (\d+)u", (HERE / "pocsag.h").read_text())[1]
 
@@ -53,18 +57,21 @@ def version():
 def package_file(prefix, libdir, includedir):
     """The file by which pkg-config finds the library, with paths relative to its own."""
     text = (HERE / "pocsag.pc.in").read_text()
-    for name, value in (("PREFIX", prefix), ("LIBDIR", libdir), ("INCLUDEDIR", includedir), ("VERSION", version())):
+    values = {"PREFIX": prefix, "LIBDIR": libdir, "INCLUDEDIR": includedir, "INTERFACE": interface(), "VERSION": version.VERSION}
+    for name, value in values.items():
         text = text.replace(f"@{name}@", value)
     return text
 
 
-def make(folder, made=MADE):
+def make(folder, made=MADE, memory=None, tools=""):
+    """Makes the library of the built crate. For another processor, `memory` has the calls for memory, and the names of the
+    tools begin with `tools`."""
     folder.mkdir(parents=True, exist_ok=True)
     with tempfile.TemporaryDirectory() as room:
         joined = pathlib.Path(room) / "libpocsag.a"
-        join(joined, [made, memory_calls()])
+        join(joined, [made, memory or memory_calls()], tools)
         shared = pathlib.Path(room) / SONAME
-        run("cc", "-shared", "-o", shared, f"-Wl,-soname,{SONAME}", f"-Wl,--version-script={HERE / 'pocsag.map'}",
+        run(f"{tools}gcc" if tools else "cc", "-shared", "-o", shared, f"-Wl,-soname,{SONAME}", f"-Wl,--version-script={HERE / 'pocsag.map'}",
             "-Wl,--whole-archive", joined, "-Wl,--no-whole-archive", "-Wl,--no-undefined", "-Wl,-z,relro,-z,now", "-lc")
         for file in (joined, shared, HERE / "pocsag.h", HERE / "pocsag.py"):
             shutil.copy(file, folder / file.name)

@@ -7,7 +7,7 @@
  * Lengths.  In bytes. Where a text goes into a buffer, its length is told through `..._len`. Where the buffer is too
  *           small, the length that is wanted is told all the same and nothing is written, so the first call may give a
  *           buffer of 0 bytes. Behind a text the buffer is as it was. pocsag_plan_bound gives sizes that always
- *           suffice for a plan, so that its search need not be made twice.
+ *           suffice for a plan, pocsag_front_bound for a front, so that the search need not be made twice.
  * Numbers.  A limit, end, rate, form or address that is none of those allowed is a fault; `always` may be any number.
  * Order.    A call answers the first fault in this order. pocsag_plan: end, limit, page file, search, size of `tx`, size
  *           of `cert`. pocsag_plan_at_most: end, limit, page file, first page, search, size of `rest`, of `why`, of `tx`,
@@ -16,8 +16,8 @@
  *           `listing`; pocsag_hear: before them the address. Where memory is wanting, that may come first.
  * Memory.   A call takes memory with malloc and realloc, and has freed all of it when it returns. Where it is
  *           refused, the status is POCSAG_OUT_OF_MEMORY and no buffer was written. As measured it takes at most 16 bytes
- *           for each byte of a page file or a transmission, 40 for each node of a certificate or a search, and 180 for
- *           each node that is explained.
+ *           for each byte of a page file or a transmission, 40 for each node of a certificate or a search, and for each
+ *           node that is explained 180 near the root and up to 4,500 at depth 300, most of them for the text.
  * Stack.    POCSAG_CHECK_STACK and so on are the bytes of stack that each call needs at most: measured for certificates
  *           of the greatest depth, computed and not measured for the deepest search of a plan.
  * Threads.  The library keeps no state: any number of threads may call at one time, with buffers of their own. No
@@ -40,8 +40,9 @@ extern "C" {
 #define POCSAG_CALL
 #endif
 
-/* The number of this interface, which pocsag_version answers. */
+/* The number of this interface, which pocsag_version answers, and the version of the package that it is part of. */
 #define POCSAG_VERSION 4u
+#define POCSAG_RELEASE "1.0.0-rc.1"
 
 /* The end of a transmission: it ends the last message, or the last codeword is no message codeword, or an idle one. */
 #define POCSAG_END_OPEN 0u
@@ -61,8 +62,8 @@ extern "C" {
 #define POCSAG_GREATEST_LIMIT 1000000u
 
 /* The bytes of stack that a thread needs for a call, its own part included. A certificate has at most 300 levels: 64 KiB,
- * and 1 KiB for each of them. A search goes through at most 289 levels, each of some 1,600 bytes: 462 KB, and 120 KB that
- * the measured rounds take in all; as much again is added. */
+ * and 1 KiB for each of them. A search goes through at most 289 levels, each of some 1,600 bytes: 462 KB, and 133 KB that
+ * the measured rounds and fronts take in all. What is left of a mebibyte is added. */
 #define POCSAG_CHECK_STACK 372736u
 #define POCSAG_EXPLAIN_STACK 372736u
 #define POCSAG_PLAN_STACK 1048576u      /* pocsag_plan_at_most and pocsag_report too */
@@ -174,7 +175,8 @@ uint32_t pocsag_version(void);
 
 /* Plans the page file `pages` and puts the transmission into `tx` and the certificate into `cert`. `limit` is the
  * most nodes of the search, 1 to 1,000,000. Where `always` is not 0, no round is refused: the batches may be one more
- * than the bound. OK: both stand there. TX_TOO_SMALL, CERT_TOO_SMALL: both lengths are told. Else: both are 0. */
+ * than the bound; where it is 0, a round at which the search stops is refused. OK: both stand there. TX_TOO_SMALL,
+ * CERT_TOO_SMALL: both lengths and all of `info` are told. Else: both are 0. */
 POCSAG_CALL uint32_t pocsag_plan(const uint8_t *pages, size_t pages_len,
                                  uint8_t *tx, size_t tx_size, size_t *tx_len,
                                  uint8_t *cert, size_t cert_size, size_t *cert_len,
@@ -184,7 +186,7 @@ POCSAG_CALL uint32_t pocsag_plan(const uint8_t *pages, size_t pages_len,
 /* Plans the first pages of a page file, as many as so many batches carry, as pocsag_plan plans all of them. It also puts
  * the page file of the pages that are left into `rest`, and into `why` the certificate of one page more, which needs more
  * batches; it has no byte where no page is left. A buffer `rest` or `why` of 0 bytes is not wanted: its length alone is
- * told. REST_TOO_SMALL, WHY_TOO_SMALL, TX_TOO_SMALL, CERT_TOO_SMALL: all lengths are told. Else: all are 0. Where `always`
+ * told. REST_TOO_SMALL, WHY_TOO_SMALL, TX_TOO_SMALL, CERT_TOO_SMALL: all lengths and `info` are told. Else: all are 0. Where `always`
  * is not 0, the pages are as many as the search found to fit, and `beyond` may be `batches`. */
 POCSAG_CALL uint32_t pocsag_plan_at_most(const uint8_t *pages, size_t pages_len, uint32_t batches,
                                          uint8_t *tx, size_t tx_size, size_t *tx_len,
@@ -285,11 +287,21 @@ static inline const char *pocsag_status_text(uint32_t status)
  * and 3 with none, so that n nodes have at most (9n - 3) / 2; and its nodes are within the limit. */
 static inline void pocsag_plan_bound(size_t pages_len, uint32_t limit, size_t *tx_size, size_t *cert_size)
 {
-    uint64_t most = pages_len < 268435456u ? pages_len : 268435456u, records = most > 20 ? most - 20 : 0;
-    uint64_t pages = records / 9 < 20000 ? records / 9 : 20000;
-    uint64_t nodes = limit < 1 ? 1 : limit < POCSAG_GREATEST_LIMIT ? limit : POCSAG_GREATEST_LIMIT;
-    *tx_size = (size_t)(72 + 68 * ((records * 7 / 20 + 14 * pages) / 16 + 2));
-    *cert_size = (size_t)(9 + (9 * nodes - 3) / 2);
+    size_t most = pages_len < 268435456u ? pages_len : 268435456u, records = most > 20 ? most - 20 : 0;
+    size_t pages = records / 9 < 20000 ? records / 9 : 20000;
+    size_t nodes = limit < 1 ? 1 : limit < POCSAG_GREATEST_LIMIT ? limit : POCSAG_GREATEST_LIMIT;
+    *tx_size = 72 + 68 * ((records * 7 / 20 + 14 * pages) / 16 + 2);
+    *cert_size = 9 + (9 * nodes - 3) / 2;
+}
+
+/* The same for a front: `cert_size` suffices for `why` too, and `rest_size` for the pages that are left. Of these a record has
+ * at most twice the bytes that it has in the page file, where each is a quote that stands alone, two quotes more, and a line
+ * end. */
+static inline void pocsag_front_bound(size_t pages_len, uint32_t limit, size_t *tx_size, size_t *cert_size, size_t *rest_size)
+{
+    size_t most = pages_len < 268435456u ? pages_len : 268435456u, records = most > 20 ? most - 20 : 0;
+    pocsag_plan_bound(pages_len, limit, tx_size, cert_size);
+    *rest_size = 21 + 2 * records + 3 * (records / 8 < 20000 ? records / 8 : 20000);
 }
 
 #ifdef __cplusplus

@@ -14,6 +14,8 @@ import operator
 import pathlib
 from collections import namedtuple
 
+__version__ = "1.0.0rc1"
+
 
 class Place(ctypes.Structure):
     _fields_ = [("record_number", ctypes.c_uint32), ("least", ctypes.c_uint32), ("found", ctypes.c_uint32), ("at", ctypes.c_uint64)]
@@ -153,8 +155,9 @@ class Pocsag:
     def version(self):
         return self.library.pocsag_version()
 
-    def plan(self, pages, limit=100_000, end=OPEN, always=False, sizes=(65_536, 65_536)):
-        """The plan of a page file. It is asked for once more where one of the sizes does not do."""
+    def plan(self, pages, limit=100_000, end=OPEN, always=True, sizes=(65_536, 65_536)):
+        """The plan of a page file. It is asked for once more where one of the sizes does not do. Unless `always` is False no round
+        is refused, and the batches may be one more than the bound."""
         info, tx_len, cert_len = PlanInfo(), ctypes.c_size_t(), ctypes.c_size_t()
         (tx, tx_size), (cert, cert_size) = map(buffer_of, sizes)
         status = self.library.pocsag_plan(
@@ -167,7 +170,7 @@ class Pocsag:
             raise raised(status, info.place)
         return Plan(bytes(tx)[: tx_len.value], bytes(cert)[: cert_len.value], info.pages, info.codewords, info.in_order, info.batches, info.bound)
 
-    def plan_at_most(self, pages, batches, limit=100_000, end=OPEN, always=False, sizes=(65_536,) * 4):
+    def plan_at_most(self, pages, batches, limit=100_000, end=OPEN, always=True, sizes=(65_536,) * 4):
         """The plan of as many first pages of a page file as so many batches carry, the page file of the others, and the
         certificate of one page more; of these two None where their size is 0. It is asked for once more where a size does
         not do."""
@@ -178,13 +181,14 @@ class Pocsag:
             number_in(limit, 5), number_in(end, 2), ctypes.c_uint32(bool(always)), ctypes.byref(info),
         )  # fmt: skip
         if status in (7, 8, 13, 14):
-            return self.plan_at_most(pages, batches, limit, end, always, [size and told.value for size, told in zip(sizes, lens)])
+            wanted = (True, True, *sizes[2:])  # no byte of the pages that are left or of `why` is asked for by the size 0
+            return self.plan_at_most(pages, batches, limit, end, always, [it and told.value for it, told in zip(wanted, lens)])
         if status:
             raise raised(status, info.place)
         texts = (bytes(buffer)[: told.value] if told.value <= size.value else None for (buffer, size), told in zip(buffers, lens))
         return Front(*texts, *(getattr(info, name) for name in Front._fields[4:]))
 
-    def report(self, pages, rate, limit=100_000, end=OPEN, always=False):
+    def report(self, pages, rate, limit=100_000, end=OPEN, always=True):
         """What the plan of a page file takes on the air at a rate."""
         info = ReportInfo()
         words = number_in(rate, 4), number_in(limit, 5), number_in(end, 2), ctypes.c_uint32(bool(always))

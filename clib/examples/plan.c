@@ -44,7 +44,7 @@ int main(int argc, char **argv)
     if (tx == NULL || cert == NULL)
         return 3;
     uint32_t status = pocsag_plan(pages, pages_len, tx, tx_size, &tx_len, cert, cert_size, &cert_len,
-                                  POCSAG_DEFAULT_LIMIT, POCSAG_END_OPEN, 0, &info);
+                                  POCSAG_DEFAULT_LIMIT, POCSAG_END_OPEN, 1, &info);
     if (status != POCSAG_OK) {
         printf("%s, record %u\n", pocsag_status_text(status), info.place.record_number);
         return 1;

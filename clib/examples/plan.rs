@@ -45,7 +45,7 @@ fn plan(pages: &[u8]) -> Result<(Vec<u8>, Vec<u8>, PlanInfo), (u32, Place)> {
         let status = unsafe {
             pocsag_plan(
                 pages.as_ptr(), pages.len(), tx.as_mut_ptr(), tx.len(), &mut tx_len, cert.as_mut_ptr(), cert.len(),
-                &mut cert_len, 100_000, 0, 0, &mut info,
+                &mut cert_len, 100_000, 0, 1, &mut info,
             )
         };
         tx.resize(tx_len, 0);

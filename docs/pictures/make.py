@@ -7,6 +7,7 @@ It takes the binary that the gate left in crates/pocsag_app/out. `tests/pictures
 import csv
 import io
 import math
+import os
 import pathlib
 import subprocess
 import sys
@@ -14,7 +15,7 @@ import tempfile
 
 TOP = pathlib.Path(__file__).resolve().parents[2]
 HERE = pathlib.Path(__file__).resolve().parent
-PROGRAM = TOP / "crates/pocsag_app/out/pocsag_app"
+PROGRAM = pathlib.Path(os.environ.get("POCSAG_PROGRAM") or TOP / "crates/pocsag_app/out/pocsag_app")
 ROUND = TOP / "examples/round.csv"
 APART = [TOP / "examples" / name for name in ("loops-apart.csv", "loops-apart.cert")]
 PREAMBLE = b"\xaa" * 72

@@ -1,5 +1,5 @@
-/* What stands in the header alone:  header texts  prints the text of each status below 100,  header BYTES LIMIT  the two
- * sizes that suffice for the plan of so many bytes. */
+/* What stands in the header alone:  header texts  prints the text of each status below 100,  header BYTES LIMIT  the sizes
+ * that suffice for the plan of so many bytes, of the transmission, the certificate and the pages that a front leaves. */
 #include <stdio.h>
 #include <stdlib.h>
 
@@ -7,13 +7,16 @@
 
 int main(int argc, char **argv)
 {
-    size_t tx_size, cert_size;
+    size_t tx_size, cert_size, rest_size;
     if (argc == 2)
         for (uint32_t status = 0; status < 100; status++)
             printf("%u %s\n", status, pocsag_status_text(status));
     if (argc != 3)
         return argc != 2;
-    pocsag_plan_bound(strtoull(argv[1], NULL, 10), (uint32_t)strtoul(argv[2], NULL, 10), &tx_size, &cert_size);
-    printf("%zu %zu\n", tx_size, cert_size);
-    return 0;
+    size_t bytes = strtoull(argv[1], NULL, 10), fronts[2];
+    uint32_t limit = (uint32_t)strtoul(argv[2], NULL, 10);
+    pocsag_plan_bound(bytes, limit, &tx_size, &cert_size);
+    pocsag_front_bound(bytes, limit, &fronts[0], &fronts[1], &rest_size);
+    printf("%zu %zu %zu\n", tx_size, cert_size, rest_size);
+    return fronts[0] != tx_size || fronts[1] != cert_size;
 }

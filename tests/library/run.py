@@ -27,7 +27,7 @@ import pocsag
 import trees
 import workspace
 from prover import Room
-from tally import ENDS, PROGRAM, run_parts
+from tally import ENDS, LIBRARY, PROGRAM, run_parts
 
 EXAMPLES = TOP / "clib/examples"
 ROUND = TOP / "examples/round.csv"
@@ -217,6 +217,9 @@ def try_fronts(tally, library, plans, seed):
     tally.check("three batches carry all", (whole.pages, whole.left, whole.why, whole.beyond) == (5, 0, b"", 0), whole)
     fault = attempt(call, b"address,kind,message\n8,alpha,%s\n" % (b"a" * 50), 1)
     tally.check("a first page of 19 codewords needs two batches", (type(fault), fault.found) == (pocsag.FirstPage, 2), fault)
+    for sizes in ((0, 0, 0, 0), (1, 0, 1, 1), (0, 4_096, 4_096, 0)):
+        given = call(b"address,kind,message\n" + b"".join(tones), 2, sizes=sizes)
+        tally.check(f"a front with buffers of {sizes} bytes at first", given[:2] == front[:2] and given.rest in (None, front.rest), given)
     unwanted = call(b"address,kind,message\n" + b"".join(tones), 2, sizes=(4_096, 4_096, 0, 0))
     tally.check("what is not wanted is not given", (unwanted.pages, unwanted.rest, unwanted.why) == (4, None, None), unwanted)
 
@@ -335,13 +338,20 @@ def try_bound(tally, library, room):
         for ending in ("", "\n"):
             data = ("\n".join(["address,kind,message", *lines]) + ending).encode()
             for end in WORDS:
-                sizes = [int(word) for word in run(room / "sized", len(data), 1_000).stdout.split()]
+                *sizes, _ = [int(word) for word in run(room / "sized", len(data), 1_000).stdout.split()]
                 plan = attempt(library.pocsag.plan, data, limit=1_000, end=end, always=True, sizes=sizes)
                 number += 1
                 fits = isinstance(plan, pocsag.Plan) and len(plan.transmission) <= sizes[0] and len(plan.certificate) <= sizes[1]
                 in_order = isinstance(plan, pocsag.Plan) and 72 + 68 * (plan.in_order + 2) <= sizes[0]
                 wrong += [(len(data), lines[0][:20], sizes)] * (not (fits and in_order))
     tally.check(f"{number} plans fit where the header says so", not wrong, wrong[:4])
+    # The pages that are left grow as they are written: quotes that stood alone, and fields that went on behind their quotes.
+    for message in ('a"b', "x" + '"' * 900, '"a"b"c', '"a,b"', "a" * 40):
+        data = "\n".join(["address,kind,message", "8,tone0,", *(f"{number},alpha,{message}" for number in range(9, 99))]).encode()
+        tx, cert, rest = [int(word) for word in run(room / "sized", len(data), 1_000).stdout.split()]
+        front = attempt(library.pocsag.plan_at_most, data, 1, limit=1_000, sizes=(tx, cert, rest, cert))
+        fits = isinstance(front, pocsag.Front) and front.left > 80 and len(front.rest) <= rest and len(front.why) <= cert
+        tally.check(f"a front of pages of {message[:9]} fits", fits, (rest, str(front)[:200]))
 
 
 def deep_certificates():
@@ -475,7 +485,8 @@ def try_examples(tally, folder, room):
         lines = ['#include "pocsag.h"', "int main() {", "size_t tx, cert;", "pocsag_plan_bound(0, 1, &tx, &cert);"]
         lines += ["return pocsag_version() == POCSAG_VERSION && tx == 208 && cert == 12 && *pocsag_status_text(0) == 'd' ? 0 : 1;", "}", ""]
         (room / "plan.cc").write_text("\n".join(lines))
-        built = run("c++", "-Wall", "-Wextra", "-Werror", f"-I{folder}", room / "plan.cc", folder / "libpocsag.a", "-o", room / "plan_cc")
+        flags = ["-Wall", "-Wextra", "-Wold-style-cast", "-Wuseless-cast", "-Wconversion", "-Wno-unknown-warning-option", "-Werror", f"-I{folder}"]
+        built = run("c++", *flags, room / "plan.cc", folder / "libpocsag.a", "-o", room / "plan_cc")
         tally.check("the header in C++", built.returncode == 0 and run(room / "plan_cc").returncode == 0, built.stderr)
     if shutil.which("rustc"):
         built = run("rustc", "--edition", "2021", EXAMPLES / "plan.rs", "-L", folder, "-l", "dylib=pocsag", "-o", room / "plan_rs")
@@ -576,9 +587,19 @@ def try_other_compiler(tally, room, library):
     try_both(tally, library.pocsag, other, ROUNDS_OF_BOTH, CHANGED_OF_BOTH, 3)
 
 
+def put_library(folder):
+    """The library as it is built, or as it was installed elsewhere."""
+    if not LIBRARY:
+        return make.make(folder)
+    folder.mkdir()
+    for name in (f"lib/{make.SONAME}", "lib/libpocsag.a", "include/pocsag.h", "python/pocsag.py"):
+        shutil.copy(pathlib.Path(LIBRARY) / name, folder)
+    (folder / "libpocsag.so").symlink_to(make.SONAME)
+
+
 def try_library(tally, room):
     folder = room / "library"
-    make.make(folder)
+    put_library(folder)
     library = Library(folder, room)
     try_symbols(tally, folder)
     try_faults(tally, library)
@@ -595,7 +616,8 @@ def try_library(tally, room):
     plans = try_bytes(tally, library, ROUNDS, 1)
     try_fronts(tally, library, plans, 4)
     try_changed(tally, library, plans, CHANGED, 2)
-    try_other_compiler(tally, room, library)
+    if not LIBRARY:
+        try_other_compiler(tally, room, library)
 
 
 if __name__ == "__main__":

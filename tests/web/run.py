@@ -1,0 +1,249 @@
+#!/usr/bin/env python3
+"""Tries the WebAssembly module, its ES module and command line in Node, and the page in Chromium.
+
+It makes them twice, in two folders; makes the same calls of the module and of the native library, with random rounds, changed
+files and buffers that are too small; runs the published vectors and the worked examples; refuses memory; and uses the page
+as a user does. Where the C library is that of the release, it tries the release's files. Where Node, the toolchain, Binaryen
+or Chromium is missing it says so and tries the rest.
+The last line is 'N passed, M failed'.
+"""
+
+import importlib.util
+import json
+import pathlib
+import random
+import re
+import shutil
+import subprocess
+import sys
+import tarfile
+
+sys.dont_write_bytecode = True
+HERE = pathlib.Path(__file__).resolve().parent
+TOP = HERE.parents[1]
+sys.path[:0] = [str(HERE), str(HERE.parent)]
+import command
+import native
+from tally import LIBRARY, PROGRAM, run_parts
+
+
+def script_at(name, path):
+    """A script of the repository as a module."""
+    spec = importlib.util.spec_from_file_location(name, TOP / path)
+    made = importlib.util.module_from_spec(spec)
+    spec.loader.exec_module(made)
+    return made
+
+
+ROUNDS, PER_BATCH = 2_000, 500
+NODE, CHROMIUM = shutil.which("node"), shutil.which("chromium")
+SIZES = {"plan": 48, "front": 56, "check": 32, "report": 72, "place": 24}
+
+
+def run(*words, **how):
+    return subprocess.run([str(word) for word in words], capture_output=True, timeout=600, **how)
+
+
+def info(kind):
+    return ["info", SIZES[kind]]
+
+
+def number(value):
+    return ["number", value]
+
+
+def hexed(data):
+    return ["bytes", data.hex()]
+
+
+def rooms(source, *sizes):
+    """Buffers, of which some are too small and some of no byte."""
+    return [["room", size if source.randrange(8) else source.choice([0, 1, 100, 139, 207])] for size in sizes]
+
+
+def searched(source):
+    """A limit, an end and what `always` is, among which some are not allowed."""
+    limit = source.choice([1, 2, 3, 50, 2_000, 100_000]) if source.randrange(20) else source.choice([0, 1_000_001, 2**32 - 1])
+    return [number(limit), number(source.randrange(3) if source.randrange(30) else source.choice([3, 2**32 - 1])), number(source.randrange(2))]
+
+
+def planning_calls(source, pages):
+    """The calls that plan a page file."""
+    return [
+        ["pocsag_plan", hexed(pages), *rooms(source, 4_096, 4_096), *searched(source), info("plan")],
+        ["pocsag_plan_at_most", hexed(pages), number(source.randrange(6)), *rooms(source, 4_096, 4_096, 4_096, 4_096), *searched(source), info("front")],
+        ["pocsag_report", hexed(pages), number(source.choice([512, 1200, 2400, 1201])), *searched(source), info("report")],
+    ]
+
+
+def reading_calls(source, pages, tx, cert, address):
+    """The calls that read a page file with a certificate, and a transmission."""
+    depth, form = source.choice([0, 1, 2, 3, 300]), source.choice([0, 1, 1, 0, 2])
+    return [
+        ["pocsag_check", hexed(pages), hexed(cert), info("check")],
+        ["pocsag_explain", hexed(pages), hexed(cert), number(form), number(depth), *rooms(source, 8_192), info("check")],
+        ["pocsag_decode", hexed(tx), *rooms(source, 4_096), info("place")],
+        ["pocsag_hear", number(address), hexed(tx), *rooms(source, 4_096), info("place")],
+    ]
+
+
+class Made:
+    """What the tests share: the native library and the module, made in folders of their own."""
+
+    def __init__(self, room):
+        self.library = script_at("library_tests", "tests/library/run.py")
+        self.web = script_at("web_make", "web/make.py")
+        (room / "native").mkdir()
+        if LIBRARY:
+            shutil.copytree(pathlib.Path(LIBRARY) / "lib", room / "native", dirs_exist_ok=True)
+        else:
+            self.library.make.make(room / "native")
+        self.native = native.Native(room / "native/libpocsag.so.1")
+        self.python = self.library.pocsag.Pocsag(str(room / "native/libpocsag.so.1"))
+        self.folder, self.room = room / "web", room
+
+    def compare(self, tally, name, calls):
+        """Whether the module answers as the native library does; the statuses that were seen."""
+        answers, told = native.answers_of_module(NODE, HERE / "calls.mjs", self.folder / "pocsag.wasm", calls)
+        wanted = [self.native.call(*it) for it in calls]
+        wrong = [(call[0], want, got) for call, want, got in zip(calls, wanted, answers) if want != got]
+        tally.check(f"{name}: {len(calls)} calls", not wrong and len(answers) == len(calls), (len(wrong), str(wrong[:2])[:1000]))
+        return {answer[0] for answer in answers}, told
+
+
+def try_made(tally, made):
+    """Two builds in two folders give the same files."""
+    other = made.room / "a folder of another name"
+    for folder in (made.folder, other):
+        done = run(sys.executable, TOP / "web/make.py", folder)
+        tally.check(f"made in {folder.name}", done.returncode == 0, done)
+    names = sorted(path.name for path in made.folder.iterdir())
+    tally.check("the files that are made", names == ["cli.mjs", "pocsag.d.ts", "pocsag.html", "pocsag.mjs", "pocsag.wasm"], names)
+    for name in names:
+        tally.check(f"{name} is the same in two folders", (made.folder / name).read_bytes() == (other / name).read_bytes())
+    for words, status in (([], 2), (["--help"], 2), (["a", "b"], 2)):
+        tally.check(f"make.py {words}", run(sys.executable, TOP / "web/make.py", *words).returncode == status)
+
+
+def take_released(tally, made):
+    """Takes the files of the release, which are tried beside its C library."""
+    with tarfile.open(next((TOP / "release").glob("pocsag-*-web.tar.xz"))) as archive:
+        files = {pathlib.Path(it.name).name: archive.extractfile(it).read() for it in archive if it.isfile()}
+    made.folder.mkdir()
+    for name, data in files.items():
+        (made.folder / name).write_bytes(data)
+    shutil.copyfile(TOP / "release/pocsag.html", made.folder / "pocsag.html")
+    tally.check("the module of the release", "pocsag.wasm" in files, sorted(files))
+
+
+def try_rounds(tally, made):
+    """Random rounds and changed files, beside the native library."""
+    source, statuses, count = random.Random(66), set(), 0
+    for _ in range(ROUNDS // PER_BATCH):
+        calls = []
+        for _ in range(PER_BATCH):
+            pages = made.library.random_file(source)
+            if source.randrange(4) == 0:
+                pages = made.library.changed(source, pages)
+            calls += planning_calls(source, pages)
+            try:
+                plan = made.python.plan(pages, limit=2_000, end=source.randrange(3), always=True)
+            except made.library.pocsag.Fault:
+                continue
+            files = [pages, plan.transmission, plan.certificate]
+            for which in (None, source.randrange(3), source.randrange(3)):
+                now = [made.library.changed(source, it) if k == which else it for k, it in enumerate(files)]
+                address = int(pages.split(b"\n")[1].split(b",")[0][-7:] or b"0") if source.randrange(5) else source.randrange(2_100_000)
+                calls += reading_calls(source, *now, address)
+        count += len(calls)
+        statuses |= made.compare(tally, "random rounds", calls)[0]
+    tally.check("more than 20,000 calls", count > 20_000, count)
+    tally.check("most statuses were seen", len(statuses) >= 22, sorted(statuses))
+
+
+def try_large(tally, made):
+    """Many pages, pages of every character, deep certificates, and files of 268 MB."""
+    source, calls = random.Random(7), []
+    tones = b"address,kind,message\n" + b"".join(b"%d,tone0,\n" % k for k in range(20_000))
+    mixed = b"address,kind,message\n" + b"".join(
+        b"%d,alpha,%s\n" % (11 * k, b"abcdefghij " * source.randrange(1, 30)) for k in range(3_000)
+    )
+    every = bytes(range(1, 128)).replace(b'"', b'""')
+    whole = b'address,kind,message\n8,alpha,"%s"\n' % every
+    for pages in (tones, mixed, whole):
+        calls.append(["pocsag_plan", hexed(pages), ["room", 2**22], ["room", 2**16], number(100_000), number(2), number(1), info("plan")])
+        plan = made.python.plan(pages, end=2, always=True)
+        calls.append(["pocsag_check", hexed(pages), hexed(plan.certificate), info("check")])
+        calls.append(["pocsag_decode", hexed(plan.transmission), ["room", 2**21], info("place")])
+        calls.append(["pocsag_plan_at_most", hexed(pages), number(40), *[["room", 2**21]] * 4, number(1_000), number(0), number(1), info("front")])
+    for _, _, pages, certificate in made.library.deep_certificates():
+        calls.append(["pocsag_check", hexed(pages), hexed(certificate), info("check")])
+        calls += [["pocsag_explain", hexed(pages), hexed(certificate), number(form), number(300), ["room", 2**23], info("check")] for form in (0, 1)]
+    made.compare(tally, "large rounds and deep certificates", calls)
+    # The greatest page file, and one byte more, in empty lines before the first page.
+    head, tail = b"address,kind,message\n", b"8,tone0,\n"
+    rows = []
+    for size in (2**28, 2**28 + 1):
+        path = made.room / f"{size}.csv"
+        path.write_bytes(head + b"\n" * (size - len(head) - len(tail)) + tail)
+        rows.append(["pocsag_plan", ["file", str(path)], ["room", 4_096], ["room", 4_096], number(100), number(0), number(1), info("plan")])
+        rows.append(["pocsag_decode", ["file", str(path)], ["room", 4_096], info("place")])
+    statuses, told = made.compare(tally, "268 MB of input", rows)
+    tally.check("one of them is too large, and one is planned", {0, 17} <= statuses, statuses)
+
+
+def try_node(tally, made):
+    """The ES module, by what stands in module.mjs, with the files of the vectors and the worked examples."""
+    program = script_at("program_tests", "tests/program/run.py")
+    rounds = {name: [(program.HEADER + row[0]).decode(), row[1], row[2], program.IDLE_LAST.get(name), row[3]] for name, row in program.ROUNDS.items()}
+    refused = {name: [(text or b"").decode("latin-1"), fault.decode()] for name, (text, fault) in program.REFUSED.items()}
+    (made.room / "examples.json").write_text(json.dumps({"rounds": rounds, "refused": refused}))
+    done = run(NODE, HERE / "module.mjs", made.folder, made.room / "examples.json", TOP / "vectors")
+    print(done.stdout.decode(), end="")
+    last = re.search(r"(\d+) passed, (\d+) failed\n$", done.stdout.decode())
+    tally.check("the ES module in Node", done.returncode == 0 and last and int(last[1]) > 300, done.stderr.decode()[-2000:])
+
+
+def try_page(tally, made):
+    """The page in Chromium, by what stands in page.mjs, with the files that the program makes."""
+    folder = made.room / "page"
+    folder.mkdir()
+    shutil.copyfile(TOP / "examples/round.csv", folder / "round.csv")
+    done = run(PROGRAM, "plan", "round.csv", "round.bin", "round.cert", cwd=folder)
+    (folder / "round.wav").write_bytes(run(PROGRAM, "wav", "round.bin", cwd=folder).stdout)
+    tally.check("the program's files", done.returncode == 0)
+    done = run(NODE, HERE / "page.mjs", CHROMIUM, made.folder / "pocsag.html", folder)
+    print(done.stdout.decode(), end="")
+    last = re.search(r"(\d+) passed, (\d+) failed\n$", done.stdout.decode())
+    tally.check("the page in Chromium", done.returncode == 0 and last and int(last[1]) > 60, (done.returncode, done.stderr.decode()[-2000:]))
+
+
+def has_node():
+    """Whether there is a Node of version 20 or later."""
+    return bool(NODE) and int(re.match(rb"v(\d+)", run(NODE, "--version").stdout)[1]) >= 20
+
+
+def main(tally, room):
+    makers = [] if LIBRARY else [(name, shutil.which(name)) for name in ("rt", "wasm-opt")]
+    missing = [name for name, found in [("node 20", has_node()), *makers] if not found]
+    if missing:
+        print(f"skipped: {' and '.join(missing)} missing in PATH")
+        tally.check("nothing to try", True)
+        return
+    made = Made(room)
+    if LIBRARY:
+        take_released(tally, made)
+    else:
+        try_made(tally, made)
+    try_rounds(tally, made)
+    try_large(tally, made)
+    try_node(tally, made)
+    command.try_command(tally, made.folder, room, NODE)
+    if CHROMIUM:
+        try_page(tally, made)
+    else:
+        print("skipped: the page, since chromium is missing in PATH")
+
+
+if __name__ == "__main__":
+    sys.exit(run_parts(main))

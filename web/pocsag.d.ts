@@ -1,0 +1,118 @@
+/** Plans of paging rounds with the fewest batches, certificates of that, and what transmissions say. */
+
+/** What is read: bytes, or a text that is taken as UTF-8. */
+export type Data = string | ArrayBufferView | ArrayBuffer;
+/** What ends the last message: the end of the transmission; a codeword that is no message; an idle codeword. */
+export type End = "open" | "closed" | "idle";
+
+export interface Search {
+  /** The most nodes that the search examines, 1 to 1,000,000; 100,000 where it is not given. */
+  limit?: number;
+  /** `open` where it is not given. */
+  end?: End;
+  /** Refuses no round: where the search stops at its limit, the batches may be one more than the bound. True where it is not given. */
+  always?: boolean;
+}
+
+export interface Plan {
+  transmission: Uint8Array;
+  certificate: Uint8Array;
+  /** Of the pages that are planned. */
+  pages: number;
+  codewords: number;
+  /** Batches in the order of the file, with the open end. */
+  inOrder: number;
+  /** Of the transmission. */
+  batches: number;
+  /** No transmission of the pages has fewer; `batches`, or one less. */
+  bound: number;
+}
+
+export interface Front extends Plan {
+  /** How many pages are left. */
+  left: number;
+  /** The page file of those that are left. */
+  rest: string;
+  /** The certificate of one page more, which needs more batches; of no byte where no page is left. */
+  why: Uint8Array;
+  /** No transmission of one page more has fewer batches; 0 where no page is left. */
+  beyond: number;
+}
+
+export interface Report {
+  pages: number;
+  codewords: number;
+  inOrder: number;
+  batches: number;
+  bound: number;
+  /** Idle codewords. */
+  idles: number;
+  /** Of the transmission. */
+  bits: number;
+  /** Milliseconds, rounded up. */
+  airtimeMs: number;
+}
+
+export interface Verdict {
+  /** Whether the certificate shows its batches for the page file. */
+  isShown: boolean;
+  /** What the certificate names. */
+  end: End;
+  batches: number;
+}
+
+export interface Explanation extends Verdict {
+  text: string;
+}
+
+/** Why a call did nothing. */
+export class Fault extends Error {
+  /** As in pocsag.h, such as `POCSAG_BAD_ADDRESS`. */
+  name: string;
+  /** The number of that name. */
+  status: number;
+  /** The record of the page file, from 1; 0 where the fault is not of one. */
+  recordNumber: number;
+  /** A byte of the message, a batch or a codeword, from 0. */
+  at: number;
+  /** What a search knew at its limit: so many batches are needed at the least, so many would do. */
+  least: number;
+  found: number;
+}
+
+/** The calls over a compiled module. Each is done when it returns. */
+export class Pocsag {
+  constructor(module: WebAssembly.Module);
+  /** The number of the library's interface. */
+  version(): number;
+  /** The transmission of a page file, and the certificate that there are no fewer batches than `bound`. */
+  plan(pages: Data, search?: Search): Plan;
+  /** The same of the first pages, as many as so many batches carry. */
+  planAtMost(pages: Data, batches: number, search?: Search): Front;
+  /** What the plan of a page file takes on the air at 512, 1200 or 2400 bits a second. */
+  report(pages: Data, rate: number, search?: Search): Report;
+  /** Whether a certificate shows its batches for a page file. */
+  check(pages: Data, certificate: Data): Verdict;
+  /** Why fewer batches do not suffice, by the nodes no deeper than `depth` (3 where it is not given), or which node does not hold. */
+  explain(pages: Data, certificate: Data, how?: { form?: "words" | "json"; depth?: number }): Explanation;
+  /** The pages of a transmission, as a listing. */
+  decode(transmission: Data): string;
+  /** What the pager of an address shows of a transmission, as a listing. */
+  hear(address: number, transmission: Data): string;
+}
+
+/** The number of the interface that this module was written for. */
+export const VERSION: number;
+export const DEFAULT_LIMIT: number;
+export const GREATEST_LIMIT: number;
+export const DEFAULT_DEPTH: number;
+
+/* The calls of a `Pocsag` over the file pocsag.wasm beside the module. */
+export const version: Pocsag["version"];
+export const plan: Pocsag["plan"];
+export const planAtMost: Pocsag["planAtMost"];
+export const report: Pocsag["report"];
+export const check: Pocsag["check"];
+export const explain: Pocsag["explain"];
+export const decode: Pocsag["decode"];
+export const hear: Pocsag["hear"];

@@ -1,0 +1,277 @@
+/* pocsag in WebAssembly: plans of paging rounds with the fewest batches, certificates of that, and what transmissions say.
+ *
+ *     import { plan } from "./pocsag.mjs";
+ *     const { batches, transmission, certificate } = plan("address,kind,message\n8,tone0,\n");
+ *
+ * Runs in Node 20 and later, in Deno and in browsers, with pocsag.wasm beside it. pocsag.d.ts describes each call. A page file
+ * is a string or bytes; bytes are a Uint8Array, another view or an ArrayBuffer. Each fault is an error: `name` is that of
+ * pocsag.h, `message` the program's text, `recordNumber` and `at` the place. */
+
+/* The name and the text of each status. */
+const STATUSES = {
+  2: ["BAD_END", "the end must be open, closed or idle"],
+  3: ["OUT_OF_MEMORY", "out of memory"],
+  4: ["BAD_RATE", "the rate must be 512, 1200 or 2400"],
+  5: ["BAD_LIMIT", "the limit must be 1 to 1000000"],
+  6: ["SEARCH_LIMIT", "search limit reached: at least {least} batches, {found} would do"],
+  11: ["BAD_FORM", "the form must be words or json"],
+  12: ["FIRST_PAGE", "page 1 needs {found} batches"],
+  17: ["PAGES_TOO_LARGE", "the file is too large"],
+  18: ["BAD_HEADER", "the header must be address,kind,message"],
+  19: ["FIELD_COUNT", "record {recordNumber}: three fields are wanted"],
+  20: ["BAD_ADDRESS", "record {recordNumber}: bad address"],
+  21: ["RESERVED_ADDRESS", "record {recordNumber}: reserved address"],
+  22: ["BAD_KIND", "record {recordNumber}: unknown kind"],
+  23: ["MESSAGE_FOR_TONE", "record {recordNumber}: a tone page has no message"],
+  24: ["EMPTY_MESSAGE", "record {recordNumber}: the message is empty"],
+  25: ["BAD_CHARACTER", "record {recordNumber}: bad character at {at}"],
+  26: ["TOO_LONG", "record {recordNumber}: the message is too long"],
+  27: ["DUPLICATE_ADDRESS", "record {recordNumber}: the address is already there"],
+  28: ["TOO_MANY_PAGES", "record {recordNumber}: too many pages"],
+  29: ["BAD_PAYLOAD", "record {recordNumber}: bad payload"],
+  30: ["NO_PAGES", "there are no pages"],
+  32: ["NOT_CERTIFICATE", "not a certificate"],
+  33: ["CERT_VERSION", "unknown certificate version"],
+  34: ["CERT_TRUNCATED", "the certificate is cut short"],
+  35: ["CERT_TRAILING", "bytes after the certificate"],
+  36: ["CERT_BAD_TAG", "the certificate is malformed"],
+  37: ["CERT_BAD_FIELD", "the certificate is malformed"],
+  38: ["CERT_TOO_DEEP", "the certificate is too deep"],
+  39: ["CERT_TOO_MANY", "the certificate has too many nodes"],
+  48: ["SHORT_PREAMBLE", "the preamble is too short"],
+  49: ["NO_SYNC", "batch {at}: no synchronisation codeword"],
+  50: ["BAD_WORD", "codeword {at}: not a codeword"],
+  51: ["ORPHAN", "codeword {at}: a message without an address"],
+  52: ["TRUNCATED", "the transmission is cut short"],
+  53: ["NO_BATCH", "the transmission has no batch"],
+  64: ["PAGER_BAD_ADDRESS", "bad address"],
+  65: ["PAGER_RESERVED_ADDRESS", "reserved address"],
+};
+
+/* Why a call did nothing. */
+export class Fault extends Error {
+  constructor(status, place = { recordNumber: 0, least: 0, found: 0, at: 0 }) {
+    const [name, text] = STATUSES[status] ?? ["UNKNOWN", `status ${status}`];
+    super(text.replace(/\{(\w+)\}/g, (_, word) => place[word]));
+    Object.assign(this, place, { status, name: `POCSAG_${name}` });
+  }
+}
+
+export const VERSION = 4;
+export const DEFAULT_LIMIT = 100_000, GREATEST_LIMIT = 1_000_000, DEFAULT_DEPTH = 3;
+const ENDS = ["open", "closed", "idle"], FORMS = ["words", "json"];
+const GREATEST = 2 ** 32 - 1;
+const MOST_BATCHES = 1_760_001;
+const LARGE = 2 ** 26; // bytes: memory never shrinks, so an instance that holds more is not kept for the next call
+
+/* The fields of what a call tells, with their bytes; a place stands behind them. */
+const PLACE = [["recordNumber", 4], ["least", 4], ["found", 4], ["at", 8]];
+const fields = (size, ...names) => names.map((name) => [name, size]);
+const PLAN = fields(4, "pages", "codewords", "inOrder", "batches", "bound");
+const FRONT = fields(4, "pages", "left", "codewords", "inOrder", "batches", "bound", "beyond");
+const CHECK = fields(4, "end", "batches");
+const REPORT = [...PLAN, ...fields(8, "idles", "bits", "airtimeMs")];
+
+/* Where each field stands, as a C compiler lays them out, and where the next structure may begin. */
+function layout(listed, start = 0) {
+  let end = start;
+  const places = listed.map(([name, size]) => {
+    const at = Math.ceil(end / size) * size;
+    end = at + size;
+    return [name, size, at];
+  });
+  return { places, end: Math.ceil(end / 8) * 8 };
+}
+
+const bytesOf = (data) => {
+  if (typeof data === "string") return new TextEncoder().encode(data);
+  if (ArrayBuffer.isView(data)) return new Uint8Array(data.buffer, data.byteOffset, data.byteLength);
+  if (data instanceof ArrayBuffer) return new Uint8Array(data);
+  throw new TypeError("a string or bytes are wanted");
+};
+const textOf = (bytes) => new TextDecoder("utf-8", { ignoreBOM: true }).decode(bytes);
+
+/* A number that the library takes; the fault of the status where it does not. */
+function number(value, status) {
+  if (!Number.isInteger(value)) throw new TypeError(`a whole number is wanted, not ${value}`);
+  if (value < 0 || value > GREATEST) throw status ? new Fault(status) : new RangeError(`0 to ${GREATEST} is wanted, not ${value}`);
+  return value;
+}
+
+/* The number of a name; the fault of the status where it is none. */
+function placeIn(names, name, status) {
+  if (!names.includes(name)) throw new Fault(status);
+  return names.indexOf(name);
+}
+
+/* Sizes of a transmission and of a certificate that suffice for the plan of so many bytes, as pocsag_plan_bound of pocsag.h
+ * gives them; and of the pages that are left, with their quotes. */
+function bound(length, limit) {
+  const records = Math.floor(Math.max(Math.min(length, 2 ** 28) - 20, 0)), pages = Math.min(Math.floor(records / 9), 20_000);
+  const codewords = Math.floor((records * 7) / 20) + 14 * pages, nodes = Math.min(Math.max(limit, 1), GREATEST_LIMIT);
+  const batches = Math.min(Math.floor(codewords / 16) + 2, MOST_BATCHES);
+  return { tx: 72 + 68 * batches, cert: 9 + Math.floor((9 * nodes - 3) / 2), rest: 2 * records + 3 * pages + 64 };
+}
+
+/* What one call holds of the module's memory: buffers, which `free` gives back. Memory that grows takes all views away, so
+ * each is made where it is used. */
+class Buffers {
+  constructor(exports) {
+    this.exports = exports;
+    this.held = [];
+  }
+
+  take(size) {
+    const address = this.exports.pocsag_take(BigInt(size));
+    if (address === 0n) throw new Fault(3);
+    this.held.push(address);
+    return address;
+  }
+
+  free() {
+    for (const address of this.held.reverse()) this.exports.pocsag_give(address);
+  }
+
+  view(address, size) {
+    return new Uint8Array(this.exports.memory.buffer, Number(address), size);
+  }
+
+  /* The address and the length of bytes that are read. */
+  put(bytes) {
+    const address = this.take(bytes.length);
+    this.view(address, bytes.length).set(bytes);
+    return [address, BigInt(bytes.length)];
+  }
+
+  /* A structure of so many bytes that are 0. */
+  zeroed(size) {
+    const address = this.take(size);
+    this.view(address, size).fill(0);
+    return address;
+  }
+
+  read(address, { places }) {
+    const view = new DataView(this.exports.memory.buffer, Number(address));
+    const value = (size, at) => (size === 8 ? Number(view.getBigUint64(at, true)) : view.getUint32(at, true));
+    return Object.fromEntries(places.map(([name, size, at]) => [name, value(size, at)]));
+  }
+}
+
+/* The calls of the library over a compiled module. Each runs at once and is done when it returns. */
+export class Pocsag {
+  #module;
+  #exports = null;
+
+  constructor(module) {
+    this.#module = module;
+  }
+
+  /* What the work gives with an instance of the module. One that trapped is lost, and one with much memory is not kept. */
+  #with(work) {
+    this.#exports ??= new WebAssembly.Instance(this.#module, {}).exports;
+    const buffers = new Buffers(this.#exports);
+    let isWhole = false;
+    try {
+      const given = work(buffers, this.#exports);
+      isWhole = true;
+      return given;
+    } catch (error) {
+      isWhole = error instanceof Fault;
+      throw error;
+    } finally {
+      if (isWhole) buffers.free();
+      if (!isWhole || this.#exports.memory.buffer.byteLength > LARGE) this.#exports = null;
+    }
+  }
+
+  /* Calls `name` with what it reads, buffers of these sizes and numbers, and gives its status, what it tells, and the texts in
+   * the buffers; the numbers may stand before the buffers. A buffer that is too small gets the size that was told. */
+  #call(name, told, { reads = [], first = [], sizes = [], numbers = [], address }) {
+    return this.#with((buffers, exports) => {
+      const head = address === undefined ? [] : [address];
+      const read = reads.flatMap((bytes) => buffers.put(bytes));
+      const info = layout(told), place = layout(PLACE, info.end);
+      for (;;) {
+        const outs = sizes.map((size) => ({ size, at: buffers.take(size), length: buffers.zeroed(8) }));
+        const at = buffers.zeroed(place.end);
+        const words = outs.flatMap((out) => [out.at, BigInt(out.size), out.length]);
+        const status = exports[name](...head, ...read, ...first, ...words, ...numbers, at) >>> 0;
+        const length = (out) => buffers.read(out.length, layout([["length", 8]])).length;
+        if (status >= 7 && status <= 14 && outs.some((out) => length(out) > out.size) && TOO_SMALL.has(status)) {
+          sizes = outs.map((out) => (out.size === 0 ? 0 : Math.max(out.size, length(out))));
+          continue;
+        }
+        if (status > 1 || (status === 1 && told !== CHECK)) throw new Fault(status, buffers.read(at, place));
+        const texts = outs.map((out) => (length(out) > out.size ? null : buffers.view(out.at, length(out)).slice()));
+        return { status, info: buffers.read(at, info), texts };
+      }
+    });
+  }
+
+  version() {
+    return this.#with((_, exports) => exports.pocsag_version());
+  }
+
+  plan(pages, { limit = DEFAULT_LIMIT, end = "open", always = true } = {}) {
+    const bytes = bytesOf(pages), numbers = [number(limit, 5), placeIn(ENDS, end, 2), Number(Boolean(always))];
+    const { tx, cert } = bound(bytes.length, limit);
+    const { info, texts } = this.#call("pocsag_plan", PLAN, { reads: [bytes], sizes: [tx, cert], numbers });
+    return { transmission: texts[0], certificate: texts[1], ...info };
+  }
+
+  planAtMost(pages, batches, { limit = DEFAULT_LIMIT, end = "open", always = true } = {}) {
+    const bytes = bytesOf(pages), numbers = [number(limit, 5), placeIn(ENDS, end, 2), Number(Boolean(always))];
+    const { tx, cert, rest } = bound(bytes.length, limit), sizes = [tx, cert, rest, cert];
+    const { info, texts } = this.#call("pocsag_plan_at_most", FRONT, { reads: [bytes], first: [number(batches)], sizes, numbers });
+    return { transmission: texts[0], certificate: texts[1], rest: textOf(texts[2]), why: texts[3], ...info };
+  }
+
+  report(pages, rate, { limit = DEFAULT_LIMIT, end = "open", always = true } = {}) {
+    const first = [number(rate, 4), number(limit, 5), placeIn(ENDS, end, 2), Number(Boolean(always))];
+    return this.#call("pocsag_report", REPORT, { reads: [bytesOf(pages)], first }).info;
+  }
+
+  check(pages, certificate) {
+    const { status, info } = this.#call("pocsag_check", CHECK, { reads: [bytesOf(pages), bytesOf(certificate)] });
+    return { isShown: status === 0, end: ENDS[info.end], batches: info.batches };
+  }
+
+  explain(pages, certificate, { form = "words", depth = DEFAULT_DEPTH } = {}) {
+    const reads = [bytesOf(pages), bytesOf(certificate)], first = [placeIn(FORMS, form, 11), number(depth)];
+    const { status, info, texts } = this.#call("pocsag_explain", CHECK, { reads, first, sizes: [2 ** 16] });
+    return { isShown: status === 0, end: ENDS[info.end], batches: info.batches, text: textOf(texts[0]) };
+  }
+
+  decode(transmission) {
+    const bytes = bytesOf(transmission);
+    return textOf(this.#call("pocsag_decode", [], { reads: [bytes], sizes: [listing(bytes)] }).texts[0]);
+  }
+
+  hear(address, transmission) {
+    const bytes = bytesOf(transmission);
+    return textOf(this.#call("pocsag_hear", [], { address: number(address, 64), reads: [bytes], sizes: [listing(bytes)] }).texts[0]);
+  }
+}
+
+/* The statuses of a buffer that is too small. */
+const TOO_SMALL = new Set([7, 8, 9, 10, 13, 14]);
+
+/* A size that suffices for the listings of most transmissions of so many bytes. */
+const listing = (bytes) => Math.min(2 * bytes.length, 2 ** 24) + 64;
+
+/* == From here on as an ES module: the library over the file beside this one. == */
+
+async function compiled(place) {
+  if (place.protocol !== "file:" || globalThis.Deno) return WebAssembly.compile(await (await fetch(place)).arrayBuffer());
+  return WebAssembly.compile(await (await import("node:fs/promises")).readFile(place));
+}
+
+const library = new Pocsag(await compiled(new URL("pocsag.wasm", import.meta.url)));
+export const version = () => library.version();
+export const plan = (pages, search) => library.plan(pages, search);
+export const planAtMost = (pages, batches, search) => library.planAtMost(pages, batches, search);
+export const report = (pages, rate, search) => library.report(pages, rate, search);
+export const check = (pages, certificate) => library.check(pages, certificate);
+export const explain = (pages, certificate, how) => library.explain(pages, certificate, how);
+export const decode = (transmission) => library.decode(transmission);
+export const hear = (address, transmission) => library.hear(address, transmission);
