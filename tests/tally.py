@@ -7,7 +7,9 @@ import subprocess
 import tempfile
 
 TOP = pathlib.Path(__file__).resolve().parents[1]
-PROGRAM = TOP / "crates/pocsag_app/out/pocsag_app"  # as the gate left it
+# The program as the gate left it, or another one, and where the C library is taken from, where it is not built.
+PROGRAM = pathlib.Path(os.environ.get("POCSAG_PROGRAM") or TOP / "crates/pocsag_app/out/pocsag_app")
+LIBRARY = os.environ.get("POCSAG_LIBRARY")
 # The words that ask `plan` and `report` for each end.
 ENDS = {"open": ["--end", "open"], "closed": ["--end", "closed"], "idle": ["--idle-last"]}
 

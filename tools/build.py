@@ -1,11 +1,13 @@
 #!/usr/bin/env python3
 """Proves and builds crates of this repository, as many at once as there are processors and memory for.
 
-    build.py program [NAME]   builds the whole program, or the program NAME where the whole one does not stand, and prints
-                              the path of the one that does; `./pocsag` calls it where a source has changed
+    build.py program          builds the whole program and prints its path
+    build.py program NAME     the same, or the program NAME where the whole one does not stand; `./pocsag` calls it where a source
+                              has changed. After an edit the toolchain's own compiler makes it, in less time than LLVM
     build.py proofs [CRATE..] proves and builds these crates, or all, with what they stand on
     build.py tests CRATE..    runs the tests of these crates, where what they stand on is built, and counts them
-    build.py ci               runs `rt ci`, takes the programs that it built, and builds the library for C
+    build.py ci               runs `rt ci` and takes the programs that it built; it says how long processors were busy with what
+    build.py library          builds the library for C over what `rt ci` left, with one job, as one thing to pass
 
 What an earlier call proved is not proved again. Exit status 0 where all of it stands, 3 where something does not.
 """
@@ -22,11 +24,13 @@ sys.dont_write_bytecode = True
 import kit
 import lanes
 import workspace
+from spent import watched
 from workspace import FIRST, TOP, WHOLE
 
 STATE = TOP / "out"  # never committed
 TEST_SECONDS = 3_600  # for each test: compiled with checks one of the greatest sizes takes minutes
 FUNCTIONS_FOR_JOBS = 20  # in a crate with fewer a second job gains nothing
+LLVM, QUICK = "llvm", "rattle"  # the compilers by the names that `rt` has for them; the second is the toolchain's own
 BASE = "pocsag_words"  # the crate that the whole build is compared with
 TAKEN = "begins with what a check kept"  # the toolchain says so where another copy of the repository has proved a crate
 NEEDS = "on four processors, with 2 GB of memory for each of them and 6 GB of disk"
@@ -62,17 +66,19 @@ class Product:
         self.sources = ["crates.txt", *workspace.sources(self.crates.values())]
         self.listing, self.sum = listing(self.sources), workspace.digest(self.sources)
 
-    def is_current(self):
+    def made_by(self):
+        """The compiler that made what stands of the sources as they are, or None."""
         try:
-            return self.path.is_file() and self.record.read_text().split("\n")[1] == self.sum
+            total, _, compiler = self.record.read_text().split("\n")[1].partition(" ")
         except (OSError, IndexError):
-            return False
+            return None
+        return compiler if self.path.is_file() and total == self.sum else None
 
-    def write_record(self):
-        """Writes down what it was built from; where that cannot be written, the next call looks again."""
+    def write_record(self, compiler=LLVM):
+        """Writes down what it was built from and by which compiler; where that cannot be written, the next call looks again."""
         fresh = self.record.with_suffix(f".{os.getpid()}")
         try:
-            fresh.write_text("\n".join([" ".join(self.sources), self.sum, self.listing]))
+            fresh.write_text("\n".join([" ".join(self.sources), f"{self.sum} {compiler}", self.listing]))
             fresh.replace(self.record)
         except OSError:
             pass
@@ -114,7 +120,7 @@ def prove(crates, names):
     """Proves and builds these of the crates, and shows what one that failed printed. At the end it tells how long that took and,
     where all was proved from nothing, how many times as long processors were busy as with the lowest crate."""
     if not shutil.which("rt"):
-        raise Refused("the command rt of the toolchain is missing: put the folder bin of its kit into PATH (README, Install)")
+        raise Refused("the command rt of the toolchain is missing: put the folder bin of its kit into PATH (README, Build it)")
     start, busy, begun = time.monotonic(), {}, []
     now = lambda: lanes.minutes(time.monotonic() - start)
     wanted = [crates[name] for name in names]
@@ -140,36 +146,41 @@ def prove(crates, names):
     say(f"proved in {now()}" + (f", {sum(busy.values()) / busy[BASE]:.1f} times {BASE}" if is_new and busy[BASE] else ""))
 
 
-def build_program(crates, name):
+def build_program(crates, name=None):
     """Builds a program where its sources are not those that it was built from; gives the path of the program that stands, which
-    is the whole one where that is current."""
+    is the whole one where that is current. Where no name is given, LLVM makes it, and otherwise where none stands."""
+    compilers = (LLVM, QUICK) if name else (LLVM,)
+    name = name or WHOLE
     products = [Product(crates, it) for it in dict.fromkeys((WHOLE, name))]
     wanted = products[-1]
-    current = next((it for it in products if it.is_current()), None)
+    current = next((it for it in products if it.made_by() in compilers), None)
     old = next((it for it in products if os.access(it.path, os.X_OK)), None)
     if old and not current and not shutil.which("rt"):
         say("the sources are not those that the program was built from, and the command rt is missing: the program may be old")
         return old.path
     if current:
-        current.write_record()
+        current.write_record(current.made_by())
         return current.path
     with alone():
-        current = next((it for it in products if it.is_current()), None)
+        current = next((it for it in products if it.made_by() in compilers), None)
         if current:
             return current.path
-        has_first = name == WHOLE and Product(crates, FIRST).is_current()
+        compiler = compilers[-1] if wanted.path.exists() else LLVM
+        if compiler != LLVM:
+            os.environ["RT_BACKEND"] = compiler
+        has_first = name == WHOLE and Product(crates, FIRST).made_by()
         say(MORE if has_first else WAITS[name])
         prove(crates, wanted.crates)
         if not os.access(wanted.path, os.X_OK):
             raise Refused(f"'rt run' left no program in {wanted.path.parent.relative_to(TOP)}")
-        wanted.write_record()
+        wanted.write_record(compiler)
     return wanted.path
 
 
 def build(crates, names):
     """Proves crates with what they stand on. A program or a library for C that stands as its sources are is left as it is."""
     products = {name: Product(crates, name) for name in names if crates[name].is_product}
-    wanted = workspace.below(crates, *(name for name in names if name not in products or not products[name].is_current()))
+    wanted = workspace.below(crates, *(name for name in names if name not in products or products[name].made_by() != LLVM))
     if wanted:
         with alone():
             prove(crates, wanted)
@@ -188,18 +199,31 @@ def run_tests(crates, names):
 
 
 def gate_of_toolchain(crates):
-    """Runs `rt ci`, which proves all crates from nothing and builds the programs; builds the library for C over the libraries that
-    it leaves; and writes down what these were built from. Each proof gets one job, since another would load what stands below
-    once more: that takes less of the processors, and more of the clock where the longest chain runs alone."""
+    """Runs `rt ci`, which proves all crates from nothing and builds the programs, and writes down what these were built from. Each proof
+    gets one job, since another would load what stands below once more: that takes less of the processors, and more of the clock where
+    the longest chain runs alone."""
     with alone():
-        products = {name: Product(crates, name) for name, crate in crates.items() if crate.is_product}
+        products = {name: Product(crates, name) for name, crate in crates.items() if crate.is_program}
         settings = {**os.environ, "RT_JOBS": str(lanes.width())}
-        status = subprocess.run(["rt", "ci"], cwd=TOP, stdin=subprocess.DEVNULL, env=settings).returncode
-        if not status:
-            prove(crates, [name for name in products if not crates[name].is_program])
+        process = subprocess.Popen(["rt", "ci"], cwd=TOP, stdin=subprocess.DEVNULL, env=settings, preexec_fn=lanes.end_with_parent)
+        spent = watched(process)
+        if not process.returncode:
             for it in products.values():
                 it.write_record()
-    return status
+    for name in ("tests", BASE):
+        say(f"spent {spent.get(name, 0):.0f} s on {name}")
+    return process.returncode
+
+
+def build_library(crates):
+    """Builds the library for C. `rt ci` proves it too and leaves nothing of a library for C, so it is proved here once more."""
+    name = next(it.name for it in crates.values() if it.is_product and not it.is_program)
+    os.environ["RT_JOBS"] = "1"
+    with alone():
+        product = Product(crates, name)
+        prove(crates, [name])
+        product.write_record()
+    print("1 passed, 0 failed")
 
 
 def main(words):
@@ -208,13 +232,15 @@ def main(words):
         crates = workspace.read_crates()
         verb, names = words[0], words[1:]
         if verb == "program":
-            print(build_program(crates, *names or [WHOLE]))
+            print(build_program(crates, *names))
         elif verb == "proofs":
             build(crates, names or [*crates])
         elif verb == "tests":
             return run_tests(crates, names)
         elif verb == "ci":
             return gate_of_toolchain(crates)
+        elif verb == "library":
+            build_library(crates)
         else:
             raise Refused(__doc__)
     except (Refused, workspace.BadList) as why:

@@ -4,6 +4,8 @@
 import io
 import os
 import pathlib
+import re
+import subprocess
 import sys
 import time
 
@@ -12,6 +14,7 @@ TOP = pathlib.Path(__file__).resolve().parents[2]
 sys.path[:0] = [str(TOP / "tests"), str(TOP / "tools")]
 from gate import Gate
 from lanes import Lanes, Task
+from spent import watched
 from tally import Tally
 
 # What a part prints, its status, and what the gate counts of it.
@@ -53,6 +56,19 @@ def try_others(tally):
     tally.check("one failure fails the whole", gate.end() == 1)
 
 
+def try_notes(tally):
+    """What a part says of the release is told again at the end, and what was left out is counted."""
+    gate = Gate(TOP, io.StringIO())
+    gate.part("part", "sh", "-c", "echo 'release 1.0.0 is of other sources'; echo 'the release 1'; echo '1 passed, 0 failed'")
+    for name in ("proofs", "wrong bodies"):
+        gate.skip(name)
+    tally.check("what is left out fails nothing", gate.end() == 0)
+    told = gate.out.getvalue().splitlines()
+    said, left = "release 1.0.0 is of other sources", "skipped, since they need the toolchain's command rt: proofs, wrong bodies"
+    tally.check("what is said of the release", told.count(said) == 2 and told.index(left) + 1 == len(told) - 1 - told[::-1].index(said), told)
+    tally.check("what is left out is named and counted", told[-1] == "1 passed, 0 failed, 2 skipped", told)
+
+
 def try_beside(tally):
     """The same parts side by side: the same counts, and what each prints stays together."""
     gate = Gate(TOP, io.StringIO())
@@ -74,6 +90,45 @@ def try_beside(tally):
     for it in "abc":
         tally.check(f"side by side: {it} is told whole", f"== {it}\n{it} begins\n{it} ends\n1 passed, 0 failed\n-- " in told, told)
     tally.check("side by side: no part waits for another", took < 1.4, took)
+
+
+def try_last(tally):
+    """The last parts begin once the first has passed, and not at all where it did not."""
+    for status, wanted in ((0, ["first", "last"]), (1, ["first"])):
+        gate = Gate(TOP, io.StringIO())
+        script = f"sleep 0.3; echo '1 passed, {status} failed'; exit {status}"
+        gate.beside([("first", "sh", "-c", script)], [("last", "echo", "1 passed, 0 failed")])
+        found = [line[3:] for line in gate.out.getvalue().splitlines() if line.startswith("== ")]
+        tally.check(f"the last parts after status {status}", found == wanted, gate.out.getvalue())
+
+
+def try_bill(tally):
+    """What processors were busy with, by kinds of parts and as multiples of the lowest crate."""
+    gate = Gate(TOP, io.StringIO())
+    busy = f"{sys.executable} -c 'import time\nwhile time.process_time() < {{}}: pass'; echo '1 passed, 0 failed'".format
+    gate.part("proofs", "sh", "-c", f"{busy(1)}; echo 'pocsag: spent 1 s on tests'; echo 'pocsag: spent 2 s on pocsag_words'")
+    gate.beside([("wrong bodies of a", "sh", "-c", busy(1.2) + "; echo 'a: tried 3 of 9 wrong bodies in 1 rounds'"),
+                 ("wrong bodies of b", "sh", "-c", busy(1.2) + "; echo 'b: tried 0 of 4 wrong bodies in 0 rounds'"), ("a script", "sh", "-c", busy(0.1))])
+    gate.end()
+    told = [line for line in gate.out.getvalue().splitlines() if line.startswith("spent ")]
+    for name, wanted in [("tests", r"0:01 minutes of processors, 0\.5 w, on tests"), ("proofs", r"0:00 minutes of processors, 0\.\d w, on proofs"),
+                         ("wrong bodies", r"0:02 minutes of processors, 1\.\d w, on wrong bodies \(3 of 13 tried\)"),
+                         ("scripts", r"0:00 minutes of processors, 0\.\d w, on scripts"), ("all", r"0:0\d minutes of processors, \d\.\d w, on all")]:
+        tally.check(f"the bill has {name}", any(re.fullmatch(f"spent {wanted}", line) for line in told), told)
+    gate = Gate(TOP, io.StringIO())
+    gate.part("proofs", "echo", "1 passed, 0 failed")
+    gate.end()
+    tally.check("no multiple without the lowest crate", " w," not in gate.out.getvalue(), gate.out.getvalue())
+
+
+def try_spent(tally):
+    """The seconds of processes below another, by what they are for; a process counts for those below it."""
+    busy = "import os, sys, time\nif len(sys.argv) > 3: os.fork()\nwhile time.process_time() < 1.5: pass\nif len(sys.argv) > 3: time.sleep(2.5)"
+    words = [f"{sys.executable} -c '{busy}' {more} &" for more in ("--crate-name low", "--crate-name low fork", "--crate-name low --test", "beside")]
+    spent = watched(subprocess.Popen(["sh", "-c", "\n".join([*words, "wait"])]))
+    tally.check("the kinds of processes", spent.keys() == {"low", "tests"}, spent)
+    for name, wanted in (("low", 4.5), ("tests", 3)):
+        tally.check(f"the time of {name}", wanted - 1.4 < spent.get(name, 0) < wanted + 0.6, spent)
 
 
 def try_lanes(tally):
@@ -104,8 +159,12 @@ def main():
     for row in PARTS:
         try_part(tally, *row)
     try_others(tally)
+    try_notes(tally)
     try_beside(tally)
     try_lanes(tally)
+    try_last(tally)
+    try_bill(tally)
+    try_spent(tally)
     return tally.end()
 
 

@@ -2,8 +2,8 @@
 
 import re
 
-from source import (CYCLE, REQUIRES, all_functions, constant_at, function_at, functions_of, hollow, homes_of, joined, module_of,
-                    outside_its_cycle, own_name, with_one_clause)
+from source import REQUIRES, hollow, outside_its_cycle, with_one_clause
+from sources import CYCLE, all_functions, constant_at, function_at, functions_of, homes_of, joined, module_of, own_name
 
 UNOFFERED = "\npub unoffered : Unoffered\nunoffered = Unoffered\n"  # fits nothing
 HOLE = "pub anything {ℓ} : {A : Type ℓ} → A\nanything = ?\n"  # stands for each proof that a check takes as given
@@ -12,11 +12,6 @@ HOLE = "pub anything {ℓ} : {A : Type ℓ} → A\nanything = ?\n"  # stands for
 def proof_folder(unit):
     """The folder of the proof files of a function or a cycle."""
     return f"proofs/{unit.replace('::', '/')}"
-
-
-def dotted(folder):
-    """The start of the names of the modules in a folder."""
-    return folder.replace("/", ".") + "."
 
 
 class Unfit(Exception):
@@ -71,36 +66,38 @@ class Edit:
             if not function and not old.startswith("use "):
                 self.is_alone = True  # others may see what it changes
         self.functions = list(found.values())
+        self.judged = {it.name for it in self.functions} | {*filter(None, [self.function])}
+        self.places = [(texts[path], texts[path].partition(old)[0].count("\n")) for path, old, _ in self.pairs if old in texts[path]]
         if self.function and self.function not in [it.name for it in self.functions]:
             self.is_alone = True
         return self
 
-    def copied(self, texts, number):
-        """Plants the edit in a copy of its function that stands behind it, under a name with this number, so that any number
+    def copied(self, texts, mark):
+        """Plants the edit in a copy of its function that stands behind it, under a name with this mark, so that any number
         of edits of one function can be tried side by side; one of a constant in a copy of the constant, for a copy of the function
         that must be refused. A copy of a function in a cycle of calls is in none, since it calls the right ones. The edit stays in
         its place where a copy would not do: in the method of a trait, in a function that has a proof of its own, where it changes
         more than one function, and where the function does not name the constant."""
         if len(self.functions) == 1 and not self.is_alone and self.function in (None, self.functions[0].name):
-            self.copy(texts, number, self.pairs[0][0], self.functions[0], [(old, new) for _, old, new in self.pairs])
+            self.copy(texts, mark, self.pairs[0][0], self.functions[0], [(old, new) for _, old, new in self.pairs])
         elif len(self.pairs) == 1 and not self.functions:
             path, old, new = self.pairs[0]
-            name, item = constant_at(texts[path], texts[path].partition(old)[0].count("\n")) or (None, "")
+            name, item = constant_at(texts[path], texts[path].partition(old)[0].count("\n")) 
             place, function = all_functions(texts).get(self.function, (None, None))
             if name and function and old in item:
-                other = f"{name}_COPY_{number}"
+                other = f"{name}_COPY_{mark}"
                 copy = re.sub(rf"\b{name}\b", other, item.replace(old, new), count=1)
                 named = other if place == path else joined("crate", module_of(path), other)
-                self.copy(texts, number, place, function, [(name, named)], [(path, item, f"{item}\n\n{copy}")])
+                self.copy(texts, mark, place, function, [(name, named)], [(path, item, f"{item}\n\n{copy}")])
 
-    def copy(self, texts, number, path, function, pairs, beside=()):
+    def copy(self, texts, mark, path, function, pairs, beside=()):
         """Plants a copy of a function in which each first text of these pairs has become the second, and other pairs beside it, where a
         copy can be made."""
         own, body = own_name(function.name), "\n".join(texts[path].split("\n")[function.first:function.last + 1])
         folders = function.proof_folders()
         if function.is_of_trait or any(f"{it}/Proof.antt" in texts for it in folders) or any(old not in body for old, _ in pairs):
             return
-        copy, copied = CYCLE.sub("", body), function.named(f"{own}_copy_{number}")
+        copy, copied = CYCLE.sub("", body), function.named(f"{own}_copy_{mark}")
         for old, new in pairs:
             copy = copy.replace(old, new)
         copy = re.sub(rf"\bfn {own}\b", f"fn {own_name(copied.name)}", copy, count=1)
@@ -108,11 +105,11 @@ class Edit:
         self.function, self.is_alone, self.is_copied = None, False, True
         members = {own_name(name): REQUIRES.findall("\n".join(texts[place].split("\n")[it.first:it.last]))
                    for name, (place, it) in all_functions(texts).items() if it.unit == function.unit}
-        for folder in folders:
+        for folder, to in ((it, proof_folder(copied.unit)) for it in folders):
             for file in [it for it in texts if it.startswith(f"{folder}/")]:
-                mine = texts[file].replace(dotted(folder), dotted(proof_folder(copied.unit)))
+                mine = texts[file].replace(f"{folder}/".replace("/", "."), f"{to}/".replace("/", "."))
                 mine = outside_its_cycle(mine, own, members) if "/+" in folder else mine
-                self.added[proof_folder(copied.unit) + file.removeprefix(folder)] = mine
+                self.added[to + file.removeprefix(folder)] = mine
 
     def names(self):
         """The functions that have to be checked, or none where those are that rest on what is changed."""
@@ -194,7 +191,7 @@ def rounds_of(edits, texts):
     for it in rounds:
         right = not it.edits[0].is_alone and right_change(texts, it.units)
         if right:
-            right.copied(texts, len(edits))
+            right.copied(texts, "right")
             it.take(right)
             break
     return [it.edits for it in rounds]
@@ -227,15 +224,10 @@ def right_change(texts, taken):
             if opens is None or function.unit in taken or name.startswith("tests::"):
                 continue
             old = "\n".join(lines[:opens + 1])
-            if names & called_before_brackets("\n".join(lines[opens + 1:])) or texts[path].count(old) > 1:
+            if names & {*re.findall(r"\w+(?=\()", "\n".join(lines[opens + 1:]))} or texts[path].count(old) > 1:
                 continue
             edit = Edit("a change that is right", "")
             edit.pairs = [(path, old, old + "\n    let _right = 0_u8;")]
             edit.functions, edit.is_right = [function], True
             return edit
     return None
-
-
-def called_before_brackets(body):
-    """The names that stand before a bracket."""
-    return set(re.findall(r"\w+(?=\()", body))

@@ -5,11 +5,9 @@ import pathlib
 import re
 import shutil
 import subprocess
-import sys
 
-sys.path.insert(0, str(pathlib.Path(__file__).resolve().parents[2] / "tools"))
 import kit
-from source import function_at, functions_of, homes_of
+from sources import OF_FUNCTIONS, function_at, functions_of, homes_of
 from workspace import PARTS
 
 MINUTES = 40  # the longest that one check may take
@@ -20,7 +18,6 @@ PROVED = re.compile(r"proved|no holes|depends on a hole in .*")  # the latter tw
 OWN = re.compile(r"not proved|no proof: (?!it calls|it passes|a call of)")
 SEARCHED = re.compile(r"`search` did not prove (`.*)")
 CLAUSE = re.compile(r"`(?:\w+-)?returns")  # the name of a goal that a clause asks for; in a cycle behind a function's
-OF_FUNCTIONS = ("Answers.antt", "Invariants.antt", "Proof.antt")
 # A proof file that names something which the edit took away, and what cites that proof.
 UNFITTING = re.compile(r"has no field|is not in scope|has no `|was not admitted|which was rejected|expected a declaration")
 UNOFFERED = "`unoffered`"  # the line that was planted in a proof file and fits nothing
@@ -41,10 +38,6 @@ class Said:
             if found and (found[3].startswith("error") or "it is not proved that" in found[3]):
                 more = [it.strip() for it in self.lines[number + 1:number + 2] if it.startswith("  ")]
                 self.places.append((found[1], int(found[2]) - 1, " ".join([found[3], *more])))
-
-    def refused(self):
-        """The names of all functions whose own goals were not proved."""
-        return [name for name, status in self.statuses.items() if OWN.match(status)]
 
     def unreadable(self):
         """The places at which a text of the sources could not be read at all."""
@@ -74,7 +67,7 @@ class Planted:
 
     def refused_units(self):
         """The units with a goal of their own that was not proved."""
-        return {it.unit for it in map(self.by_name, self.said.refused()) if it}
+        return {it.unit for name, status in self.said.statuses.items() if OWN.match(status) for it in [self.by_name(name)] if it}
 
     def goals(self, unit):
         """What is said of the unit's own open goals: at its lines, in its proof files, by its status."""

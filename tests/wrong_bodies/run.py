@@ -1,7 +1,11 @@
 #!/usr/bin/env python3
-"""Tries wrong bodies: the prover must refuse each function in which one is planted. `./test --mutations` calls this.
+"""Tries wrong bodies: the prover must refuse each function in which one is planted.
 
-  python3 tests/wrong_bodies/run.py CRATE..    the crates; what stands below them must be built as it is
+  run.py CRATE..          tries those of these crates that have no line in the crate's file of verdicts, and writes it: for
+                          `./test --mutations`. What stands below the crates must be built as it is
+  run.py --gate CRATE..   tries these and one in ten of the others, and writes nothing: for `./test --from-nothing`
+  run.py --all CRATE..    tries all, and writes nothing
+  run.py --files          tries none, and wants each line of these files to be one that a run with these sources wrote
 
 A wrong body is a file `.edit` in crates/CRATE/must-fail or tests/wrong_bodies/CRATE: a line `file: src/x.rt`, then
 pairs of lines `old: TEXT` and `new: TEXT`, where each old text stands once in the file. The function that must be
@@ -9,23 +13,22 @@ refused is the one around the text; a line `function: MODULE::NAME` (as the prov
 another, and a line `clause: NAME` the clause that it is tried against first; what that does not refuse is tried against
 the whole contract.
 
-The verdict on a function rests on its own body and on the contracts of what it calls. So nearly all wrong bodies of a
-crate are tried in one check of a copy of the crate, a round, each in a copy of its function beside the right one, where
-all other functions have an empty body and a hole for a proof. The copy of a function in a cycle of calls calls the right
-ones, so that it is in none. A method of a trait is changed in its place, and holds one in a round. A wrong body counts as
-refused where a goal of its own function stays open, and not because a proof file no longer fits. What is not refused in
-its round is tried alone, in the crate as it is.
-What others may see, and no named function is refused for, has a round of its own. A round also holds a change that is
-right, which must be proved.
+The verdict on a function rests on its own body and on the contracts of what it calls (basis.py). So nearly all wrong
+bodies of a crate are tried in one check of a copy of the crate, a round, each in a copy of its function beside the right
+one, where all other functions have an empty body and a hole for a proof. The copy of a function in a cycle of calls calls
+the right ones, so that it is in none. A method of a trait is changed in its place, and holds one in a round. What others
+may see, and no named function is refused for, has a round of its own. A wrong body counts as refused where a goal of its
+own function stays open, and not because a proof file no longer fits. What is not refused in its round is tried alone, in
+the crate as it is. A round also holds a change that is right, which must be proved.
 
-A wrong body that was refused is not tried again until it, its crate, what that stands on, the toolchain or these
-scripts change: out/mutations keeps what was said. The last line is 'N passed, M failed'; the status is 0 where M is 0.
+The last line is 'N passed, M failed'; the status is 0 where M is 0.
 """
 
+import functools
 import hashlib
-import json
-import os
+import inspect
 import pathlib
+import re
 import subprocess
 import sys
 import tempfile
@@ -34,18 +37,19 @@ import typing
 sys.dont_write_bytecode = True
 HERE = pathlib.Path(__file__).resolve().parent
 sys.path[:0] = [str(HERE), str(HERE.parent), str(HERE.parents[1] / "tools")]
+import kit
 import lanes
 import workspace
+from basis import Basis
 from edits import given, narrowed, read_edits, rounds_of, unoffered
 from prover import PROVED, Room
+from sources import texts_of
 from tally import TOP, Tally
 
-
-def texts_of(crate):
-    """The texts of the crate's files by their paths."""
-    files = [it for part in workspace.PARTS for it in sorted((crate.folder / part).rglob("*")) if it.is_file()]
-    return {str(it.relative_to(crate.folder)): it.read_text() for it in files}
-
+FILE = "refused.txt"
+SCRIPTS = [f"tests/wrong_bodies/{it}.py" for it in ("basis", "edits", "prover", "run", "source")] + ["tools/sources.py"]
+OPTIONS = ("--all", "--files", "--gate")
+GOAL = re.compile(r"\(`([^`\s]+)`\)|error: `([^`\s]+)`:|: `([^`\s]+)")
 
 class Verdict(typing.NamedTuple):
     """Whether an edit did as it must, what to say of it, and the units that were refused beside its own."""
@@ -55,32 +59,73 @@ class Verdict(typing.NamedTuple):
     elsewhere: set = frozenset()
 
 
-class Kept:
-    """What was said of the wrong bodies of a crate that were refused, by a sum of what each verdict rests on."""
+class Verdicts:
+    """What refused the wrong bodies of a crate, as the file of its verdicts has it: a line for each, with its name, a sum of all that
+    the verdict rests on, and the goal that was not proved, or `-` where that is of no clause of this repository."""
 
-    def __init__(self, crate, below):
-        """What is known of a crate, which comes last of the crates below it."""
-        self.file = TOP / "out/mutations" / f"{crate.name}.json"
-        version = subprocess.run(["rt", "version"], stdout=subprocess.PIPE, text=True).stdout
-        scripts = workspace.digest(("edits.py", "prover.py", "run.py", "source.py"), HERE)
-        sources = workspace.digest(workspace.sources(below), TOP)
-        self.base = repr((version, scripts, [it.line for it in below], sources))
-        try:
-            self.told = json.loads(self.file.read_text())
-        except (OSError, ValueError):
-            self.told = {}
+    def __init__(self, crate, basis, files, choose=lambda name: False):
+        """Reads a crate's edits and its file of verdicts. Those whose names are chosen are tried whatever the file says."""
+        self.crate, self.file, self.choose = crate, TOP / "tests/wrong_bodies" / crate.name / FILE, choose
+        self.texts = texts_of(crate)
+        self.good, self.bad = read_edits(files, self.texts)
+        self.rests = {it.name: basis.texts(crate, it, self.texts) for it in self.good}
+        self.sums = {name: hashlib.sha256(repr((toolchain(), rests)).encode()).hexdigest()[:16] for name, rests in self.rests.items()}
+        self.lines = self.file.read_text().splitlines() if self.file.is_file() else []
+        self.known = {line.split()[0]: line for line in self.lines if not self.why_not(line)}
 
-    def sum(self, edit):
-        return hashlib.sha256(repr((self.base, edit.name, edit.text, edit.function)).encode()).hexdigest()
+    def why_not(self, line):
+        """Why a line is none that a run with these sources would have written; nothing where it is one."""
+        name, total, goal = (line.split(" ") + ["", ""])[:3]
+        if name not in self.sums or line != f"{name} {total} {goal}":
+            return "no wrong body has this name"
+        if total != self.sums[name]:
+            return "what its verdict rests on has changed since"
+        clause = re.search(r"-clause-(\w+)$", goal)
+        wanted = rf"(?:ensures|requires) {clause[1]} \{{" if clause else "ensures " if goal.startswith("returns") else ""
+        return "" if any(re.search(wanted, it) for it in self.rests[name]) else "its clause does not exist"
 
-    def write(self, edits):
-        """Writes down what is known of these edits, and of no others."""
-        sums = {self.sum(it) for it in edits}
-        self.told = {it: told for it, told in self.told.items() if it in sums}
-        self.file.parent.mkdir(parents=True, exist_ok=True)
-        fresh = self.file.with_suffix(f".{os.getpid()}")
-        fresh.write_text(json.dumps(self.told))
-        fresh.replace(self.file)
+    def add(self, edit, told):
+        """Adds what a run said of a wrong body that was refused."""
+        found = GOAL.search(told)
+        line = f"{edit.name} {self.sums[edit.name]} " + (re.sub(r"_copy_\d+", "", next(filter(None, found.groups()))) if found else "-")
+        self.known[edit.name] = f"{edit.name} {self.sums[edit.name]} -" if self.why_not(line) else line
+
+    def write(self):
+        lines = [self.known[name] for name in sorted(self.known)]
+        if lines != self.lines:
+            self.file.write_text("".join(f"{it}\n" for it in lines))
+            self.lines = lines
+
+    def wrong(self):
+        """The lines that no run with these sources would have written, each with why."""
+        names = [it.partition(" ")[0] for it in self.lines]
+        return [f"{name}: {self.why_not(line) or 'it has two lines'}" for at, (name, line) in enumerate(zip(names, self.lines))
+                if self.why_not(line) or name in names[:at]]
+
+
+def printed(command):
+    """What a command prints; nothing where it is missing."""
+    return subprocess.run(["sh", "-c", f"{command} 2> /dev/null"], cwd=TOP, stdout=subprocess.PIPE, text=True).stdout.strip()
+
+
+@functools.cache
+def toolchain():
+    """What each verdict rests on beside sources: the toolchain and these scripts."""
+    return printed("rt version"), workspace.digest(SCRIPTS), inspect.getsource(kit.check_words)
+
+
+def turn():
+    """Which tenth of the wrong bodies a landing tries again. The number of commits says so, since ten that follow each other then try
+    all; where the history is cut off, the name of the last one does. None where there is no history: then all are tried."""
+    git = lambda words: printed(f"git -c safe.directory='*' {words}")
+    if git("rev-parse --is-shallow-repository") == "false":
+        return int(git("rev-list --count --first-parent HEAD") or 0) % 10
+    name = git("rev-parse HEAD")
+    return int(name, 16) % 10 if name else None
+
+
+def is_in_turn(crate, number, name):
+    return number is None or int(hashlib.sha256(f"{crate.name}/{name}".encode()).hexdigest(), 16) % 10 == number
 
 
 def judged(seen, edit, is_alone):
@@ -146,45 +191,46 @@ def verdicts(room, edits, texts):
     return found
 
 
-def edits_of(crate, files):
-    """The crate's texts, the edits of these files that can be planted in them, and by name why another cannot."""
-    texts = texts_of(crate)
-    return texts, *read_edits(files, texts)
-
-
-def try_crate(crate, below, files, kept=None):
+def try_crate(known, below, writes=False):
     """Tries a crate's edits. Yields a name, whether it holds and what to say, for each of them and for the change that is right."""
-    texts, good, bad = edits_of(crate, files)
-    yield from ((name, False, f"BAD EDIT: {why}") for name, why in bad.items())
-    told = {it: kept.told[kept.sum(it)] for it in good if kept and kept.sum(it) in kept.told}
-    yield from ((it.name, True, said) for it, said in told.items())
-    plan = rounds_of([it for it in good if it not in told], texts)
+    yield from ((name, False, f"BAD EDIT: {why}") for name, why in known.bad.items())
+    left = [it for it in known.good if it.name not in known.known or known.choose(it.name)]
+    yield from ((it.name, True, "was refused before") for it in known.good if it not in left)
+    plan = rounds_of(left, known.texts)
     if plan and not any(it.is_right for edits in plan for it in edits) and any(not edits[0].is_alone for edits in plan):
         yield "a change that is right", False, "no function was found to make it in"
     with tempfile.TemporaryDirectory(prefix="wrong-bodies-") as folder:
-        room = Room(crate, below, folder) if plan else None
-        for edits in plan:
-            for edit, it in verdicts(room, edits, texts).items():
+        room = Room(known.crate, below, folder) if plan else None
+        for edits in [*plan, []]:
+            for edit, it in (verdicts(room, edits, known.texts) if edits else {}).items():
                 yield edit.name, it.holds, it.told
-                if kept and it.holds and not edit.is_right:
-                    kept.told[kept.sum(edit)] = it.told
-            if kept:
-                kept.write(good)
-    print(f"{crate.name}: {len(plan)} rounds, {len(told)} of {len(good)} wrong bodies were refused before")
+                if it.holds and not edit.is_right:
+                    known.add(edit, it.told)
+            if writes:
+                known.write()
+    print(f"{known.crate.name}: tried {len(left)} of {len(known.good)} wrong bodies in {len(plan)} rounds")
 
 
 def main(words):
     lanes.end_on_signals()  # so that the copies go
     crates, tally = workspace.read_crates(), Tally()
-    if not words or not crates.keys() >= {*words}:
-        print(f"wrong_bodies: names of crates are wanted, as crates.txt has them, and not {' '.join(words)}", file=sys.stderr)
+    option, names = (words[0], words[1:]) if words and words[0] in OPTIONS else ("", words)
+    if not crates.keys() >= {*names} or bool(names) == (option == "--files"):
+        print(__doc__, file=sys.stderr)
         return 2
-    for name in words:
-        *below, crate = workspace.below(crates, name).values()
-        for edit, holds, told in try_crate(crate, below, crate.edits(), Kept(crate, [*below, crate])):
-            tally.check(f"wrong body {name}/{edit}", holds, told)
+    number, basis = turn() if option == "--gate" else None, Basis(crates) if option == "--files" else None
+    for crate in crates.values() if option == "--files" else []:
+        wrong = Verdicts(crate, basis, crate.edits()).wrong()
+        told = f"lines that no run with these sources wrote: {len(wrong)} ({'; '.join(wrong[:3])}). Run ./test --mutations {crate.name}"
+        tally.check(f"tests/wrong_bodies/{crate.name}/{FILE}", not wrong, told)
+    for crate in map(crates.get, names):
+        below = workspace.below(crates, crate.name)
+        choose = functools.partial(is_in_turn, crate, number) if option else lambda name: False
+        known = Verdicts(crate, Basis(below), crate.edits(), choose)
+        for edit, holds, told in try_crate(known, [it for it in below.values() if it is not crate], not option):
+            tally.check(f"wrong body {crate.name}/{edit}", holds, told)
             if holds and told.startswith("refused"):
-                print(f"wrong body {name}/{edit}: {told}", flush=True)
+                print(f"wrong body {crate.name}/{edit}: {told}", flush=True)
     return tally.end()
 
 

@@ -1,14 +1,11 @@
 #!/usr/bin/env python3
 """Tries the script that tries wrong bodies.
 
-  python3 tests/wrong_bodies/selftest.py             without the prover: each wrong body can be planted; with a prover that
-                                                     is played, a body that spoils its round is found by halving, and what
-                                                     was refused is kept until something changes; contracts are narrowed
-                                                     to the clause that is to be refused, and what need not be refused
-                                                     is emptied
-  python3 tests/wrong_bodies/selftest.py --prover    with the prover: among wrong bodies of pocsag_text stand a body that is
-                                                     right, one that does not compile and one that only no longer fits its
-                                                     proof file, and are reported by name
+  selftest.py             without the prover: each wrong body can be planted; with a prover that is played, a body that spoils
+                          its round is found, and what was refused is kept until what its verdict rests on changes; contracts
+                          are narrowed to the clause that is to be refused, and what need not be refused is emptied
+  selftest.py --prover    with the prover: among wrong bodies of pocsag_text stand a body that is right, one that does not
+                          compile and one that only no longer fits its proof file, and are reported by name
 
 The last line is 'N passed, M failed'.
 """
@@ -18,13 +15,15 @@ import re
 import sys
 
 sys.dont_write_bytecode = True
-sys.path[:0] = [str(pathlib.Path(__file__).resolve().parent), str(pathlib.Path(__file__).resolve().parents[1])]
+HERE = pathlib.Path(__file__).resolve().parent
+sys.path[:0] = [str(HERE), str(HERE.parent)]
 import run
-from edits import Edit, given, narrowed
+from basis import Basis
+from edits import Edit, given, narrowed, read_edits
 from prover import Planted, Said
-from source import functions_of
+from sources import functions_of, texts_of
 from tally import run_parts
-from workspace import TOP, below, read_crates
+from workspace import below, read_crates
 
 CRATE = "pocsag_text"
 RENAMED = [("let mut len = text.len();", "let mut left = text.len();"), ("while len > 0 {", "while left > 0 {"),
@@ -46,7 +45,8 @@ def test_rounds(tally, folder):
         text = "".join(f"old: {old}\nnew: {new}\n" for old, new in pairs)
         (folder / f"{name}.edit").write_text(f"file: {path}\n{text}")
     wrong = crate.edits()[::4]
-    found = {name: (holds, told) for name, holds, told in run.try_crate(crate, lower, [*wrong, *folder.glob("*.edit")])}
+    verdicts = run.Verdicts(crate, Basis(below(read_crates(), CRATE)), [*wrong, *folder.glob("*.edit")], lambda name: True)
+    found = {name: (holds, told) for name, holds, told in run.try_crate(verdicts, lower)}
     for name in ("a change that is right", *(it.stem for it in wrong)):
         tally.check(name, found.get(name, (False,))[0], found.get(name))
     for name, (_, _, wanted) in PLANTED.items():
@@ -57,11 +57,17 @@ def test_rounds(tally, folder):
 def test_fit(tally, _):
     """Each wrong body is one of a crate, and can be planted in its sources."""
     crates = read_crates()
-    for folder in sorted({it.parent for it in (TOP / "tests/wrong_bodies").glob("*/*.edit")}):
+    for folder in sorted({it.parent for name in ("*.edit", run.FILE) for it in HERE.glob(f"*/{name}")}):
         tally.check(f"wrong bodies of {folder.name}", folder.name in crates, "crates.txt has no such crate, so they are not tried")
     for crate in crates.values():
-        _, _, bad = run.edits_of(crate, crate.edits())
+        _, bad = read_edits(crate.edits(), texts_of(crate))
         tally.check(f"wrong bodies of {crate.name} can be planted", not bad, bad)
+
+
+def sections(name):
+    """The texts of a file of samples by their paths."""
+    parts = re.split(r"^==== (.*)\n", (HERE / "selftest" / name).read_text(), flags=re.MULTILINE)
+    return dict(zip(parts[1::2], parts[2::2]))
 
 
 class Played:
@@ -96,132 +102,93 @@ def test_halving(tally, _):
     tally.check("played, fine", found["edit6"].told == "NOT REFUSED", found["edit6"])
 
 
-def test_kept(tally, top):
-    """What was refused is not tried again until it, its crate or what that stands on changes; what was not is."""
+def put(top, sources):
+    for path, text in sources.items():
+        (top / path).parent.mkdir(parents=True, exist_ok=True)
+        (top / path).write_text(text)
+
+
+def verdicts_of(top, name, **more):
+    crates = below(read_crates(top), name)
+    return crates, run.Verdicts(crates[name], Basis(crates), crates[name].edits(top), **more)
+
+
+def test_sums(tally, top):
+    """The sum of a verdict changes with each thing that it rests on, and with no other."""
+    put(top, sections("two_crates.txt"))
+    before = verdicts_of(top, "high")[1].sums
+    for row in (HERE / "selftest/changes.txt").read_text().splitlines()[1:]:
+        wanted, name, path, old, new = row.replace("\\n", "\n").split(" | ")
+        text = (top / path).read_text()
+        (top / path).write_text(text.replace(old, new, 1))
+        found = "lacks it" if old not in text else "changes" if verdicts_of(top, "high")[1].sums != before else "stays"
+        tally.check(f"the sum with {name} {wanted}", found == wanted, found)
+        (top / path).write_text(text)
+    tally.check("the sum with nothing", verdicts_of(top, "high")[1].sums == before)
+    made, run.toolchain = run.toolchain, lambda: "another"
+    tally.check("the sum with another toolchain", verdicts_of(top, "high")[1].sums != before)
+    run.toolchain = made
+    missing = {f"tests/wrong_bodies/{it.name}" for it in HERE.glob("*.py")}.difference(run.SCRIPTS)
+    tally.check("the scripts that it covers", missing == {"tests/wrong_bodies/selftest.py"}, missing)
+
+
+def test_kept(tally, folder):
+    """What was refused is not tried again until what its verdict rests on changes, or it is chosen; what was not is. A line that
+    no run wrote is told."""
+    top = folder / "kept"
     run.TOP, run.Room, run.print = top, Played, lambda *_: None
     source = "\n".join(f"fn f{it}()\n    ensures {{ a }}\n{{\n    right_{it}\n}}\n" for it in "abc")
-    for name in ("low", "high"):
-        (top / "crates" / name / "src").mkdir(parents=True)
-        (top / "crates" / name / "src/lib.rt").write_text(source)
-    (top / "crates.txt").write_text("low:\nhigh: low\n")
-    edits = top / "tests/wrong_bodies/high"
-    edits.mkdir(parents=True)
+    put(top, {"crates/low/src/lib.rt": source, "crates/high/src/lib.rt": source, "crates.txt": "low:\nhigh: low\n", "tests/wrong_bodies/high/none.txt": ""})
+    edits, edit = top / "tests/wrong_bodies/high", "file: src/lib.rt\nold: {}\nnew: {}\n".format
 
-    def tried(name, checks, passed):
-        crates = read_crates(top)
-        kept, before = run.Kept(crates["high"], [*crates.values()]), Played.checks
-        results = {it: (holds, said) for it, holds, said in run.try_crate(crates["high"], [crates["low"]], crates["high"].edits(top), kept)}
+    def tried(name, checks, passed, is_kept=True, **more):
+        crates, verdicts = verdicts_of(top, "high", **more)
+        before = Played.checks
+        results = {it: (holds, said) for it, holds, said in run.try_crate(verdicts, [crates["low"]], is_kept)}
         tally.check(name, (Played.checks - before > 0, sum(holds for holds, _ in results.values())) == (checks, passed), (Played.checks - before, results))
 
-    edit = "file: src/lib.rt\nold: {}\nnew: {}\n".format
     for name, path, text, checks, passed in [
         ("a wrong body is tried, beside a change that is right", edits / "one.edit", edit("right_a", "wrong"), True, 2),
         ("and not again", None, "", False, 1),
         ("one more is tried", edits / "two.edit", edit("right_b", "fine"), True, 2),
         ("what is not refused is tried again", None, "", True, 2),
-        ("a change below is", top / "crates/low/src/lib.rt", source + "// more\n", True, 2),
-        ("a change of the crate is", top / "crates/high/src/lib.rt", source + "// more\n", True, 2),
-        ("another wrong body is", edits / "one.edit", edit("right_a", "very_wrong"), True, 2),
-        ("another crate is not", top / "crates.txt", "low: \nbeside:\nhigh: low\n", True, 2),
-        ("and not again after all", edits / "two.edit", edit("right_b", "wrong"), True, 3),
+        ("it is with another text, and refused", edits / "two.edit", edit("right_b", "wrong"), True, 3),
+        ("another body is not", top / "crates/high/src/lib.rt", source.replace("right_c", "right_d"), False, 2),
+        ("its own contract is", top / "crates/high/src/lib.rt", source.replace("{ a }", "{ b }", 1), True, 3),
+        ("one with another text is", edits / "one.edit", edit("right_a", "very_wrong"), True, 3),
         ("and all are kept", None, "", False, 2),
     ]:
         if path:
             path.write_text(text)
         tried(name, checks, passed)
+    tried("one that is chosen is tried", True, 3, choose=lambda name: name == "one")
+    file, lines = edits / run.FILE, (edits / run.FILE).read_text()
+    told = lambda: verdicts_of(top, "high")[1].wrong()
+    tally.check("the file is of these sources", not told() and lines.count("\n") == 2, lines)
+    for name, old, new in [
+        ("the sum of other sources", lines.split()[1], "0" * 16),
+        ("a wrong body that is none", "one ", "three "),
+        ("a clause that is none", "returns", "returns-clause-none"),
+        ("a word more", "returns", "returns b"),
+        ("a line less than it has", lines.split("\n")[0], lines.split("\n")[0].partition(" ")[0]),
+    ]:
+        file.write_text(lines.replace(old, new, 1))
+        tally.check(f"{name} is told", len(told()) == 1, told())
+        tried("and not taken", True, 3, is_kept=False)
+    tally.check("a gate writes nothing", file.read_text() != lines)
+    tried("a run writes it anew", True, 3)
+    tally.check("as it was", file.read_text() == lines, file.read_text())
+    (edits / "one.edit").unlink()
+    tried("one that is gone", False, 1)
+    tally.check("has no line", file.read_text().count("\n") == 1, file.read_text())
+    tally.check("all are chosen where there is no history", run.turn() is None)
+    crate = read_crates(top)["low"]
+    found = {number: sum(run.is_in_turn(crate, number, f"e{it}") for it in range(1000)) for number in range(10)}
+    tally.check("each tenth is about a tenth, and ten are all", sum(found.values()) == 1000 and min(found.values()) > 60, found)
 
 
-SMALL = {
-    "src/lib.rt": """/// What `low` adds.
-pub const MORE: u8 =
-    0;
-
-/// Calls `low`.
-fn top(a: u8) -> u8
-    // What it gives.
-    ensures small { result ≤ a }
-    ensures whole { (λ b.
-        b ≡ result) a }
-    ensures last { result ≡ a }
-{
-    low(a)
-}
-
-fn low(a: u8) -> u8
-    ensures small { result ≤ a }
-    ensures whole { result ≡ a }
-{
-    a + MORE
-}
-
-#[cycle(again)]
-fn again(a: u8) -> u8
-    requires low { a ≤ 9 }
-    ensures small { result ≤ a }
-    ensures whole { result ≡ a }
-{
-    if a == 0 { 0 } else { again(a) }
-}
-
-#[cycle(again)]
-fn beside(a: u8) -> u8
-    ensures whole { result ≡ a }
-{
-    again(a)
-}
-
-impl Other for u8 {
-    fn other(&self) -> u8
-        ensures small { result ≤ self.now }
-        ensures whole { result ≡ self.now }
-    {
-        *self
-    }
-}
-""",
-    "proofs/top/Answers.antt": """use Rattle.small.proofs.top.Goals as goal
-
-pub returns-clause-small : goal.returns-clause-small
-returns-clause-small c = one
-
-pub returns-then-clause-whole : goal.returns-then-clause-whole
-returns-then-clause-whole c =
-    two
-
--- between
-pub returns-clause-last : goal.returns-clause-last
-returns-clause-last c = three
-""",
-}
-
-SMALL["proofs/+again/Answers.antt"] = """use Rattle.small.proofs.+again.Goals as goal
-
-pub again-returns-then-again-clause-whole : goal.again-returns-then-again-clause-whole
-again-returns-then-again-clause-whole t c = one
-
-pub again-again-requires : goal.again-again-requires
-again-again-requires t c = (two, three)
-
-pub beside-returns-clause-whole : goal.beside-returns-clause-whole
-beside-returns-clause-whole t c = four
-"""
-SMALL["proofs/+again/Invariants.antt"] = """abbrev pub decreases-again : goal.decreases-again
-decreases-again l = l.a
-
-abbrev pub invariant-again-loop : goal.invariant-again-loop
-invariant-again-loop l = five
-"""
-OUTSIDE = ["""use Rattle.small.proofs.Anything.{anything}
-use Rattle.small.proofs.again_copy_7.Goals as goal
-
-pub returns-then-again-clause-whole : goal.returns-then-again-clause-whole
-returns-then-again-clause-whole c = one
-
-pub again-requires-clause-low : goal.again-requires-clause-low
-again-requires-clause-low c = anything
-""", """abbrev pub invariant-loop : goal.invariant-loop
-invariant-loop l = five
-"""]
+SMALL = sections("small.txt")
+OUTSIDE = [SMALL.pop(f"proofs/again_copy_7/{it}.antt") for it in ("Answers", "Invariants")]  # as proof files outside their cycle must be
 
 
 def test_narrowing(tally, _):
@@ -269,5 +236,5 @@ def test_copies(tally, _):
 
 
 if __name__ == "__main__":
-    parts = [test_rounds] if "--prover" in sys.argv else [test_fit, test_narrowing, test_copies, test_halving, test_kept]
+    parts = [test_rounds] if "--prover" in sys.argv else [test_fit, test_narrowing, test_copies, test_halving, test_sums, test_kept]
     sys.exit(run_parts(*parts))
