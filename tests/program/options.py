@@ -3,6 +3,7 @@ told and written has to be what a brute force of tests/fewest and the other comm
 
 import importlib.util
 import itertools
+import os
 import random
 import subprocess
 import sys
@@ -142,10 +143,15 @@ def judged(due, done, limit, is_always):
     return None if holds and done.stderr == stopped % (least, least + 1) else False
 
 
+def combinations(*lists):
+    """One of each list, in each way, or where a run takes long, as in an emulator, in one of so many ways."""
+    return itertools.islice(itertools.product(*lists), 0, None, int(os.environ.get("POCSAG_ONE_IN") or 1))
+
+
 def try_plan_options(tally, folder):
     """`plan` with each end, limit, `--always`, `--verify` and `--verbose`."""
     flags = ([], ["--always"]), ([], ["--verify"]), VERBOSE
-    for pages, end, limit, always, verify, verbose in itertools.product(ROUNDS, ENDS, LIMITS, *flags):
+    for pages, end, limit, always, verify, verbose in combinations(ROUNDS, ENDS, LIMITS, *flags):
         due = Due(pages, end_in(end))
         (folder / "pages.csv").write_bytes(due.text)
         done = run(["plan", *end, "pages.csv", "tx.bin", *limit, "cert.bin", *always, *verify, *verbose], folder)
@@ -163,7 +169,7 @@ def try_plan_options(tally, folder):
 
 def try_report_options(tally, folder):
     """`report` with each rate, end, limit, `--always` and `--verbose`, of the plan that `plan` makes with them."""
-    for pages, end, limit, always, verbose in itertools.product(ROUNDS, ENDS, LIMITS, ([], ["--always"]), VERBOSE):
+    for pages, end, limit, always, verbose in combinations(ROUNDS, ENDS, LIMITS, ([], ["--always"]), VERBOSE):
         due = Due(pages, end_in(end))
         (folder / "pages.csv").write_bytes(due.text)
         planned = run(["plan", "pages.csv", "tx.bin", "cert.bin", *end, *limit, *always], folder)
@@ -181,7 +187,7 @@ def try_report_options(tally, folder):
 
 def try_open_options(tally, folder):
     """`open` with and without PAGES, `--always` and `--verbose`, and its plans with each end."""
-    for pages, *words in itertools.product(ROUNDS, ([], ["pages.csv"]), ([], ["--always"]), VERBOSE):
+    for pages, *words in combinations(ROUNDS, ([], ["pages.csv"]), ([], ["--always"]), VERBOSE):
         words = sum(words, [])
         text = Due(pages, "open").text
         (folder / "pages.csv").write_bytes(text)
@@ -199,7 +205,7 @@ def try_open_options(tally, folder):
 
 def try_input_options(tally, folder):
     """No words: the fewest batches for the open end."""
-    for pages, verbose in itertools.product(ROUNDS, VERBOSE):
+    for pages, verbose in combinations(ROUNDS, VERBOSE):
         due = Due(pages, "open")
         told = b"pages %d\nbatches %d\n" % (len(pages), due.fewest)
         done = run(verbose, folder, due.text)
