@@ -12,7 +12,7 @@ _pocsag() {
         mapfile -t COMPREPLY < <(compgen -W "512 1200 2400" -- "$word")
         return
         ;;
-    --limit | --expect | --rows | --depth | --samples | --preamble | --at-most | --airtime)
+    --limit | --expect | --rows | --nth | --depth | --samples | --preamble | --at-most | --airtime)
         compopt +o default 2>/dev/null
         COMPREPLY=()
         return

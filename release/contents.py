@@ -45,7 +45,8 @@ def placed_for_debian(processor, files):
     """The files where Debian has them."""
     libraries = f"usr/lib/{processor.triple}"
     places = {"bin": "usr/bin", "include": "usr/include", "lib": libraries, "python": "usr/lib/python3/dist-packages"}
-    places |= {"share/bash-completion/completions": "usr/share/bash-completion/completions"}
+    places |= {it: f"usr/{it}" for it in ("share/bash-completion/completions", "share/fish/vendor_completions.d")}
+    places |= {"share/zsh/site-functions": "usr/share/zsh/vendor-completions", "share/pocsag/examples": "usr/share/doc/pocsag/examples"}
     placed = {}
     for name, file in files.items():
         folder, _, last = name.rpartition("/")

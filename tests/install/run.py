@@ -1,7 +1,7 @@
 #!/usr/bin/env python3
 """Installs the built program into a folder and runs it from there, as another user and without the toolchain.
 
-The completions are compared with the help of the program. The last line is 'N passed, M failed'.
+The last line is 'N passed, M failed'.
 """
 
 import os
@@ -18,16 +18,14 @@ sys.path[:0] = [str(TESTS), str(TESTS.parent / "tools")]
 import version
 from tally import PROGRAM, TOP, Tally, as_nobody
 
-PLACES = ["bin/pocsag", "share/man/man1/pocsag.1", "share/bash-completion/completions/pocsag"]
+PLACES = ["bin/pocsag", "share/man/man1/pocsag.1", "share/bash-completion/completions/pocsag", "share/zsh/site-functions/_pocsag",
+          "share/fish/vendor_completions.d/pocsag.fish", "share/pocsag/examples/next-slot", "share/pocsag/examples/enqueue"]
 # The Python that runs `install` has the module in its own folder.
 PYTHON = shutil.which("python3")
 WORDS = [PYTHON, "-c", "import sys; print(*sys.version_info[:2], sep='.')"]
 MODULE = f"lib/python{subprocess.run(WORDS, capture_output=True, text=True).stdout.strip()}/site-packages/pocsag.py"
 PACKAGE = "lib/pkgconfig/pocsag.pc"
 LIBRARY = ["lib/libpocsag.a", "lib/libpocsag.so.1", "include/pocsag.h", MODULE, PACKAGE, "lib/libpocsag.so"]
-COMMANDS = ["plan", "check", "explain", "decode", "hear", "show", "wav", "open", "report"]
-# Options with a value, and what is offered for it.
-VALUES = {"--end": {"open", "closed", "idle"}, "--rate": {"512", "1200", "2400"}, "--limit": set(), "--expect": set()}
 
 
 def install(*words):
@@ -170,51 +168,10 @@ def try_refused(tally, folder):
     tally.check("a file in the place of a folder", status == 1 and len(told) == 1 and told[0].startswith("install: "), (status, out, err))
 
 
-def completed(*words):
-    """What bash offers for the last of the words."""
-    script = '. "$1"; shift; COMP_WORDS=("$@"); COMP_CWORD=$(($# - 1)); _pocsag; printf "%s\\n" "${COMPREPLY[@]}"'
-    ran = subprocess.run(["bash", "-c", script, "bash", str(TOP / "completions/pocsag.bash"), "pocsag", *words], capture_output=True, text=True)
-    return set(ran.stdout.split()), ran.stderr
-
-
-def leaves_files_out(option):
-    """Whether bash is told to offer no file names behind the option."""
-    script = '. "$1"; compopt() { echo "compopt $*"; }; COMP_WORDS=(pocsag plan "$2" x); COMP_CWORD=3; _pocsag'
-    ran = subprocess.run(["bash", "-c", script, "bash", str(TOP / "completions/pocsag.bash"), option], capture_output=True, text=True)
-    return ran.stdout == "compopt +o default\n"
-
-
-def help_options(*words):
-    text = subprocess.run([str(PROGRAM), *words, "--help"], capture_output=True, text=True, timeout=60).stdout
-    part = re.search(r"^Options:\n((?:  .*\n)+)", text, re.M)
-    spelled = [re.split(r"  +", line.strip())[0] for line in part[1].splitlines() if line.lstrip().startswith("-")]
-    return set(re.findall(r"(?<![\w<])--?[\w-]+", " ".join(spelled)))
-
-
-def try_completions(tally, _folder):
-    text = subprocess.run([str(PROGRAM), "--help"], capture_output=True, text=True, timeout=60).stdout
-    named = {line.split()[0] for line in re.search(r"^Commands:\n((?:  .*\n)+)", text, re.M)[1].splitlines()}
-    tally.check("each command of the help is tried here", named == {*COMMANDS, "help"}, named)
-    tally.check("the commands", completed("") == (named, ""), completed(""))
-    tally.check("a command begun", completed("re") == ({"report"}, ""), completed("re"))
-    tally.check("help's commands", completed("help", "")[0] == named, completed("help", ""))
-    tally.check("the program's options", completed("-")[0] == help_options(), (completed("-"), help_options()))
-    for command in COMMANDS:
-        wanted = help_options(command)
-        tally.check(f"the options of {command}", completed(command, "-") == (wanted, ""), (completed(command, "-"), wanted))
-        tally.check(f"files after {command}", completed(command, "") == (set(), ""), completed(command, ""))
-    for option, values in VALUES.items():
-        tally.check(f"the values of {option}", completed("plan", option, "") == (values, ""), completed("plan", option, ""))
-    for option in ("--end", "--rate", "--limit", "--expect", "--rows", "--depth", "--samples", "--preamble"):
-        tally.check(f"no file names after {option}", leaves_files_out(option))
-    tally.check("file names after --journal", not leaves_files_out("--journal"))
-    tally.check("a value begun", completed("plan", "--end", "c")[0] == {"closed"})
-
-
 def main():
     tally = Tally()
     with tempfile.TemporaryDirectory() as name:
-        for part in (try_installed, try_library, try_loader, try_again, try_refused, try_completions):
+        for part in (try_installed, try_library, try_loader, try_again, try_refused):
             part(tally, pathlib.Path(name).resolve())
     return tally.end()
 

@@ -1,6 +1,6 @@
 #!/usr/bin/env python3
 """Runs the compiled program as an operator does: `--keep` under kills and refused calls, pipes, terminals, and each
-command of docs/OPERATION.md.
+command of docs/OPERATION.md. The scripts of its queue have a test of their own, queues.py.
 
 It takes the binary that the gate left in crates/pocsag_app/out; where `strace` is missing, the kills at single system
 calls are left out. The last line is 'N passed, M failed'.
@@ -326,7 +326,8 @@ def room_of_the_page(folder, name):
     for number in range(3):
         (room / f"channels/{number}.csv").write_bytes(APART)
     (room / "round.csv").write_bytes(APART)
-    return room, dict(os.environ, PATH=f"{room / 'bin'}:{os.environ['PATH']}")
+    shutil.copytree(TOP / "examples", room / "examples")
+    return room, dict(os.environ, PATH=f"{room / 'bin'}:{room / 'usr/bin'}:{os.environ['PATH']}")
 
 
 def try_page(tally, folder):
@@ -336,7 +337,7 @@ def try_page(tally, folder):
     tally.check("the page has commands", len(shells) > 4 and len(pythons) == 1, (len(shells), len(pythons)))
     for kind, texts in (("bash", shells), ("python", pythons)):
         for text in texts:
-            text = text.replace("/usr/local", str(room / "usr")).replace("/dev/lp0", str(room / "lp0"))
+            text = text.replace("/usr/local", str(room / "usr")).replace("/dev/lp0", str(room / "lp0")).replace("/srv/paging", str(room))
             words = ["bash", "-euo", "pipefail", "-c", text] if kind == "bash" else [sys.executable, "-c", text]
             done = subprocess.run(words, cwd=room, env=environment, capture_output=True, text=True, timeout=600)
             wanted = re.findall(r"# prints: (.*)$", text, re.M)
@@ -350,9 +351,12 @@ def try_page(tally, folder):
     tally.check("the line with parallel plans each channel", {len(it) for it in sent} == {len(due)}, os.listdir(room / "channels"))
     for text in blocks("ini") + blocks("crontab"):
         for line in re.findall(r"^(?:ExecStart=|(?:\S+ ){5})(.*)$", text, re.M):
-            line = line.replace("/srv/paging", str(room)).replace("/usr/local/bin", str(room / "bin"))
+            line = line.replace("/srv/paging", str(room)).replace("/usr/local", str(room / "usr"))
             done = subprocess.run(["sh", "-c", line], cwd=room, env=environment, capture_output=True, timeout=60)
             tally.check(f"unit: {line}", done.returncode == 0, done)
+    script = (TOP / "examples/next-slot").read_text()
+    for text in blocks("sh"):
+        tally.check("the part of next-slot that the page shows", text in script, text)
 
 
 def try_recipe(tally, folder):

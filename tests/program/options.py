@@ -15,30 +15,6 @@ HEADER = b"address,kind,message\n"
 ENDS = ([], ["--end", "open"], ["--end", "closed"], ["--end=closed"], ["--idle-last"], ["--end", "idle"])
 LIMITS = ([], ["--limit", "100000"], ["--limit=1000000"], ["--limit", "1"])
 RATES = ("512", "1200", "2400")
-USAGE = [
-    ["plan", "p", "t", "c", "--rate", "512"], ["plan", "p", "t", "c", "--svg"], ["plan", "p", "t", "c", "--list"],
-    ["check", "p", "c", "--end", "open"], ["check", "p", "c", "--limit", "5"], ["check", "p", "c", "--verify"],
-    ["check", "p", "c", "--rate", "512"], ["check", "p", "c", "--svg"], ["check", "p", "c", "--json"], ["explain", "p"],
-    ["explain", "p", "c", "--end", "open"], ["explain", "p", "c", "--rows", "1"], ["explain", "p", "c", "--depth", "-1"],
-    ["report", "p", "--rate", "512", "--json"], ["report", "p", "--frames"], ["decode", "t", "--end", "open"],
-    ["decode", "t", "--list"], ["decode", "t", "--verify"], ["hear", "8", "t", "--end", "open"],
-    ["hear", "8", "t", "--always"], ["show", "t", "--always"], ["show", "t", "--end", "open"],
-    ["show", "t", "--list", "--svg"], ["show", "t", "--rows", "0"], ["show", "t", "--rows", "7-3"],
-    ["show", "t", "--rows", "1", "--list"], ["show", "t", "--rows"], ["decode", "t", "--rows", "1"], ["hear", "8", "t", "--repair"], ["plan", "p", "t", "c", "--repair"], ["decode", "t", "--repair=yes"], ["--repair"], ["open", "--end", "open"], ["open", "--limit", "5"], ["open", "--verify"],
-    ["open", "--rate", "512"], ["open", "p", "--end", "closed"], ["open", "p", "q"], ["report", "p", "--always"],
-    ["report", "p", "--rate", "512", "--verify"], ["report", "p", "t", "c"], ["report", "p", "--rate", "512", "--svg"],
-    ["--always"], ["--end", "open"], ["--limit", "5"], ["--verify"], ["--verbose=yes"],
-    ["plan", "p", "t", "c", "--end"], ["plan", "p", "t", "c", "--limit"], ["plan", "p", "t", "c", "--always=yes"],
-    ["plan", "p", "t", "c", "--verify=yes"], ["plan", "p", "t", "c", "--end", "closed", "--end", "open"],
-    ["plan", "p", "t", "c", "--limit", "5", "--limit", "6"], ["plan", "p", "t", "c", "--limit", "-1"],
-    ["plan", "p", "t", "c", "--idle-last", "--end", "open"], ["plan", "p", "t", "c", "--end", "closed", "--idle-last"],
-    ["plan", "p", "t", "c", "--idle-last", "--idle-last"], ["plan", "p", "t", "c", "--idle-last=yes"],
-    ["plan", "p", "t", "c", "--end", "idle-last"], ["report", "p", "--rate", "512", "--end", "closed", "--idle-last"],
-    ["report", "p", "--rate", "512", "--end=Idle"], ["check", "p", "c", "--strict"], ["open", "--strict"], ["check", "p", "c", "--idle-last"], ["explain", "p", "c", "--idle-last"],
-    ["open", "--idle-last"], ["show", "t", "--idle-last"], ["--idle-last"],
-]
-
-
 VERBOSE = ([], ["--verbose"])
 
 
@@ -212,16 +188,6 @@ def try_input_options(tally, folder):
         tally.check(f"no words {verbose}", (done.returncode, done.stdout, done.stderr) == (0, told, b""), (due.text, done))
 
 
-def try_foreign_options(tally, folder):
-    """Options that a command does not have, and values that they do not take."""
-    for words in USAGE:
-        done = run(words, folder)
-        holds = done.returncode == 2 and done.stdout == b"" and done.stderr.startswith(b"error: ")
-        tally.check(f"usage {words}", holds, done)
-        if words[:3] == ["show", "t", "--rows"] and words[-1] in ("0", "7-3"):
-            tally.check(f"the usage of show: {words}", b"\nUsage: pocsag show " in done.stderr, done)
-
-
 def try_bad_numbers(tally, folder):
     """Rates and limits that are none, beside each other option: status 1, and nothing told."""
     (folder / "pages.csv").write_bytes(Due(ROUNDS[0], "open").text)
@@ -239,6 +205,4 @@ def try_bad_numbers(tally, folder):
                 tally.check(f"{words[0]} with limit {limit} {end} {always}", holds, done)
 
 
-PARTS = (
-    try_plan_options, try_report_options, try_open_options, try_input_options, try_foreign_options, try_bad_numbers,
-)
+PARTS = (try_plan_options, try_report_options, try_open_options, try_input_options, try_bad_numbers)

@@ -6,17 +6,18 @@ It takes the binary that the gate left in crates/pocsag_app/out. The last line i
 
 import os
 import pathlib
-import shutil
 import subprocess
 import sys
 
 sys.dont_write_bytecode = True
 sys.path.insert(0, str(pathlib.Path(__file__).resolve().parents[1]))
 sys.path.insert(0, str(pathlib.Path(__file__).resolve().parent))
+import doors
 import edges
 import fronts
 import options
 import repair
+import usage
 import verbose
 from tally import ENDS, PROGRAM, run_parts
 
@@ -207,10 +208,8 @@ def try_limits(tally, folder):
             done = run([*words, "--limit", limit], folder)
             tally.check(f"{words[0]} limit {limit}", (done.returncode, done.stderr) == (status, fault), done)
             if status == 1 and words[0] == "plan":
-                # A limit that is none is refused before a file is opened.
-                due = b"older" if fault == none else b""
                 left = [(folder / made).read_bytes() for made in ("tx.bin", "cert.bin")]
-                tally.check(f"limit {limit} leaves no new files", left == [due, due] and done.stdout == b"", left)
+                tally.check(f"limit {limit} leaves empty files", left == [b"", b""] and done.stdout == b"", left)
 
 
 # Rounds at which the search reaches its default limit: the frame and the codewords of each page, and the
@@ -264,19 +263,14 @@ def try_always(tally, folder):
     done = run(["report", "pages.csv", "--rate", "1200", "--always"], folder)
     tally.check("report of the fewest", (done.returncode, done.stdout) == (0, APART_REPORT), done)
     for limit in ("0", "1000001"):
-        before = tx.read_bytes(), cert.read_bytes()
         done = run([*plan, "--limit", limit], folder)
         holds = done.returncode == 1 and done.stderr == b"pocsag: the limit must be 1 to 1000000\n" and done.stdout == b""
-        tally.check(f"--always with limit {limit}", holds and (tx.read_bytes(), cert.read_bytes()) == before, done)
+        tally.check(f"--always with limit {limit}", holds and tx.read_bytes() == b"" and cert.read_bytes() == b"", done)
     for name, (text, fault) in REFUSED.items():
         pages.write_bytes(text or b"")
         done = run(plan, folder)
         holds = (done.returncode, done.stdout, done.stderr) == (1, b"", b"pocsag: " + fault + b"\n")
         tally.check(f"--always refuses {name}", holds and tx.read_bytes() == b"" and cert.read_bytes() == b"", done)
-    for words in (["check", "pages.csv", "cert.bin", "--always"], ["decode", "tx.bin", "--always"], ["--always"]):
-        tally.check(f"usage {words}", run(words, folder).returncode == 2)
-    for words in (["plan", "--help"], ["report", "--help"], ["open", "--help"]):
-        tally.check(f"help {words} shows --always", b"--always" in run(words, folder).stdout)
     # Every round of the examples, as without --always.
     for name, (records, batches, _, _, _) in ROUNDS.items():
         pages.write_bytes(HEADER + records)
@@ -488,44 +482,6 @@ def try_receivers(tally, folder):
     tx.unlink()
 
 
-def try_words(tally, folder):
-    usage = [
-        ["plan"], ["plan", "a"], ["plan", "a", "b"], ["plan", "a", "b", "c", "d"], ["bogus"], ["--bogus"],
-        ["plan", "a", "b", "c", "--limit", "x"], ["plan", "a", "b", "c", "--limit", "4294967296"],
-        ["plan", "a", "b", "c", "--end", "shut"], ["plan", "a", "b", "c", "--end", "Open"],
-        ["check"], ["check", "a"], ["decode"], ["hear", "8"], ["hear", "x", "a"], ["hear", "4294967296", "a"],
-        ["hear", "-1", "a"], ["report", "a"], ["report", "--rate", "512"], ["report", "a", "--rate", "fast"],
-    ]
-    for words in usage:
-        done = run(words, folder)
-        tally.check(f"usage {words}", done.returncode == 2 and done.stdout == b"" and done.stderr.startswith(b"error: "), done)
-    commands = ("plan", "check", "decode", "hear", "report")
-    for words in (["--help"], ["-h"], ["help"], *([name, "--help"] for name in commands), *(["help", name] for name in commands)):
-        done = run(words, folder)
-        tally.check(f"help {words}", done.returncode == 0 and done.stderr == b"" and b"Usage: pocsag" in done.stdout, done)
-    for words in (["--help"], *([name, "--help"] for name in (*commands, "show", "open"))):
-        long = [line for line in run(words, folder).stdout.decode().splitlines() if len(line) > 100]
-        tally.check(f"help {words} in 100 columns", not long, long)
-    for words in (["--help"], ["help", "plan"], ["--version"]):
-        with open("/dev/full", "wb") as full:
-            done = subprocess.run([str(PROGRAM), *words], stdout=full, stderr=subprocess.PIPE, cwd=folder, timeout=60)
-        tally.check(f"help that cannot be written: {words}", (done.returncode, done.stderr) == (3, b"pocsag: cannot write\n"), done)
-    help_text = run(["--help"], folder).stdout
-    for shown in (b"Example:", b"tone0", b"numeric", b"alpha", b"20000 pages", b"standard input", b"2097151", b"268435456"):
-        tally.check(f"help shows {shown}", shown in help_text, help_text)
-    help_text = b" ".join(run(["plan", "--help"], folder).stdout.split())
-    for shown in (b"Example:", b"20000 of a first", b"an idle or an address codeword", b"after a refusal they are empty"):
-        tally.check(f"help of plan shows {shown}", shown in help_text, help_text)
-    done = run(["--version"], folder)
-    holds = done.returncode == 0 and done.stdout.startswith(b"pocsag ") and done.stderr == b""
-    tally.check("version", holds, done)
-    if shutil.which("rt"):
-        toolchain = subprocess.run(["rt", "version"], capture_output=True, timeout=60).stdout.strip()
-        # What was proved is proved in a logic, whichever kit of it is in PATH.
-        logic = toolchain[toolchain.find(b"logic "):]
-        tally.check("version names the logic", logic.startswith(b"logic ") and done.stdout.endswith(logic + b"\n"), (done.stdout, toolchain))
-
-
 def main():
     return run_parts(
         try_rounds,
@@ -536,7 +492,8 @@ def main():
         try_files,
         try_check,
         try_receivers,
-        try_words,
+        *usage.PARTS,
+        *doors.PARTS,
         *edges.PARTS,
         *fronts.PARTS,
         *options.PARTS,

@@ -9,7 +9,7 @@ use crate::boundaries::BoundarySet;
 use crate::node::Node;
 use arrayvec::ArrayVec;
 use pocsag_slots::{
-    CLASSES, Class, Way, below_split, closing_ways, from_split, is_certain, narrow, ways,
+    CLASSES, Class, Way, below_split, ending_ways, from_split, is_certain, narrow, ways,
 };
 use pocsag_tree::Tree;
 use std::alloc::{AllocError, AllocFailed, Global};
@@ -132,7 +132,7 @@ pub(crate) fn ways_to_end(node: &Node<'_>) -> ArrayVec<Way, 2>
     ensures allowed { All (MayTake node.now.classes.now node.now.limits) result.items }
     ensures fall { All (Falls node.now.classes.now node.now.task.batches node.now.limits) result.items }
 {
-    closing_ways(node.classes, node.task.end, &node.limits)
+    ending_ways(node.classes, node.task.end, &node.limits)
 }
 
 // The first class that is certain for the set.

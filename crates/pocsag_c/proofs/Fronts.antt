@@ -1,21 +1,22 @@
 -- What is told of a front, and of the pages behind it.
-use Rattle.std.proofs.Common.{◌≡◌, ◌⊎◌, ℕ, List, Option, Ok, drop, length, length-drop, length-take, take, refl, sym, ap, ◌∙◌, subst, inl, inr, arith}
+use Rattle.std.proofs.Common.{◌≡◌, ◌≤◌, ◌⊎◌, ℕ, List, ◌++◌, All, drop, length, length-drop, refl, sym, ap, ◌∙◌, subst, inl, inr, arith}
+use Rattle.std.proofs.Math.Seq.{drop-append_seam}
+use Rattle.std.proofs.lemmas.List.Elements.{All-drop, All-weaker}
 use Rattle.pocsag_words.specs.declared.ending.End.{End}
 use Rattle.pocsag_words.specs.declared.ending.End.TheVariants as ends
-use Rattle.std.specs.Prelude.{sum_by}
 use Rattle.pocsag_pages.specs.PageFile.{verdict}
-use Rattle.pocsag_pages.specs.Reading.{page_length}
 use Rattle.pocsag_pages.specs.declared.page.Page.{Page}
+use Rattle.pocsag_pages.specs.Listable.{IsListable}
+use Rattle.pocsag_pages.specs.PageList.{unless_empty}
+use Rattle.pocsag_pages.specs.Pages.{AreGood, IsGoodPage, IsRound, page_limit}
+use Rattle.pocsag_pages.proofs.FirstPages.{good_last}
+use Rattle.pocsag_pages.proofs.GoodPages.{good_pages}
+use Rattle.pocsag_decode.specs.PageFiles.{IsSpellable, page_file}
 use Rattle.pocsag_plan.specs.declared.bounded.Bounded.{Bounded}
-use Rattle.pocsag_plan.specs.declared.search.Effort.{Effort}
 use Rattle.pocsag_plan.specs.declared.search.Search.{Search}
 use Rattle.pocsag_plan.specs.Plans.{IsPlanFor}
-use Rattle.pocsag_plan.specs.Streams.{IsOfRound}
-use Rattle.pocsag_centre.specs.FrontFiles.{IsWhyWritten}
-use Rattle.pocsag_centre.specs.declared.front.WrittenCertificate.{WrittenCertificate}
 use Rattle.pocsag_c.specs.Answers.{IsNoEnd, number_of_end}
-use Rattle.pocsag_c.specs.Fronts.{IsBeyond, IsCountedFirst, IsFront, IsGivenIfWanted, IsPutIfWanted, IsWithoutFront, beyond_bound, beyond_bytes}
-use Rattle.pocsag_c.specs.declared.front.FrontInfo.{FrontInfo}
+use Rattle.pocsag_c.specs.Fronts.{IsFront, IsGivenIfWanted, IsPutIfWanted, IsWithoutFront}
 
 pub is_an_end : (end : End) → IsNoEnd (number_of_end end) → ⊥
 is_an_end ends.Open none = none.0 refl
@@ -41,38 +42,26 @@ pub given : (IsText : List ℕ → Type 0) (before after : List ℕ) (told : ℕ
 given IsText before after told text is (inl put) = inl (record { text = text; is = is; delivered = put })
 given IsText before after told text is (inr unwanted) = inr (unwanted.0, record { text = text; is = is; too_small = unwanted.1 })
 
-pub first_counted : (file : List ℕ) (search : Search) (bounded : Bounded) (info : FrontInfo) → info.pages ≡ bounded.plan.pages →
-    info.codewords ≡ bounded.plan.codewords → info.in_order ≡ bounded.plan.in_order →
-    IsOfRound file (λ round. IsPlanFor search (take bounded.plan.pages round) bounded) →
-    IsOfRound file (λ round. info.left ≡ length (drop bounded.plan.pages round)) → IsCountedFirst file info
-first_counted file search bounded info pages codewords in_order planned left =
-    let K : ℕ = bounded.plan.pages in
-    let R : List Page = planned.round in
-    let plan = planned.holds.plan_of in
-    let here : verdict file ≡ Ok R = planned.read in
-    let there : verdict file ≡ Ok left.round = left.read in
-    let same : left.round ≡ R = cc in
-    let others : info.left ≡ length (drop K R) = left.holds ∙ ap (λ (ps : List Page). length (drop K ps)) same in
-    record {
-      round = R;
-      read = planned.read;
-      pages = omega (arith, pages, others, plan.pages, length-take K R, length-drop K R);
-      codewords = codewords ∙ (plan.codewords ∙ ap (λ (n : ℕ). sum_by page_length (take n R)) (sym pages));
-      in_order = rw (pages, in_order) plan.in_order;
-    }
+-- The first pages of a round, with their plan, and the pages that are left.
+module _ (search : Search) (R F S : List Page) (bounded : Bounded) (parts : F ++ S ≡ R) (planned : IsPlanFor search F bounded) where
+  left_behind : S ≡ drop bounded.plan.pages R
+  left_behind = sym (ap (λ (n : ℕ). drop n R) planned.plan_of.pages ∙ (ap (drop (length F)) (sym parts) ∙ drop-append_seam F S))
 
--- the certificate of one page more, with its bound
-pub beyond : (effort : Effort) (file : List ℕ) (number limit batches : ℕ) (info : FrontInfo) (end : End) → number ≡ number_of_end end →
-    (written : Option WrittenCertificate) (K : ℕ) → info.pages ≡ K → info.beyond ≡ beyond_bound written →
-    IsOfRound file (λ round. IsWhyWritten (record { limit = limit; end = end; effort = effort }) round batches K written) →
-    IsBeyond effort file number limit batches info (beyond_bytes written)
-beyond effort file number limit batches info end same_end written K pages bound why = record {
-  end = end;
-  same_end = same_end;
-  written = written;
-  why = subst
-      (λ (n : ℕ). IsOfRound file (λ round. IsWhyWritten (record { limit = limit; end = end; effort = effort }) round batches n written))
-      (sym pages) why;
-  bytes = refl;
-  bound = bound;
-}
+  pub left_listable : IsRound R → All IsListable S
+  left_listable round =
+      subst (All IsListable) (sym left_behind)
+      (All-weaker IsGoodPage IsListable (λ p g. record { function = g.function; items = g.small }) (drop bounded.plan.pages R)
+      (good_pages (drop bounded.plan.pages R) (good_last bounded.plan.pages R round.good)))
+
+  pub left_counted : (n : ℕ) → n ≡ length S → n ≡ length (drop bounded.plan.pages R)
+  left_counted n long = long ∙ ap length left_behind
+
+  -- the page file that is written of these is read as them
+  pub left_read : IsRound R → All IsSpellable R →
+      ((ps : List Page) → AreGood ps → length ps ≤ page_limit → All IsSpellable ps → verdict (page_file ps) ≡ unless_empty ps) →
+      (file : List ℕ) → file ≡ page_file S → verdict file ≡ unless_empty (drop bounded.plan.pages R)
+  left_read round texts read_back file written =
+      let K = bounded.plan.pages in
+      let few : length (drop K R) ≤ page_limit = omega (arith, length-drop K R, round.few) in
+      ap verdict (written ∙ ap page_file left_behind)
+      ∙ read_back (drop K R) (good_last K R round.good) few (All-drop IsSpellable K R texts)

@@ -1,2 +1,3 @@
 pub mod Devices
 pub mod Fronts
+pub mod Verdicts

@@ -1,12 +1,15 @@
 -- What each call owes, in the numbers and the bytes that cross to the caller.
-use Rattle.std.specs.Prelude.{◌≡◌, ◌≢◌, ℕ, ◌<◌, ◌≤◌, List, length, ◌++◌, drop}
+use Rattle.std.specs.Prelude.{◌≡◌, ◌≢◌, ◌⊎◌, ◌==◌, if◌then◌else◌, ℕ, ◌<◌, ◌≤◌, List, length, ◌++◌, drop, IsOk}
 use Rattle.pocsag_words.specs.declared.ending.End.{End}
 use Rattle.pocsag_words.specs.declared.ending.End.TheVariants as ends
-use Rattle.pocsag_centre.specs.Commands.{Checked}
-use Rattle.pocsag_centre.specs.Judgements.{IsNotShown}
+use Rattle.pocsag_pages.specs.PageFile.{verdict}
+use Rattle.pocsag_plan.specs.Verdicts.{Checked, ExplainsCertificate, ExplainsRound, IsNotShown}
+use Rattle.pocsag_plan.specs.declared.search.Effort.{Effort}
+use Rattle.pocsag_plan.specs.declared.search.Effort.TheVariants.{Fewest, Always}
 use Rattle.pocsag_c.specs.declared.check.CheckInfo.{CheckInfo}
 use Rattle.pocsag_c.specs.declared.refusal.Place.{Place}
 use Rattle.pocsag_c.specs.declared.refusal.StatusAt.{StatusAt}
+use Rattle.pocsag_c.specs.Statuses.{certificate_refusal, round_refusal}
 
 -- The number of an end.
 abbrev pub number_of_end : End → ℕ
@@ -17,6 +20,10 @@ number_of_end ends.Idle = 2
 -- The number of no end.
 abbrev pub IsNoEnd : ℕ → Type 0
 IsNoEnd number = (number ≢ 0) × (number ≢ 1) × (number ≢ 2)
+
+-- What a number asks for: 0 the fewest batches alone, any other that no round is refused.
+abbrev pub effort_of : (always : ℕ) → Effort
+effort_of always = if always == 0 then Fewest else Always
 
 -- The status and the place are those of a fault of which this is said.
 pub record TellsFault {F : Type 0} (refusal : F → StatusAt) (Explains : F → Type 0) (status : ℕ) (place : Place) : Type 0 where
@@ -40,6 +47,12 @@ pub record IsNotAccepted (file text : List ℕ) (info : CheckInfo) : Type 0 wher
   pub end : End
   pub same_end : info.end ≡ number_of_end end
   pub read : IsNotShown file text end info.batches
+
+-- The status and the place are those of the page file's fault; or it has none, and they are those of the certificate's.
+abbrev pub IsUnjudged : (file text : List ℕ) (status : ℕ) → Place → Type 0
+IsUnjudged file text status place =
+    TellsFault round_refusal (ExplainsRound file) status place
+    ⊎ (IsOk (verdict file) × TellsFault certificate_refusal (ExplainsCertificate text) status place)
 
 -- The buffer begins with these bytes, whose length is told, and is as it was behind them.
 pub record IsDelivered (before after : List ℕ) (told : ℕ) (bytes : List ℕ) : Type 0 where

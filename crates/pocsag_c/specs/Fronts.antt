@@ -1,19 +1,30 @@
 -- What `pocsag_plan_at_most` owes.
-use Rattle.std.specs.Prelude.{◌≡◌, ◌≢◌, ◌⊎◌, ℕ, ◌+◌, ◌*◌, List, [], Option, Some, None, Ok, drop, length, sum_by, take}
+use Rattle.std.specs.Prelude.{◌≡◌, ◌≢◌, ◌⊎◌, ℕ, ◌+◌, ◌*◌, List, [], Option, Some, None, Ok, IsOk, drop, length, sum_by, take}
 use Rattle.pocsag_words.specs.declared.codeword.Kind.{Kind}
 use Rattle.pocsag_words.specs.declared.ending.End.{End}
 use Rattle.pocsag_pages.specs.declared.page.Page.{Page}
 use Rattle.pocsag_pages.specs.PageFile.{verdict}
+use Rattle.pocsag_pages.specs.PageList.{unless_empty}
 use Rattle.pocsag_pages.specs.Reading.{page_length}
 use Rattle.pocsag_tree.specs.BoundTrees.{BoundTree}
 use Rattle.pocsag_batch.specs.FileOrder.{IsFileOrder}
-use Rattle.pocsag_plan.specs.Fronts.{IsFrontFor, IsLongestFront}
+use Rattle.pocsag_tree.specs.CertificateText.{written_text}
+use Rattle.pocsag_tree.specs.Views.{bound_tree_of}
+use Rattle.pocsag_tree.specs.declared.shape.Certificate.{Certificate}
+use Rattle.pocsag_branch.specs.Found.{IsNodeLimit}
+use Rattle.pocsag_plan.specs.Fronts.{ExplainsFront, IsFrontFor, IsLongestFront, IsWhyNoMore}
 use Rattle.pocsag_plan.specs.Headline.{RoundHeadline}
+use Rattle.pocsag_plan.specs.Plans.{IsNoWorse}
 use Rattle.pocsag_plan.specs.Streams.{IsOfRound}
+use Rattle.pocsag_plan.specs.Verdicts.{ExplainsRound}
+use Rattle.pocsag_plan.specs.declared.bounded.Bounded.{Bounded}
+use Rattle.pocsag_plan.specs.declared.fault.NoFront.TheVariants as unplanned
+use Rattle.pocsag_plan.specs.declared.fault.PlanFault.TheVariants as planning
+use Rattle.pocsag_plan.specs.declared.fault.StreamFault.TheVariants as stream
+use Rattle.pocsag_plan.specs.declared.fault.UnsentFront.{UnsentFront}
+use Rattle.pocsag_plan.specs.declared.fault.UnsentFront.TheVariants as unsent
 use Rattle.pocsag_plan.specs.declared.search.Effort.{Effort}
-use Rattle.pocsag_centre.specs.FrontFiles.{ExplainsNoFront, IsPageFileOf, IsWhyWritten}
-use Rattle.pocsag_centre.specs.declared.fault.CentreFault.{CentreFault}
-use Rattle.pocsag_centre.specs.declared.front.WrittenCertificate.{WrittenCertificate}
+use Rattle.pocsag_plan.specs.declared.search.Search.{Search}
 use Rattle.pocsag_c.specs.Answers.{IsDelivered, IsTooSmall, number_of_end}
 use Rattle.pocsag_c.specs.Listings.{HasNoRoom, IsListed}
 use Rattle.pocsag_c.specs.Plans.{IsWithoutRoom}
@@ -59,28 +70,41 @@ pub record IsFrontHeadline (file : List ℕ) (number : ℕ) (info : FrontInfo) (
   pub headline : IsOfRound file (λ round.
       RoundHeadline (take info.pages round) end info.batches info.bound tree sent certificate)
 
--- The text is a page file of the pages behind them.
+-- Where their bound is below their batches, the search for the fewest stops at the same limit, and this is what it knows of
+-- them then.
+pub record IsNoWorseFront (file : List ℕ) (number limit : ℕ) (info : FrontInfo) : Type 0 where
+  pub end : End
+  pub same_end : number ≡ number_of_end end
+  pub bounded : Bounded
+  pub batches : info.batches ≡ bounded.plan.batches
+  pub bound : info.bound ≡ bounded.bound
+  pub no_worse : IsOfRound file (λ round. IsNoWorse end (take info.pages round) limit bounded)
+
+-- The text is a page file of the pages behind them: it reads as their round, or, where there are none, as no pages.
 abbrev pub IsRestOf : (file : List ℕ) → FrontInfo → (text : List ℕ) → Type 0
-IsRestOf file info text = IsOfRound file (λ round. IsPageFileOf (drop info.pages round) text)
+IsRestOf file info text = IsOfRound file (λ round. verdict text ≡ unless_empty (drop info.pages round))
 
 -- The bytes of a certificate of one page more, and its bound; where there is none, no byte and 0.
-abbrev pub beyond_bytes : Option WrittenCertificate → List ℕ
+abbrev pub beyond_bytes : Option Certificate → List ℕ
 beyond_bytes None = []
-beyond_bytes (Some written) = written.bytes.items
+beyond_bytes (Some certificate) = written_text certificate.end certificate.batches (bound_tree_of certificate.tree)
 
-abbrev pub beyond_bound : Option WrittenCertificate → ℕ
+abbrev pub beyond_bound : Option Certificate → ℕ
 beyond_bound None = 0
-beyond_bound (Some written) = written.bound
+beyond_bound (Some certificate) = certificate.batches
 
--- The text is the certificate of one page more, with the bound that is told; or no byte, where no page is left.
+-- The text is the certificate of one page more than so many, with this bound; or no byte, where no page is left.
+pub record IsTextOfWhy (search : Search) (file : List ℕ) (batches count : ℕ) (text : List ℕ) (bound : ℕ) : Type 0 where
+  pub why : Option Certificate
+  pub shows : IsOfRound file (λ round. IsWhyNoMore search round batches count why)
+  pub bytes : text ≡ beyond_bytes why
+  pub same_bound : bound ≡ beyond_bound why
+
+-- The same behind the pages that are told, with the bound that is told.
 pub record IsBeyond (effort : Effort) (file : List ℕ) (number limit batches : ℕ) (info : FrontInfo) (text : List ℕ) : Type 0 where
   pub end : End
   pub same_end : number ≡ number_of_end end
-  pub written : Option WrittenCertificate
-  pub why : IsOfRound file (λ round.
-      IsWhyWritten (record { limit = limit; end = end; effort = effort }) round batches info.pages written)
-  pub bytes : text ≡ beyond_bytes written
-  pub bound : info.beyond ≡ beyond_bound written
+  pub of_why : IsTextOfWhy (record { limit = limit; end = end; effort = effort }) file batches info.pages text info.beyond
 
 -- The buffer begins with the bytes; or it has no byte, and their length alone is told.
 abbrev pub IsPutIfWanted : (before after : List ℕ) → (told : ℕ) → (bytes : List ℕ) → Type 0
@@ -111,8 +135,20 @@ no_front place = record {
   place = place;
 }
 
--- Why there is no front.
-pub record ExplainsFrontPlanning (effort : Effort) (file : List ℕ) (number limit batches : ℕ) (f : CentreFault) : Type 0 where
+-- Why a page file has no front. The limit is judged before the file; a fault of writing is want of memory.
+abbrev pub ExplainsUnfronted : (file : List ℕ) → Search → (batches : ℕ) → UnsentFront → Type 0
+ExplainsUnfronted file search batches (unsent.Stream (stream.Plan planning.BadLimit)) = ¬ IsNodeLimit search.limit
+ExplainsUnfronted file search batches (unsent.Stream (stream.Plan (planning.SearchLimit stop))) =
+    IsOfRound file (λ round. ExplainsFront search round batches (unplanned.Plan (planning.SearchLimit stop)))
+ExplainsUnfronted file search batches (unsent.Stream (stream.Plan planning.OutOfMemory)) = IsNodeLimit search.limit × IsOk (verdict file)
+ExplainsUnfronted file search batches (unsent.Stream (stream.Round f)) = IsNodeLimit search.limit × ExplainsRound file f
+ExplainsUnfronted file search batches (unsent.Stream (stream.Transmission f)) = IsNodeLimit search.limit × IsOk (verdict file)
+ExplainsUnfronted file search batches (unsent.Stream (stream.Certificate f)) = IsNodeLimit search.limit × IsOk (verdict file)
+ExplainsUnfronted file search batches (unsent.FirstPage needed) =
+    IsOfRound file (λ round. ExplainsFront search round batches (unplanned.FirstPage needed))
+
+-- The same, for the end of this number.
+pub record ExplainsFrontPlanning (effort : Effort) (file : List ℕ) (number limit batches : ℕ) (f : UnsentFront) : Type 0 where
   pub end : End
   pub same_end : number ≡ number_of_end end
-  pub why : ExplainsNoFront file (record { limit = limit; end = end; effort = effort }) batches f
+  pub why : ExplainsUnfronted file (record { limit = limit; end = end; effort = effort }) batches f

@@ -9,9 +9,11 @@ use Rattle.pocsag_tree.specs.BoundTrees.{BoundTree}
 use Rattle.pocsag_batch.specs.FileOrder.{IsFileOrder}
 use Rattle.pocsag_plan.specs.BoundedHeadline.{BoundedHeadline}
 use Rattle.pocsag_plan.specs.Headline.{Headline}
+use Rattle.pocsag_plan.specs.Plans.{IsNoWorse}
+use Rattle.pocsag_plan.specs.Streams.{ExplainsStream, IsOfRound}
+use Rattle.pocsag_plan.specs.declared.bounded.Bounded.{Bounded}
+use Rattle.pocsag_plan.specs.declared.fault.StreamFault.{StreamFault}
 use Rattle.pocsag_plan.specs.declared.search.Effort.{Effort}
-use Rattle.pocsag_centre.specs.Refusals.{ExplainsUnwritten}
-use Rattle.pocsag_centre.specs.declared.fault.CentreFault.{CentreFault}
 use Rattle.pocsag_c.specs.Answers.{IsDelivered, number_of_end}
 use Rattle.pocsag_c.specs.declared.plan.PlanInfo.{PlanInfo}
 use Rattle.pocsag_c.specs.declared.refusal.Place.{Place}
@@ -67,8 +69,18 @@ pub record IsCounted (file : List ℕ) (info : PlanInfo) : Type 0 where
 abbrev pub no_plan : Place → PlanInfo
 no_plan place = record { pages = 0; codewords = 0; in_order = 0; batches = 0; bound = 0; place = place }
 
--- Why there is no plan.
-pub record ExplainsPlanning (effort : Effort) (file : List ℕ) (number limit : ℕ) (f : CentreFault) : Type 0 where
+-- Where the bound that is told is below the batches, the search for the fewest stops at the same limit, and this is what it
+-- knows of the page file's round then.
+pub record IsNoWorseTold (file : List ℕ) (number limit : ℕ) (info : PlanInfo) : Type 0 where
   pub end : End
   pub same_end : number ≡ number_of_end end
-  pub why : ExplainsUnwritten file (record { limit = limit; end = end; effort = effort }) f
+  pub bounded : Bounded
+  pub batches : info.batches ≡ bounded.plan.batches
+  pub bound : info.bound ≡ bounded.bound
+  pub no_worse : IsOfRound file (λ round. IsNoWorse end round limit bounded)
+
+-- Why there is no plan.
+pub record ExplainsPlanning (effort : Effort) (file : List ℕ) (number limit : ℕ) (f : StreamFault) : Type 0 where
+  pub end : End
+  pub same_end : number ≡ number_of_end end
+  pub why : ExplainsStream effort file end limit f

@@ -1,22 +1,27 @@
 -- What `pocsag_report` owes.
 use Rattle.std.specs.Prelude.{◌≡◌, ℕ, List}
+use Rattle.pocsag_plan.specs.Plans.{ExplainsPlan}
+use Rattle.pocsag_plan.specs.Reports.{IsPlannable, IsRate, IsReportOf}
+use Rattle.pocsag_plan.specs.Streams.{IsOfRound}
+use Rattle.pocsag_plan.specs.Verdicts.{ExplainsRound}
+use Rattle.pocsag_plan.specs.declared.airtime.BoundedReport.{BoundedReport}
+use Rattle.pocsag_plan.specs.declared.fault.StreamFault.{StreamFault}
+use Rattle.pocsag_plan.specs.declared.fault.StreamFault.TheVariants as stream
 use Rattle.pocsag_plan.specs.declared.search.Search.{Search}
-use Rattle.pocsag_centre.specs.Reports.{ExplainsReporting, IsReportOf}
-use Rattle.pocsag_centre.specs.declared.fault.CentreFault.{CentreFault}
-use Rattle.pocsag_centre.specs.declared.report.BoundedReport.{BoundedReport}
-use Rattle.pocsag_c.specs.Answers.{number_of_end}
+use Rattle.pocsag_c.specs.Answers.{effort_of, number_of_end}
 use Rattle.pocsag_c.specs.declared.refusal.Place.{Place}
 use Rattle.pocsag_c.specs.declared.report.ReportInfo.{ReportInfo}
 
--- What is asked of a planner is for the end of this number, with this limit.
-pub record IsAsked (number limit : ℕ) (search : Search) : Type 0 where
+-- What is asked of a planner is for the end of this number, with this limit and this effort.
+pub record IsAsked (number limit always : ℕ) (search : Search) : Type 0 where
   pub same_end : number ≡ number_of_end search.end
   pub same_limit : search.limit ≡ limit
+  pub same_effort : search.effort ≡ effort_of always
 
 -- What is told is the report of a plan of the page file's round for the end of this number, with its bound.
-pub record TellsReport (file : List ℕ) (number limit rate : ℕ) (info : ReportInfo) : Type 0 where
+pub record TellsReport (file : List ℕ) (number limit always rate : ℕ) (info : ReportInfo) : Type 0 where
   pub search : Search
-  pub asked : IsAsked number limit search
+  pub asked : IsAsked number limit always search
   pub answered : BoundedReport
   pub is : IsReportOf file search rate answered
   pub bound : info.bound ≡ answered.bound
@@ -28,11 +33,25 @@ pub record TellsReport (file : List ℕ) (number limit rate : ℕ) (info : Repor
   pub bits : info.bits ≡ answered.report.bits
   pub airtime : info.airtime_ms ≡ answered.report.airtime_ms
 
--- Why there is no report of a page file.
-pub record ExplainsReport (file : List ℕ) (number limit rate : ℕ) (f : CentreFault) : Type 0 where
+-- Why a page file has no plan. The file is judged before the limit.
+abbrev pub ExplainsUnreported : (file : List ℕ) → Search → StreamFault → Type 0
+ExplainsUnreported file search (stream.Round f) = ExplainsRound file f
+ExplainsUnreported file search (stream.Plan f) = IsOfRound file (λ round. ExplainsPlan search.effort search.end round search.limit f)
+ExplainsUnreported file search (stream.Transmission f) = ⊥
+ExplainsUnreported file search (stream.Certificate f) = ⊥
+
+-- Why there is no report of a page file, though the rate may be one.
+pub record ExplainsReport (file : List ℕ) (number limit always : ℕ) (f : StreamFault) : Type 0 where
   pub search : Search
-  pub asked : IsAsked number limit search
-  pub why : ExplainsReporting file search rate f
+  pub asked : IsAsked number limit always search
+  pub why : ExplainsUnreported file search f
+
+-- The rate is none, which is judged last: there is a plan.
+pub record IsBadRate (file : List ℕ) (number limit always rate : ℕ) : Type 0 where
+  pub search : Search
+  pub asked : IsAsked number limit always search
+  pub planned : IsPlannable file search
+  pub no_rate : ¬ IsRate rate
 
 -- What is told beside the place where there is no report.
 abbrev pub no_report : Place → ReportInfo

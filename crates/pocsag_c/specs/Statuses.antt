@@ -12,11 +12,11 @@ use Rattle.pocsag_decode.specs.declared.fault.DecodeFault.{DecodeFault}
 use Rattle.pocsag_decode.specs.declared.fault.DecodeFault.TheVariants as decoding
 use Rattle.pocsag_pager.specs.declared.fault.PagerFault.{PagerFault}
 use Rattle.pocsag_pager.specs.declared.fault.PagerFault.TheVariants as hearing
-use Rattle.pocsag_shell.specs.declared.fault.FileFault.TheVariants as file
-use Rattle.pocsag_centre.specs.declared.fault.CentreFault.{CentreFault}
-use Rattle.pocsag_centre.specs.declared.fault.CentreFault.TheVariants as centre
-use Rattle.pocsag_receiver.specs.declared.fault.ReceiverFault.{ReceiverFault}
-use Rattle.pocsag_receiver.specs.declared.fault.ReceiverFault.TheVariants as receiver
+use Rattle.pocsag_plan.specs.declared.fault.PlanFault.TheVariants as planning
+use Rattle.pocsag_plan.specs.declared.fault.StreamFault.{StreamFault}
+use Rattle.pocsag_plan.specs.declared.fault.StreamFault.TheVariants as stream
+use Rattle.pocsag_plan.specs.declared.fault.UnsentFront.{UnsentFront}
+use Rattle.pocsag_plan.specs.declared.fault.UnsentFront.TheVariants as front
 use Rattle.pocsag_c.specs.declared.refusal.Place.{Place}
 use Rattle.pocsag_c.specs.declared.refusal.StatusAt.{StatusAt}
 
@@ -99,32 +99,24 @@ pager_refusal hearing.Truncated = plain_refusal 52
 pager_refusal hearing.OutOfMemory = plain_refusal 3
 pager_refusal hearing.Failed = plain_refusal 66
 
--- The status and the place of a fault of a call that plans or judges. A text is written to memory, so a fault of writing
--- is want of memory. What comes of files alone is 15.
-abbrev pub refusal_in_centre : CentreFault → StatusAt
-refusal_in_centre (centre.File file.OutOfMemory) = plain_refusal 3
-refusal_in_centre (centre.File file.Write) = plain_refusal 3
-refusal_in_centre centre.BadRate = plain_refusal 4
-refusal_in_centre centre.BadLimit = plain_refusal 5
-refusal_in_centre (centre.SearchLimit least found) = record { status = 6; place = record { record_number = 0; least = least; found = found; at = 0 } }
-refusal_in_centre (centre.FirstPage needed) = record { status = 12; place = record { record_number = 0; least = 0; found = needed; at = 0 } }
-refusal_in_centre (centre.Round f) = round_refusal f
-refusal_in_centre (centre.Certificate f) = certificate_refusal f
-refusal_in_centre (centre.Transmission f) = transmission_refusal f
-refusal_in_centre _ = plain_refusal 15
+-- The faults of a plan that is written. A text is written to memory, so a fault of writing is want of memory.
+abbrev pub stream_refusal : StreamFault → StatusAt
+stream_refusal (stream.Plan planning.BadLimit) = plain_refusal 5
+stream_refusal (stream.Plan (planning.SearchLimit stop)) = record { status = 6; place = record { record_number = 0; least = stop.least; found = stop.found; at = 0 } }
+stream_refusal (stream.Plan planning.OutOfMemory) = plain_refusal 3
+stream_refusal (stream.Round f) = round_refusal f
+stream_refusal (stream.Transmission f) = plain_refusal 3
+stream_refusal (stream.Certificate f) = plain_refusal 3
 
--- The same of a call that lists pages.
-abbrev pub refusal_in_receiver : ReceiverFault → StatusAt
-refusal_in_receiver (receiver.File file.OutOfMemory) = plain_refusal 3
-refusal_in_receiver (receiver.File file.Write) = plain_refusal 3
-refusal_in_receiver (receiver.Transmission f) = transmission_refusal f
-refusal_in_receiver (receiver.Pager f) = pager_refusal f
-refusal_in_receiver _ = plain_refusal 15
+-- The faults of a front: the same, or the first page needs too many batches.
+abbrev pub front_refusal : UnsentFront → StatusAt
+front_refusal (front.Stream f) = stream_refusal f
+front_refusal (front.FirstPage needed) = record { status = 12; place = record { record_number = 0; least = 0; found = needed; at = 0 } }
 
 -- A status of the faults: none of those for what was done, was not shown, had no room, or was asked for by no number.
 abbrev pub IsRefusing : ℕ → Type 0
 IsRefusing status =
-    (status ≢ 0) × (status ≢ 1) × (status ≢ 2) × (status ≢ 7) × (status ≢ 8) × (status ≢ 9)
+    (status ≢ 0) × (status ≢ 1) × (status ≢ 2) × (status ≢ 4) × (status ≢ 7) × (status ≢ 8) × (status ≢ 9)
     × (status ≢ 10) × (status ≢ 11) × (status ≢ 13) × (status ≢ 14)
 
 -- A status that numbers, bytes and memory explain: neither what comes of files alone (15), nor of a reader of a page file or
@@ -132,27 +124,3 @@ IsRefusing status =
 abbrev pub IsOfBytes : ℕ → Type 0
 IsOfBytes status =
     (status ≢ 15) × (status ≢ 16) × (status ≢ 40) × (status ≢ 54) × (status ≢ 55) × (status ≢ 66)
-
--- A fault of bytes or of memory, and of no device.
-abbrev pub IsInMemory : CentreFault → Type 0
-IsInMemory (centre.Round round.ReadFault) = ⊥
-IsInMemory (centre.Round f) = Unit {0}
-IsInMemory (centre.Certificate certificate.ReadFault) = ⊥
-IsInMemory (centre.Certificate f) = Unit {0}
-IsInMemory (centre.File file.OutOfMemory) = Unit {0}
-IsInMemory centre.BadLimit = Unit {0}
-IsInMemory (centre.SearchLimit least found) = Unit {0}
-IsInMemory (centre.FirstPage needed) = Unit {0}
-IsInMemory centre.BadRate = Unit {0}
-IsInMemory _ = ⊥
-
--- The same of the faults of a call that lists pages.
-abbrev pub IsReceivedInMemory : ReceiverFault → Type 0
-IsReceivedInMemory (receiver.File file.OutOfMemory) = Unit {0}
-IsReceivedInMemory (receiver.File file.Write) = Unit {0}
-IsReceivedInMemory (receiver.Transmission decoding.TooMuch) = ⊥
-IsReceivedInMemory (receiver.Transmission decoding.Failed) = ⊥
-IsReceivedInMemory (receiver.Transmission f) = Unit {0}
-IsReceivedInMemory (receiver.Pager hearing.Failed) = ⊥
-IsReceivedInMemory (receiver.Pager f) = Unit {0}
-IsReceivedInMemory _ = ⊥

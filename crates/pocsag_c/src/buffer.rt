@@ -1,13 +1,5 @@
-ghost use Rattle.std.specs.Prelude.{◌≡◌, ◌≤◌, ◌++◌, drop, length, IsTrue};
+ghost use Rattle.std.specs.Prelude.{IsTrue};
 ghost use Rattle.pocsag_c.specs.Answers.{IsDelivered, IsTooSmall};
-
-// Puts the bytes to the front of the buffer.
-pub(crate) fn put(bytes: &[u8], buffer: &mut [u8])
-    requires { length bytes.now ≤ length buffer.old }
-    ensures { buffer.new ≡ bytes.now ++ drop (length bytes.now) buffer.old }
-{
-    buffer[..bytes.len()].copy_from_slice(bytes);
-}
 
 // Tells how many bytes there are, and puts them to the front of the buffer where they fit.
 pub(crate) fn hand_out(bytes: &[u8], buffer: &mut [u8], told: &mut usize) -> bool
@@ -18,6 +10,6 @@ pub(crate) fn hand_out(bytes: &[u8], buffer: &mut [u8], told: &mut usize) -> boo
     if bytes.len() > buffer.len() {
         return false;
     }
-    put(bytes, buffer);
+    buffer[..bytes.len()].copy_from_slice(bytes);
     true
 }

@@ -1,11 +1,12 @@
-ghost use Rattle.std.specs.Prelude.{◌≡◌, ◌≢◌, ◌⊎◌};
-ghost use Rattle.pocsag_centre.specs.Judgements.{ExplainsJudging};
-ghost use Rattle.pocsag_c.specs.Answers.{IsNotAccepted, IsShown, TellsFault, no_verdict, number_of_end};
-ghost use Rattle.pocsag_c.specs.Statuses.{IsOfBytes, nowhere, refusal_in_centre};
+ghost use Rattle.std.specs.Prelude.{◌≡◌, ◌≢◌, ◌⊎◌, IfErr, IfOk, IsFalse, IsTrue};
+ghost use Rattle.pocsag_c.specs.Answers.{IsNotAccepted, IsShown, IsUnjudged, no_verdict, number_of_end};
+ghost use Rattle.pocsag_c.specs.Statuses.{IsOfBytes, IsRefusing, nowhere};
 
-use crate::refusal::{NOWHERE, Place, refusal_in_centre};
-use pocsag_centre::{CheckVerdict, check_file};
-use pocsag_words::End;
+use crate::refusal::{NOWHERE, Place, StatusAt, refused_certificate, refused_round};
+use pocsag_pages::{Round, read_round};
+use pocsag_plan::verdict_on;
+use pocsag_tree::{Certificate, read_certificate};
+use pocsag_words::{End, SliceSource};
 use std::alloc::Global;
 
 /// What a check tells; all but the place is 0 where nothing was judged.
@@ -20,29 +21,57 @@ pub struct CheckInfo {
     pub place: Place,
 }
 
-// What is told of a certificate that was judged.
-pub(crate) fn info_of_judged(judged: CheckVerdict) -> CheckInfo
-    ensures end { result.end ≡ number_of_end judged.end }
-    ensures batches { result.batches ≡ judged.batches }
-    ensures place { result.place ≡ nowhere }
-{
-    CheckInfo {
-        end: match judged.end {
-            End::Open => 0,
-            End::Closed => 1,
-            End::Idle => 2,
-        },
-        batches: judged.batches,
-        place: NOWHERE,
-    }
-}
-
 // What is told where nothing is judged.
 pub(crate) const NOT_JUDGED: CheckInfo = CheckInfo {
     end: 0,
     batches: 0,
     place: NOWHERE,
 };
+
+// A round and a certificate, with the verdict of the checker and what is told of it.
+#[derive(Drop)]
+pub(crate) struct Verdict {
+    pub(crate) round: Round,
+    pub(crate) certificate: Certificate,
+    pub(crate) is_shown: bool,
+    pub(crate) info: CheckInfo,
+}
+
+// Judges a certificate for a page file, or refuses one of them.
+pub(crate) fn verdict_of(alloc: Global, pages: &[u8], cert: &[u8]) -> Result<Verdict, StatusAt>
+    ensures shown { IfOk result (λ v. IsTrue v.is_shown → IsShown pages.now cert.now v.info) }
+    ensures not_shown { IfOk result (λ v. IsFalse v.is_shown → IsNotAccepted pages.now cert.now v.info) }
+    ensures end { IfOk result (λ v. v.info.end ≡ number_of_end v.certificate.end) }
+    ensures batches { IfOk result (λ v. v.info.batches ≡ v.certificate.batches) }
+    ensures place { IfOk result (λ v. v.info.place ≡ nowhere) }
+    ensures fault { IfErr result (λ r. IsUnjudged pages.now cert.now r.status r.place) }
+    ensures refusing { IfErr result (λ r. IsRefusing r.status) }
+    ensures of_bytes { IfErr result (λ r. IsOfBytes r.status) }
+{
+    let round = match read_round(alloc, &mut SliceSource::new(pages)) {
+        Ok(round) => round,
+        Err(fault) => return Err(refused_round(fault)),
+    };
+    let certificate = match read_certificate(alloc, &mut SliceSource::new(cert)) {
+        Ok(certificate) => certificate,
+        Err(fault) => return Err(refused_certificate(fault)),
+    };
+    let judged = verdict_on(&round, &certificate);
+    Ok(Verdict {
+        round,
+        certificate,
+        is_shown: judged.is_shown,
+        info: CheckInfo {
+            end: match judged.end {
+                End::Open => 0,
+                End::Closed => 1,
+                End::Idle => 2,
+            },
+            batches: judged.batches,
+            place: NOWHERE,
+        },
+    })
+}
 
 /// Whether the certificate shows its number of batches for the page file: 0, or 1 where it does not.
 #[unsafe(no_mangle)]
@@ -58,19 +87,17 @@ pub extern "C" fn pocsag_check(
     ensures not_shown { result ≡ 1 → IsNotAccepted pages.now cert.now info.new }
     ensures placeless { (result ≡ 0) ⊎ (result ≡ 1) → info.new.place ≡ nowhere }
     // Any other status is that of the fault of one of them, with its place, and never that of a device.
-    ensures fault { result ≢ 0 → result ≢ 1 →
-        TellsFault refusal_in_centre (ExplainsJudging pages.now cert.now) result info.new.place }
+    ensures fault { result ≢ 0 → result ≢ 1 → IsUnjudged pages.now cert.now result info.new.place }
     ensures nothing { result ≢ 0 → result ≢ 1 → info.new ≡ no_verdict info.new.place }
     ensures of_bytes { IsOfBytes result }
 {
     *info = NOT_JUDGED;
-    match check_file(alloc, pages, cert) {
-        Ok(judged) => {
-            *info = info_of_judged(judged);
-            u32::from(!judged.is_shown)
+    match verdict_of(alloc, pages, cert) {
+        Ok(verdict) => {
+            *info = verdict.info;
+            u32::from(!verdict.is_shown)
         }
-        Err(fault) => {
-            let refusal = refusal_in_centre(fault);
+        Err(refusal) => {
             info.place = refusal.place;
             refusal.status
         }

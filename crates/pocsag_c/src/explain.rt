@@ -1,15 +1,12 @@
 ghost use Rattle.std.specs.Prelude.{◌≡◌, ◌≢◌, ◌↔◌, ◌⊎◌, false, true, IfSome, None};
-ghost use Rattle.pocsag_explain.specs.Verdicts.{ExplainsUntold};
-ghost use Rattle.pocsag_c.specs.Answers.{IsNotAccepted, IsShown, TellsFault, no_verdict};
+ghost use Rattle.pocsag_c.specs.Answers.{IsNotAccepted, IsShown, IsUnjudged, no_verdict};
 ghost use Rattle.pocsag_c.specs.Explain.{IsNumberOfForm, IsJudgedAs, IsNoForm, IsTextOfVerdict, IsUntold, IsVerdictText};
 ghost use Rattle.pocsag_c.specs.Listings.{HasNoRoom, IsListed};
-ghost use Rattle.pocsag_c.specs.Statuses.{IsOfBytes, nowhere, refusal_in_centre};
+ghost use Rattle.pocsag_c.specs.Statuses.{IsOfBytes, nowhere};
 
 use crate::buffer::hand_out;
-use crate::check::{CheckInfo, NOT_JUDGED, info_of_judged};
-use crate::refusal::refusal_in_centre;
-use pocsag_explain::explain_file;
-use pocsag_findings::Telling;
+use crate::check::{CheckInfo, NOT_JUDGED, verdict_of};
+use pocsag_findings::{Telling, explanation};
 use std::alloc::Global;
 
 // How the certificate is told, by the number of a form: 0 in words, 1 as JSON.
@@ -49,10 +46,10 @@ pub extern "C" fn pocsag_explain(
     ensures judged { result ≡ 10 → IsJudgedAs pages.now cert.now info.new }
     ensures no_room { result ≡ 10 →
         HasNoRoom (IsTextOfVerdict form depth info.new) text.old text.new text_len.new }
-    // Any other status says why nothing is told, and never that a device failed.
+    // Any other status says why nothing is told, and never that a device failed. Want of memory for the text is that for the
+    // certificate.
     ensures bad_form { result ≡ 11 ↔ IsNoForm form }
-    ensures fault { IsUntold result →
-        TellsFault refusal_in_centre (ExplainsUntold pages.now cert.now) result info.new.place }
+    ensures fault { IsUntold result → IsUnjudged pages.now cert.now result info.new.place }
     ensures placeless { (result ≡ 0) ⊎ (result ≡ 1) ⊎ (result ≡ 10) ⊎ (result ≡ 11) → info.new.place ≡ nowhere }
     ensures nothing { result ≢ 0 → result ≢ 1 → result ≢ 10 →
         (text_len.new ≡ 0) × (info.new ≡ no_verdict info.new.place) }
@@ -64,19 +61,23 @@ pub extern "C" fn pocsag_explain(
     let Some(telling) = telling_of(form, depth) else {
         return 11;
     };
-    match explain_file(alloc, telling, pages, cert) {
-        Ok(explained) => {
-            *info = info_of_judged(explained.judged);
-            if hand_out(explained.text.as_str().as_bytes(), text, text_len) {
-                u32::from(!explained.judged.is_shown)
+    let verdict = match verdict_of(alloc, pages, cert) {
+        Ok(verdict) => verdict,
+        Err(refusal) => {
+            info.place = refusal.place;
+            return refusal.status;
+        }
+    };
+    let shown = verdict.is_shown;
+    match explanation(alloc, telling, &verdict.round, &verdict.certificate, shown) {
+        Ok(told) => {
+            *info = verdict.info;
+            if hand_out(told.as_str().as_bytes(), text, text_len) {
+                u32::from(!shown)
             } else {
                 10
             }
         }
-        Err(fault) => {
-            let refusal = refusal_in_centre(fault);
-            info.place = refusal.place;
-            refusal.status
-        }
+        Err(_) => 3,
     }
 }

@@ -1,14 +1,34 @@
-ghost use Rattle.std.specs.Prelude.{◌≡◌, ◌≢◌, ◌<◌, ◌≤◌, ◌⊎◌, ◌↔◌, length};
-ghost use Rattle.pocsag_c.specs.Answers.{IsDelivered, IsNoEnd, TellsFault};
-ghost use Rattle.pocsag_c.specs.Fronts.{ExplainsFrontPlanning, HasLengthOf, IsBeyond, IsCountedFirst, IsFront, IsFrontHeadline, IsGivenIfWanted, IsLongestTold, IsOwedFront, IsPutIfWanted, IsRestOf, IsWithoutFront, beyond_bytes, beyond_bound, no_front};
+ghost use Rattle.std.specs.Prelude.{◌≡◌, ◌≢◌, ◌<◌, ◌≤◌, ◌⊎◌, ◌↔◌, All, IfErr, IfOk, IfSome, drop, length, take};
+ghost use Rattle.pocsag_pages.specs.Listable.{IsListable};
+ghost use Rattle.pocsag_pages.specs.PageFile.{verdict};
+ghost use Rattle.pocsag_pages.specs.PageList.{unless_empty};
+ghost use Rattle.pocsag_pages.specs.Pages.{page_limit};
+ghost use Rattle.pocsag_pages.specs.declared.fault.RoundFault.TheVariants as round_fault;
+ghost use Rattle.pocsag_tree.specs.CertificateText.{HasText};
+ghost use Rattle.pocsag_tree.specs.Limits.{second_ranges};
+ghost use Rattle.pocsag_tree.specs.Views.{bound_tree_of};
+ghost use Rattle.pocsag_decode.specs.PageFiles.{page_file};
+ghost use Rattle.pocsag_plan.specs.Fronts.{IsFrontFor, IsLongestFront};
+ghost use Rattle.pocsag_plan.specs.Headline.{RoundHeadline};
+ghost use Rattle.pocsag_plan.specs.Plans.{IsBounded, IsPlanFor};
+ghost use Rattle.pocsag_plan.specs.Streams.{HeadlineOf, IsOfRound};
+ghost use Rattle.pocsag_plan.specs.declared.fault.StreamFault.TheVariants as stream_fault;
+ghost use Rattle.pocsag_c.specs.Answers.{IsDelivered, IsNoEnd, TellsFault, effort_of};
+ghost use Rattle.pocsag_c.specs.Fronts.{ExplainsFrontPlanning, ExplainsUnfronted, HasLengthOf, IsBeyond, IsCountedFirst, IsFront, IsFrontHeadline, IsGivenIfWanted, IsLongestTold, IsNoWorseFront, IsOwedFront, IsPutIfWanted, IsRestOf, IsTextOfWhy, IsWithoutFront, beyond_bytes, beyond_bound, no_front};
 ghost use Rattle.pocsag_c.specs.Plans.{HasNoRoomForBoth, IsPlannedInto};
-ghost use Rattle.pocsag_c.specs.Statuses.{IsOfBytes, nowhere, refusal_in_centre};
+ghost use Rattle.pocsag_c.specs.Statuses.{IsOfBytes, front_refusal, nowhere};
 
 use crate::buffer::hand_out;
-use crate::plan::{effort_of, end_of, hand_out_both};
-use crate::refusal::{NOWHERE, Place, refusal_in_centre};
-use pocsag_centre::{WrittenCertificate, WrittenFront, front_file};
-use pocsag_plan::{Bounded, Effort, Search};
+use crate::plan::{PlanTexts, effort_of, end_of, hand_out_both};
+use crate::refusal::{NOWHERE, Place, refused_front};
+use pocsag_decode::{page_files_are_read_back, pages_of_files_are_spellable, write_page_file};
+use pocsag_pages::read_round;
+use pocsag_plan::{
+    Bounded, Effort, FrontPlan, NoFront, PlanFault, Search, StreamFault, UnsentFront,
+    is_node_limit, longest_front, send,
+};
+use pocsag_tree::{Certificate, write_text};
+use pocsag_words::{GrowingSink, OutOfMemory, SliceSource};
 use std::alloc::Global;
 
 /// What the plan of a front tells; all but the place is 0 where there is none.
@@ -33,7 +53,7 @@ pub struct FrontInfo {
     pub place: Place,
 }
 
-const NOTHING: FrontInfo = FrontInfo {
+const NO_FRONT: FrontInfo = FrontInfo {
     pages: 0,
     left: 0,
     codewords: 0,
@@ -44,21 +64,114 @@ const NOTHING: FrontInfo = FrontInfo {
     place: NOWHERE,
 };
 
-// The bytes of the certificate of one page more, and its bound; where there is none, no byte and 0.
-fn beyond_of(why: &Option<WrittenCertificate>) -> (&[u8], u32)
-    ensures bytes { result.0.now ≡ beyond_bytes why.now }
-    ensures bound { result.1 ≡ beyond_bound why.now }
+// A front with the bytes of all that is written of it.
+#[derive(Drop)]
+struct FrontTexts {
+    // Of the first pages.
+    first: PlanTexts,
+    // The page file of the pages that are left, and how many they are.
+    rest: Vec<u8>,
+    left: u32,
+    // Why one page more is not in the front, where pages are left.
+    why: Vec<u8>,
+    beyond: u32,
+}
+
+// Writes all that is written of a front.
+fn texts_of(alloc: Global, front: FrontPlan) -> Result<FrontTexts, OutOfMemory>
+    requires plan { IsBounded front.bounded.plan.end front.round front.bounded.plan front.bounded.bound }
+    requires rest { All IsListable front.rest.items }
+    requires few { length front.rest.items ≤ page_limit }
+    requires why { IfSome front.why (λ c. HasText second_ranges c.batches (bound_tree_of c.tree)) }
+    ensures headline { IfOk result (λ t.
+        HeadlineOf front.round front.bounded t.first.sent.items t.first.certificate.items) }
+    ensures bounded { IfOk result (λ t. t.first.bounded ≡ front.bounded) }
+    ensures rest { IfOk result (λ t. t.rest.items ≡ page_file front.rest.items) }
+    ensures left { IfOk result (λ t. t.left ≡ length front.rest.items) }
+    ensures why { IfOk result (λ t. t.why.items ≡ beyond_bytes front.why) }
+    ensures beyond { IfOk result (λ t. t.beyond ≡ beyond_bound front.why) }
 {
-    match why {
-        Some(written) => (written.bytes.as_slice(), written.bound),
-        None => (&[], 0),
+    let mut tx = GrowingSink::new(alloc);
+    let mut cert = GrowingSink::new(alloc);
+    let mut rest = GrowingSink::new(alloc);
+    let mut why = GrowingSink::new(alloc);
+    let Ok(()) = send(&front.round, &front.bounded, &mut tx, &mut cert) else {
+        return Err(OutOfMemory);
+    };
+    let Ok(()) = write_page_file(alloc, front.rest.as_slice(), &mut rest) else {
+        return Err(OutOfMemory);
+    };
+    let mut beyond = 0;
+    if let Some(Certificate { end, batches, tree }) = &front.why {
+        let Ok(()) = write_text(*end, *batches, tree, &mut why) else {
+            return Err(OutOfMemory);
+        };
+        beyond = *batches;
+    }
+    Ok(FrontTexts {
+        first: PlanTexts {
+            sent: tx.into_bytes(),
+            certificate: cert.into_bytes(),
+            bounded: front.bounded,
+        },
+        rest: rest.into_bytes(),
+        left: front.rest.len() as u32,
+        why: why.into_bytes(),
+        beyond,
+    })
+}
+
+// Plans the longest front of a page file that so many batches carry, as is asked, and writes it.
+fn front_texts(
+    alloc: Global,
+    pages: &[u8],
+    batches: u32,
+    search: Search,
+) -> Result<FrontTexts, UnsentFront>
+    ensures front { IfOk result (λ t. IsOfRound pages.now (λ round.
+        IsFrontFor search round batches t.first.bounded.plan.pages)) }
+    ensures longest { search.effort ≡ Effort.Fewest → IfOk result (λ t. IsOfRound pages.now (λ round.
+        IsLongestFront search.end round batches t.first.bounded.plan.pages)) }
+    ensures headline { IfOk result (λ t. IsOfRound pages.now (λ round.
+        RoundHeadline (take t.first.bounded.plan.pages round) search.end t.first.bounded.plan.batches
+        t.first.bounded.bound (bound_tree_of t.first.bounded.plan.tree) t.first.sent.items t.first.certificate.items)) }
+    ensures plan { IfOk result (λ t. IsOfRound pages.now (λ round.
+        IsPlanFor search (take t.first.bounded.plan.pages round) t.first.bounded)) }
+    ensures within { IfOk result (λ t. t.first.bounded.plan.batches ≤ batches) }
+    ensures rest { IfOk result (λ t. IsOfRound pages.now (λ round.
+        verdict t.rest.items ≡ unless_empty (drop t.first.bounded.plan.pages round))) }
+    ensures left { IfOk result (λ t. IsOfRound pages.now (λ round.
+        t.left ≡ length (drop t.first.bounded.plan.pages round))) }
+    ensures why { IfOk result (λ t.
+        IsTextOfWhy search pages.now batches t.first.bounded.plan.pages t.why.items t.beyond) }
+    ensures explained { IfErr result (ExplainsUnfronted pages.now search batches) }
+    ensures unread { IfErr result (λ e. e ≢ UnsentFront.Stream (stream_fault.Round round_fault.ReadFault)) }
+{
+    page_files_are_read_back();
+    pages_of_files_are_spellable();
+    if !is_node_limit(search.limit) {
+        return Err(UnsentFront::Stream(StreamFault::Plan(PlanFault::BadLimit)));
+    }
+    let round = match read_round(alloc, &mut SliceSource::new(pages)) {
+        Ok(round) => round,
+        Err(fault) => return Err(UnsentFront::Stream(StreamFault::Round(fault))),
+    };
+    round.keeps_rules();
+    let front = match longest_front(alloc, round, batches, search) {
+        Ok(front) => front,
+        Err(NoFront::Plan(fault)) => return Err(UnsentFront::Stream(StreamFault::Plan(fault))),
+        Err(NoFront::FirstPage(needed)) => return Err(UnsentFront::FirstPage(needed)),
+    };
+    match texts_of(alloc, front) {
+        Ok(texts) => Ok(texts),
+        Err(_) => Err(UnsentFront::Stream(StreamFault::Plan(PlanFault::OutOfMemory))),
     }
 }
 
 // Puts the four texts into their buffers, if each has room for its text, and tells their lengths. A buffer of no byte for
 // the pages that are left, or for one page more, is not wanted.
 fn hand_out_front(
-    front: &WrittenFront,
+    front: &FrontTexts,
     tx: &mut [u8],
     tx_len: &mut usize,
     cert: &mut [u8],
@@ -72,11 +185,11 @@ fn hand_out_front(
     ensures transmission { result ≡ 0 → IsDelivered tx.old tx.new tx_len.new front.now.first.sent.items }
     ensures text { result ≡ 0 → IsDelivered cert.old cert.new cert_len.new front.now.first.certificate.items }
     ensures rest { result ≡ 0 → IsPutIfWanted rest.old rest.new rest_len.new front.now.rest.items }
-    ensures why { result ≡ 0 → IsPutIfWanted why.old why.new why_len.new (beyond_bytes front.now.why) }
+    ensures why { result ≡ 0 → IsPutIfWanted why.old why.new why_len.new front.now.why.items }
     ensures length { tx_len.new ≡ length front.now.first.sent.items }
     ensures cert_length { cert_len.new ≡ length front.now.first.certificate.items }
     ensures rest_length { rest_len.new ≡ length front.now.rest.items }
-    ensures why_length { why_len.new ≡ length (beyond_bytes front.now.why) }
+    ensures why_length { why_len.new ≡ length front.now.why.items }
     ensures small { result ≡ 7 → length tx.old < tx_len.new }
     ensures cert_small { result ≡ 8 → length cert.old < cert_len.new }
     ensures rest_small { result ≡ 13 → length rest.old < rest_len.new }
@@ -85,7 +198,7 @@ fn hand_out_front(
         (tx.new ≡ tx.old) × (cert.new ≡ cert.old) × (rest.new ≡ rest.old) × (why.new ≡ why.old) }
 {
     let others = front.rest.as_slice();
-    let (beyond, _bound) = beyond_of(&front.why);
+    let beyond = front.why.as_slice();
     *tx_len = front.first.sent.len();
     *cert_len = front.first.certificate.len();
     *rest_len = others.len();
@@ -128,24 +241,26 @@ pub extern "C" fn pocsag_plan_at_most(
 ) -> u32
     // As many first pages as so many batches carry; where `always` is not 0, as many as the planner found to fit.
     ensures longest { IsFront result → always ≡ 0 → IsLongestTold pages.now end batches info.new }
-    ensures front { IsFront result → always ≢ 0 → IsOwedFront Effort.Always pages.now end limit batches info.new }
+    ensures front { IsFront result → IsOwedFront (effort_of always) pages.now end limit batches info.new }
     ensures within { IsFront result → info.new.batches ≤ batches }
     ensures fewest { IsFront result → always ≡ 0 → info.new.bound ≡ info.new.batches }
     ensures counted { IsFront result → IsCountedFirst pages.now info.new }
+    // Where `always` is not 0, their plan is no worse than one with 0 at this limit.
+    ensures no_worse { IsFront result → IsNoWorseFront pages.now end limit info.new }
 
     // The headline with a bound of these pages, of the bytes that stand in the two buffers; and the other two.
     ensures planned { result ≡ 0 →
         IsPlannedInto (IsFrontHeadline pages.now end info.new) tx.old tx.new tx_len.new cert.old cert.new cert_len.new }
     ensures rest { result ≡ 0 → IsGivenIfWanted (IsRestOf pages.now info.new) rest.old rest.new rest_len.new }
-    ensures why { result ≡ 0 → always ≡ 0 →
-        IsGivenIfWanted (IsBeyond Effort.Fewest pages.now end limit batches info.new) why.old why.new why_len.new }
-    ensures why_always { result ≡ 0 → always ≢ 0 →
-        IsGivenIfWanted (IsBeyond Effort.Always pages.now end limit batches info.new) why.old why.new why_len.new }
+    ensures why { result ≡ 0 →
+        IsGivenIfWanted (IsBeyond (effort_of always) pages.now end limit batches info.new) why.old why.new why_len.new }
 
     // Too small a buffer: the lengths are those of such texts.
     ensures no_room { IsFront result →
         HasNoRoomForBoth (IsFrontHeadline pages.now end info.new) tx_len.new cert_len.new }
     ensures rest_length { IsFront result → HasLengthOf (IsRestOf pages.now info.new) rest_len.new }
+    ensures why_length { IsFront result →
+        HasLengthOf (IsBeyond (effort_of always) pages.now end limit batches info.new) why_len.new }
     ensures small { result ≡ 7 → length tx.old < tx_len.new }
     ensures cert_small { result ≡ 8 → length cert.old < cert_len.new }
     ensures rest_small { result ≡ 13 → length rest.old < rest_len.new }
@@ -153,12 +268,9 @@ pub extern "C" fn pocsag_plan_at_most(
 
     // Any other status says why there is no front, and never that a device failed; all buffers are as they were.
     ensures bad_end { result ≡ 2 ↔ IsNoEnd end }
-    ensures fault { IsWithoutFront result → always ≡ 0 →
-        TellsFault refusal_in_centre
-        (ExplainsFrontPlanning Effort.Fewest pages.now end limit batches) result info.new.place }
-    ensures fault_always { IsWithoutFront result → always ≢ 0 →
-        TellsFault refusal_in_centre
-        (ExplainsFrontPlanning Effort.Always pages.now end limit batches) result info.new.place }
+    ensures fault { IsWithoutFront result →
+        TellsFault front_refusal (ExplainsFrontPlanning (effort_of always) pages.now end limit batches)
+        result info.new.place }
     ensures answered { always ≢ 0 → result ≢ 6 }
     ensures placeless { IsFront result ⊎ (result ≡ 2) → info.new.place ≡ nowhere }
     ensures nothing { IsWithoutFront result ⊎ (result ≡ 2) → (tx_len.new ≡ 0) × (cert_len.new ≡ 0)
@@ -171,12 +283,12 @@ pub extern "C" fn pocsag_plan_at_most(
     *cert_len = 0;
     *rest_len = 0;
     *why_len = 0;
-    *info = NOTHING;
+    *info = NO_FRONT;
     let Some(end) = end_of(end) else {
         return 2;
     };
     let effort = effort_of(always);
-    match front_file(alloc, pages, batches, Search { limit, end, effort }) {
+    match front_texts(alloc, pages, batches, Search { limit, end, effort }) {
         Ok(front) => {
             let Bounded { plan, bound, .. } = &front.first.bounded;
             *info = FrontInfo {
@@ -186,7 +298,7 @@ pub extern "C" fn pocsag_plan_at_most(
                 in_order: plan.in_order,
                 batches: plan.batches,
                 bound: *bound,
-                beyond: beyond_of(&front.why).1,
+                beyond: front.beyond,
                 place: NOWHERE,
             };
             hand_out_front(
@@ -194,7 +306,7 @@ pub extern "C" fn pocsag_plan_at_most(
             )
         }
         Err(fault) => {
-            let refusal = refusal_in_centre(fault);
+            let refusal = refused_front(fault);
             info.place = refusal.place;
             refusal.status
         }

@@ -1,49 +1,65 @@
-ghost use Rattle.std.specs.Prelude.{◌≡◌, ◌≢◌, ◌⊎◌, [], IfErr, IfOk, IsErrAnd, IsOkAnd};
-ghost use Rattle.pocsag_receiver.specs.Listings.{Decoded, ExplainsDecoding, ExplainsHearing, HeardAndListed};
+ghost use Rattle.std.specs.Prelude.{◌≡◌, ◌≢◌, ◌⊎◌, IfErr, IfOk, IsErrAnd, IsOkAnd};
 ghost use Rattle.pocsag_c.specs.Answers.{IsDelivered, IsTooSmall, TellsFault};
-ghost use Rattle.pocsag_c.specs.Listings.{HasNoRoom, IsListed};
-ghost use Rattle.pocsag_c.specs.Statuses.{IsOfBytes, IsReceivedInMemory, nowhere, refusal_in_receiver};
+ghost use Rattle.pocsag_c.specs.Listings.{ExplainsUnheard, ExplainsUnlisted, HasNoRoom, IsListed, IsListingOf, IsListingShown};
+ghost use Rattle.pocsag_c.specs.Statuses.{IsOfBytes, IsRefusing, nowhere, pager_refusal, transmission_refusal};
 
 use crate::buffer::hand_out;
-use crate::refusal::{NOWHERE, Place, refusal_in_receiver};
-use pocsag_receiver::{ReceiverFault, list_decoded, list_heard};
+use crate::refusal::{NOWHERE, Place, StatusAt, refused_hearing, refused_transmission};
+use pocsag_decode::{DecodeFault, judge_bytes, list_sent, list_spent};
+use pocsag_pager::{PagerFault, hear_all};
 use pocsag_words::GrowingSink;
 use std::alloc::Global;
 
-fn text_decoded(alloc: Global, tx: &[u8]) -> Result<Vec<u8>, ReceiverFault>
-    ensures listed { IfOk result (λ text. Decoded tx.now [] text.items) }
-    ensures explained { IfErr result (ExplainsDecoding tx.now) }
+fn text_decoded(alloc: Global, tx: &[u8]) -> Result<Vec<u8>, StatusAt>
+    ensures listed { IfOk result (λ text. IsListingOf tx.now text.items) }
+    ensures fault { IfErr result (λ r. TellsFault transmission_refusal (ExplainsUnlisted tx.now) r.status r.place) }
+    ensures refusing { IfErr result (λ r. IsRefusing r.status) }
+    ensures of_bytes { IfErr result (λ r. IsOfBytes r.status) }
 {
+    if let Err(fault) = judge_bytes(tx) {
+        return Err(refused_transmission(fault));
+    }
     let mut text = GrowingSink::new(alloc);
-    list_decoded(alloc, tx, &mut text)?;
-    Ok(text.into_bytes())
+    match list_sent(alloc, tx, &mut text) {
+        Ok(()) => Ok(text.into_bytes()),
+        Err(_) => Err(refused_transmission(DecodeFault::OutOfMemory)),
+    }
 }
 
-fn text_heard(alloc: Global, address: u32, tx: &[u8]) -> Result<Vec<u8>, ReceiverFault>
-    ensures listed { IfOk result (λ text. HeardAndListed address tx.now [] text.items) }
-    ensures explained { IfErr result (ExplainsHearing address tx.now) }
+fn text_heard(alloc: Global, address: u32, tx: &[u8]) -> Result<Vec<u8>, StatusAt>
+    ensures listed { IfOk result (λ text. IsListingShown address tx.now text.items) }
+    ensures fault { IfErr result (λ r. TellsFault pager_refusal (ExplainsUnheard address tx.now) r.status r.place) }
+    ensures refusing { IfErr result (λ r. IsRefusing r.status) }
+    ensures of_bytes { IfErr result (λ r. IsOfBytes r.status) }
 {
+    let pages = match hear_all(alloc, tx, address) {
+        Ok(pages) => pages,
+        Err(fault) => return Err(refused_hearing(fault)),
+    };
     let mut text = GrowingSink::new(alloc);
-    list_heard(alloc, address, tx, &mut text)?;
-    Ok(text.into_bytes())
+    match list_spent(alloc, pages, &mut text) {
+        Ok(()) => Ok(text.into_bytes()),
+        Err(_) => Err(refused_hearing(PagerFault::OutOfMemory)),
+    }
 }
 
 // Hands out a listing, or tells why there is none.
 fn hand_out_listing(
-    listed: Result<Vec<u8>, ReceiverFault>,
+    listed: Result<Vec<u8>, StatusAt>,
     listing: &mut [u8],
     listing_len: &mut usize,
     place: &mut Place,
 ) -> u32
+    requires { IfErr listed (λ r. IsRefusing r.status) }
     ensures delivered { result ≡ 0 →
         IsOkAnd listed (λ text. IsDelivered listing.old listing.new listing_len.new text.items) }
     ensures too_small { result ≡ 9 →
         IsOkAnd listed (λ text. IsTooSmall listing.old listing.new listing_len.new text.items) }
-    ensures fault { result ≢ 0 → result ≢ 9 → IsErrAnd listed (λ fault.
-        (result ≡ (refusal_in_receiver fault).status) × (place.new ≡ (refusal_in_receiver fault).place)) }
+    ensures fault { result ≢ 0 → result ≢ 9 →
+        IsErrAnd listed (λ r. (result ≡ r.status) × (place.new ≡ r.place)) }
     ensures placeless { (result ≡ 0) ⊎ (result ≡ 9) → place.new ≡ nowhere }
     ensures nothing { result ≢ 0 → result ≢ 9 → listing_len.new ≡ 0 }
-    ensures of_bytes { IfErr listed IsReceivedInMemory → IsOfBytes result }
+    ensures of_bytes { IfErr listed (λ r. IsOfBytes r.status) → IsOfBytes result }
     ensures untouched { result ≢ 0 → listing.new ≡ listing.old }
 {
     match listed {
@@ -55,9 +71,8 @@ fn hand_out_listing(
                 9
             }
         }
-        Err(fault) => {
+        Err(refusal) => {
             *listing_len = 0;
-            let refusal = refusal_in_receiver(fault);
             *place = refusal.place;
             refusal.status
         }
@@ -74,10 +89,10 @@ pub extern "C" fn pocsag_decode(
     listing_len: &mut usize,
     place: &mut Place,
 ) -> u32
-    ensures listed { result ≡ 0 → IsListed (Decoded tx.now []) listing.old listing.new listing_len.new }
-    ensures no_room { result ≡ 9 → HasNoRoom (Decoded tx.now []) listing.old listing.new listing_len.new }
+    ensures listed { result ≡ 0 → IsListed (IsListingOf tx.now) listing.old listing.new listing_len.new }
+    ensures no_room { result ≡ 9 → HasNoRoom (IsListingOf tx.now) listing.old listing.new listing_len.new }
     ensures fault { result ≢ 0 → result ≢ 9 →
-        TellsFault refusal_in_receiver (ExplainsDecoding tx.now) result place.new }
+        TellsFault transmission_refusal (ExplainsUnlisted tx.now) result place.new }
     ensures placeless { (result ≡ 0) ⊎ (result ≡ 9) → place.new ≡ nowhere }
     ensures nothing { result ≢ 0 → result ≢ 9 → listing_len.new ≡ 0 }
     ensures of_bytes { IsOfBytes result }
@@ -98,11 +113,11 @@ pub extern "C" fn pocsag_hear(
     listing_len: &mut usize,
     place: &mut Place,
 ) -> u32
-    ensures listed { result ≡ 0 → IsListed (HeardAndListed address tx.now []) listing.old listing.new listing_len.new }
+    ensures listed { result ≡ 0 → IsListed (IsListingShown address tx.now) listing.old listing.new listing_len.new }
     ensures no_room { result ≡ 9 →
-        HasNoRoom (HeardAndListed address tx.now []) listing.old listing.new listing_len.new }
+        HasNoRoom (IsListingShown address tx.now) listing.old listing.new listing_len.new }
     ensures fault { result ≢ 0 → result ≢ 9 →
-        TellsFault refusal_in_receiver (ExplainsHearing address tx.now) result place.new }
+        TellsFault pager_refusal (ExplainsUnheard address tx.now) result place.new }
     ensures placeless { (result ≡ 0) ⊎ (result ≡ 9) → place.new ≡ nowhere }
     ensures nothing { result ≢ 0 → result ≢ 9 → listing_len.new ≡ 0 }
     ensures of_bytes { IsOfBytes result }

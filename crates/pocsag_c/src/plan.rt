@@ -1,13 +1,18 @@
-ghost use Rattle.std.specs.Prelude.{◌≡◌, ◌≢◌, ◌<◌, ◌≤◌, ◌⊎◌, ◌↔◌, MatchOption, length};
-ghost use Rattle.pocsag_c.specs.Answers.{IsDelivered, IsNoEnd, TellsFault, number_of_end};
-ghost use Rattle.pocsag_c.specs.Plans.{ExplainsPlanning, HasNoRoomForBoth, IsCounted, IsHeadline, IsHeadlineWithBound, IsPlannedInto, IsWithoutPlan, IsWithoutRoom, no_plan};
-ghost use Rattle.pocsag_c.specs.Statuses.{IsOfBytes, nowhere, refusal_in_centre};
+ghost use Rattle.std.specs.Prelude.{◌≡◌, ◌≢◌, ◌<◌, ◌≤◌, ◌⊎◌, ◌↔◌, IfErr, IfOk, MatchOption, length};
+ghost use Rattle.pocsag_pages.specs.declared.fault.RoundFault.TheVariants as round_fault;
+ghost use Rattle.pocsag_tree.specs.Views.{bound_tree_of};
+ghost use Rattle.pocsag_plan.specs.BoundedHeadline.{BoundedHeadline};
+ghost use Rattle.pocsag_plan.specs.Headline.{Headline};
+ghost use Rattle.pocsag_plan.specs.Plans.{IsNoWorse};
+ghost use Rattle.pocsag_plan.specs.Streams.{ExplainsStream, IsBoundedOf, IsOfRound};
+ghost use Rattle.pocsag_c.specs.Answers.{IsDelivered, IsNoEnd, TellsFault, effort_of, number_of_end};
+ghost use Rattle.pocsag_c.specs.Plans.{ExplainsPlanning, HasNoRoomForBoth, IsCounted, IsHeadline, IsHeadlineWithBound, IsNoWorseTold, IsPlannedInto, IsWithoutPlan, IsWithoutRoom, no_plan};
+ghost use Rattle.pocsag_c.specs.Statuses.{IsOfBytes, nowhere, stream_refusal};
 
-use crate::buffer::put;
-use crate::refusal::{NOWHERE, Place, refusal_in_centre};
-use pocsag_centre::{Written, plan_file};
-use pocsag_plan::{Bounded, Effort, Search};
-use pocsag_words::End;
+use crate::buffer::hand_out;
+use crate::refusal::{NOWHERE, Place, refused_stream};
+use pocsag_plan::{Bounded, Effort, Search, StreamFault, plan_stream, plan_stream_always};
+use pocsag_words::{End, GrowingSink, SliceSource};
 use std::alloc::Global;
 
 /// What a plan tells; all but the place is 0 where there is none.
@@ -30,6 +35,7 @@ pub struct PlanInfo {
 
 // What a number asks for: 0 the fewest batches alone, any other that no round is refused.
 pub(crate) fn effort_of(always: u32) -> Effort
+    ensures value { result ≡ effort_of always }
     ensures fewest { always ≡ 0 → result ≡ Effort.Fewest }
     ensures always { always ≢ 0 → result ≡ Effort.Always }
 {
@@ -40,7 +46,7 @@ pub(crate) fn effort_of(always: u32) -> Effort
     }
 }
 
-const NOTHING: PlanInfo = PlanInfo {
+const NO_PLAN: PlanInfo = PlanInfo {
     pages: 0,
     codewords: 0,
     in_order: 0,
@@ -61,25 +67,77 @@ pub(crate) fn end_of(number: u32) -> Option<End>
     }
 }
 
+// A plan with the bytes of its transmission and of its certificate.
+#[derive(Drop)]
+pub(crate) struct PlanTexts {
+    pub(crate) sent: Vec<u8>,
+    pub(crate) certificate: Vec<u8>,
+    pub(crate) bounded: Bounded,
+}
+
+// Plans a page file as is asked, and writes both texts.
+fn plan_texts(alloc: Global, pages: &[u8], search: Search) -> Result<PlanTexts, StreamFault>
+    ensures bounded { IfOk result (λ p. BoundedHeadline pages.now search.end p.bounded.plan.batches p.bounded.bound
+        (bound_tree_of p.bounded.plan.tree) p.sent.items p.certificate.items) }
+    ensures headline { IfOk result (λ p. p.bounded.bound ≡ p.bounded.plan.batches →
+        Headline pages.now search.end p.bounded.plan.batches
+        (bound_tree_of p.bounded.plan.tree) p.sent.items p.certificate.items) }
+    ensures plan { IfOk result (λ p. IsBoundedOf pages.now search.end p.bounded) }
+    ensures fewest { search.effort ≡ Effort.Fewest → IfOk result (λ p. p.bounded.bound ≡ p.bounded.plan.batches) }
+    ensures no_worse { IfOk result (λ p. IsOfRound pages.now (λ round.
+        IsNoWorse search.end round search.limit p.bounded)) }
+    ensures explained { IfErr result (ExplainsStream search.effort pages.now search.end search.limit) }
+    ensures unread { IfErr result (λ e. e ≢ StreamFault.Round round_fault.ReadFault) }
+{
+    let Search { limit, end, effort } = search;
+    let mut source = SliceSource::new(pages);
+    let mut tx = GrowingSink::new(alloc);
+    let mut cert = GrowingSink::new(alloc);
+    match effort {
+        Effort::Fewest => match plan_stream(alloc, &mut source, &mut tx, &mut cert, limit, end) {
+            Ok(plan) => Ok(PlanTexts {
+                sent: tx.into_bytes(),
+                certificate: cert.into_bytes(),
+                bounded: Bounded {
+                    bound: plan.batches,
+                    plan,
+                    stopped: None,
+                },
+            }),
+            Err(fault) => Err(fault),
+        },
+        Effort::Always => {
+            match plan_stream_always(alloc, &mut source, &mut tx, &mut cert, limit, end) {
+                Ok(bounded) => Ok(PlanTexts {
+                    sent: tx.into_bytes(),
+                    certificate: cert.into_bytes(),
+                    bounded,
+                }),
+                Err(fault) => Err(fault),
+            }
+        }
+    }
+}
+
 // Puts both texts into their buffers, if each has room for its text, and tells their lengths.
 pub(crate) fn hand_out_both(
-    written: &Written,
+    texts: &PlanTexts,
     tx: &mut [u8],
     tx_len: &mut usize,
     cert: &mut [u8],
     cert_len: &mut usize,
 ) -> u32
     ensures status { (result ≡ 0) ⊎ IsWithoutRoom result }
-    ensures transmission { result ≡ 0 → IsDelivered tx.old tx.new tx_len.new written.now.sent.items }
-    ensures text { result ≡ 0 → IsDelivered cert.old cert.new cert_len.new written.now.certificate.items }
-    ensures length { tx_len.new ≡ length written.now.sent.items }
-    ensures cert_length { cert_len.new ≡ length written.now.certificate.items }
+    ensures transmission { result ≡ 0 → IsDelivered tx.old tx.new tx_len.new texts.now.sent.items }
+    ensures text { result ≡ 0 → IsDelivered cert.old cert.new cert_len.new texts.now.certificate.items }
+    ensures length { tx_len.new ≡ length texts.now.sent.items }
+    ensures cert_length { cert_len.new ≡ length texts.now.certificate.items }
     ensures small { result ≡ 7 → length tx.old < tx_len.new }
     ensures cert_small { result ≡ 8 → (tx_len.new ≤ length tx.old) × (length cert.old < cert_len.new) }
     ensures untouched { result ≢ 0 → (tx.new ≡ tx.old) × (cert.new ≡ cert.old) }
 {
-    let sent = written.sent.as_slice();
-    let certificate = written.certificate.as_slice();
+    let sent = texts.sent.as_slice();
+    let certificate = texts.certificate.as_slice();
     *tx_len = sent.len();
     *cert_len = certificate.len();
     if tx.len() < sent.len() {
@@ -88,8 +146,8 @@ pub(crate) fn hand_out_both(
     if cert.len() < certificate.len() {
         return 8;
     }
-    put(sent, tx);
-    put(certificate, cert);
+    hand_out(sent, tx, tx_len);
+    hand_out(certificate, cert, cert_len);
     0
 }
 
@@ -118,6 +176,8 @@ pub extern "C" fn pocsag_plan(
         IsPlannedInto
         (IsHeadlineWithBound pages.now end info.new) tx.old tx.new tx_len.new cert.old cert.new cert_len.new }
     ensures counted { (result ≡ 0) ⊎ IsWithoutRoom result → IsCounted pages.now info.new }
+    // Where `always` is not 0, the plan is no worse than one with 0 at this limit.
+    ensures no_worse { (result ≡ 0) ⊎ IsWithoutRoom result → IsNoWorseTold pages.now end limit info.new }
 
     // Too small a buffer: the lengths are those of such a plan.
     ensures no_room { IsWithoutRoom result → info.new.bound ≡ info.new.batches →
@@ -129,10 +189,8 @@ pub extern "C" fn pocsag_plan(
 
     // Any other status says why there is no plan, and never that a device failed; both buffers are as they were.
     ensures bad_end { result ≡ 2 ↔ IsNoEnd end }
-    ensures fault { IsWithoutPlan result → always ≡ 0 →
-        TellsFault refusal_in_centre (ExplainsPlanning Effort.Fewest pages.now end limit) result info.new.place }
-    ensures fault_always { IsWithoutPlan result → always ≢ 0 →
-        TellsFault refusal_in_centre (ExplainsPlanning Effort.Always pages.now end limit) result info.new.place }
+    ensures fault { IsWithoutPlan result →
+        TellsFault stream_refusal (ExplainsPlanning (effort_of always) pages.now end limit) result info.new.place }
     ensures answered { always ≢ 0 → result ≢ 6 }
     ensures placeless { (result ≡ 0) ⊎ IsWithoutRoom result ⊎ (result ≡ 2) → info.new.place ≡ nowhere }
     ensures nothing { IsWithoutPlan result ⊎ (result ≡ 2) →
@@ -142,14 +200,14 @@ pub extern "C" fn pocsag_plan(
 {
     *tx_len = 0;
     *cert_len = 0;
-    *info = NOTHING;
+    *info = NO_PLAN;
     let Some(end) = end_of(end) else {
         return 2;
     };
     let effort = effort_of(always);
-    match plan_file(alloc, pages, Search { limit, end, effort }) {
-        Ok(written) => {
-            let Bounded { plan, bound, .. } = &written.bounded;
+    match plan_texts(alloc, pages, Search { limit, end, effort }) {
+        Ok(texts) => {
+            let Bounded { plan, bound, .. } = &texts.bounded;
             *info = PlanInfo {
                 pages: plan.pages,
                 codewords: plan.codewords,
@@ -158,10 +216,10 @@ pub extern "C" fn pocsag_plan(
                 bound: *bound,
                 place: NOWHERE,
             };
-            hand_out_both(&written, tx, tx_len, cert, cert_len)
+            hand_out_both(&texts, tx, tx_len, cert, cert_len)
         }
         Err(fault) => {
-            let refusal = refusal_in_centre(fault);
+            let refusal = refused_stream(fault);
             info.place = refusal.place;
             refusal.status
         }

@@ -1,12 +1,12 @@
 ghost use Rattle.std.specs.Prelude.{◌≡◌, ◌≢◌};
-ghost use Rattle.pocsag_c.specs.Statuses.{IsInMemory, IsOfBytes, IsReceivedInMemory, IsRefusing, certificate_refusal, index_refusal, pager_refusal, plain_refusal, record_refusal, refusal_in_centre, refusal_in_receiver, refusal_of_record, round_refusal, transmission_refusal};
+ghost use Rattle.pocsag_pages.specs.declared.fault.RoundFault.TheVariants as round_fault;
+ghost use Rattle.pocsag_plan.specs.declared.fault.StreamFault.TheVariants as stream_fault;
+ghost use Rattle.pocsag_c.specs.Statuses.{IsOfBytes, IsRefusing, certificate_refusal, front_refusal, index_refusal, pager_refusal, plain_refusal, record_refusal, refusal_of_record, round_refusal, stream_refusal, transmission_refusal};
 
-use pocsag_centre::CentreFault;
 use pocsag_decode::DecodeFault;
 use pocsag_pager::PagerFault;
 use pocsag_pages::{FieldFault, PageFault, RecordFault, RoundFault};
-use pocsag_receiver::ReceiverFault;
-use pocsag_shell::FileFault;
+use pocsag_plan::{PlanFault, StreamFault, UnsentFront};
 use pocsag_tree::CertificateFault;
 
 /// Where a fault stands, and what a search knew; each number is 0 where it says nothing.
@@ -101,7 +101,7 @@ fn refused_record(number: u32, fault: RecordFault) -> StatusAt
     }
 }
 
-fn refused_round(fault: RoundFault) -> StatusAt
+pub(crate) fn refused_round(fault: RoundFault) -> StatusAt
     ensures value { result ≡ round_refusal fault }
     ensures refusing { IsRefusing result.status }
     ensures of_bytes { fault ≢ RoundFault.ReadFault → IsOfBytes result.status }
@@ -116,8 +116,9 @@ fn refused_round(fault: RoundFault) -> StatusAt
     }
 }
 
-fn refused_certificate(fault: CertificateFault) -> StatusAt
+pub(crate) fn refused_certificate(fault: CertificateFault) -> StatusAt
     ensures value { result ≡ certificate_refusal fault }
+    ensures refusing { IsRefusing result.status }
     ensures of_bytes { fault ≢ CertificateFault.ReadFault → IsOfBytes result.status }
 {
     plain(match fault {
@@ -134,9 +135,10 @@ fn refused_certificate(fault: CertificateFault) -> StatusAt
     })
 }
 
-fn refused_transmission(fault: DecodeFault) -> StatusAt
+pub(crate) fn refused_transmission(fault: DecodeFault) -> StatusAt
     ensures value { result ≡ transmission_refusal fault }
-    ensures of_bytes { IsReceivedInMemory (ReceiverFault.Transmission fault) → IsOfBytes result.status }
+    ensures refusing { IsRefusing result.status }
+    ensures of_bytes { fault ≢ DecodeFault.TooMuch → fault ≢ DecodeFault.Failed → IsOfBytes result.status }
 {
     match fault {
         DecodeFault::ShortPreamble => plain(48),
@@ -151,9 +153,10 @@ fn refused_transmission(fault: DecodeFault) -> StatusAt
     }
 }
 
-fn refused_hearing(fault: PagerFault) -> StatusAt
+pub(crate) fn refused_hearing(fault: PagerFault) -> StatusAt
     ensures value { result ≡ pager_refusal fault }
-    ensures of_bytes { IsReceivedInMemory (ReceiverFault.Pager fault) → IsOfBytes result.status }
+    ensures refusing { IsRefusing result.status }
+    ensures of_bytes { fault ≢ PagerFault.Failed → IsOfBytes result.status }
 {
     plain(match fault {
         PagerFault::ShortPreamble => 48,
@@ -166,45 +169,39 @@ fn refused_hearing(fault: PagerFault) -> StatusAt
     })
 }
 
-// The status of a fault of a call that plans or judges, with its place.
-pub(crate) fn refusal_in_centre(fault: CentreFault) -> StatusAt
-    ensures value { result ≡ refusal_in_centre fault }
+// A text is written to memory, so a fault of writing is want of memory.
+pub(crate) fn refused_stream(fault: StreamFault) -> StatusAt
+    ensures value { result ≡ stream_refusal fault }
     ensures refusing { IsRefusing result.status }
-    ensures of_bytes { IsInMemory fault → IsOfBytes result.status }
+    ensures of_bytes { fault ≢ stream_fault.Round round_fault.ReadFault → IsOfBytes result.status }
 {
     match fault {
-        CentreFault::File(FileFault::OutOfMemory | FileFault::Write) => plain(3),
-        CentreFault::BadRate => plain(4),
-        CentreFault::BadLimit => plain(5),
-        CentreFault::SearchLimit(least, found) => StatusAt {
+        StreamFault::Plan(PlanFault::BadLimit) => plain(5),
+        StreamFault::Plan(PlanFault::SearchLimit(stop)) => StatusAt {
             status: 6,
             place: Place {
-                least,
-                found,
+                least: stop.least,
+                found: stop.found,
                 ..NOWHERE
             },
         },
-        CentreFault::FirstPage(found) => StatusAt {
-            status: 12,
-            place: Place { found, ..NOWHERE },
-        },
-        CentreFault::Round(fault) => refused_round(fault),
-        CentreFault::Certificate(fault) => refused_certificate(fault),
-        CentreFault::Transmission(fault) => refused_transmission(fault),
-        _ => plain(15),
+        StreamFault::Round(fault) => refused_round(fault),
+        StreamFault::Plan(PlanFault::OutOfMemory)
+        | StreamFault::Transmission(_)
+        | StreamFault::Certificate(_) => plain(3),
     }
 }
 
-// The same of a call that lists pages.
-pub(crate) fn refusal_in_receiver(fault: ReceiverFault) -> StatusAt
-    ensures value { result ≡ refusal_in_receiver fault }
+pub(crate) fn refused_front(fault: UnsentFront) -> StatusAt
+    ensures value { result ≡ front_refusal fault }
     ensures refusing { IsRefusing result.status }
-    ensures of_bytes { IsReceivedInMemory fault → IsOfBytes result.status }
+    ensures of_bytes { fault ≢ UnsentFront.Stream (stream_fault.Round round_fault.ReadFault) → IsOfBytes result.status }
 {
     match fault {
-        ReceiverFault::File(FileFault::OutOfMemory | FileFault::Write) => plain(3),
-        ReceiverFault::Transmission(fault) => refused_transmission(fault),
-        ReceiverFault::Pager(fault) => refused_hearing(fault),
-        _ => plain(15),
+        UnsentFront::Stream(fault) => refused_stream(fault),
+        UnsentFront::FirstPage(found) => StatusAt {
+            status: 12,
+            place: Place { found, ..NOWHERE },
+        },
     }
 }

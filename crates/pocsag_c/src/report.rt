@@ -1,12 +1,16 @@
-ghost use Rattle.std.specs.Prelude.{◌≡◌, ◌≢◌, ◌⊎◌, ◌↔◌};
+ghost use Rattle.std.specs.Prelude.{◌≡◌, ◌≢◌, ◌⊎◌, ◌↔◌, IfErr, IfOk};
+ghost use Rattle.pocsag_pages.specs.declared.fault.RoundFault.TheVariants as round_fault;
+ghost use Rattle.pocsag_plan.specs.Plans.{IsPlanFor};
+ghost use Rattle.pocsag_plan.specs.Streams.{IsOfRound};
 ghost use Rattle.pocsag_c.specs.Answers.{IsNoEnd, TellsFault};
-ghost use Rattle.pocsag_c.specs.Reports.{ExplainsReport, TellsReport, no_report};
-ghost use Rattle.pocsag_c.specs.Statuses.{IsOfBytes, nowhere, refusal_in_centre};
+ghost use Rattle.pocsag_c.specs.Reports.{ExplainsReport, ExplainsUnreported, IsBadRate, TellsReport, no_report};
+ghost use Rattle.pocsag_c.specs.Statuses.{IsOfBytes, nowhere, stream_refusal};
 
 use crate::plan::{effort_of, end_of};
-use crate::refusal::{NOWHERE, Place, refusal_in_centre};
-use pocsag_centre::{BoundedReport, report_file};
-use pocsag_plan::Search;
+use crate::refusal::{NOWHERE, Place, refused_stream};
+use pocsag_pages::read_round;
+use pocsag_plan::{Bounded, Search, StreamFault, bounded_plan, report};
+use pocsag_words::SliceSource;
 use std::alloc::Global;
 
 /// What a plan takes on the air; all but the place is 0 where there is none.
@@ -45,6 +49,22 @@ const NO_REPORT: ReportInfo = ReportInfo {
     place: NOWHERE,
 };
 
+// The plan of a page file, which is judged before the limit.
+fn plan_in(alloc: Global, pages: &[u8], search: Search) -> Result<Bounded, StreamFault>
+    ensures plan { IfOk result (λ bounded. IsOfRound pages.now (λ round. IsPlanFor search round bounded)) }
+    ensures explained { IfErr result (ExplainsUnreported pages.now search) }
+    ensures unread { IfErr result (λ e. e ≢ StreamFault.Round round_fault.ReadFault) }
+{
+    let round = match read_round(alloc, &mut SliceSource::new(pages)) {
+        Ok(round) => round,
+        Err(fault) => return Err(StreamFault::Round(fault)),
+    };
+    match bounded_plan(alloc, &round, search) {
+        Ok(bounded) => Ok(bounded),
+        Err(fault) => Err(StreamFault::Plan(fault)),
+    }
+}
+
 /// Plans a page file as `pocsag_plan` does, and tells what the plan takes on the air at a rate of 512, 1200
 /// or 2400 bits a second.
 #[unsafe(no_mangle)]
@@ -57,13 +77,14 @@ pub extern "C" fn pocsag_report(
     always: u32,
     info: &mut ReportInfo,
 ) -> u32
-    ensures told { result ≡ 0 → TellsReport pages.now end limit rate info.new }
+    ensures told { result ≡ 0 → TellsReport pages.now end limit always rate info.new }
     ensures fewest { result ≡ 0 → always ≡ 0 → info.new.bound ≡ info.new.batches }
     ensures bad_end { result ≡ 2 ↔ IsNoEnd end }
-    ensures fault { result ≢ 0 → result ≢ 2 →
-        TellsFault refusal_in_centre (ExplainsReport pages.now end limit rate) result info.new.place }
+    ensures bad_rate { result ≡ 4 → IsBadRate pages.now end limit always rate }
+    ensures fault { result ≢ 0 → result ≢ 2 → result ≢ 4 →
+        TellsFault stream_refusal (ExplainsReport pages.now end limit always) result info.new.place }
     ensures answered { always ≢ 0 → result ≢ 6 }
-    ensures placeless { (result ≡ 0) ⊎ (result ≡ 2) → info.new.place ≡ nowhere }
+    ensures placeless { (result ≡ 0) ⊎ (result ≡ 2) ⊎ (result ≡ 4) → info.new.place ≡ nowhere }
     ensures nothing { result ≢ 0 → info.new ≡ no_report info.new.place }
     ensures of_bytes { IsOfBytes result }
 {
@@ -72,25 +93,27 @@ pub extern "C" fn pocsag_report(
         return 2;
     };
     let effort = effort_of(always);
-    match report_file(alloc, pages, rate, Search { limit, end, effort }) {
-        Ok(BoundedReport { report, bound }) => {
-            *info = ReportInfo {
-                pages: report.pages,
-                codewords: report.codewords,
-                in_order: report.in_order,
-                batches: report.batches,
-                bound,
-                idles: report.idles,
-                bits: report.bits,
-                airtime_ms: report.airtime_ms,
-                place: NOWHERE,
-            };
-            0
-        }
+    let bounded = match plan_in(alloc, pages, Search { limit, end, effort }) {
+        Ok(bounded) => bounded,
         Err(fault) => {
-            let refusal = refusal_in_centre(fault);
+            let refusal = refused_stream(fault);
             info.place = refusal.place;
-            refusal.status
+            return refusal.status;
         }
-    }
+    };
+    let Ok(report) = report(&bounded.plan, rate) else {
+        return 4;
+    };
+    *info = ReportInfo {
+        pages: report.pages,
+        codewords: report.codewords,
+        in_order: report.in_order,
+        batches: report.batches,
+        bound: bounded.bound,
+        idles: report.idles,
+        bits: report.bits,
+        airtime_ms: report.airtime_ms,
+        place: NOWHERE,
+    };
+    0
 }

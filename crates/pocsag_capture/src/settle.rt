@@ -3,7 +3,7 @@ ghost use Rattle.std.specs.Prelude.{◌≡◌, ◌≢◌, ◌+◌, ◌%◌, ◌^
 ghost use Rattle.pocsag_pages.specs.Bytes.{sync_word};
 ghost use Rattle.pocsag_capture.specs.TakenWords.{TakesWord};
 
-use pocsag_words::{BATCH_WORDS, Kind, SYNC_WORD, repair};
+use pocsag_words::{BATCH_WORDS, Kind, SYNC_WORD, kind, repair};
 
 // The words of a batch, its synchronisation codeword among them.
 pub(crate) const BATCH: u64 = BATCH_WORDS as u64;
@@ -55,7 +55,7 @@ impl Settler {
         };
         let number = mended.raw();
         self.corrected += u64::from((number ^ word).count_ones());
-        match mended.kind() {
+        match kind(mended) {
             Kind::Idle => self.is_open = false,
             Kind::Address {
                 high: _,

@@ -1,5 +1,5 @@
 -- The two parts of a page file's round, and what is written of them.
-use Rattle.std.proofs.Common.{◌≡◌, ℕ, refl, ◌≤◌, ◌↔◌, List, [], ◌++◌, All, length, take, drop, min, sym, ap, subst, ◌∙◌, ◌+◌, false, arith, inl, inr}
+use Rattle.std.proofs.Common.{◌≡◌, ℕ, refl, ◌≤◌, List, [], ◌++◌, All, length, take, drop, min, sym, ap, subst, ◌∙◌, arith, inl, inr}
 use Rattle.std.proofs.lemmas.Bool.{cases_lt}
 use Rattle.std.proofs.Math.Seq.{drop-append_seam}
 use Rattle.std.proofs.lemmas.List.{drop_all, length-drop, take_at, take_min}
@@ -14,24 +14,24 @@ use Rattle.pocsag_pages.proofs.GoodPages.{good_pages}
 use Rattle.pocsag_decode.specs.PageFiles.{IsSpellable, page_file}
 use Rattle.pocsag_words.specs.declared.ending.End.{End}
 use Rattle.pocsag_tree.specs.BoundTrees.{BoundTree}
-use Rattle.pocsag_tree.specs.Limits.{second_ranges}
-use Rattle.pocsag_tree.specs.CertificateText.{HasText, written_text}
+use Rattle.pocsag_tree.specs.CertificateText.{written_text}
 use Rattle.pocsag_tree.specs.Views.{bound_tree_of}
 use Rattle.pocsag_tree.specs.declared.shape.Certificate.{Certificate}
-use Rattle.pocsag_check.specs.Acceptance.{IsAcceptedFor}
-use Rattle.pocsag_branch.specs.Found.{IsNodeLimit}
 use Rattle.pocsag_plan.specs.declared.search.Search.{Search}
-use Rattle.pocsag_plan.specs.Fronts.{ExplainsFront, IsWhyNoMore}
+use Rattle.pocsag_plan.specs.declared.front.FrontPlan.{FrontPlan}
+use Rattle.pocsag_plan.specs.Fronts.{ExplainsFront, IsFrontFor, IsLongestFront, IsWhyNoMore}
 use Rattle.pocsag_plan.specs.declared.fault.NoFront.{NoFront}
 use Rattle.pocsag_plan.specs.declared.fault.NoFront.TheVariants as front
 use Rattle.pocsag_plan.specs.declared.fault.PlanFault.TheVariants as planning
 use Rattle.pocsag_centre.specs.Faults.{fault_of_front}
-use Rattle.pocsag_shell.specs.declared.fault.FileFault.TheVariants as file_fault
-use Rattle.pocsag_centre.specs.declared.fault.CentreFault.{CentreFault}
-use Rattle.pocsag_centre.specs.declared.fault.CentreFault.TheVariants as fault
-use Rattle.pocsag_centre.specs.declared.front.WrittenCertificate.{WrittenCertificate}
-use Rattle.pocsag_centre.specs.FrontFiles.{ExplainsNoFront, IsPageFileOf, IsWhyWritten}
-use Rattle.std.specs.Prelude.{Err, IfSome, IsErrOf, IsNone, IsOk, IsSomeAnd, None, Ok, Option, Some}
+use Rattle.pocsag_centre.specs.Refusals.{OrDevice}
+use Rattle.pocsag_plan.specs.Headline.{RoundHeadline}
+use Rattle.pocsag_plan.specs.Plans.{IsPlanFor}
+use Rattle.pocsag_plan.specs.Streams.{HeadlineOf, WritesAllOf}
+use Rattle.pocsag_plan.proofs.Due.{all_as, asked_headline}
+use Rattle.pocsag_centre.specs.FrontFiles.{beyond_of, certificate_text, ExplainsNoFront, IsFrontRead, IsFrontTold, IsFrontWritten, IsPageFileOf, IsWhyWritten, why_text}
+use Rattle.pocsag_centre.specs.Lines.{below_text, left_text, plan_text}
+use Rattle.std.specs.Prelude.{IsOk, None, Ok, Option, Some}
 
 module _ (R F S : List Page) (n : ℕ) (parts : F ++ S ≡ R) (long : n ≡ length F) where
   pub first_is : F ≡ take n R
@@ -78,44 +78,88 @@ first_listable k R round =
     All-take IsListable k R
     (All-weaker IsGoodPage IsListable (λ p g. record { function = g.function; items = g.small }) R (good_pages R round.good))
 
+-- The pages that are left of a round have a page file, which reads as them.
+module _ (file : List ℕ) (R F S : List Page) (read : verdict file ≡ Ok R) (round : IsRound R) (texts : All IsSpellable R)
+    (read_back : (ps : List Page) → AreGood ps → length ps ≤ page_limit → All IsSpellable ps → verdict (page_file ps) ≡ unless_empty ps)
+    (parts : F ++ S ≡ R) where
+  pub left_held : IsPageFileOf S (page_file S)
+  left_held =
+      let is : S ≡ drop (length F) R = rest_is R F S (length F) parts refl in
+      subst (λ (ps : List Page). IsPageFileOf ps (page_file S)) (sym is) (rest_held R round texts read_back (length F) S (page_file S) is refl)
+
 -- What is written of a certificate for one page more certifies the same.
-pub why_written : (search : Search) (R : List Page) (batches count : ℕ) (why : Option Certificate) (w : Option WrittenCertificate) →
-    IsWhyNoMore search R batches count why → (IsNone why → IsNone w) →
-    IfSome why (λ c. IsSomeAnd w (λ written. (written.bound ≡ c.batches) × (written.bytes.items ≡ written_text c.end c.batches (bound_tree_of c.tree)))) →
-    IsWhyWritten search R batches count w
-why_written search R batches count None None is none some = is
-why_written search R batches count None (Some w) is none some = absurd (cc (none refl))
-why_written search R batches count (Some c) None is none some = absurd some
-why_written search R batches count (Some c) (Some w) is none some =
-    let tree : BoundTree = bound_tree_of c.tree in
-    let pages : List Page = take (count + 1) R in
-    let back : c.batches ≡ w.bound = sym some.0 in (
+pub why_written : (search : Search) (R : List Page) (batches count : ℕ) (why : Option Certificate) →
+    IsWhyNoMore search R batches count why → IsWhyWritten search R batches count (beyond_of why) (certificate_text why)
+why_written search R batches count None is = (is, refl)
+why_written search R batches count (Some c) is =
+    let tree : BoundTree = bound_tree_of c.tree in (
       is.0,
       record {
         tree = tree;
         text = record {
-          has_text = subst (λ (m : ℕ). HasText second_ranges m tree) back is.1.text;
-          text = some.1 ∙ ap (λ (e : End). written_text e c.batches tree) is.1.asked ∙ ap (λ (m : ℕ). written_text search.end m tree) back;
+          has_text = is.1.text;
+          text = ap (λ (e : End). written_text e c.batches tree) is.1.asked;
         };
-        accepted = subst (λ (m : ℕ). IsAcceptedFor false search.end pages m tree) back is.1.accepted;
-        at_least = omega (arith, is.1.at_least);
-        more = λ fewest. omega (arith, is.1.more fewest);
+        accepted = is.1.accepted;
+        at_least = is.1.at_least;
+        more = is.1.more;
       },
     )
 
--- A limit that is out of its range explains that no front is written.
-pub no_limit : {T : Type 0} (file : List ℕ) (search : Search) (batches : ℕ) (e : CentreFault) → e ≡ fault.BadLimit →
-    (IsErrOf {T = T} (Err e) fault.BadLimit ↔ (¬ IsNodeLimit search.limit)) → ExplainsNoFront file search batches e
-no_limit file search batches e alone bad = subst (ExplainsNoFront file search batches) (sym alone) (bad.0 (ap Err alone))
+-- What was written of a front is the front of its page file.
+module _ (file : List ℕ) (search : Search) (batches : ℕ) (front : FrontPlan) (is : IsFrontRead file search batches front)
+    (tx tx' cert cert' rest rest' why why' : List ℕ) (sends : WritesAllOf (HeadlineOf front.round front.bounded) tx tx' cert cert')
+    (left : rest' ≡ rest ++ page_file front.rest.items) (shown : why' ≡ why ++ certificate_text front.why) where
+  abbrev count : ℕ
+  count = front.bounded.plan.pages
 
--- Memory that is refused explains that no front is written.
-pub no_room : (file : List ℕ) (search : Search) (batches : ℕ) (R : List Page) (e : CentreFault) → IsNodeLimit search.limit → verdict file ≡ Ok R →
-    e ≡ fault.File file_fault.OutOfMemory → ExplainsNoFront file search batches e
-no_room file search batches R e limited read memory = subst (ExplainsNoFront file search batches) (sym memory) (limited, subst IsOk (sym read) refl)
+  long : count ≡ length front.round
+  long = is.plan_of.plan_of.pages
+
+  first : front.round ≡ take count is.round
+  first = first_is is.round front.round front.rest.items count is.parts long
+
+  behind : front.rest.items ≡ drop count is.round
+  behind = rest_is is.round front.round front.rest.items count is.parts long
+
+  pub front_written : IsFrontWritten file search batches front.bounded.plan.pages tx tx' cert cert' rest rest' why why'
+  front_written = record {
+    round = is.round;
+    read = is.read;
+    front = subst (IsFrontFor search is.round batches) (sym long) is.front_for;
+    longest = λ fewest. subst (IsLongestFront search.end is.round batches) (sym long) (is.longest fewest);
+    bounded = front.bounded;
+    pages = refl;
+    plan_of = subst (λ (ps : List Page). IsPlanFor search ps front.bounded) first is.plan_of;
+    within = is.within;
+    writes = subst
+        (λ (ps : List Page). WritesAllOf (RoundHeadline ps search.end front.bounded.plan.batches front.bounded.bound (bound_tree_of front.bounded.plan.tree)) tx tx' cert cert')
+        first (all_as _ _ (asked_headline search front.round front.bounded is.plan_of) tx tx' cert cert' sends);
+    others = page_file front.rest.items;
+    others_of = subst (λ (ps : List Page). IsPageFileOf ps (page_file front.rest.items)) behind is.others_of;
+    rest = left;
+    beyond = beyond_of front.why;
+    written = certificate_text front.why;
+    written_of = subst (λ (n : ℕ). IsWhyWritten search is.round batches n (beyond_of front.why) (certificate_text front.why)) (sym long)
+        (why_written search is.round batches (length front.round) front.why is.no_more);
+    why = shown;
+  }
+
+  pub front_told : (out out' : List ℕ) →
+      out' ≡ out ++ plan_text front.bounded.plan.pages front.bounded.plan.batches ++ below_text front.bounded.plan.batches front.bounded.bound
+      ++ left_text (length front.rest.items) ++ why_text batches (beyond_of front.why) →
+      IsFrontTold file search batches front.bounded.plan.pages tx tx' cert cert' rest rest' why why' out out'
+  unfolding front_written
+  front_told out out' told = record {
+    front = front_written;
+    told = told
+        ∙ ap (λ (ps : List Page). out ++ plan_text front.bounded.plan.pages front.bounded.plan.batches ++ below_text front.bounded.plan.batches front.bounded.bound
+        ++ left_text (length ps) ++ why_text batches (beyond_of front.why)) behind;
+  }
 
 -- why there is no front of a round says why none of its page file is written
 pub front_unwritten : (file : List ℕ) (search : Search) (batches : ℕ) (R : List Page) → verdict file ≡ Ok R → (e : NoFront) →
-    ExplainsFront search R batches e → ExplainsNoFront file search batches (fault_of_front e)
+    ExplainsFront search R batches e → OrDevice (ExplainsNoFront file search batches) (fault_of_front e)
 front_unwritten file search batches R read (front.Plan planning.BadLimit) said = said
 front_unwritten file search batches R read (front.Plan (planning.SearchLimit stop)) said =
     (said.0, said.1, record { round = R; read = read; holds = (bound_tree_of stop.tree, said.2) })

@@ -1,10 +1,8 @@
+pub mod Ended
 pub mod Endings
-pub mod Explained
 pub mod FirstPart
 pub mod Plans
-pub mod Readers
 pub mod ReportLines
 pub mod Rooms
 pub mod Shown
-pub mod Streams
 pub mod Verified

@@ -1,6 +1,5 @@
--- What the checker's yes says of the files.
-use Rattle.std.proofs.Common.{◌≡◌, ◌↔◌, ℕ, Bool, List, false, Ok}
-use Rattle.std.specs.Prelude.{IsFalse, IsTrue}
+-- What the checker's verdict says of the files.
+use Rattle.std.proofs.Common.{◌≡◌, ℕ, List, ◌++◌, true, false, Ok, inl, inr, refl}
 use Rattle.pocsag_words.specs.declared.ending.End.{End}
 use Rattle.pocsag_pages.specs.declared.page.Page.{Page}
 use Rattle.pocsag_pages.specs.PageFile.{verdict}
@@ -8,28 +7,30 @@ use Rattle.pocsag_tree.specs.BoundTrees.{BoundTree}
 use Rattle.pocsag_tree.specs.CertificateText.{IsText}
 use Rattle.pocsag_check.specs.Acceptance.{IsAcceptedFor}
 use Rattle.pocsag_plan.specs.Plans.{NoneHasFewer}
-use Rattle.pocsag_centre.specs.Commands.{Checked}
-use Rattle.pocsag_centre.specs.Judgements.{IsNotShown}
+use Rattle.pocsag_centre.specs.Commands.{IsJudged}
+use Rattle.pocsag_centre.specs.Lines.{verdict_text}
 
-pub checked : (file certificate : List ℕ) (end : End) (batches : ℕ) (R : List Page) (tree : BoundTree) → verdict file ≡ Ok R →
-    IsText end batches tree certificate → IsAcceptedFor false end R batches tree → NoneHasFewer end R batches →
-    Checked file certificate end batches
-checked file certificate end batches R tree read text accepted bound = record {
-  round = R;
-  read = read;
-  tree = tree;
-  text = text;
-  accepted = accepted;
-  bound = bound;
-}
+module _ (file text : List ℕ) (end : End) (batches : ℕ) (R : List Page) (tree : BoundTree) (read : verdict file ≡ Ok R) (is : IsText end batches tree text) where
+  pub shown_told : (e : End) (b : ℕ) → e ≡ end → b ≡ batches → IsAcceptedFor false end R batches tree → NoneHasFewer end R batches →
+      (out out' : List ℕ) → out' ≡ out ++ verdict_text true e b → IsJudged 0 file text out out'
+  shown_told e b same_end same_batches accepted bound out out' told = inl (
+    refl,
+    record {
+      end = end;
+      batches = batches;
+      checked = record { round = R; read = read; tree = tree; text = is; accepted = accepted; bound = bound };
+      told = rw (← same_end, ← same_batches) told;
+    },
+  )
 
-pub not_accepted : (file certificate : List ℕ) (end : End) (batches : ℕ) (R : List Page) (tree : BoundTree) → verdict file ≡ Ok R →
-    IsText end batches tree certificate → (shown : Bool) → (IsTrue shown ↔ IsAcceptedFor false end R batches tree) → IsFalse shown →
-    IsNotShown file certificate end batches
-not_accepted file certificate end batches R tree read text shown accepted none = record {
-  round = R;
-  read = read;
-  tree = tree;
-  spelled = text;
-  refused = λ is. let yes : IsTrue shown = accepted.1 is in cc;
-}
+  pub not_shown_told : (e : End) (b : ℕ) → (¬ IsAcceptedFor false end R batches tree) → (out out' : List ℕ) → out' ≡ out ++ verdict_text false e b →
+      IsJudged 1 file text out out'
+  not_shown_told e b refused out out' told = inr (
+    refl,
+    record {
+      end = end;
+      batches = batches;
+      not_shown = record { round = R; read = read; tree = tree; spelled = is; refused = refused };
+      told = told;
+    },
+  )

@@ -17,21 +17,15 @@ use Rattle.pocsag_pages.specs.PageFile.{verdict}
 use Rattle.pocsag_pages.specs.Pages.{IsRound}
 use Rattle.pocsag_pages.specs.Reading.{AreApart, EndsAs, IsBatchList}
 use Rattle.pocsag_pages.proofs.GoodPages.{apart_pages}
-use Rattle.pocsag_pages.specs.declared.fault.WholeFault.{WholeFault}
-use Rattle.pocsag_pages.specs.declared.fault.WholeFault.TheVariants as whole
-use Rattle.pocsag_words.specs.Frame.{input_limit}
-use Rattle.pocsag_shell.specs.Faults.{fault_of_whole}
+use Rattle.pocsag_tree.specs.BoundTrees.{BoundTree}
+use Rattle.pocsag_tree.specs.CertificateText.{IsText}
+use Rattle.pocsag_plan.specs.Plans.{NoneHasFewer}
 use Rattle.pocsag_words.specs.Kinds.{kind_of}
 use Rattle.pocsag_words.specs.declared.ending.End.{End}
 use Rattle.pocsag_slots.proofs.Rearranged.{rearranged}
 use Rattle.pocsag_decode.specs.Faults.{ReadsAs}
 use Rattle.pocsag_plan.specs.declared.search.Search.{Search}
-use Rattle.pocsag_shell.specs.declared.fault.FileFault.TheVariants as file_fault
-use Rattle.pocsag_centre.specs.Refusals.{OrDevice}
-use Rattle.pocsag_centre.specs.Verification.{AreAmong, ExplainsReadback, ExplainsVerifying, HasRival, IsTransmissionOf, OrTooLarge, Verified}
-use Rattle.pocsag_centre.specs.declared.fault.CentreFault.{CentreFault}
-use Rattle.pocsag_centre.specs.declared.fault.CentreFault.TheVariants as fault
-use Rattle.pocsag_centre.proofs.Explained.{or_device}
+use Rattle.pocsag_centre.specs.Verification.{AreAmong, HasRival, IsTransmissionOf, ShowsDue, Verified}
 
 moved_pages : (ps qs : List Page) → IsPermutation ps qs → (R : List Page) → AreAmong qs R → AreAmong ps R
 moved_pages ps qs moved R among = record {
@@ -140,61 +134,21 @@ transmission end R X ps r among ends n same =
       );
     }
 
-or_too_large : (file : List ℕ) (search : Search) (sent certificate : List ℕ) (f : CentreFault) → ExplainsVerifying file search sent certificate f →
-    OrTooLarge sent certificate (ExplainsVerifying file search sent certificate) f
-or_too_large file search sent certificate (fault.File file_fault.TooLarge) said = absurd said.holds
-or_too_large file search sent certificate (fault.File file_fault.OutOfMemory) said = tt
-or_too_large file search sent certificate _ said = said
-
--- what is so of the bytes that were read is so of those that the readers held
-pub read_verifying : (file : List ℕ) (search : Search) (sent certificate file' sent' certificate' : List ℕ) (f : CentreFault) →
-    file' ≡ file → sent' ≡ sent → certificate' ≡ certificate → ExplainsVerifying file' search sent' certificate' f →
-    OrDevice (OrTooLarge sent certificate (ExplainsVerifying file search sent certificate)) f
-read_verifying file search sent certificate file' sent' certificate' f one two three said =
-    or_device (OrTooLarge sent certificate (ExplainsVerifying file search sent certificate)) f
-    (or_too_large file search sent certificate f
-    (subst (λ (v : List ℕ). ExplainsVerifying v search sent certificate f) one
-    (subst (λ (v : List ℕ). ExplainsVerifying file' search v certificate f) two
-    (subst (λ (v : List ℕ). ExplainsVerifying file' search sent' v f) three said))))
-
--- why bytes are not taken for a transmission says why they are not verified
-pub unsent_verifying : (file : List ℕ) (search : Search) (sent certificate : List ℕ) (R : List Page) → verdict file ≡ Ok R → (f : CentreFault) →
-    ExplainsReadback search.end R sent f → ExplainsVerifying file search sent certificate f
-unsent_verifying file search sent certificate R read (fault.Round f) said = absurd said
-unsent_verifying file search sent certificate R read (fault.Certificate f) said = absurd said
-unsent_verifying file search sent certificate R read fault.NotTheBound said = absurd said
-unsent_verifying file search sent certificate R read _ said = record { round = R; read = read; holds = said }
-
-pub read_verified : (file : List ℕ) (search : Search) (sent certificate file' sent' certificate' : List ℕ) → file' ≡ file → sent' ≡ sent →
-    certificate' ≡ certificate → Verified file' search sent' certificate' → Verified file search sent certificate
-read_verified file search sent certificate file' sent' certificate' one two three shows =
-    subst (λ (v : List ℕ). Verified v search sent certificate) one
-    (subst (λ (v : List ℕ). Verified file' search v certificate) two
-    (subst (λ (v : List ℕ). Verified file' search sent' v) three shows))
-
--- a reader failed, a file is larger than is read, or memory refused its bytes
-pub whole_verifying : (file : List ℕ) (search : Search) (sent certificate : List ℕ) (w : WholeFault) →
-    (w ≡ whole.TooLarge → (input_limit < length sent) ⊎ (input_limit < length certificate)) →
-    OrDevice (OrTooLarge sent certificate (ExplainsVerifying file search sent certificate)) (fault.File (fault_of_whole w))
-whole_verifying file search sent certificate whole.ReadFault large = tt
-whole_verifying file search sent certificate whole.TooLarge large = large refl
-whole_verifying file search sent certificate whole.OutOfMemory large = tt
-
--- no fault of bytes is that of a device
-pub verified_undevised : (file : List ℕ) (search : Search) (sent certificate : List ℕ) (f : CentreFault) →
-    ExplainsVerifying file search sent certificate f → (f ≡ fault.File file_fault.Device) ⊎ (f ≡ fault.File file_fault.Write) → ⊥
-verified_undevised file search sent certificate f said (inl same) =
-    (subst (λ (g : CentreFault). ExplainsVerifying file search sent certificate g) same said).holds
-verified_undevised file search sent certificate f said (inr same) =
-    (subst (λ (g : CentreFault). ExplainsVerifying file search sent certificate g) same said).holds
-
--- a file is not read whole for a device only where its reader failed, and never for a writer
-pub whole_failed : (w : WholeFault) → fault_of_whole w ≡ file_fault.Device → w ≡ whole.ReadFault
-whole_failed whole.ReadFault same = refl
-whole_failed whole.TooLarge same = cc
-whole_failed whole.OutOfMemory same = cc
-
-pub whole_unwritten : (w : WholeFault) → fault_of_whole w ≡ file_fault.Write → ⊥
-whole_unwritten whole.ReadFault same = cc
-whole_unwritten whole.TooLarge same = cc
-whole_unwritten whole.OutOfMemory same = cc
+-- the bound that is due was shown
+pub verified : (file : List ℕ) (search : Search) (sent certificate : List ℕ) (R : List Page) (batches : ℕ) (end : End) (bound : ℕ) (tree : BoundTree) →
+    verdict file ≡ Ok R → IsTransmissionOf search.end R batches sent → IsText end bound tree certificate →
+    ShowsDue search R batches end bound tree → NoneHasFewer search.end R bound → Verified file search sent certificate
+verified file search sent certificate R batches end bound tree read is text due fewest = record {
+  bound = bound;
+  checked = record {
+    round = R;
+    read = read;
+    tree = tree;
+    text = subst (λ (e : End). IsText e bound tree certificate) due.same_end text;
+    accepted = due.accepted;
+    bound = fewest;
+  };
+  batches = batches;
+  transmission = is;
+  due = due.due;
+}

@@ -1,15 +1,14 @@
 -- Why each call on a page file refuses: the fault that it answers is one of that file, of what is asked for, or of memory.
-use Rattle.std.specs.Prelude.{◌≡◌, ◌⊎◌, ℕ, List, Err, IsOk}
+use Rattle.std.specs.Prelude.{ℕ, List, IsOk}
 use Rattle.pocsag_words.specs.declared.ending.End.TheVariants.{Open}
-use Rattle.pocsag_pages.specs.declared.fault.RoundFault.{RoundFault}
 use Rattle.pocsag_pages.specs.declared.fault.RoundFault.TheVariants as round
 use Rattle.pocsag_pages.specs.PageFile.{verdict}
-use Rattle.pocsag_pages.specs.declared.page.Page.{Page}
 use Rattle.pocsag_tree.specs.BoundTrees.{BoundTree}
 use Rattle.pocsag_tree.specs.declared.refusals.CertificateFault.TheVariants as certificate
 use Rattle.pocsag_branch.specs.Found.{IsNodeLimit}
-use Rattle.pocsag_plan.specs.Plans.{IsStopped, MayStop}
+use Rattle.pocsag_plan.specs.Plans.{MayStop}
 use Rattle.pocsag_plan.specs.Streams.{IsStoppedAt}
+use Rattle.pocsag_plan.specs.Verdicts.{ExplainsRound}
 use Rattle.pocsag_plan.specs.declared.search.Effort.TheVariants.{Fewest}
 use Rattle.pocsag_plan.specs.declared.search.Search.{Search}
 use Rattle.pocsag_shell.specs.declared.fault.FileFault.TheVariants as file_fault
@@ -24,10 +23,6 @@ default_limit = 100000
 abbrev pub default_search : Search
 default_search = record { limit = default_limit; end = Open; effort = Fewest }
 
--- Why the bytes of a page file give no round: memory refused, or they have this fault.
-abbrev pub ExplainsRound : (file : List ℕ) → RoundFault → Type 0
-ExplainsRound file f = (f ≡ round.OutOfMemory) ⊎ (verdict file ≡ Err f)
-
 -- Why the bytes of a page file have no plan. The file is judged first.
 abbrev pub ExplainsNoPlan : (file : List ℕ) → Search → CentreFault → Type 0
 ExplainsNoPlan file search (fault.Round f) = ExplainsRound file f
@@ -37,15 +32,6 @@ ExplainsNoPlan file search (fault.SearchLimit least found) =
     × ((tree : BoundTree) × IsStoppedAt file search.end search.limit least found tree)
 ExplainsNoPlan file search (fault.File file_fault.OutOfMemory) = IsNodeLimit search.limit × IsOk (verdict file)
 ExplainsNoPlan file search _ = ⊥
-
--- Why a round has no plan.
-abbrev pub ExplainsUnplanned : Search → (R : List Page) → CentreFault → Type 0
-ExplainsUnplanned search R fault.BadLimit = ¬ IsNodeLimit search.limit
-ExplainsUnplanned search R (fault.SearchLimit least found) =
-    MayStop search.effort × IsNodeLimit search.limit
-    × ((tree : BoundTree) × IsStopped search.end R search.limit least found tree)
-ExplainsUnplanned search R (fault.File file_fault.OutOfMemory) = IsNodeLimit search.limit
-ExplainsUnplanned search R _ = ⊥
 
 -- Why a plan of them is not written. The limit is judged before the file.
 abbrev pub ExplainsUnwritten : (file : List ℕ) → Search → CentreFault → Type 0

@@ -15,9 +15,9 @@ use Rattle.pocsag_plan.specs.Streams.{IsOfRound}
 use Rattle.pocsag_plan.specs.declared.search.Effort.{Effort}
 use Rattle.pocsag_plan.specs.declared.search.Effort.TheVariants.{Fewest, Always}
 use Rattle.pocsag_plan.specs.declared.search.Search.{Search}
-use Rattle.pocsag_centre.specs.Commands.{Checked}
-use Rattle.pocsag_centre.specs.Judgements.{ExplainsCertificate}
-use Rattle.pocsag_centre.specs.Refusals.{ExplainsRound}
+use Rattle.pocsag_plan.specs.Verdicts.{Checked}
+use Rattle.pocsag_plan.specs.Verdicts.{ExplainsCertificate}
+use Rattle.pocsag_plan.specs.Verdicts.{ExplainsRound}
 use Rattle.pocsag_shell.specs.declared.fault.FileFault.TheVariants as file_fault
 use Rattle.pocsag_centre.specs.declared.fault.CentreFault.{CentreFault}
 use Rattle.pocsag_centre.specs.declared.fault.CentreFault.TheVariants as fault
@@ -83,12 +83,25 @@ pub record IsNotDue (search : Search) (round : List Page) (bytes certificate : L
   pub text : IsText end bound tree certificate
   pub undue : ¬ ShowsDue search round batches end bound tree
 
--- Why bytes are not taken for a transmission of the round and the end.
+-- Why bytes are not taken for a transmission of the round and the end: also where they are more than are read, or memory
+-- refused them.
 abbrev pub ExplainsReadback : (end : End) (round : List Page) (bytes : List ℕ) → CentreFault → Type 0
 ExplainsReadback end round bytes (fault.Transmission f) = (f ≡ decoding.OutOfMemory) ⊎ HasFault bytes f
 ExplainsReadback end round bytes fault.NotThePages = HoldsOthers round bytes
 ExplainsReadback end round bytes fault.NotTheEnd = EndsOtherwise end bytes
+ExplainsReadback end round bytes (fault.File file_fault.TooLarge) = input_limit < length bytes
+ExplainsReadback end round bytes (fault.File file_fault.OutOfMemory) = Unit {0}
 ExplainsReadback end round bytes _ = ⊥
+
+-- A fault that reading a transmission back answers.
+abbrev pub IsOfReadback : CentreFault → Type 0
+IsOfReadback (fault.Transmission f) = Unit {0}
+IsOfReadback fault.NotThePages = Unit {0}
+IsOfReadback fault.NotTheEnd = Unit {0}
+IsOfReadback (fault.File file_fault.Device) = Unit {0}
+IsOfReadback (fault.File file_fault.TooLarge) = Unit {0}
+IsOfReadback (fault.File file_fault.OutOfMemory) = Unit {0}
+IsOfReadback _ = ⊥
 
 -- Why a transmission and a certificate are not verified for a page file: the first fault of the page file, of the
 -- transmission, and of the certificate.
@@ -98,9 +111,3 @@ ExplainsVerifying file search sent certificate (fault.Certificate f) =
     IsOfRound file (λ round. (batches : ℕ) × IsTransmissionOf search.end round batches sent) × ExplainsCertificate certificate f
 ExplainsVerifying file search sent certificate fault.NotTheBound = IsOfRound file (λ round. IsNotDue search round sent certificate)
 ExplainsVerifying file search sent certificate f = IsOfRound file (λ round. ExplainsReadback search.end round sent f)
-
--- The transmission or the certificate is larger than is read, or this is so of the fault.
-abbrev pub OrTooLarge : (sent certificate : List ℕ) → (Explains : CentreFault → Type 0) → CentreFault → Type 0
-OrTooLarge sent certificate Explains (fault.File file_fault.TooLarge) = (input_limit < length sent) ⊎ (input_limit < length certificate)
-OrTooLarge sent certificate Explains (fault.File file_fault.OutOfMemory) = Unit {0}
-OrTooLarge sent certificate Explains f = Explains f

@@ -2,21 +2,24 @@ ghost use Rattle.std.specs.Prelude.{IsErrOf, map};
 ghost use Rattle.pocsag_shell.specs.declared.fault.FileFault.TheVariants as file_fault;
 ghost use Rattle.pocsag_shell.specs.Paths.{HasEqual, paths_of};
 
-use crate::demand::{expected_file, refuse_bad_limit, strict_file};
+use crate::demand::{expected_file, strict_file};
 use crate::fault::CentreFault;
-use crate::front::{WrittenFront, first_file, front_file, tell_front};
-use crate::note::{note_quote, note_record};
+use crate::front::{FrontAsked, FrontFiles, first_file, run_front};
+use crate::note::{note_file, quote_asked};
 use crate::order::{FrontLimit, PlanOrder, SearchOrder};
-use crate::plan::{Written, plan_round, tell_bounded};
-use crate::readback::verify_files;
-use pocsag_pages::{FILE_LIMIT, round_of};
+use crate::plan::{PlanFiles, run_plan};
+use crate::readback::run_verify;
+use pocsag_pages::FILE_LIMIT;
 use pocsag_plan::most_batches;
 use pocsag_shell::{
-    Beside, Desk, FileFault, NamedFile, Outputs, Role, STANDARD, is_regular, is_regular_or_none,
-    make_outputs, path_of, put_files, put_whole, read_file, refuse_equal, refuse_one_file,
-    refuse_shared, tell, write_file,
+    Beside, CERT_READ, Desk, FileFault, Loaded, MemoryStreams, Outputs, PAGES_READ, Role, STANDARD,
+    is_regular, is_regular_or_none, load, make_outputs, open_source, path_of, put_files, put_whole,
+    refuse_equal, refuse_one_file, refuse_shared, tell, write_file,
 };
-use pocsag_words::{INPUT_LIMIT, MemorySink, Sink};
+use pocsag_words::{GrowingSink, MemorySink, Sink, Source};
+
+/// Standard output and standard error of a command of the centre.
+pub(crate) type Streams = MemoryStreams<CentreFault>;
 
 // More than the lines of a plan have, which are five and `verified`.
 const LINES: usize = 300;
@@ -31,51 +34,54 @@ const BAD_KEEP: &str =
 // What refuses `--rest` and `--why` where no front is asked for, and where they name no file.
 const BAD_REST: &str = "--rest and --why name files, and go with --at-most or --airtime";
 
-/// What is answered for a page file. A note is kept on the record that its fault names, or on a misplaced quote of a file
-/// that was taken.
-pub(crate) fn noted<T: Drop>(
+/// What a file holds, or standard input if there is no path.
+pub(crate) fn loaded(
     desk: Desk<'_>,
+    role: Role,
     path: Option<&str>,
-    file: &[u8],
-    done: Result<T, CentreFault>,
-) -> Result<T, CentreFault> {
-    let place = NamedFile {
-        role: Role::PageFile,
-        name: Some(path.unwrap_or(STANDARD)),
-    };
-    match &done {
-        Ok(_) => note_quote(desk, place, file),
-        Err(CentreFault::Round(fault)) => note_record(desk, place, file, *fault),
-        Err(_) => {}
-    }
-    done
+    limit: usize,
+) -> Result<Loaded, CentreFault> {
+    let mut source = open_source(desk, role, path)?;
+    Ok(load(desk, &mut source, limit)?)
 }
 
-/// The bytes of a page file that meets what is asked of it.
-pub(crate) fn page_file(
+/// Refuses a page file that does not meet what is asked of it. What cannot be read is for the command to refuse.
+pub(crate) fn refuse_unmet(
     desk: Desk<'_>,
     path: Option<&str>,
+    pages: &Loaded,
     asked: SearchOrder,
-) -> Result<Vec<u8>, CentreFault> {
-    let file = read_file(desk, Role::PageFile, path, FILE_LIMIT)?;
+) -> Result<(), CentreFault> {
+    let Some(file) = pages.lent() else {
+        return Ok(());
+    };
+    if file.len() > FILE_LIMIT {
+        return Ok(());
+    }
     if asked.strict {
-        strict_file(file.as_slice())?;
+        strict_file(file)?;
     }
-    if let Some(expected) = asked.expect {
-        let done = expected_file(desk.alloc, file.as_slice(), expected);
-        noted(desk, path, file.as_slice(), done)?;
+    let Some(expected) = asked.expect else {
+        return Ok(());
+    };
+    let met = expected_file(desk.alloc, file, expected);
+    if let Err(fault) = met {
+        note_file(desk, path, pages, None, Some(fault));
     }
-    Ok(file)
+    met
 }
 
 /// `plan`: plans from file to files, or from and to the standard streams. Where standard output takes one of
 /// the files, the lines go to standard error. Answers the exit status.
-pub(crate) fn obey_plan(desk: Desk<'_>, order: PlanOrder<'_>) -> Result<u8, CentreFault>
+pub(crate) fn obey_plan(
+    desk: Desk<'_>,
+    order: PlanOrder<'_>,
+    streams: &mut Streams,
+) -> Result<u8, CentreFault>
     ensures { HasEqual (map (λ path. path.now) (paths_of order.entry.pages order.entry.tx order.entry.cert)) →
         IsErrOf result (CentreFault.File file_fault.EqualPaths) }
 {
     refuse_equal(order.pages, order.tx, order.cert)?;
-    refuse_bad_limit(order.search.search)?;
     if let Some(text) = misuse(desk, order) {
         let _ = tell(
             &mut desk.err(),
@@ -83,8 +89,7 @@ pub(crate) fn obey_plan(desk: Desk<'_>, order: PlanOrder<'_>) -> Result<u8, Cent
         );
         return Ok(2);
     }
-    plan_paths(desk, order)?;
-    Ok(0)
+    plan_paths(desk, order, streams)
 }
 
 // The files that a plan writes, in the order in which `--keep` puts them at their places. The page file of the rest goes
@@ -128,13 +133,17 @@ fn misuse(desk: Desk<'_>, order: PlanOrder<'_>) -> Option<&'static str> {
 }
 
 // Plans, where the files serve the options.
-fn plan_paths(desk: Desk<'_>, order: PlanOrder<'_>) -> Result<(), CentreFault> {
+fn plan_paths(
+    desk: Desk<'_>,
+    order: PlanOrder<'_>,
+    streams: &mut Streams,
+) -> Result<u8, CentreFault> {
     if order.tx == STANDARD || order.cert == STANDARD {
-        plan_files(desk, order, &mut desk.err())
+        plan_files(desk, order, streams, &mut desk.err())
     } else if order.keep {
-        plan_beside(desk, order, &mut desk.out())
+        plan_beside(desk, order, streams)
     } else {
-        plan_files(desk, order, &mut desk.out())
+        plan_files(desk, order, streams, &mut desk.out())
     }
 }
 
@@ -142,93 +151,132 @@ fn plan_paths(desk: Desk<'_>, order: PlanOrder<'_>) -> Result<(), CentreFault> {
 fn plan_files<O: Sink>(
     desk: Desk<'_>,
     order: PlanOrder<'_>,
+    streams: &mut Streams,
     out: &mut O,
-) -> Result<(), CentreFault> {
-    let first = match order.front {
-        Some(limit) => Some(write_front(desk, order, limit, out)?),
-        None => {
-            write_files(desk, order, out)?;
-            None
-        }
+) -> Result<u8, CentreFault> {
+    let (status, first) = match order.front {
+        Some(limit) => write_front(desk, order, limit, streams, out)?,
+        None => (write_plan(desk, order, streams, out)?, None),
     };
-    if order.verify {
-        read_files_back(desk, order, first, out)?;
+    if status != 0 || !order.verify {
+        return Ok(status);
     }
-    Ok(())
+    read_files_back(desk, order, first, streams, out)
 }
 
-fn write_files<O: Sink>(
+// Plans a page file, and then writes its transmission and its certificate.
+fn write_plan<O: Sink>(
     desk: Desk<'_>,
     order: PlanOrder<'_>,
+    streams: &mut Streams,
     out: &mut O,
-) -> Result<(), CentreFault> {
-    let file = page_file(desk, order.pages, order.search)?;
-    let mut outputs = make_outputs(desk, order.pages, order.tx, order.cert)?;
-    let written = planned_at(desk, order, file)?;
-    put_written(&mut outputs, &written)?;
-    tell_bounded(&written.bounded, out)
+) -> Result<u8, CentreFault> {
+    let mut source = open_source(desk, Role::PageFile, order.pages)?;
+    let outputs = make_outputs(desk, order.pages, order.tx, order.cert)?;
+    let pages = load(desk, &mut source, PAGES_READ)?;
+    refuse_unmet(desk, order.pages, &pages, order.search)?;
+    let quote = quote_asked(desk, &pages);
+    let mut files = PlanFiles {
+        pages,
+        tx: GrowingSink::new(desk.alloc),
+        cert: GrowingSink::new(desk.alloc),
+    };
+    let mut lines = kept_lines();
+    let search = order.search.search;
+    let status = run_plan(desk.alloc, search, &mut files, &mut lines, &mut streams.err);
+    note_file(desk, order.pages, &files.pages, quote, streams.err.fault());
+    if status == 0 {
+        put_outputs(outputs, files.tx, files.cert)?;
+        put_whole(out, lines.bytes())?;
+    }
+    Ok(status)
 }
 
-// The plan of a page file. Its bytes are let go once it is read, so that the transmission may take their room.
-fn planned_at(desk: Desk<'_>, order: PlanOrder<'_>, file: Vec<u8>) -> Result<Written, CentreFault> {
-    let done = round_of(desk.alloc, file.as_slice()).map_err(CentreFault::Round);
-    let round = noted(desk, order.pages, file.as_slice(), done)?;
-    drop(file);
-    plan_round(desk.alloc, &round, order.search.search)
+// What takes the lines of a command until its files are written.
+fn kept_lines() -> MemorySink<LINES> {
+    MemorySink::new(LINES, LINES as u64)
 }
 
 // Puts the transmission and then the certificate.
-fn put_written<S: Sink + Drop>(
-    outputs: &mut Outputs<S>,
-    written: &Written,
+fn put_outputs<S: Sink + Drop>(
+    outputs: Outputs<S>,
+    tx: GrowingSink,
+    cert: GrowingSink,
 ) -> Result<(), FileFault> {
-    put_whole(&mut outputs.tx, written.sent.as_slice())?;
-    put_whole(&mut outputs.cert, written.certificate.as_slice())
+    let mut outputs = outputs;
+    put_whole(&mut outputs.tx, tx.into_bytes().as_slice())?;
+    put_whole(&mut outputs.cert, cert.into_bytes().as_slice())
 }
 
-// Plans the front of a page file, and then writes it. Answers how many pages it has.
+// Plans the front of a page file, and then writes it. Answers how many pages it has too.
 fn write_front<O: Sink>(
     desk: Desk<'_>,
     order: PlanOrder<'_>,
     limit: FrontLimit,
+    streams: &mut Streams,
     out: &mut O,
-) -> Result<u32, CentreFault> {
+) -> Result<(u8, Option<u32>), CentreFault> {
     let batches = match limit {
         FrontLimit::Batches(batches) => batches,
         FrontLimit::Airtime { ms, rate } => most_batches(ms, rate)?,
     };
     refuse_rest(desk, order)?;
-    let file = page_file(desk, order.pages, order.search)?;
-    let done = front_file(desk.alloc, file.as_slice(), batches, order.search.search);
-    let front = noted(desk, order.pages, file.as_slice(), done)?;
-    drop(file);
-    put_front_files(desk, order, batches, &front, out)
+    let mut source = open_source(desk, Role::PageFile, order.pages)?;
+    let outputs = make_outputs(desk, order.pages, order.tx, order.cert)?;
+    // A new file may have a second spelling among the words.
+    refuse_rest(desk, order)?;
+    let pages = load(desk, &mut source, PAGES_READ)?;
+    refuse_unmet(desk, order.pages, &pages, order.search)?;
+    let quote = quote_asked(desk, &pages);
+    let search = order.search.search;
+    let mut files = front_files(desk, pages);
+    let mut lines = kept_lines();
+    let asked = FrontAsked { batches, search };
+    let status = run_front(desk.alloc, asked, &mut files, &mut lines, &mut streams.err);
+    note_file(desk, order.pages, &files.pages, quote, streams.err.fault());
+    let count = files.count;
+    if status == 0 {
+        put_front_files(desk, order, outputs, files)?;
+        put_whole(out, lines.bytes())?;
+    }
+    Ok((status, Some(count)))
 }
 
-// Writes the files of a front, the rest first, and tells its lines. Answers how many pages it has.
-fn put_front_files<O: Sink>(
+// The files of a front in memory.
+fn front_files(desk: Desk<'_>, pages: Loaded) -> FrontFiles<Loaded, GrowingSink> {
+    FrontFiles {
+        pages,
+        tx: GrowingSink::new(desk.alloc),
+        cert: GrowingSink::new(desk.alloc),
+        rest: GrowingSink::new(desk.alloc),
+        why: GrowingSink::new(desk.alloc),
+        count: 0,
+    }
+}
+
+// Writes the files of a front, the rest first.
+fn put_front_files<S: Sink + Drop>(
     desk: Desk<'_>,
     order: PlanOrder<'_>,
-    batches: u32,
-    front: &WrittenFront,
-    out: &mut O,
-) -> Result<u32, CentreFault> {
+    outputs: Outputs<S>,
+    files: FrontFiles<Loaded, GrowingSink>,
+) -> Result<(), FileFault> {
+    let FrontFiles {
+        tx,
+        cert,
+        rest,
+        why,
+        ..
+    } = files;
     if let Some(path) = order.rest {
-        write_file(desk, Role::Rest, path, front.rest.as_slice())?;
+        write_file(desk, Role::Rest, path, rest.into_bytes().as_slice())?;
     }
     if let Some(path) = order.why {
-        let text = match &front.why {
-            Some(why) => why.bytes.as_slice(),
-            None => &[],
-        };
-        write_file(desk, Role::Why, path, text)?;
+        write_file(desk, Role::Why, path, why.into_bytes().as_slice())?;
     }
     // A new file may have a second spelling among the words.
     refuse_rest(desk, order)?;
-    let mut outputs = make_outputs(desk, order.pages, order.tx, order.cert)?;
-    put_written(&mut outputs, &front.first)?;
-    tell_front(front, batches, out)?;
-    Ok(front.first.bounded.plan.pages)
+    put_outputs(outputs, tx, cert)
 }
 
 // Refuses a word for the rest, or for the certificate of one page more, that names another file of the plan.
@@ -255,42 +303,65 @@ fn read_files_back<O: Sink>(
     desk: Desk<'_>,
     order: PlanOrder<'_>,
     first: Option<u32>,
+    streams: &mut Streams,
     out: &mut O,
-) -> Result<(), CentreFault> {
-    let mut file = read_file(desk, Role::PageFile, order.pages, FILE_LIMIT)?;
+) -> Result<u8, CentreFault> {
+    let mut pages = loaded(desk, Role::PageFile, order.pages, PAGES_READ)?;
     if let Some(first) = first {
-        let done = first_file(desk.alloc, file.as_slice(), first as usize);
-        file = noted(desk, order.pages, file.as_slice(), done)?;
+        pages = first_pages(desk, order.pages, pages, first)?;
     }
-    let tx = read_file(desk, Role::Transmission, Some(order.tx), INPUT_LIMIT)?;
-    let cert = read_file(desk, Role::Certificate, Some(order.cert), INPUT_LIMIT)?;
-    let done = verify_files(
-        desk.alloc,
-        file.as_slice(),
-        tx.as_slice(),
-        cert.as_slice(),
-        order.search.search,
-    );
-    noted(desk, order.pages, file.as_slice(), done)?;
-    Ok(tell(out, "verified\n")?)
+    let quote = quote_asked(desk, &pages);
+    let tx = loaded(desk, Role::Transmission, Some(order.tx), PAGES_READ)?;
+    let cert = loaded(desk, Role::Certificate, Some(order.cert), CERT_READ)?;
+    let mut files = PlanFiles { pages, tx, cert };
+    let mut lines = kept_lines();
+    let search = order.search.search;
+    let status = run_verify(desk.alloc, search, &mut files, &mut lines, &mut streams.err);
+    note_file(desk, order.pages, &files.pages, quote, streams.err.fault());
+    if status == 0 {
+        put_whole(out, lines.bytes())?;
+    }
+    Ok(status)
+}
+
+// A page file of so many first pages. What cannot be read is for the command to refuse.
+fn first_pages(
+    desk: Desk<'_>,
+    path: Option<&str>,
+    pages: Loaded,
+    first: u32,
+) -> Result<Loaded, CentreFault> {
+    let Some(file) = pages.lent() else {
+        return Ok(pages);
+    };
+    match first_file(desk.alloc, file, first as usize) {
+        Ok(file) => Ok(Loaded::new(desk.alloc, file, false)),
+        Err(fault) => {
+            note_file(desk, path, &pages, None, Some(fault));
+            Err(fault)
+        }
+    }
 }
 
 // `--keep`: plans beside the places of the files, puts all there once they are whole, and then tells the lines.
-fn plan_beside<O: Sink>(
+fn plan_beside(
     desk: Desk<'_>,
     order: PlanOrder<'_>,
-    out: &mut O,
-) -> Result<(), CentreFault> {
+    streams: &mut Streams,
+) -> Result<u8, CentreFault> {
     refuse_shared(desk, order.pages, order.tx, order.cert)?;
     refuse_rest(desk, order)?;
     let mut files = Vec::new(desk.alloc);
-    let mut lines = MemorySink::<LINES>::new(LINES, LINES as u64);
-    let done = plan_among(desk, order, &mut files, &mut lines);
+    let mut lines = kept_lines();
+    let done = plan_among(desk, order, &mut files, streams, &mut lines);
     for file in &files {
         file.remove(desk);
     }
-    done?;
-    Ok(put_whole(out, lines.bytes())?)
+    let status = done?;
+    if status == 0 {
+        put_whole(&mut desk.out(), lines.bytes())?;
+    }
+    Ok(status)
 }
 
 // The same, with a list of the files beside the places, which the caller takes away.
@@ -298,8 +369,9 @@ fn plan_among<'a, O: Sink>(
     desk: Desk<'_>,
     order: PlanOrder<'a>,
     files: &mut Vec<Beside<'a>>,
+    streams: &mut Streams,
     lines: &mut O,
-) -> Result<(), CentreFault> {
+) -> Result<u8, CentreFault> {
     for (role, place) in places(order) {
         let Some(place) = place else {
             continue;
@@ -309,8 +381,11 @@ fn plan_among<'a, O: Sink>(
             return Err(CentreFault::File(FileFault::OutOfMemory));
         }
     }
-    plan_files(desk, beside(order, files.as_slice()), lines)?;
-    Ok(put_files(desk, files.as_slice())?)
+    let status = plan_files(desk, beside(order, files.as_slice()), streams, lines)?;
+    if status == 0 {
+        put_files(desk, files.as_slice())?;
+    }
+    Ok(status)
 }
 
 // The order with the files beside the places.

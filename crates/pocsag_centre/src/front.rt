@@ -1,98 +1,225 @@
-ghost use Rattle.std.specs.Prelude.{◌≡◌, ◌≤◌, ◌++◌, drop, length, take, All, IfErr, IfNone, IfOk, IfSome, IsNone, IsSomeAnd, OnOk};
-ghost use Rattle.pocsag_pages.specs.declared.page.Page.{Page};
+ghost use Rattle.std.specs.Prelude.{◌≡◌, ◌≢◌, ◌⊎◌, ◌++◌, length, take, All, Err, IfErr, IfNone, IfOk, IfSome, IsErrOf, OnOk, Some};
+ghost use Rattle.pocsag_words.specs.Devices.{CountsFailures, HasFailed};
 ghost use Rattle.pocsag_pages.specs.Listable.{IsListable};
-ghost use Rattle.pocsag_tree.specs.Limits.{second_ranges};
-ghost use Rattle.pocsag_tree.specs.CertificateText.{HasText, written_text};
-ghost use Rattle.pocsag_tree.specs.Views.{bound_tree_of};
+ghost use Rattle.pocsag_pages.specs.declared.fault.RoundFault.TheVariants as round_fault;
 ghost use Rattle.pocsag_decode.specs.PageFiles.{page_file};
-ghost use Rattle.pocsag_plan.specs.Fronts.{IsFrontFor, IsLongestFront};
-ghost use Rattle.pocsag_plan.specs.Headline.{RoundHeadline};
-ghost use Rattle.pocsag_plan.specs.Plans.{IsPlanFor};
+ghost use Rattle.pocsag_plan.specs.Plans.{IsBounded};
 ghost use Rattle.pocsag_plan.specs.Streams.{IsOfRound};
-ghost use Rattle.pocsag_centre.specs.FrontFiles.{ExplainsFirst, ExplainsNoFront, IsPageFileOf, IsWhyWritten, why_text};
+ghost use Rattle.pocsag_centre.specs.Faults.{centre_status};
+ghost use Rattle.pocsag_centre.specs.FrontFiles.{beyond_of, certificate_text, ExplainsFirst, ExplainsNoFront, HasCertificateText, IsFrontRead, IsFrontTold, IsFrontWritten, IsPageFileOf, why_text};
 ghost use Rattle.pocsag_centre.specs.Lines.{below_text, left_text, plan_text};
+ghost use Rattle.pocsag_centre.specs.Refusals.{OrDevice};
+ghost use Rattle.pocsag_shell.specs.ErrorStreams.{stream_of, told_by};
 ghost use Rattle.pocsag_shell.specs.declared.fault.FileFault.TheVariants as file_fault;
 
 use crate::demand::refuse_bad_limit;
 use crate::fault::CentreFault;
-use crate::plan::{Written, tell_bounded, write_plan};
-use pocsag_decode::{page_files_are_read_back, pages_of_files_are_spellable, write_page_file};
-use pocsag_pages::{Page, round_of};
-use pocsag_plan::{Effort, FrontPlan, Search, longest_front};
-use pocsag_shell::{FileFault, tell_numbers};
+use crate::plan::tell_bounded;
+use pocsag_decode::{
+    ListFault, page_files_are_read_back, pages_of_files_are_spellable, write_page_file,
+};
+use pocsag_pages::{Page, read_round, round_of};
+use pocsag_plan::{FrontPlan, Search, longest_front, send};
+use pocsag_shell::{ErrorStream, FileFault, tell_numbers};
 use pocsag_tree::{Certificate, write_text};
-use pocsag_words::{GrowingSink, Sink};
+use pocsag_words::{GrowingSink, Sink, Source};
 use std::alloc::Global;
 
-/// A certificate as bytes, with its number of batches.
-#[derive(Drop)]
-pub struct WrittenCertificate {
-    pub bytes: Vec<u8>,
-    pub bound: u32,
+/// What a front is asked for.
+#[derive(Clone, Copy)]
+pub struct FrontAsked {
+    /// The most batches that it may have.
+    pub batches: u32,
+    pub search: Search,
 }
 
-/// What is written of the longest front of a page file.
+/// The files of a front: the first is read, and the others are written.
 #[derive(Drop)]
-pub struct WrittenFront {
-    /// The plan of the first pages, with the bytes of its transmission and of its certificate.
-    pub first: Written,
+pub struct FrontFiles<P: Drop, S: Drop> {
+    /// The page file.
+    pub pages: P,
+    /// The transmission of its first pages.
+    pub tx: S,
+    /// The certificate of their bound.
+    pub cert: S,
     /// The page file of the pages that are left, in order; without a page it is the header alone.
-    pub rest: Vec<u8>,
-    /// How many pages are left.
-    pub left: u32,
+    pub rest: S,
     /// Where pages are left, the certificate of the first pages and one more.
-    pub why: Option<WrittenCertificate>,
+    pub why: S,
+    /// How many first pages were planned.
+    pub count: u32,
 }
 
-/// Plans the longest front of the bytes of a page file that so many batches carry, as is asked: its transmission, the
-/// certificate of its bound, the page file of the others, and why there is not one page more. Faults in order: `BadLimit`,
-/// `Round`; `FirstPage`, where not even the first page fits; `SearchLimit`; want of memory.
-pub fn front_file(
+/// `plan PAGES TX CERT --at-most B`: plans the longest front of a page file that so many batches carry, as is asked: its
+/// transmission, the certificate of its bound, the page file of the others, and why there is not one page more; and tells the
+/// counts. Faults in order: `BadLimit`, before the file is read; `Round`; `FirstPage`, where not even the first page fits;
+/// `SearchLimit`; want of memory. Returns the exit status.
+pub fn run_front<P: Source + Drop, S: Sink + Drop, O: Sink, E: Sink + Drop>(
     alloc: Global,
-    pages: &[u8],
-    batches: u32,
-    search: Search,
-) -> Result<WrittenFront, CentreFault>
-    // The front: the first pages of the round, as many as so many batches carry.
-    ensures front { IfOk result (λ w. IsOfRound pages.now (λ round.
-        IsFrontFor search round batches w.first.bounded.plan.pages)) }
-    ensures longest { search.effort ≡ Effort.Fewest → IfOk result (λ w. IsOfRound pages.now (λ round.
-        IsLongestFront search.end round batches w.first.bounded.plan.pages)) }
+    asked: FrontAsked,
+    files: &mut FrontFiles<P, S>,
+    out: &mut O,
+    err: &mut ErrorStream<CentreFault, E>,
+) -> u8
+    ensures written { P.tells → S.tells → IfNone (told_by err.new)
+        (IsFrontWritten (P.held files.old.pages) asked.search asked.batches files.new.count
+        (S.taken files.old.tx) (S.taken files.new.tx) (S.taken files.old.cert) (S.taken files.new.cert)
+        (S.taken files.old.rest) (S.taken files.new.rest) (S.taken files.old.why) (S.taken files.new.why)) }
+    ensures told { P.tells → S.tells → O.tells → IfNone (told_by err.new)
+        (IsFrontTold (P.held files.old.pages) asked.search asked.batches files.new.count
+        (S.taken files.old.tx) (S.taken files.new.tx) (S.taken files.old.cert) (S.taken files.new.cert)
+        (S.taken files.old.rest) (S.taken files.new.rest) (S.taken files.old.why) (S.taken files.new.why)
+        (O.taken out.old) (O.taken out.new)) }
+    ensures done { IfNone (told_by err.new) ((result ≡ 0) × (stream_of err.new ≡ stream_of err.old)) }
 
-    // The headline of these pages, with a bound.
-    ensures headline { IfOk result (λ w. IsOfRound pages.now (λ round.
-        RoundHeadline (take w.first.bounded.plan.pages round) search.end w.first.bounded.plan.batches
-        w.first.bounded.bound (bound_tree_of w.first.bounded.plan.tree) w.first.sent.items w.first.certificate.items)) }
-    ensures plan { IfOk result (λ w. IsOfRound pages.now (λ round.
-        IsPlanFor search (take w.first.bounded.plan.pages round) w.first.bounded)) }
-    ensures within { IfOk result (λ w. w.first.bounded.plan.batches ≤ batches) }
+    // When each fault comes, and what it leaves.
+    ensures status { IfSome (told_by err.new) (λ e. result ≡ centre_status e) }
+    ensures explained { P.tells → IfSome (told_by err.new)
+        (OrDevice (ExplainsNoFront (P.held files.old.pages) asked.search asked.batches)) }
+    ensures refused { IfSome (told_by err.new) (λ e. e ≢ CentreFault.File file_fault.Write →
+        (files.new.tx ≡ files.old.tx) × (files.new.cert ≡ files.old.cert)
+        × (files.new.rest ≡ files.old.rest) × (files.new.why ≡ files.old.why) × (out.new ≡ out.old)) }
 
-    // The others, and why they are not in the front.
-    ensures rest { IfOk result (λ w. IsOfRound pages.now (λ round.
-        IsPageFileOf (drop w.first.bounded.plan.pages round) w.rest.items)) }
-    ensures left { IfOk result (λ w. IsOfRound pages.now (λ round.
-        w.left ≡ length (drop w.first.bounded.plan.pages round))) }
-    ensures why { IfOk result (λ w. IsOfRound pages.now (λ round.
-        IsWhyWritten search round batches w.first.bounded.plan.pages w.why)) }
-    ensures explained { IfErr result (ExplainsNoFront pages.now search batches) }
+    // A device's fault is told only where that device failed.
+    ensures read_failed { told_by err.new ≡ Some (CentreFault.Round round_fault.ReadFault) →
+        HasFailed (P.failures files.old.pages) (P.failures files.new.pages) }
+    ensures write_failed { told_by err.new ≡ Some (CentreFault.File file_fault.Write) →
+        HasFailed (S.failures files.old.rest) (S.failures files.new.rest)
+        ⊎ HasFailed (S.failures files.old.why) (S.failures files.new.why)
+        ⊎ HasFailed (S.failures files.old.tx) (S.failures files.new.tx)
+        ⊎ HasFailed (S.failures files.old.cert) (S.failures files.new.cert)
+        ⊎ HasFailed (O.failures out.old) (O.failures out.new) }
+{
+    err.end(fronted(alloc, asked, files, out))
+}
+
+// The same, whose fault is still to be told.
+fn fronted<P: Source + Drop, S: Sink + Drop, O: Sink>(
+    alloc: Global,
+    asked: FrontAsked,
+    files: &mut FrontFiles<P, S>,
+    out: &mut O,
+) -> Result<u8, CentreFault>
+    ensures written { P.tells → S.tells → OnOk result
+        (IsFrontWritten (P.held files.old.pages) asked.search asked.batches files.new.count
+        (S.taken files.old.tx) (S.taken files.new.tx) (S.taken files.old.cert) (S.taken files.new.cert)
+        (S.taken files.old.rest) (S.taken files.new.rest) (S.taken files.old.why) (S.taken files.new.why)) }
+    ensures told { P.tells → S.tells → O.tells → OnOk result
+        (IsFrontTold (P.held files.old.pages) asked.search asked.batches files.new.count
+        (S.taken files.old.tx) (S.taken files.new.tx) (S.taken files.old.cert) (S.taken files.new.cert)
+        (S.taken files.old.rest) (S.taken files.new.rest) (S.taken files.old.why) (S.taken files.new.why)
+        (O.taken out.old) (O.taken out.new)) }
+    ensures done { IfOk result (λ status. status ≡ 0) }
+    ensures explained { P.tells → IfErr result
+        (OrDevice (ExplainsNoFront (P.held files.old.pages) asked.search asked.batches)) }
+    ensures refused { IfErr result (λ e. e ≢ CentreFault.File file_fault.Write →
+        (files.new.tx ≡ files.old.tx) × (files.new.cert ≡ files.old.cert)
+        × (files.new.rest ≡ files.old.rest) × (files.new.why ≡ files.old.why) × (out.new ≡ out.old)) }
+    ensures read_failed { IsErrOf result (CentreFault.Round round_fault.ReadFault) →
+        HasFailed (P.failures files.old.pages) (P.failures files.new.pages) }
+    ensures write_failed { IsErrOf result (CentreFault.File file_fault.Write) →
+        HasFailed (S.failures files.old.rest) (S.failures files.new.rest)
+        ⊎ HasFailed (S.failures files.old.why) (S.failures files.new.why)
+        ⊎ HasFailed (S.failures files.old.tx) (S.failures files.new.tx)
+        ⊎ HasFailed (S.failures files.old.cert) (S.failures files.new.cert)
+        ⊎ HasFailed (O.failures out.old) (O.failures out.new) }
+{
+    let front = match read_front(alloc, asked, &mut files.pages) {
+        Ok(front) => front,
+        Err(fault) => return Err(fault),
+    };
+    files.count = front.bounded.plan.pages;
+    if let Err(fault) = put_others(alloc, &front, files) {
+        return Err(CentreFault::File(fault));
+    }
+    match send(&front.round, &front.bounded, &mut files.tx, &mut files.cert) {
+        Ok(()) => {}
+        Err(_) => return Err(CentreFault::File(FileFault::Write)),
+    }
+    match tell_front(&front, asked.batches, out) {
+        Ok(()) => Ok(0),
+        Err(fault) => Err(CentreFault::File(fault)),
+    }
+}
+
+// The front of a page file.
+fn read_front<P: Source>(
+    alloc: Global,
+    asked: FrontAsked,
+    pages: &mut P,
+) -> Result<FrontPlan, CentreFault>
+    ensures front { P.tells → IfOk result (IsFrontRead (P.held pages.old) asked.search asked.batches) }
+    ensures planned { IfOk result (λ front.
+        IsBounded front.bounded.plan.end front.round front.bounded.plan front.bounded.bound) }
+    ensures listable { IfOk result (λ front. All IsListable front.rest.items) }
+    ensures texts { IfOk result (λ front. HasCertificateText front.why) }
+    ensures limited { P.tells → OnOk result
+        (ExplainsNoFront (P.held pages.old) asked.search asked.batches (CentreFault.File file_fault.OutOfMemory)) }
+    ensures explained { P.tells → IfErr result
+        (OrDevice (ExplainsNoFront (P.held pages.old) asked.search asked.batches)) }
+    ensures read_failed { IsErrOf result (CentreFault.Round round_fault.ReadFault) →
+        HasFailed (P.failures pages.old) (P.failures pages.new) }
+    ensures unwritten { ¬ IsErrOf result (CentreFault.File file_fault.Write) }
 {
     page_files_are_read_back();
     pages_of_files_are_spellable();
-    refuse_bad_limit(search)?;
-    let round = round_of(alloc, pages)?;
+    if let Err(fault) = refuse_bad_limit(asked.search) {
+        return Err(fault);
+    }
+    let round = match read_round(alloc, pages) {
+        Ok(round) => round,
+        Err(fault) => return Err(CentreFault::Round(fault)),
+    };
     round.keeps_rules();
-    let FrontPlan {
-        round,
-        bounded,
-        rest,
-        why,
-    } = longest_front(alloc, round, batches, search)?;
-    Ok(WrittenFront {
-        first: write_plan(alloc, &round, bounded)?,
-        rest: written_pages(alloc, rest.as_slice())?,
-        left: rest.len() as u32,
-        why: written_why(alloc, why)?,
-    })
+    match longest_front(alloc, round, asked.batches, asked.search) {
+        Ok(front) => Ok(front),
+        Err(fault) => Err(CentreFault::from(fault)),
+    }
+}
+
+// Writes the page file of the pages that are left, and then the certificate of one page more.
+fn put_others<P: Drop, S: Sink + Drop>(
+    alloc: Global,
+    front: &FrontPlan,
+    files: &mut FrontFiles<P, S>,
+) -> Result<(), FileFault>
+    requires listable { All IsListable front.now.rest.items }
+    requires texts { HasCertificateText front.now.why }
+    ensures rest { S.tells → OnOk result
+        (S.taken files.new.rest ≡ S.taken files.old.rest ++ page_file front.now.rest.items) }
+    ensures why { S.tells → OnOk result
+        (S.taken files.new.why ≡ S.taken files.old.why ++ certificate_text front.now.why) }
+    ensures others { (files.new.pages ≡ files.old.pages) × (files.new.count ≡ files.old.count)
+        × (files.new.tx ≡ files.old.tx) × (files.new.cert ≡ files.old.cert) }
+    ensures fault { IfErr result (λ e. (e ≡ FileFault.Write) ⊎ (e ≡ FileFault.OutOfMemory)) }
+    ensures memory { result ≡ Err FileFault.OutOfMemory →
+        (files.new.rest ≡ files.old.rest) × (files.new.why ≡ files.old.why) }
+    ensures failed { result ≡ Err FileFault.Write →
+        HasFailed (S.failures files.old.rest) (S.failures files.new.rest)
+        ⊎ HasFailed (S.failures files.old.why) (S.failures files.new.why) }
+{
+    match write_page_file(alloc, front.rest.as_slice(), &mut files.rest) {
+        Ok(()) => put_why(&front.why, &mut files.why),
+        Err(ListFault::OutOfMemory) => Err(FileFault::OutOfMemory),
+        Err(_) => Err(FileFault::Write),
+    }
+}
+
+// Writes the certificate, if there is one.
+fn put_why<S: Sink>(why: &Option<Certificate>, sink: &mut S) -> Result<(), FileFault>
+    requires { HasCertificateText why.now }
+    ensures written { S.tells → OnOk result (S.taken sink.new ≡ S.taken sink.old ++ certificate_text why.now) }
+    ensures lost { IfErr result (λ e. e ≡ FileFault.Write) }
+    ensures failures { CountsFailures result (S.failures sink.old) (S.failures sink.new) }
+{
+    let Some(certificate) = why else {
+        return Ok(());
+    };
+    let Certificate { end, batches, tree } = certificate;
+    match write_text(*end, *batches, tree, sink) {
+        Ok(()) => Ok(()),
+        Err(_) => Err(FileFault::Write),
+    }
 }
 
 /// A page file of the first pages of the bytes of a page file, so many, or all where it has fewer.
@@ -102,7 +229,10 @@ pub fn first_file(alloc: Global, pages: &[u8], count: usize) -> Result<Vec<u8>, 
 {
     page_files_are_read_back();
     pages_of_files_are_spellable();
-    let round = round_of(alloc, pages)?;
+    let round = match round_of(alloc, pages) {
+        Ok(round) => round,
+        Err(fault) => return Err(CentreFault::Round(fault)),
+    };
     let count = count.min(round.pages().len());
     let first = &round.pages()[..count];
     written_pages(alloc, first)
@@ -121,53 +251,29 @@ fn written_pages(alloc: Global, pages: &[Page]) -> Result<Vec<u8>, CentreFault>
     }
 }
 
-// The certificate as bytes, if there is one.
-fn written_why(
-    alloc: Global,
-    why: Option<Certificate>,
-) -> Result<Option<WrittenCertificate>, CentreFault>
-    requires { IfSome why (λ c. HasText second_ranges c.batches (bound_tree_of c.tree)) }
-    ensures none { IsNone why → IfOk result IsNone }
-    ensures some { IfSome why (λ c. IfOk result (λ w. IsSomeAnd w (λ written. (written.bound ≡ c.batches)
-        × (written.bytes.items ≡ written_text c.end c.batches (bound_tree_of c.tree))))) }
-    ensures memory { IfErr result (λ e. e ≡ CentreFault.File file_fault.OutOfMemory) }
-{
-    let Some(certificate) = why else {
-        return Ok(None);
-    };
-    let Certificate { end, batches, tree } = certificate;
-    let mut sink = GrowingSink::new(alloc);
-    match write_text(end, batches, &tree, &mut sink) {
-        Ok(()) => Ok(Some(WrittenCertificate {
-            bytes: sink.into_bytes(),
-            bound: batches,
-        })),
-        Err(_) => Err(CentreFault::File(FileFault::OutOfMemory)),
-    }
-}
-
-/// Tells the counts of a front, with its bound where that is below its batches; how many pages are left; and what is shown
-/// of one page more, where that is no more than the batches that were asked for.
+// Tells the counts of a front, with its bound where that is below its batches; how many pages are left; and what is shown
+// of one page more, where that is no more than the batches that were asked for.
 #[tactic(auto, unfolding(crate::specs::Lines::left_text, crate::specs::Lines::undecided_text))]
-pub(crate) fn tell_front<O: Sink>(
-    front: &WrittenFront,
-    batches: u32,
-    out: &mut O,
-) -> Result<(), CentreFault>
+fn tell_front<O: Sink>(front: &FrontPlan, batches: u32, out: &mut O) -> Result<(), FileFault>
     ensures told { O.tells → OnOk result (O.taken out.new ≡ O.taken out.old
-        ++ plan_text front.now.first.bounded.plan.pages front.now.first.bounded.plan.batches
-        ++ below_text front.now.first.bounded.plan.batches front.now.first.bounded.bound
-        ++ left_text front.now.left ++ why_text batches front.now.why) }
-    ensures lost { IfErr result (λ e. e ≡ CentreFault.File file_fault.Write) }
+        ++ plan_text front.now.bounded.plan.pages front.now.bounded.plan.batches
+        ++ below_text front.now.bounded.plan.batches front.now.bounded.bound
+        ++ left_text (length front.now.rest.items) ++ why_text batches (beyond_of front.now.why)) }
+    ensures lost { IfErr result (λ e. e ≡ FileFault.Write) }
+    ensures failures { CountsFailures result (O.failures out.old) (O.failures out.new) }
 {
-    tell_bounded(&front.first.bounded, out)?;
-    tell_numbers(out, &[("left ", front.left as u64)], "\n")?;
+    if let Err(fault) = tell_bounded(&front.bounded, out) {
+        return Err(fault);
+    }
+    if let Err(fault) = tell_numbers(out, &[("left ", front.rest.len() as u64)], "\n") {
+        return Err(fault);
+    }
     let Some(why) = &front.why else {
         return Ok(());
     };
-    if batches < why.bound {
+    if batches < why.batches {
         return Ok(());
     }
-    let number = [("at least ", why.bound as u64)];
-    Ok(tell_numbers(out, &number, " batches with one page more\n")?)
+    let number = [("at least ", why.batches as u64)];
+    tell_numbers(out, &number, " batches with one page more\n")
 }

@@ -1,11 +1,10 @@
-use crate::check::{check_file, tell_verdict};
-use crate::demand::refuse_bad_limit;
+use crate::check::run_check;
 use crate::fault::CentreFault;
-use crate::files::{noted, obey_plan, page_file};
-use crate::lines::tell_plan;
+use crate::files::{Streams, loaded, obey_plan, refuse_unmet};
+use crate::note::{note_file, quote_asked};
 use crate::order::{ReportOrder, SearchOrder, plan_order, report_order};
-use crate::plan::{DEFAULT_SEARCH, bounded_file};
-use crate::report::{frames_file, report_file, tell_frames, tell_report};
+use crate::plan::{DEFAULT_SEARCH, run_input};
+use crate::report::{ReportAsked, run_report};
 use crate::texts::EARLY_STRICT;
 use crate::words::{
     CHECK, CHECK_COMMAND, PLAN, PLAN_COMMAND, REPORT, REPORT_COMMAND, REST, STRICT, STRICT_FLAG,
@@ -13,7 +12,8 @@ use crate::words::{
 };
 use clap::{ArgMatches, Error};
 use pocsag_shell::{
-    CERT, Call, Desk, Group, Names, PAGES, STANDARD, TX, Tables, path_of, read_both, tell,
+    CERT, Call, Desk, Group, Names, PAGES, PAGES_READ, Role, STANDARD, TX, Tables, load_both,
+    path_of, tell,
 };
 use std::alloc::AllocError;
 use std::io::IsTerminal;
@@ -41,14 +41,18 @@ impl Group for Centre {
 
     fn obey(&self, desk: Desk<'_>, call: Call<'_, '_>) -> Option<Result<u8, Error>> {
         let found = call.found;
+        let mut streams = Streams::new(desk.alloc);
         let done = match call.name {
-            None => plan_input(desk, found.get_flag(STRICT)),
-            Some(PLAN) => obey_plan(desk, plan_order(found)?),
-            Some(CHECK) => check_paths(desk, found.get_str(PAGES)?, found.get_str(CERT)?),
-            Some(REPORT) => report_path(desk, report_order(found)?),
+            None => plan_input(desk, found.get_flag(STRICT), &mut streams),
+            Some(PLAN) => obey_plan(desk, plan_order(found)?, &mut streams),
+            Some(CHECK) => {
+                let (pages, cert) = (found.get_str(PAGES)?, found.get_str(CERT)?);
+                check_paths(desk, pages, cert, &mut streams)
+            }
+            Some(REPORT) => report_path(desk, report_order(found)?, &mut streams),
             _ => return None,
         };
-        Some(Ok(desk.end(names_of(call), done)))
+        Some(Ok(streams.end(desk, names_of(call), done)))
     }
 }
 
@@ -72,7 +76,7 @@ fn names_of<'a>(call: Call<'a, '_>) -> Names<'a> {
 }
 
 // Plans the page file of standard input.
-fn plan_input(desk: Desk<'_>, strict: bool) -> Result<u8, CentreFault> {
+fn plan_input(desk: Desk<'_>, strict: bool, streams: &mut Streams) -> Result<u8, CentreFault> {
     if desk.rt.stdin().is_terminal() {
         let _ = tell(&mut desk.err(), AT_TERMINAL);
     }
@@ -81,37 +85,56 @@ fn plan_input(desk: Desk<'_>, strict: bool) -> Result<u8, CentreFault> {
         strict,
         search: DEFAULT_SEARCH,
     };
-    let file = page_file(desk, None, asked)?;
-    let done = bounded_file(desk.alloc, file.as_slice(), DEFAULT_SEARCH);
-    let bounded = noted(desk, None, file.as_slice(), done)?;
-    tell_plan(bounded.plan.pages, bounded.plan.batches, &mut desk.out())?;
-    Ok(0)
+    let mut pages = loaded(desk, Role::PageFile, None, PAGES_READ)?;
+    refuse_unmet(desk, None, &pages, asked)?;
+    let quote = quote_asked(desk, &pages);
+    let status = run_input(desk.alloc, &mut pages, &mut streams.out, &mut streams.err);
+    note_file(desk, None, &pages, quote, streams.err.fault());
+    Ok(status)
 }
 
 // Judges a certificate; the status is 1 where it does not show its batches.
-fn check_paths(desk: Desk<'_>, pages: &str, cert: &str) -> Result<u8, CentreFault> {
-    let (file, cert) = read_both(desk, pages, cert)?;
-    let done = check_file(desk.alloc, file.as_slice(), cert.as_slice());
-    let judged = noted(desk, path_of(pages), file.as_slice(), done)?;
-    tell_verdict(judged, &mut desk.out())?;
-    Ok(u8::from(!judged.is_shown))
+fn check_paths(
+    desk: Desk<'_>,
+    pages: &str,
+    cert: &str,
+    streams: &mut Streams,
+) -> Result<u8, CentreFault> {
+    let path = path_of(pages);
+    let (mut pages, mut cert) = load_both(desk, pages, cert)?;
+    let quote = quote_asked(desk, &pages);
+    let status = run_check(
+        desk.alloc,
+        &mut pages,
+        &mut cert,
+        &mut streams.out,
+        &mut streams.err,
+    );
+    note_file(desk, path, &pages, quote, streams.err.fault());
+    Ok(status)
 }
 
 // Reports on the plan of a page file.
-fn report_path(desk: Desk<'_>, order: ReportOrder<'_>) -> Result<u8, CentreFault> {
-    refuse_bad_limit(order.search.search)?;
-    let file = page_file(desk, order.pages, order.search)?;
-    let done = report_bytes(desk, order, file.as_slice());
-    noted(desk, order.pages, file.as_slice(), done)?;
-    Ok(0)
-}
-
-fn report_bytes(desk: Desk<'_>, order: ReportOrder<'_>, file: &[u8]) -> Result<(), CentreFault> {
-    let (rate, search) = (order.rate, order.search.search);
-    if order.frames {
-        let answered = frames_file(desk.alloc, file, rate, search)?;
-        return Ok(tell_frames(&answered, &mut desk.out())?);
-    }
-    let answered = report_file(desk.alloc, file, rate, search)?;
-    Ok(tell_report(answered.report, answered.bound, &mut desk.out())?)
+fn report_path(
+    desk: Desk<'_>,
+    order: ReportOrder<'_>,
+    streams: &mut Streams,
+) -> Result<u8, CentreFault> {
+    let mut pages = loaded(desk, Role::PageFile, order.pages, PAGES_READ)?;
+    refuse_unmet(desk, order.pages, &pages, order.search)?;
+    let quote = quote_asked(desk, &pages);
+    let asked = ReportAsked {
+        rate: order.rate,
+        search: order.search.search,
+        frames: order.frames,
+    };
+    let status = run_report(
+        desk.alloc,
+        asked,
+        &mut pages,
+        &mut streams.out,
+        &mut streams.err,
+    );
+    note_file(desk, order.pages, &pages, quote, streams.err.fault());
+    Ok(status)
 }

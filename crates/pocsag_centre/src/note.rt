@@ -1,6 +1,8 @@
+use crate::fault::CentreFault;
 use csv::{ByteRecord, Position, ReaderBuilder};
-use pocsag_pages::{RoundFault, quote_fault};
-use pocsag_shell::{Desk, NamedFile};
+use pocsag_pages::{QuoteFault, RoundFault, quote_fault};
+use pocsag_shell::{Desk, Loaded, NamedFile, Role, STANDARD};
+use pocsag_words::Source;
 use std::alloc::Global;
 use std::fmt::{self, Display, Write};
 
@@ -69,12 +71,34 @@ pub fn note_record(desk: Desk<'_>, place: NamedFile<'_>, file: &[u8], fault: Rou
     }
 }
 
-/// With `--verbose` keeps a note on the first misplaced quote of a page file, which `--strict` would refuse.
-pub(crate) fn note_quote(desk: Desk<'_>, place: NamedFile<'_>, file: &[u8]) {
+/// The first misplaced quote of a page file, which `--strict` would refuse, where `--verbose` asks for it.
+pub(crate) fn quote_asked(desk: Desk<'_>, pages: &Loaded) -> Option<QuoteFault> {
     if !desk.watch.is_asked() {
-        return;
+        return None;
     }
-    if let Some(quote) = quote_fault(file) {
-        desk.note(format_args!("{place}: {quote}"));
+    quote_fault(pages.lent()?)
+}
+
+/// Keeps a note on a page file that a command was run over: on the record that its fault names, or, where it had none, on the
+/// first misplaced quote.
+pub(crate) fn note_file(
+    desk: Desk<'_>,
+    path: Option<&str>,
+    pages: &Loaded,
+    quote: Option<QuoteFault>,
+    fault: Option<CentreFault>,
+) {
+    let place = NamedFile {
+        role: Role::PageFile,
+        name: Some(path.unwrap_or(STANDARD)),
+    };
+    match (fault, quote) {
+        (Some(CentreFault::Round(fault)), _) => {
+            if let Some(file) = pages.lent() {
+                note_record(desk, place, file, fault);
+            }
+        }
+        (None, Some(quote)) => desk.note(format_args!("{place}: {quote}")),
+        _ => {}
     }
 }

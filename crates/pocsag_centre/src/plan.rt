@@ -1,25 +1,28 @@
-ghost use Rattle.std.specs.Prelude.{◌≡◌, ◌≢◌, ◌⊎◌, ◌++◌, IfErr, IfOk, IsErrOf, OnOk};
+ghost use Rattle.std.specs.Prelude.{◌≡◌, ◌≢◌, ◌⊎◌, ◌++◌, IfErr, IfNone, IfOk, IfSome, IsErrOf, OnOk, Ok, Some};
 ghost use Rattle.pocsag_words.specs.Devices.{CountsFailures, HasFailed};
-ghost use Rattle.pocsag_pages.specs.declared.fault.RoundFault.TheVariants as round_fault;
 ghost use Rattle.pocsag_words.specs.declared.ending.End.TheVariants.{Open as open_end};
+ghost use Rattle.pocsag_pages.specs.PageFile.{verdict};
+ghost use Rattle.pocsag_pages.specs.declared.fault.RoundFault.TheVariants as round_fault;
 ghost use Rattle.pocsag_tree.specs.Views.{bound_tree_of};
-ghost use Rattle.pocsag_plan.specs.BoundedHeadline.{BoundedHeadline};
-ghost use Rattle.pocsag_plan.specs.Headline.{Headline};
-ghost use Rattle.pocsag_plan.specs.Plans.{IsBounded, IsPlanFor};
-ghost use Rattle.pocsag_plan.specs.Streams.{HeadlineOf, IsOfRound};
-ghost use Rattle.pocsag_centre.specs.Commands.{LeavesOutputs, Planned, PlannedAndTold, ToldPlan};
-ghost use Rattle.pocsag_centre.specs.Lines.{below_text, plan_text};
-ghost use Rattle.pocsag_centre.specs.Refusals.{ExplainsNoPlan, ExplainsUnplanned, ExplainsUnwritten, OrDevice, default_search};
+ghost use Rattle.pocsag_branch.specs.Found.{IsNodeLimit};
+ghost use Rattle.pocsag_plan.specs.Plans.{IsPlanFor};
+ghost use Rattle.pocsag_plan.specs.Streams.{ExplainsStream, fault_in, IsCertificate, IsOfRound, IsTransmission, WritesBounded, WritesCertificatePart, WritesInTurn, WritesPart};
+ghost use Rattle.pocsag_plan.specs.declared.fault.StreamFault.TheVariants as stream_fault;
 ghost use Rattle.pocsag_shell.specs.declared.fault.FileFault.TheVariants as file_fault;
+ghost use Rattle.pocsag_shell.specs.ErrorStreams.{stream_of, told_by};
+ghost use Rattle.pocsag_centre.specs.Commands.{LeavesOutputs, Planned, PlannedAndTold, ToldPlan};
+ghost use Rattle.pocsag_centre.specs.Faults.{centre_status};
+ghost use Rattle.pocsag_centre.specs.Lines.{below_text, plan_text};
+ghost use Rattle.pocsag_centre.specs.Refusals.{ExplainsNoPlan, ExplainsUnwritten, OrDevice, default_search};
 
-use crate::demand::refuse_bad_limit;
 use crate::fault::CentreFault;
 use crate::lines::{tell_below, tell_plan};
-use crate::round::read_pages;
-use pocsag_pages::{Round, round_of};
-use pocsag_plan::{Bounded, Effort, Search, bounded_plan, bounded_stream, send};
-use pocsag_shell::FileFault;
-use pocsag_words::{End, GrowingSink, Sink, Source};
+use pocsag_pages::{Round, read_round};
+use pocsag_plan::{
+    Bounded, Effort, Search, StreamFault, bounded_plan, plan_stream, plan_stream_always,
+};
+use pocsag_shell::{ErrorStream, FileFault};
+use pocsag_words::{End, Sink, Source};
 use std::alloc::Global;
 
 /// The node limit of a plan where none is asked for.
@@ -43,122 +46,151 @@ pub struct PlanFiles<P: Drop, T: Drop, C: Drop> {
     pub cert: C,
 }
 
-/// A plan with the bytes of its transmission and of its certificate.
+// The round of a page file, and its plan.
 #[derive(Drop)]
-pub struct Written {
-    pub sent: Vec<u8>,
-    pub certificate: Vec<u8>,
-    pub bounded: Bounded,
+pub(crate) struct RoundPlan {
+    pub(crate) round: Round,
+    pub(crate) bounded: Bounded,
 }
 
-/// Plans the bytes of a page file as is asked: the transmission of the plan, and the certificate of its bound. The batches
-/// are the fewest, which the bound then is, unless no round is to be refused: where the search then reaches its limit, they
-/// are one more than the bound. Faults in order: `BadLimit`, `Round`, `SearchLimit`; want of memory.
-pub fn plan_file(alloc: Global, pages: &[u8], search: Search) -> Result<Written, CentreFault>
-    // The headline with a bound; and where the bound is the batches, the headline.
-    ensures bounded { IfOk result (λ w.
-        BoundedHeadline pages.now search.end w.bounded.plan.batches w.bounded.bound
-        (bound_tree_of w.bounded.plan.tree) w.sent.items w.certificate.items) }
-    ensures headline { IfOk result (λ w. w.bounded.bound ≡ w.bounded.plan.batches →
-        Headline pages.now search.end w.bounded.plan.batches
-        (bound_tree_of w.bounded.plan.tree) w.sent.items w.certificate.items) }
-    ensures plan { IfOk result (λ w. IsOfRound pages.now (λ round. IsPlanFor search round w.bounded)) }
-    ensures explained { IfErr result (ExplainsUnwritten pages.now search) }
-{
-    refuse_bad_limit(search)?;
-    let round = round_of(alloc, pages)?;
-    plan_round(alloc, &round, search)
-}
-
-/// The same of a round. Faults in order: `BadLimit`, `SearchLimit`; want of memory.
-pub fn plan_round(alloc: Global, round: &Round, search: Search) -> Result<Written, CentreFault>
-    ensures headline { IfOk result (λ w. HeadlineOf round.now w.bounded w.sent.items w.certificate.items) }
-    ensures plan { IfOk result (λ w. IsPlanFor search round.now w.bounded) }
-    ensures explained { IfErr result (ExplainsUnplanned search round.now) }
-{
-    let bounded = bounded_plan(alloc, round, search)?;
-    write_plan(alloc, round, bounded)
-}
-
-// The plan of a round, with the bytes of its transmission and of its certificate.
-pub(crate) fn write_plan(
+/// Reads a page file and plans its round as is asked. Faults in order: `Round`, `BadLimit`, `SearchLimit`; want of memory.
+pub(crate) fn read_plan<P: Source>(
     alloc: Global,
-    round: &Round,
-    bounded: Bounded,
-) -> Result<Written, CentreFault>
-    requires { IsBounded bounded.plan.end round.now bounded.plan bounded.bound }
-    ensures headline { IfOk result (λ w. HeadlineOf round.now bounded w.sent.items w.certificate.items) }
-    ensures plan { IfOk result (λ w. w.bounded ≡ bounded) }
-    ensures memory { IfErr result (λ e. e ≡ CentreFault.File file_fault.OutOfMemory) }
+    pages: &mut P,
+    search: Search,
+) -> Result<RoundPlan, CentreFault>
+    ensures read { P.tells → IfOk result (λ found. verdict (P.held pages.old) ≡ Ok found.round) }
+    ensures plan { IfOk result (λ found. IsPlanFor search found.round found.bounded) }
+    ensures limited { OnOk result (IsNodeLimit search.limit) }
+    ensures explained { P.tells → IfErr result (OrDevice (ExplainsNoPlan (P.held pages.old) search)) }
+    ensures read_failed { IsErrOf result (CentreFault.Round round_fault.ReadFault) →
+        HasFailed (P.failures pages.old) (P.failures pages.new) }
+    ensures unwritten { ¬ IsErrOf result (CentreFault.File file_fault.Write) }
 {
-    let mut sent = GrowingSink::new(alloc);
-    let mut certificate = GrowingSink::new(alloc);
-    match send(round, &bounded, &mut sent, &mut certificate) {
-        Ok(()) => Ok(Written {
-            sent: sent.into_bytes(),
-            certificate: certificate.into_bytes(),
-            bounded,
-        }),
-        Err(_) => Err(CentreFault::File(FileFault::OutOfMemory)),
+    let round = match read_round(alloc, pages) {
+        Ok(round) => round,
+        Err(fault) => return Err(CentreFault::Round(fault)),
+    };
+    match bounded_plan(alloc, &round, search) {
+        Ok(bounded) => Ok(RoundPlan { round, bounded }),
+        Err(fault) => Err(CentreFault::from(fault)),
     }
 }
 
-/// Plans the bytes of a page file as is asked, and writes nothing. Faults in order: `Round`, `BadLimit`, `SearchLimit`; want
-/// of memory.
-pub fn bounded_file(alloc: Global, pages: &[u8], search: Search) -> Result<Bounded, CentreFault>
-    ensures plan { IfOk result (λ bounded. IsOfRound pages.now (λ round. IsPlanFor search round bounded)) }
-    ensures explained { IfErr result (ExplainsNoPlan pages.now search) }
-{
-    let round = round_of(alloc, pages)?;
-    Ok(bounded_plan(alloc, &round, search)?)
-}
-
-/// With no words: plans a page file with the default limit and the open end, and tells its pages and
-/// batches.
-pub fn run_input<I: Source, O: Sink>(
+/// With no words: plans a page file with the default limit and the open end, and tells its pages and batches. Returns the exit
+/// status.
+pub fn run_input<I: Source, O: Sink, E: Sink + Drop>(
     alloc: Global,
     input: &mut I,
     out: &mut O,
-) -> Result<(), CentreFault>
+    err: &mut ErrorStream<CentreFault, E>,
+) -> u8
+    ensures told { I.tells → O.tells → IfNone (told_by err.new)
+        (ToldPlan (I.held input.old) open_end (O.taken out.old) (O.taken out.new)) }
+    ensures done { IfNone (told_by err.new) ((result ≡ 0) × (stream_of err.new ≡ stream_of err.old)) }
+
+    // When each fault comes, and what it leaves.
+    ensures status { IfSome (told_by err.new) (λ e. result ≡ centre_status e) }
+    ensures explained { I.tells →
+        IfSome (told_by err.new) (OrDevice (ExplainsNoPlan (I.held input.old) default_search)) }
+    ensures refused { IfSome (told_by err.new) (λ e. e ≢ CentreFault.File file_fault.Write → out.new ≡ out.old) }
+
+    // A device's fault is told only where that device failed.
+    ensures read_failed { told_by err.new ≡ Some (CentreFault.Round round_fault.ReadFault) →
+        HasFailed (I.failures input.old) (I.failures input.new) }
+    ensures write_failed { told_by err.new ≡ Some (CentreFault.File file_fault.Write) →
+        HasFailed (O.failures out.old) (O.failures out.new) }
+{
+    err.end(input_told(alloc, input, out))
+}
+
+// The same, whose fault is still to be told.
+fn input_told<I: Source, O: Sink>(
+    alloc: Global,
+    input: &mut I,
+    out: &mut O,
+) -> Result<u8, CentreFault>
     ensures told { I.tells → O.tells → OnOk result
         (ToldPlan (I.held input.old) open_end (O.taken out.old) (O.taken out.new)) }
+    ensures done { IfOk result (λ status. status ≡ 0) }
     ensures explained { I.tells → IfErr result (OrDevice (ExplainsNoPlan (I.held input.old) default_search)) }
     ensures refused { IfErr result (λ e. e ≢ CentreFault.File file_fault.Write → out.new ≡ out.old) }
-
-    // A device's fault is answered only where that device failed.
     ensures read_failed { IsErrOf result (CentreFault.Round round_fault.ReadFault) →
         HasFailed (I.failures input.old) (I.failures input.new) }
     ensures write_failed { IsErrOf result (CentreFault.File file_fault.Write) →
         HasFailed (O.failures out.old) (O.failures out.new) }
 {
-    let file = read_pages(alloc, input)?;
-    let bounded = bounded_file(alloc, file.as_slice(), DEFAULT_SEARCH)?;
-    Ok(tell_plan(bounded.plan.pages, bounded.plan.batches, out)?)
+    let found = match read_plan(alloc, input, DEFAULT_SEARCH) {
+        Ok(found) => found,
+        Err(fault) => return Err(fault),
+    };
+    let plan = &found.bounded.plan;
+    match tell_plan(plan.pages, plan.batches, out) {
+        Ok(()) => Ok(0),
+        Err(fault) => Err(CentreFault::File(fault)),
+    }
 }
 
 /// `plan PAGES TX CERT`: writes the transmission of a page file and the certificate of its bound, and tells the
 /// pages, the batches, and the bound where it is below them. The batches are the fewest, which the bound then
-/// is; with `--always`, where the search reaches its limit, they are one more than the bound.
-pub fn run_plan<P: Source + Drop, T: Sink + Drop, C: Sink + Drop, O: Sink>(
+/// is; with `--always`, where the search reaches its limit, they are one more than the bound. Returns the exit status.
+pub fn run_plan<P: Source + Drop, T: Sink + Drop, C: Sink + Drop, O: Sink, E: Sink + Drop>(
     alloc: Global,
     search: Search,
     files: &mut PlanFiles<P, T, C>,
     out: &mut O,
-) -> Result<(), CentreFault>
+    err: &mut ErrorStream<CentreFault, E>,
+) -> u8
+    // The headline with a bound; and where the bound is the batches, the headline.
+    ensures planned { P.tells → T.tells → C.tells → IfNone (told_by err.new)
+        (Planned (P.held files.old.pages) search (T.taken files.old.tx) (T.taken files.new.tx)
+        (C.taken files.old.cert) (C.taken files.new.cert)) }
+    ensures told { P.tells → T.tells → C.tells → O.tells → IfNone (told_by err.new)
+        (PlannedAndTold (P.held files.old.pages) search (T.taken files.old.tx) (T.taken files.new.tx)
+        (C.taken files.old.cert) (C.taken files.new.cert) (O.taken out.old) (O.taken out.new)) }
+    ensures done { IfNone (told_by err.new) ((result ≡ 0) × (stream_of err.new ≡ stream_of err.old)) }
+
+    // When each fault comes, and what it leaves.
+    ensures status { IfSome (told_by err.new) (λ e. result ≡ centre_status e) }
+    ensures explained { P.tells →
+        IfSome (told_by err.new) (OrDevice (ExplainsUnwritten (P.held files.old.pages) search)) }
+    ensures refused { IfSome (told_by err.new) (λ e. e ≢ CentreFault.File file_fault.Write →
+        (files.new.tx ≡ files.old.tx) × (files.new.cert ≡ files.old.cert) × (out.new ≡ out.old)) }
+    ensures leaves { P.tells → T.tells → C.tells →
+        LeavesOutputs (P.held files.old.pages) search (T.taken files.old.tx) (T.taken files.new.tx)
+        (C.taken files.old.cert) (C.taken files.new.cert) }
+
+    // A device's fault is told only where that device failed.
+    ensures read_failed { told_by err.new ≡ Some (CentreFault.Round round_fault.ReadFault) →
+        HasFailed (P.failures files.old.pages) (P.failures files.new.pages) }
+    ensures write_failed { told_by err.new ≡ Some (CentreFault.File file_fault.Write) →
+        HasFailed (T.failures files.old.tx) (T.failures files.new.tx)
+        ⊎ HasFailed (C.failures files.old.cert) (C.failures files.new.cert)
+        ⊎ HasFailed (O.failures out.old) (O.failures out.new) }
+{
+    err.end(planned(alloc, search, files, out))
+}
+
+// The same, whose fault is still to be told.
+fn planned<P: Source + Drop, T: Sink + Drop, C: Sink + Drop, O: Sink>(
+    alloc: Global,
+    search: Search,
+    files: &mut PlanFiles<P, T, C>,
+    out: &mut O,
+) -> Result<u8, CentreFault>
     ensures planned { P.tells → T.tells → C.tells → OnOk result
         (Planned (P.held files.old.pages) search (T.taken files.old.tx) (T.taken files.new.tx)
         (C.taken files.old.cert) (C.taken files.new.cert)) }
     ensures told { P.tells → T.tells → C.tells → O.tells → OnOk result
         (PlannedAndTold (P.held files.old.pages) search (T.taken files.old.tx) (T.taken files.new.tx)
         (C.taken files.old.cert) (C.taken files.new.cert) (O.taken out.old) (O.taken out.new)) }
-    ensures refused { IfErr result (λ e. e ≢ CentreFault.File file_fault.Write →
-        (files.new.tx ≡ files.old.tx) × (files.new.cert ≡ files.old.cert)) }
+    ensures done { IfOk result (λ status. status ≡ 0) }
     ensures explained { P.tells → IfErr result (OrDevice (ExplainsUnwritten (P.held files.old.pages) search)) }
+    ensures refused { IfErr result (λ e. e ≢ CentreFault.File file_fault.Write →
+        (files.new.tx ≡ files.old.tx) × (files.new.cert ≡ files.old.cert) × (out.new ≡ out.old)) }
     ensures leaves { P.tells → T.tells → C.tells →
         LeavesOutputs (P.held files.old.pages) search (T.taken files.old.tx) (T.taken files.new.tx)
         (C.taken files.old.cert) (C.taken files.new.cert) }
-
-    // A device's fault is answered only where that device failed.
     ensures read_failed { IsErrOf result (CentreFault.Round round_fault.ReadFault) →
         HasFailed (P.failures files.old.pages) (P.failures files.new.pages) }
     ensures write_failed { IsErrOf result (CentreFault.File file_fault.Write) →
@@ -167,18 +199,65 @@ pub fn run_plan<P: Source + Drop, T: Sink + Drop, C: Sink + Drop, O: Sink>(
         ⊎ HasFailed (O.failures out.old) (O.failures out.new) }
 {
     let PlanFiles { pages, tx, cert } = files;
-    let bounded = bounded_stream(alloc, pages, tx, cert, search)?;
-    tell_bounded(&bounded, out)
+    let bounded = match stream_asked(alloc, pages, tx, cert, search) {
+        Ok(bounded) => bounded,
+        Err(fault) => return Err(CentreFault::from(fault)),
+    };
+    match tell_bounded(&bounded, out) {
+        Ok(()) => Ok(0),
+        Err(fault) => Err(CentreFault::File(fault)),
+    }
+}
+
+// The stream that is asked for: of the plan with the fewest batches, or of one for every round.
+fn stream_asked<P: Source, T: Sink, C: Sink>(
+    alloc: Global,
+    pages: &mut P,
+    tx: &mut T,
+    cert: &mut C,
+    search: Search,
+) -> Result<Bounded, StreamFault>
+    ensures headline { P.tells → T.tells → C.tells → IfOk result (λ bounded.
+        WritesBounded (P.held pages.old) search.end bounded.plan.batches bounded.bound
+        (bound_tree_of bounded.plan.tree)
+        (T.taken tx.old) (T.taken tx.new) (C.taken cert.old) (C.taken cert.new)) }
+    ensures plan { P.tells →
+        IfOk result (λ bounded. IsOfRound (P.held pages.old) (λ round. IsPlanFor search round bounded)) }
+    ensures explained { P.tells →
+        IfErr result (ExplainsStream search.effort (P.held pages.old) search.end search.limit) }
+    ensures writers { WritesInTurn T.failures C.failures tx.old tx.new cert.old cert.new (fault_in result) }
+    ensures part { P.tells → T.tells → IfErr result (λ e. IsTransmission e →
+        WritesPart search.effort (P.held pages.old) search.end (T.taken tx.old) (T.taken tx.new)) }
+    ensures certificate_part { P.tells → T.tells → C.tells → IfErr result (λ e. IsCertificate e →
+        WritesCertificatePart search.effort (P.held pages.old) search.end
+        (T.taken tx.old) (T.taken tx.new) (C.taken cert.old) (C.taken cert.new)) }
+    ensures read_failed { IsErrOf result (stream_fault.Round round_fault.ReadFault) →
+        HasFailed (P.failures pages.old) (P.failures pages.new) }
+{
+    let Search { limit, end, effort } = search;
+    match effort {
+        Effort::Fewest => match plan_stream(alloc, pages, tx, cert, limit, end) {
+            Ok(plan) => Ok(Bounded {
+                bound: plan.batches,
+                plan,
+                stopped: None,
+            }),
+            Err(fault) => Err(fault),
+        },
+        Effort::Always => plan_stream_always(alloc, pages, tx, cert, limit, end),
+    }
 }
 
 /// Tells the counts of a plan, and its bound where that is below the batches.
-pub(crate) fn tell_bounded<O: Sink>(bounded: &Bounded, out: &mut O) -> Result<(), CentreFault>
+pub(crate) fn tell_bounded<O: Sink>(bounded: &Bounded, out: &mut O) -> Result<(), FileFault>
     ensures told { O.tells → OnOk result
         (O.taken out.new ≡ O.taken out.old ++ plan_text bounded.now.plan.pages bounded.now.plan.batches
         ++ below_text bounded.now.plan.batches bounded.now.bound) }
-    ensures lost { IfErr result (λ e. e ≡ CentreFault.File file_fault.Write) }
+    ensures lost { IfErr result (λ e. e ≡ FileFault.Write) }
     ensures failures { CountsFailures result (O.failures out.old) (O.failures out.new) }
 {
-    tell_plan(bounded.plan.pages, bounded.plan.batches, out)?;
-    Ok(tell_below(bounded.plan.batches, bounded.bound, out)?)
+    match tell_plan(bounded.plan.pages, bounded.plan.batches, out) {
+        Ok(()) => tell_below(bounded.plan.batches, bounded.bound, out),
+        Err(fault) => Err(fault),
+    }
 }

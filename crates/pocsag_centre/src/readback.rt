@@ -1,4 +1,4 @@
-ghost use Rattle.std.specs.Prelude.{◌≡◌, ◌⊎◌, ◌↔◌, ◌++◌, [], ◌∷◌, List, ℕ, Contains, codes, map, IfErr, IfOk, IsErrOf, IsFalse, IsTrue, OnOk};
+ghost use Rattle.std.specs.Prelude.{◌≡◌, ◌≢◌, ◌⊎◌, ◌↔◌, ◌++◌, [], ◌∷◌, List, ℕ, Contains, codes, map, IfErr, IfNone, IfOk, IfSome, IsErrOf, IsFalse, IsTrue, OnOk, Some};
 ghost use Rattle.std.specs.List.Sorted.{IsNonDecreasingBy};
 ghost use Rattle.pocsag_words.specs.Devices.{HasFailed};
 ghost use Rattle.pocsag_words.specs.Kinds.{kind_of};
@@ -7,84 +7,131 @@ ghost use Rattle.pocsag_pages.specs.Pages.{IsRound};
 ghost use Rattle.pocsag_pages.specs.Reading.{EndsAs, EndsIdle};
 ghost use Rattle.pocsag_pages.specs.declared.fault.RoundFault.TheVariants as round_fault;
 ghost use Rattle.pocsag_tree.specs.Views.{bound_tree_of};
+ghost use Rattle.pocsag_tree.specs.declared.refusals.CertificateFault.TheVariants as tree_fault;
 ghost use Rattle.pocsag_shell.specs.declared.fault.FileFault.TheVariants as file_fault;
+ghost use Rattle.pocsag_shell.specs.ErrorStreams.{stream_of, told_by};
 ghost use Rattle.pocsag_plan.specs.Plans.{NoneHasFewer};
+ghost use Rattle.pocsag_centre.specs.Faults.{centre_status};
 ghost use Rattle.pocsag_centre.specs.Refusals.{OrDevice};
-ghost use Rattle.pocsag_centre.specs.Verification.{AreAmong, ExplainsReadback, ExplainsVerifying, HasRival, IsDueBound, IsTransmissionOf, OrTooLarge, ShowsDue, Verified};
+ghost use Rattle.pocsag_centre.specs.Verification.{AreAmong, ExplainsReadback, ExplainsVerifying, HasRival, IsDueBound, IsOfReadback, IsTransmissionOf, ShowsDue, Verified};
 
 use crate::fault::CentreFault;
 use crate::plan::PlanFiles;
-use crate::round::{certificate_of, read_pages};
 use pocsag_check::check;
 use pocsag_decode::decode;
-use pocsag_pages::{Page, Round, leading_len, read_whole, round_of};
+use pocsag_pages::{Page, Round, leading_len, read_round, read_whole};
 use pocsag_plan::{Effort, Search};
-use pocsag_shell::put_whole;
-use pocsag_tree::Certificate;
+use pocsag_shell::{ErrorStream, FileFault, put_whole};
+use pocsag_tree::{Certificate, read_certificate};
 use pocsag_words::{BATCH_BYTES, End, INPUT_LIMIT, Sink, Source};
 use std::alloc::Global;
 
 // The bytes of the idle codeword.
 const IDLE_BYTES: [u8; 4] = [0x7A, 0x89, 0xC1, 0x97];
 
-/// Reads the bytes of a transmission and of a certificate back: whether the one holds the pages of the page file and ends as
-/// is asked for, and the other shows its number of batches for them and the end, or, where no round is to be refused, that
-/// number or one less.
-pub fn verify_files(
-    alloc: Global,
-    pages: &[u8],
-    tx: &[u8],
-    cert: &[u8],
-    search: Search,
-) -> Result<(), CentreFault>
-    ensures verified { OnOk result (Verified pages.now search tx.now cert.now) }
-    ensures explained { IfErr result (ExplainsVerifying pages.now search tx.now cert.now) }
-{
-    let round = round_of(alloc, pages)?;
-    let batches = read_back(alloc, tx, &round, search.end)?;
-    let certificate = certificate_of(alloc, cert)?;
-    if !shows_due(&round, &certificate, batches, search) {
-        return Err(CentreFault::NotTheBound);
-    }
-    Ok(())
-}
-
-/// `--verify`: reads a transmission and a certificate back, and tells `verified` where `verify_files` takes them for the page
-/// file.
-pub fn run_verify<P: Source + Drop, T: Source + Drop, C: Source + Drop, O: Sink>(
+/// `--verify`: reads a transmission and a certificate back, and tells `verified` where the one holds the pages of the page file
+/// and ends as is asked for, and the other shows its number of batches for them and the end, or, where no round is to be refused,
+/// that number or one less. Returns the exit status.
+pub fn run_verify<P: Source + Drop, T: Source + Drop, C: Source + Drop, O: Sink, E: Sink + Drop>(
     alloc: Global,
     search: Search,
     files: &mut PlanFiles<P, T, C>,
     out: &mut O,
-) -> Result<(), CentreFault>
+    err: &mut ErrorStream<CentreFault, E>,
+) -> u8
+    ensures verified { P.tells → T.tells → C.tells → IfNone (told_by err.new)
+        (Verified (P.held files.old.pages) search (T.held files.old.tx) (C.held files.old.cert)) }
+    ensures told { O.tells → IfNone (told_by err.new)
+        (O.taken out.new ≡ O.taken out.old ++ codes "verified" ++ 10 ∷ []) }
+    ensures done { IfNone (told_by err.new) ((result ≡ 0) × (stream_of err.new ≡ stream_of err.old)) }
+
+    // When each fault comes, and what it leaves.
+    ensures status { IfSome (told_by err.new) (λ e. result ≡ centre_status e) }
+    ensures explained { P.tells → T.tells → C.tells → IfSome (told_by err.new) (OrDevice
+        (ExplainsVerifying (P.held files.old.pages) search (T.held files.old.tx) (C.held files.old.cert))) }
+    ensures refused { IfSome (told_by err.new) (λ e. e ≢ CentreFault.File file_fault.Write → out.new ≡ out.old) }
+
+    // A device's fault is told only where that device failed.
+    ensures read_failed { told_by err.new ≡ Some (CentreFault.Round round_fault.ReadFault) →
+        HasFailed (P.failures files.old.pages) (P.failures files.new.pages) }
+    ensures device_failed { told_by err.new ≡ Some (CentreFault.File file_fault.Device) →
+        HasFailed (T.failures files.old.tx) (T.failures files.new.tx) }
+    ensures certificate_failed { told_by err.new ≡ Some (CentreFault.Certificate tree_fault.ReadFault) →
+        HasFailed (C.failures files.old.cert) (C.failures files.new.cert) }
+    ensures write_failed { told_by err.new ≡ Some (CentreFault.File file_fault.Write) →
+        HasFailed (O.failures out.old) (O.failures out.new) }
+{
+    err.end(verified(alloc, search, files, out))
+}
+
+// The same, whose fault is still to be told.
+fn verified<P: Source + Drop, T: Source + Drop, C: Source + Drop, O: Sink>(
+    alloc: Global,
+    search: Search,
+    files: &mut PlanFiles<P, T, C>,
+    out: &mut O,
+) -> Result<u8, CentreFault>
     ensures verified { P.tells → T.tells → C.tells → OnOk result
         (Verified (P.held files.old.pages) search (T.held files.old.tx) (C.held files.old.cert)) }
     ensures told { O.tells → OnOk result (O.taken out.new ≡ O.taken out.old ++ codes "verified" ++ 10 ∷ []) }
+    ensures done { IfOk result (λ status. status ≡ 0) }
     ensures explained { P.tells → T.tells → C.tells → IfErr result (OrDevice
-        (OrTooLarge (T.held files.old.tx) (C.held files.old.cert)
-        (ExplainsVerifying (P.held files.old.pages) search (T.held files.old.tx) (C.held files.old.cert)))) }
-
-    // A device's fault is answered only where that device failed.
+        (ExplainsVerifying (P.held files.old.pages) search (T.held files.old.tx) (C.held files.old.cert))) }
+    ensures refused { IfErr result (λ e. e ≢ CentreFault.File file_fault.Write → out.new ≡ out.old) }
     ensures read_failed { IsErrOf result (CentreFault.Round round_fault.ReadFault) →
         HasFailed (P.failures files.old.pages) (P.failures files.new.pages) }
     ensures device_failed { IsErrOf result (CentreFault.File file_fault.Device) →
-        HasFailed (T.failures files.old.tx) (T.failures files.new.tx)
-        ⊎ HasFailed (C.failures files.old.cert) (C.failures files.new.cert) }
+        HasFailed (T.failures files.old.tx) (T.failures files.new.tx) }
+    ensures certificate_failed { IsErrOf result (CentreFault.Certificate tree_fault.ReadFault) →
+        HasFailed (C.failures files.old.cert) (C.failures files.new.cert) }
     ensures write_failed { IsErrOf result (CentreFault.File file_fault.Write) →
         HasFailed (O.failures out.old) (O.failures out.new) }
 {
     let PlanFiles { pages, tx, cert } = files;
-    let pages = read_pages(alloc, pages)?;
-    let tx = read_whole(alloc, tx, INPUT_LIMIT)?;
-    let cert = read_whole(alloc, cert, INPUT_LIMIT)?;
-    verify_files(
-        alloc,
-        pages.as_slice(),
-        tx.as_slice(),
-        cert.as_slice(),
-        search,
-    )?;
-    Ok(put_whole(out, b"verified\n")?)
+    let round = match read_round(alloc, pages) {
+        Ok(round) => round,
+        Err(fault) => return Err(CentreFault::Round(fault)),
+    };
+    let batches = match read_batches(alloc, tx, &round, search.end) {
+        Ok(batches) => batches,
+        Err(fault) => return Err(fault),
+    };
+    let certificate = match read_certificate(alloc, cert) {
+        Ok(certificate) => certificate,
+        Err(fault) => return Err(CentreFault::Certificate(fault)),
+    };
+    if !shows_due(&round, &certificate, batches, search) {
+        return Err(CentreFault::NotTheBound);
+    }
+    match put_whole(out, b"verified\n") {
+        Ok(()) => Ok(0),
+        Err(fault) => Err(CentreFault::File(fault)),
+    }
+}
+
+// The batches of a transmission of the round's pages that ends as is asked for. What the reader lends is judged where it stands.
+fn read_batches<T: Source>(
+    alloc: Global,
+    tx: &mut T,
+    round: &Round,
+    end: End,
+) -> Result<usize, CentreFault>
+    ensures taken { T.tells → IfOk result (λ batches. IsTransmissionOf end round.now batches (T.held tx.old)) }
+    ensures explained { T.tells → IfErr result (OrDevice (ExplainsReadback end round.now (T.held tx.old))) }
+    ensures alone { IfErr result IsOfReadback }
+    ensures device_failed { IsErrOf result (CentreFault.File file_fault.Device) →
+        HasFailed (T.failures tx.old) (T.failures tx.new) }
+{
+    let Some(bytes) = tx.lent() else {
+        return match read_whole(alloc, tx, INPUT_LIMIT) {
+            Ok(bytes) => read_back(alloc, bytes.as_slice(), round, end),
+            Err(fault) => Err(CentreFault::from(fault)),
+        };
+    };
+    if bytes.len() > INPUT_LIMIT {
+        return Err(CentreFault::File(FileFault::TooLarge));
+    }
+    read_back(alloc, bytes, round, end)
 }
 
 // Whether a certificate shows for the round and the end the bound that is due beside so many batches.
@@ -106,6 +153,7 @@ fn shows_due(round: &Round, certificate: &Certificate, batches: usize, search: S
 fn read_back(alloc: Global, bytes: &[u8], round: &Round, end: End) -> Result<usize, CentreFault>
     ensures taken { IfOk result (λ batches. IsTransmissionOf end round.now batches bytes.now) }
     ensures explained { IfErr result (ExplainsReadback end round.now bytes.now) }
+    ensures alone { IfErr result (λ e. IsOfReadback e × (e ≢ CentreFault.File file_fault.Device)) }
 {
     let mut sent = match decode(alloc, bytes) {
         Ok(sent) => sent,

@@ -1,134 +1,125 @@
-ghost use Rattle.std.specs.Prelude.{◌≡◌, ◌≢◌, ◌++◌, IfErr, IfOk, IsErrOf, OnOk};
+ghost use Rattle.std.specs.Prelude.{◌≡◌, ◌≢◌, ◌++◌, [], IfErr, IfNone, IfOk, IfSome, IsErrOf, IsFalse, IsTrue, OnOk, Some};
+ghost use Rattle.std.specs.List.{flat_map};
 ghost use Rattle.pocsag_words.specs.Devices.{CountsFailures, HasFailed};
 ghost use Rattle.pocsag_pages.specs.declared.fault.RoundFault.TheVariants as round_fault;
-ghost use Rattle.std.specs.List.{flat_map};
 ghost use Rattle.pocsag_plan.specs.Reports.{report_text};
 ghost use Rattle.pocsag_shell.specs.declared.fault.FileFault.TheVariants as file_fault;
+ghost use Rattle.pocsag_shell.specs.ErrorStreams.{stream_of, told_by};
 ghost use Rattle.pocsag_centre.specs.Commands.{Reported};
-ghost use Rattle.pocsag_centre.specs.Frames.{frame_text};
-ghost use Rattle.pocsag_centre.specs.FramesTold.{IsFrameReportOf, ReportedFrames};
+ghost use Rattle.pocsag_centre.specs.Faults.{centre_status};
+ghost use Rattle.pocsag_centre.specs.Frames.{frame_text, AreByRoom, HasClasses};
+ghost use Rattle.pocsag_centre.specs.FramesTold.{ReportedFrames};
 ghost use Rattle.pocsag_centre.specs.Lines.{below_text};
 ghost use Rattle.pocsag_centre.specs.Refusals.{OrDevice};
-ghost use Rattle.pocsag_centre.specs.Reports.{ExplainsReporting, IsReportOf};
+ghost use Rattle.pocsag_centre.specs.Reports.{ExplainsReporting};
 
 use crate::fault::CentreFault;
 use crate::frames::{FrameRoom, frames_of};
 use crate::lines::tell_below;
-use crate::plan::bounded_file;
-use crate::round::read_pages;
-use pocsag_pages::round_of;
-use pocsag_plan::{Effort, Report, Search, bounded_plan, report};
-use pocsag_shell::{FileFault, tell_numbers};
-use pocsag_words::{Sink, Source};
+use crate::plan::{RoundPlan, read_plan};
+use pocsag_plan::{Report, Search, report};
+use pocsag_shell::{ErrorStream, FileFault, tell_numbers};
+use pocsag_words::{OutOfMemory, Sink, Source};
 use std::alloc::Global;
 
-/// What a plan takes on the air, and its bound: no transmission of the round has fewer batches.
+/// What a report is asked for.
 #[derive(Clone, Copy)]
-pub struct BoundedReport {
-    pub report: Report,
-    pub bound: u32,
-}
-
-/// The same, and the frames of the plan, the least room first.
-#[derive(Drop)]
-pub struct FrameReport {
-    pub report: Report,
-    pub bound: u32,
-    pub rooms: Vec<FrameRoom>,
-}
-
-/// Plans the bytes of a page file as is asked, and reports on the plan at a rate. Faults in order: those of `bounded_file`,
-/// and `BadRate`.
-pub fn report_file(
-    alloc: Global,
-    pages: &[u8],
-    rate: u32,
-    search: Search,
-) -> Result<BoundedReport, CentreFault>
-    ensures report { IfOk result (IsReportOf pages.now search rate) }
-    ensures fewest { search.effort ≡ Effort.Fewest → IfOk result (λ answered.
-        answered.bound ≡ answered.report.batches) }
-    ensures explained { IfErr result (ExplainsReporting pages.now search rate) }
-{
-    let bounded = bounded_file(alloc, pages, search)?;
-    Ok(BoundedReport {
-        report: report(&bounded.plan, rate)?,
-        bound: bounded.bound,
-    })
-}
-
-/// The same report, with the frames of the plan.
-pub fn frames_file(
-    alloc: Global,
-    pages: &[u8],
-    rate: u32,
-    search: Search,
-) -> Result<FrameReport, CentreFault>
-    ensures report { IfOk result (IsFrameReportOf pages.now search rate) }
-    ensures explained { IfErr result (ExplainsReporting pages.now search rate) }
-{
-    let round = round_of(alloc, pages)?;
-    let bounded = bounded_plan(alloc, &round, search)?;
-    let report = report(&bounded.plan, rate)?;
-    Ok(FrameReport {
-        report,
-        bound: bounded.bound,
-        rooms: frames_of(alloc, &round, bounded.plan.steps.as_slice())?,
-    })
+pub struct ReportAsked {
+    /// Bits a second.
+    pub rate: u32,
+    pub search: Search,
+    /// Whether the frames are told too.
+    pub frames: bool,
 }
 
 /// `report PAGES --rate R`: tells what the plan of a page file takes on the air at a rate, and its bound where
-/// that is below the batches.
-pub fn run_report<P: Source, O: Sink>(
+/// that is below the batches; with `--frames` then a line for each frame, the least room first. Returns the exit status.
+pub fn run_report<P: Source, O: Sink, E: Sink + Drop>(
     alloc: Global,
-    rate: u32,
-    search: Search,
+    asked: ReportAsked,
     pages: &mut P,
     out: &mut O,
-) -> Result<(), CentreFault>
-    ensures told { P.tells → O.tells → OnOk result
-        (Reported (P.held pages.old) search rate (O.taken out.old) (O.taken out.new)) }
-    ensures explained { P.tells → IfErr result (OrDevice (ExplainsReporting (P.held pages.old) search rate)) }
-    ensures refused { IfErr result (λ e. e ≢ CentreFault.File file_fault.Write → out.new ≡ out.old) }
+    err: &mut ErrorStream<CentreFault, E>,
+) -> u8
+    ensures told { P.tells → O.tells → IsFalse asked.frames → IfNone (told_by err.new)
+        (Reported (P.held pages.old) asked.search asked.rate (O.taken out.old) (O.taken out.new)) }
+    ensures told_frames { P.tells → O.tells → IsTrue asked.frames → IfNone (told_by err.new)
+        (ReportedFrames (P.held pages.old) asked.search asked.rate (O.taken out.old) (O.taken out.new)) }
+    ensures done { IfNone (told_by err.new) ((result ≡ 0) × (stream_of err.new ≡ stream_of err.old)) }
 
-    // A device's fault is answered only where that device failed.
+    // When each fault comes, and what it leaves. The page file is judged first, and the rate last.
+    ensures status { IfSome (told_by err.new) (λ e. result ≡ centre_status e) }
+    ensures explained { P.tells →
+        IfSome (told_by err.new) (OrDevice (ExplainsReporting (P.held pages.old) asked.search asked.rate)) }
+    ensures refused { IfSome (told_by err.new) (λ e. e ≢ CentreFault.File file_fault.Write → out.new ≡ out.old) }
+
+    // A device's fault is told only where that device failed.
+    ensures read_failed { told_by err.new ≡ Some (CentreFault.Round round_fault.ReadFault) →
+        HasFailed (P.failures pages.old) (P.failures pages.new) }
+    ensures write_failed { told_by err.new ≡ Some (CentreFault.File file_fault.Write) →
+        HasFailed (O.failures out.old) (O.failures out.new) }
+{
+    err.end(reported(alloc, asked, pages, out))
+}
+
+// The same, whose fault is still to be told.
+fn reported<P: Source, O: Sink>(
+    alloc: Global,
+    asked: ReportAsked,
+    pages: &mut P,
+    out: &mut O,
+) -> Result<u8, CentreFault>
+    ensures told { P.tells → O.tells → IsFalse asked.frames → OnOk result
+        (Reported (P.held pages.old) asked.search asked.rate (O.taken out.old) (O.taken out.new)) }
+    ensures told_frames { P.tells → O.tells → IsTrue asked.frames → OnOk result
+        (ReportedFrames (P.held pages.old) asked.search asked.rate (O.taken out.old) (O.taken out.new)) }
+    ensures done { IfOk result (λ status. status ≡ 0) }
+    ensures explained { P.tells →
+        IfErr result (OrDevice (ExplainsReporting (P.held pages.old) asked.search asked.rate)) }
+    ensures refused { IfErr result (λ e. e ≢ CentreFault.File file_fault.Write → out.new ≡ out.old) }
     ensures read_failed { IsErrOf result (CentreFault.Round round_fault.ReadFault) →
         HasFailed (P.failures pages.old) (P.failures pages.new) }
     ensures write_failed { IsErrOf result (CentreFault.File file_fault.Write) →
         HasFailed (O.failures out.old) (O.failures out.new) }
 {
-    let file = read_pages(alloc, pages)?;
-    let answered = report_file(alloc, file.as_slice(), rate, search)?;
-    Ok(tell_report(answered.report, answered.bound, out)?)
+    let found = match read_plan(alloc, pages, asked.search) {
+        Ok(found) => found,
+        Err(fault) => return Err(fault),
+    };
+    let report = match report(&found.bounded.plan, asked.rate) {
+        Ok(report) => report,
+        Err(_) => return Err(CentreFault::BadRate),
+    };
+    let rooms = match rooms_asked(alloc, &found, asked.frames) {
+        Ok(rooms) => rooms,
+        Err(_) => return Err(CentreFault::File(FileFault::OutOfMemory)),
+    };
+    match tell_frames(report, found.bounded.bound, rooms.as_slice(), out) {
+        Ok(()) => Ok(0),
+        Err(fault) => Err(CentreFault::File(fault)),
+    }
 }
 
-/// `report PAGES --rate R --frames`: tells what `report` tells, and then a line for each frame, the least room first.
-pub fn run_frames<P: Source, O: Sink>(
+// The frames of the plan, the least room first, where they are asked for.
+fn rooms_asked(
     alloc: Global,
-    rate: u32,
-    search: Search,
-    pages: &mut P,
-    out: &mut O,
-) -> Result<(), CentreFault>
-    ensures told { P.tells → O.tells → OnOk result
-        (ReportedFrames (P.held pages.old) search rate (O.taken out.old) (O.taken out.new)) }
-    ensures explained { P.tells → IfErr result (OrDevice (ExplainsReporting (P.held pages.old) search rate)) }
-    ensures refused { IfErr result (λ e. e ≢ CentreFault.File file_fault.Write → out.new ≡ out.old) }
-
-    // A device's fault is answered only where that device failed.
-    ensures read_failed { IsErrOf result (CentreFault.Round round_fault.ReadFault) →
-        HasFailed (P.failures pages.old) (P.failures pages.new) }
-    ensures write_failed { IsErrOf result (CentreFault.File file_fault.Write) →
-        HasFailed (O.failures out.old) (O.failures out.new) }
+    found: &RoundPlan,
+    frames: bool,
+) -> Result<Vec<FrameRoom>, OutOfMemory>
+    requires { HasClasses found.now.bounded.plan.steps.items }
+    ensures none { IsFalse frames → IfOk result (λ rooms. rooms.items ≡ []) }
+    ensures all { IsTrue frames → IfOk result (λ rooms.
+        AreByRoom found.now.round found.now.bounded.plan.steps.items rooms.items) }
 {
-    let file = read_pages(alloc, pages)?;
-    let answered = frames_file(alloc, file.as_slice(), rate, search)?;
-    Ok(tell_frames(&answered, out)?)
+    if frames {
+        return frames_of(alloc, &found.round, found.bounded.plan.steps.as_slice());
+    }
+    Ok(Vec::new(alloc))
 }
 
-/// Tells a report, and the bound where it is below the batches.
+// Tells a report, and the bound where it is below the batches.
 #[tactic(auto, using(crate::proofs::ReportLines::report_numbered))]
-pub(crate) fn tell_report<O: Sink>(report: Report, bound: u32, out: &mut O) -> Result<(), FileFault>
+fn tell_report<O: Sink>(report: Report, bound: u32, out: &mut O) -> Result<(), FileFault>
     ensures told { O.tells → OnOk result
         (O.taken out.new ≡ O.taken out.old ++ report_text report ++ below_text report.batches bound) }
     ensures lost { IfErr result (λ e. e ≡ FileFault.Write) }
@@ -143,21 +134,31 @@ pub(crate) fn tell_report<O: Sink>(report: Report, bound: u32, out: &mut O) -> R
         ("\nbits ", report.bits),
         ("\nairtime_ms ", report.airtime_ms),
     ];
-    tell_numbers(out, &numbers, "\n")?;
-    tell_below(report.batches, bound, out)
+    match tell_numbers(out, &numbers, "\n") {
+        Ok(()) => tell_below(report.batches, bound, out),
+        Err(fault) => Err(fault),
+    }
 }
 
-/// The same, and a line for each frame.
-pub(crate) fn tell_frames<O: Sink>(answered: &FrameReport, out: &mut O) -> Result<(), FileFault>
-    ensures told { O.tells → OnOk result (O.taken out.new ≡ O.taken out.old ++ report_text answered.now.report
-        ++ below_text answered.now.report.batches answered.now.bound
-        ++ flat_map frame_text answered.now.rooms.items) }
+// The same, and a line for each frame.
+fn tell_frames<O: Sink>(
+    report: Report,
+    bound: u32,
+    rooms: &[FrameRoom],
+    out: &mut O,
+) -> Result<(), FileFault>
+    ensures told { O.tells → OnOk result (O.taken out.new ≡ O.taken out.old ++ report_text report
+        ++ below_text report.batches bound ++ flat_map frame_text rooms.now) }
     ensures lost { IfErr result (λ e. e ≡ FileFault.Write) }
     ensures failures { CountsFailures result (O.failures out.old) (O.failures out.new) }
 {
-    tell_report(answered.report, answered.bound, out)?;
-    for room in &answered.rooms {
-        tell_frame(room, out)?;
+    if let Err(fault) = tell_report(report, bound, out) {
+        return Err(fault);
+    }
+    for room in rooms {
+        if let Err(fault) = tell_frame(room, out) {
+            return Err(fault);
+        }
     }
     Ok(())
 }

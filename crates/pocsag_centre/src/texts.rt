@@ -1,9 +1,9 @@
 //! What help says of the commands.
 
 pub(crate) const PLAN_MANUAL: &str = "\
-The page file is CSV with the header address,kind,message. The command first
-reads it, then makes TX and CERT or empties them: after a refusal they are
-empty, unless --keep is given. '-' as PAGES is standard input, and as TX or
+The page file is CSV with the header address,kind,message. The command opens
+it, makes TX and CERT or empties them, and then reads it: after a refusal they
+are empty, unless --keep is given. '-' as PAGES is standard input, and as TX or
 CERT standard output: the lines then go to standard error. The command refuses
 a file that stands behind standard output or standard error. It refuses a round
 whose search reaches the limit. With --always it answers every round: nearly

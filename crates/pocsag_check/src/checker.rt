@@ -7,7 +7,7 @@ ghost use Rattle.pocsag_tree.specs.Views.{bound_tree_of, bounds_of};
 ghost use Rattle.pocsag_check.specs.Acceptance.{AcceptsEachWithin, AcceptsWithin};
 
 use pocsag_slots::{
-    CLASSES, Classes, Limits, Way, closing_ways, holds, is_certain, overloads, ways,
+    CLASSES, Classes, Limits, Way, ending_ways, holds, is_certain, overloads, ways,
 };
 use pocsag_tree::Tree;
 use pocsag_words::End;
@@ -104,7 +104,7 @@ pub(crate) fn check_node(claim: &Claim, limits: &mut Limits, tree: &Tree, depth:
             if !closes(claim) {
                 return false;
             }
-            let out = closing_ways(claim.classes, claim.end, limits);
+            let out = ending_ways(claim.classes, claim.end, limits);
             check_each(claim, limits, out.as_slice(), children, depth - 1)
         }
         Tree::Open => claim.takes_open,

@@ -1,14 +1,13 @@
 //! The commands of a paging centre over memory: what each tells, what it leaves, and its exit status.
 
 use pocsag_centre::{
-    CentreFault, DEFAULT_LIMIT, PlanFiles, check_file, expected_file, frames_file, plan_file,
-    report_file, run_check, run_frames, run_input, run_plan, run_report, run_verify, strict_file,
-    verify_files,
+    CentreFault, DEFAULT_LIMIT, FrontAsked, FrontFiles, PlanFiles, ReportAsked, expected_file,
+    run_check, run_front, run_input, run_plan, run_report, run_verify, strict_file,
 };
 use pocsag_pages::{FieldFault, QuoteFault, RecordFault, RoundFault};
 use pocsag_plan::{Effort, Search};
-use pocsag_shell::{Failure, tell_fault};
-use pocsag_words::{End, MemorySink, MemorySource};
+use pocsag_shell::{ErrorStream, Loaded};
+use pocsag_words::{End, GrowingSink, MemorySink, MemorySource, SliceSource, Source};
 use std::alloc::Global;
 use std::test::Fail;
 
@@ -73,7 +72,13 @@ const fn open_to(limit: u32, effort: Effort) -> Search {
 struct Told {
     status: u8,
     out: MemorySink<500>,
-    err: MemorySink<100>,
+    err: Errors,
+}
+
+type Errors = ErrorStream<CentreFault, MemorySink<100>>;
+
+fn errors() -> Errors {
+    ErrorStream::new(MemorySink::new(1, 1000))
 }
 
 // The same of a plan, and what its two files took.
@@ -105,21 +110,12 @@ fn plan(alloc: Global, search: Search, file: &[u8], faults: Faults) -> Planned {
         cert: MemorySink::<100>::new(3, faults.cert),
     };
     let mut out = MemorySink::<500>::new(1, 1000);
-    let mut err = MemorySink::<100>::new(1, 1000);
-    let done = run_plan(alloc, search, &mut files, &mut out);
-    let status = status_of(done.map(|()| 0), &mut err);
+    let mut err = errors();
+    let status = run_plan(alloc, search, &mut files, &mut out, &mut err);
     Planned {
         told: Told { status, out, err },
         tx: files.tx,
         cert: files.cert,
-    }
-}
-
-// The exit status of a command.
-fn status_of(done: Result<u8, CentreFault>, err: &mut MemorySink<100>) -> u8 {
-    match done {
-        Ok(status) => status,
-        Err(fault) => tell_fault(err, fault),
     }
 }
 
@@ -212,7 +208,7 @@ fn plans_are_told(rt: HostRuntime) -> Result<(), Fail> {
         let planned = plan(rt.alloc(), case.search, case.file, case.faults);
         assert_eq!(rt; planned.told.status, case.status);
         assert_eq!(rt; planned.told.out.bytes(), case.out.as_bytes());
-        assert_eq!(rt; planned.told.err.bytes(), case.err.as_bytes());
+        assert_eq!(rt; planned.told.err.stream().bytes(), case.err.as_bytes());
         assert_eq!(rt; planned.tx.bytes().len(), case.sent);
         assert_eq!(rt; planned.cert.bytes().get(8).copied(), case.bound);
     }
@@ -225,9 +221,23 @@ enum Command {
     Input,
     Check,
     Verify(Search),
-    // The rate first.
-    Report(u32, Search),
-    Frames(u32, Search),
+    Report(ReportAsked),
+}
+
+const fn report(rate: u32, search: Search) -> Command {
+    Command::Report(ReportAsked {
+        rate,
+        search,
+        frames: false,
+    })
+}
+
+const fn frames(rate: u32, search: Search) -> Command {
+    Command::Report(ReportAsked {
+        rate,
+        search,
+        frames: true,
+    })
 }
 
 // Runs a command on the page file and on what was planned.
@@ -236,26 +246,16 @@ fn run(alloc: Global, command: Command, file: &[u8], planned: &Planned) -> Told 
     let tx = MemorySource::new(planned.tx.bytes(), 4, 1000);
     let mut cert = MemorySource::new(planned.cert.bytes(), 4, 1000);
     let mut out = MemorySink::<500>::new(1, 1000);
-    let mut err = MemorySink::<100>::new(1, 1000);
-    let done = match command {
-        Command::Input => run_input(alloc, &mut pages, &mut out).map(|()| 0),
-        Command::Check => run_check(alloc, &mut pages, &mut cert, &mut out).map(|shown| if shown {
-            0
-        } else {
-            1
-        }),
+    let mut err = errors();
+    let status = match command {
+        Command::Input => run_input(alloc, &mut pages, &mut out, &mut err),
+        Command::Check => run_check(alloc, &mut pages, &mut cert, &mut out, &mut err),
         Command::Verify(search) => {
             let mut files = PlanFiles { pages, tx, cert };
-            run_verify(alloc, search, &mut files, &mut out).map(|()| 0)
+            run_verify(alloc, search, &mut files, &mut out, &mut err)
         }
-        Command::Report(rate, search) => {
-            run_report(alloc, rate, search, &mut pages, &mut out).map(|()| 0)
-        }
-        Command::Frames(rate, search) => {
-            run_frames(alloc, rate, search, &mut pages, &mut out).map(|()| 0)
-        }
+        Command::Report(asked) => run_report(alloc, asked, &mut pages, &mut out, &mut err),
     };
-    let status = status_of(done, &mut err);
     Told { status, out, err }
 }
 
@@ -393,7 +393,7 @@ fn what_was_planned_is_read(rt: HostRuntime) -> Result<(), Fail> {
             LONE_TONE,
             OPEN,
             LONE_TONE,
-            Command::Report(1200, CLOSED),
+            report(1200, CLOSED),
             0,
             LONE_REPORT,
             "",
@@ -402,7 +402,7 @@ fn what_was_planned_is_read(rt: HostRuntime) -> Result<(), Fail> {
             LONE_TONE,
             OPEN,
             LONE_TONE,
-            Command::Report(1201, OPEN),
+            report(1201, OPEN),
             1,
             "",
             BAD_RATE,
@@ -411,7 +411,7 @@ fn what_was_planned_is_read(rt: HostRuntime) -> Result<(), Fail> {
             LONE_TONE,
             OPEN,
             LONE_TONE,
-            Command::Frames(1200, OPEN),
+            frames(1200, OPEN),
             0,
             LONE_FRAMES,
             "",
@@ -420,7 +420,7 @@ fn what_was_planned_is_read(rt: HostRuntime) -> Result<(), Fail> {
             LONE_TONE,
             OPEN,
             LONE_TONE,
-            Command::Frames(1201, OPEN),
+            frames(1201, OPEN),
             1,
             "",
             BAD_RATE,
@@ -439,7 +439,7 @@ fn what_was_planned_is_read(rt: HostRuntime) -> Result<(), Fail> {
             LOOPS_APART,
             to_one,
             LOOPS_APART,
-            Command::Report(1200, to_one),
+            report(1200, to_one),
             0,
             APART_REPORT_BELOW,
             "",
@@ -448,7 +448,7 @@ fn what_was_planned_is_read(rt: HostRuntime) -> Result<(), Fail> {
             LOOPS_APART,
             to_three,
             LOOPS_APART,
-            Command::Report(1200, to_three),
+            report(1200, to_three),
             0,
             APART_REPORT,
             "",
@@ -543,45 +543,120 @@ fn what_was_planned_is_read(rt: HostRuntime) -> Result<(), Fail> {
         let told = run(alloc, command, read, &planned);
         assert_eq!(rt; told.status, status);
         assert_eq!(rt; told.out.bytes(), out.as_bytes());
-        assert_eq!(rt; told.err.bytes(), err.as_bytes());
+        assert_eq!(rt; told.err.stream().bytes(), err.as_bytes());
     }
     Ok(())
 }
 
-// A round, how it is planned, how many bytes its transmission has, and its batches and their bound.
-type BytesCase = (&'static [u8], Search, usize, u32, u32);
+// A round, how it is planned, how many bytes its transmission has, and what is told.
+type LentCase = (&'static [u8], Search, usize, &'static str);
 
-// What the commands do of bytes: the same plans, and each is taken by what reads it.
+// A source that lends its bytes is judged where it stands, and the outputs are those of one that is read piece by piece.
 #[test]
-fn files_are_planned_as_bytes(rt: HostRuntime) -> Result<(), Fail> {
+fn lent_files_are_planned(rt: HostRuntime) -> Result<(), Fail> {
     let alloc = rt.alloc();
-    let cases: [BytesCase; 4] = [
-        (LONE_TONE, OPEN, 72 + 68, 1, 1),
-        (SIXTEEN_TONES, CLOSED, 72 + 68, 1, 1),
+    let cases: [LentCase; 4] = [
+        (LONE_TONE, OPEN, 72 + 68, "pages 1\nbatches 1\n"),
+        (SIXTEEN_TONES, CLOSED, 72 + 68, "pages 16\nbatches 1\n"),
         // An idle codeword behind sixteen others needs a second batch.
-        (SIXTEEN_TONES, IDLE_LAST, 72 + 2 * 68, 2, 2),
-        (LOOPS_APART, open_to(1, Effort::Always), 72 + 3 * 68, 3, 2),
+        (SIXTEEN_TONES, IDLE_LAST, 72 + 2 * 68, "pages 16\nbatches 2\n"),
+        (
+            LOOPS_APART,
+            open_to(1, Effort::Always),
+            72 + 3 * 68,
+            "pages 2\nbatches 3\nat least 2 batches\n",
+        ),
     ];
-    for (file, search, sent, batches, bound) in cases {
-        let planned = plan(alloc, search, file, SOUND);
-        let written = plan_file(alloc, file, search).expect(&rt, "a plan");
-        let (tx, cert) = (written.sent.as_slice(), written.certificate.as_slice());
+    for (file, search, sent, lines) in cases {
+        let read = plan(alloc, search, file, SOUND);
+        let mut files = PlanFiles {
+            pages: SliceSource::new(file),
+            tx: GrowingSink::new(alloc),
+            cert: GrowingSink::new(alloc),
+        };
+        let (mut out, mut err) = (MemorySink::<500>::new(1, 1000), errors());
+        assert_eq!(rt; run_plan(alloc, search, &mut files, &mut out, &mut err), 0);
+        assert_eq!(rt; err.fault(), None);
+        assert_eq!(rt; out.bytes(), lines.as_bytes());
+        assert_eq!(rt; files.pages.lent().map(|rest| rest.len()), Some(0));
+        let (tx, cert) = (files.tx.into_bytes(), files.cert.into_bytes());
         assert_eq!(rt; tx.len(), sent);
-        assert_eq!(rt; written.bounded.plan.batches, batches);
-        assert_eq!(rt; written.bounded.bound, bound);
-        assert_eq!(rt; planned.tx.bytes(), tx);
-        assert_eq!(rt; planned.cert.bytes(), cert);
-        let judged = check_file(alloc, file, cert).expect(&rt, "a certificate");
-        assert_eq!(rt;
-            (judged.end, judged.batches, judged.is_shown),
-            (search.end, bound, true)
-        );
-        assert_eq!(rt; verify_files(alloc, file, tx, cert, search), Ok(()));
-        let reported = report_file(alloc, file, 1200, search).expect(&rt, "a report");
-        assert_eq!(rt; (reported.report.batches, reported.bound), (batches, bound));
-        let framed = frames_file(alloc, file, 1200, search).expect(&rt, "frames");
-        assert_eq!(rt; (framed.report.batches, framed.bound), (batches, bound));
-        assert_eq!(rt; framed.rooms.len(), 8);
+        assert_eq!(rt; tx.as_slice(), read.tx.bytes());
+        assert_eq!(rt; cert.as_slice(), read.cert.bytes());
+        let mut back = PlanFiles {
+            pages: SliceSource::new(file),
+            tx: SliceSource::new(tx.as_slice()),
+            cert: SliceSource::new(cert.as_slice()),
+        };
+        assert_eq!(rt; run_verify(alloc, search, &mut back, &mut out, &mut err), 0);
+    }
+    Ok(())
+}
+
+// A file behind whose first bytes the system refused to read on fails there, and is not planned as if it ended there.
+#[test]
+fn cut_files_are_refused(rt: HostRuntime) -> Result<(), Fail> {
+    let alloc = rt.alloc();
+    for is_cut in [true, false] {
+        let mut bytes = Vec::new(alloc);
+        bytes.extend_from_slice(LONE_TONE).expect(&rt, "memory");
+        let mut pages = Loaded::new(alloc, bytes, is_cut);
+        let (mut out, mut err) = (MemorySink::<500>::new(1, 1000), errors());
+        let status = run_input(alloc, &mut pages, &mut out, &mut err);
+        assert_eq!(rt; status, if is_cut { 3 } else { 0 });
+        assert_eq!(rt; err.fault(), is_cut.then_some(CentreFault::Round(RoundFault::ReadFault)));
+    }
+    let mut bytes = Vec::new(alloc);
+    bytes.extend_from_slice(LONE_TONE).expect(&rt, "memory");
+    let mut pages = Loaded::new(alloc, bytes, true);
+    let mut piece = [0u8; 40];
+    assert_eq!(rt; pages.read(&mut piece).ok(), Some(30));
+    assert_eq!(rt; &piece[..30], LONE_TONE);
+    assert_eq!(rt; pages.read(&mut piece).ok(), None);
+    Ok(())
+}
+
+// The first page of `loops-apart` alone takes a batch, and both take three.
+#[test]
+fn a_front_is_written(rt: HostRuntime) -> Result<(), Fail> {
+    let alloc = rt.alloc();
+    let cases = [
+        (0, 1, "", "pocsag: page 1 needs 1 batches\n"),
+        (2, 0, "pages 1\nbatches 1\nleft 1\n", ""),
+        (3, 0, "pages 2\nbatches 3\nleft 0\n", ""),
+    ];
+    for (batches, status, lines, text) in cases {
+        let mut files = FrontFiles {
+            pages: SliceSource::new(LOOPS_APART),
+            tx: GrowingSink::new(alloc),
+            cert: GrowingSink::new(alloc),
+            rest: GrowingSink::new(alloc),
+            why: GrowingSink::new(alloc),
+            count: 0,
+        };
+        let asked = FrontAsked {
+            batches,
+            search: OPEN,
+        };
+        let (mut out, mut err) = (MemorySink::<500>::new(1, 1000), errors());
+        assert_eq!(rt; run_front(alloc, asked, &mut files, &mut out, &mut err), status);
+        assert_eq!(rt; out.bytes(), lines.as_bytes());
+        assert_eq!(rt; err.stream().bytes(), text.as_bytes());
+        if status != 0 {
+            continue;
+        }
+        let (sent, rest) = (files.tx.into_bytes(), files.rest.into_bytes());
+        let mut second = MemorySink::<100>::new(1, 1000);
+        let mut left = SliceSource::new(rest.as_slice());
+        let status = run_input(alloc, &mut left, &mut second, &mut err);
+        if batches == 2 {
+            assert_eq!(rt; sent.len(), 72 + 68);
+            assert_eq!(rt; (status, second.bytes()), (0, b"pages 1\nbatches 1\n".as_slice()));
+        } else {
+            assert_eq!(rt; sent.len(), 72 + 3 * 68);
+            assert_eq!(rt; err.fault(), Some(CentreFault::Round(RoundFault::NoPages)));
+        }
+        assert_eq!(rt; files.why.into_bytes().is_empty(), batches == 3);
     }
     Ok(())
 }

@@ -1,7 +1,7 @@
 //! File order, layouts of tours, and bytes.
 
 use crate::given::{
-    IDLE, LONE_TONE, ONES, PageRow, SECOND, Sent, TIGHT, cut, pages, transmission, words,
+    IDLE, LONE_TONE, ONES, PageRow, SECOND, Sent, TIGHT, cut, pages, tones, transmission, words,
 };
 use crate::{THREE_PAGES_TIGHT, round_of, same, tour_of};
 use pocsag_batch::{
@@ -9,8 +9,8 @@ use pocsag_batch::{
     write_slots,
 };
 use pocsag_decode::decode;
-use pocsag_pages::RoundFault;
-use pocsag_words::{End, MemorySink, MemorySource, OutOfMemory, Word, WriteFault};
+use pocsag_pages::{Round, RoundFault};
+use pocsag_words::{End, GrowingSink, MemorySink, MemorySource, OutOfMemory, Word, WriteFault};
 use std::alloc::Global;
 
 fn raws(alloc: Global, words: &[Word]) -> Result<Vec<u32>, OutOfMemory> {
@@ -25,13 +25,22 @@ const EXACT: Sent = (16, ONES, &[(0, 0), (6, 0)]);
 
 const LATE_TONE: Sent = (16, IDLE, &[(1, SECOND)]);
 
-// Rounds by address and number of items, with their codewords in file order.
-const IN_ORDER: [(&[(u32, usize)], Sent); 2] = [
+// Rounds by address and number of items, with their codewords in file order. The last two, which are `closed-mixed` and
+// `closed-both-ways`, end in a message codeword.
+const IN_ORDER: [(&[(u32, usize)], Sent); 4] = [
     (
         &[(5, 0), (13, 0), (21, 0)],
         (32, IDLE, &[(10, 0), (11, SECOND), (26, 0x430b)]),
     ),
     (&[(0, 5), (3, 9)], EXACT),
+    (
+        &[(0, 13), (7, 0), (15, 16)],
+        (32, ONES, &[(0, 0), (14, 0), (15, SECOND)]),
+    ),
+    (
+        &[(0, 13), (7, 0), (15, 2), (1, 13)],
+        (32, ONES, &[(0, 0), (14, 0), (15, SECOND), (18, 0)]),
+    ),
 ];
 
 // Rounds with a class that starts late, the batches and the end, and the codewords of the tour.
@@ -80,6 +89,19 @@ fn layouts_in_file_order(rt: HostRuntime) {
         same!(rt; told.as_slice(), due.as_slice(), pages);
         same!(rt; 16 * in_order_batches(&round) as usize, due.len(), pages);
     }
+}
+
+#[test]
+fn many_tones_in_file_order(rt: HostRuntime) {
+    let alloc = rt.alloc();
+    let list = tones(alloc, 2_000).expect(&rt, "memory");
+    let round = Round::from_pages(alloc, list).expect(&rt, "a round");
+    same!(rt; in_order_batches(&round), 250);
+    let batches = lay_in_order(alloc, &round).expect(&rt, "an answer");
+    same!(rt; batches.count(), 250);
+    let mut sink = GrowingSink::new(alloc);
+    same!(rt; write(&batches, &mut sink), Ok(()));
+    same!(rt; sink.into_bytes().len(), 17_072);
 }
 
 #[test]

@@ -12,6 +12,21 @@ use std::alloc::Global;
 
 const FIRST_ORPHAN: Sent = (16, IDLE, &[(1, DIGITS)]);
 
+// Two pages of `12345` for addresses 7 and 15 in two batches: both start early in frame 7, or the first late.
+const BOTH_EARLY: Sent = (
+    32,
+    IDLE,
+    &[(14, 0), (15, DIGITS), (30, SECOND), (31, DIGITS)],
+);
+
+const ONE_LATE: Sent = (
+    32,
+    IDLE,
+    &[(15, 0), (16, DIGITS), (30, SECOND), (31, DIGITS)],
+);
+
+const LAST_FRAME: &[PageRow] = &[(7, 0, &[0x84C2A]), (15, 0, &[0x84C2A])];
+
 // The numeric text `12`, filled with spaces.
 const TWO_DIGITS: Sent = (16, IDLE, &[(0, 0), (1, 0xC219_9DEA)]);
 
@@ -29,6 +44,8 @@ const DECODED: &[(Sent, usize, Result<&[PageRow], DecodeFault>)] = &[
     (FIRST_ORPHAN, 140, Err(DecodeFault::Orphan(1))),
     ((16, IDLE, &[(0, ONES)]), 140, Err(DecodeFault::Orphan(0))),
     (ACROSS, 208, Ok(&[(7, 0, &[0x84C2A])])),
+    (BOTH_EARLY, 208, Ok(LAST_FRAME)),
+    (ONE_LATE, 208, Ok(LAST_FRAME)),
     (
         TIGHT,
         140,

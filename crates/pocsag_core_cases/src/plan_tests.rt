@@ -59,8 +59,8 @@ const PLANNED: &[(Records, End, u32, u32)] = &[
         2,
         2,
     ),
-    (&[("7,numeric,", 241)], End::Open, 4, 4),
-    (&[("7,numeric,", 241)], End::Closed, 5, 4),
+    (LONG_NUMERIC, End::Open, 4, 4),
+    (LONG_NUMERIC, End::Closed, 5, 4),
     (
         &[("0,numeric,", 65), ("7,tone0,", 0), ("15,numeric,", 80)],
         End::Closed,
@@ -70,6 +70,15 @@ const PLANNED: &[(Records, End, u32, u32)] = &[
     (BOTH_WAYS, End::Open, 2, 2),
     (BOTH_WAYS, End::Closed, 3, 2),
     (BOTH_WAYS, End::Idle, 3, 2),
+];
+
+const LONG_NUMERIC: Records = &[("7,numeric,", 241)];
+
+// Rounds with their codewords and fewest batches.
+const SIZES: [(Records, u32, u32); 3] = [
+    (LONG_NUMERIC, 50, 4),
+    (LOOPS_APART, 32, 3),
+    (THREE_TIGHT, 32, 2),
 ];
 
 // Rounds with a limit of nodes within which `plan` refuses, and the batches and the bound of the plan that is
@@ -87,6 +96,16 @@ fn plans(rt: HostRuntime) {
         let bounded = plan_always(alloc, &round, 100_000, *end).expect(&rt, "an answer");
         same!(rt; (bounded.plan.batches, bounded.bound), (*batches, *batches), records);
         same!(rt; check(&round, *batches, &bounded.plan.tree, *end), true, records);
+    }
+}
+
+#[test]
+fn codewords(rt: HostRuntime) {
+    let alloc = rt.alloc();
+    for (records, count, batches) in SIZES {
+        let round = round_of_file(alloc, records).expect(&rt, "an answer");
+        let fewest = plan(alloc, &round, 100_000, End::Open).expect(&rt, "an answer");
+        same!(rt; (fewest.codewords, fewest.batches), (count, batches), records);
     }
 }
 

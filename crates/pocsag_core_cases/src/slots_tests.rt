@@ -2,8 +2,8 @@
 
 use crate::{round_of, same};
 use pocsag_slots::{
-    Choice, Way, all_limits, carries, classes_of, closing_ways, holds, is_certain, least_load,
-    loads, narrow, overloads, size, ways, with_member,
+    Choice, Way, all_limits, carries, classes_of, closing_ways, ending_ways, holds, is_certain,
+    least_load, loads, narrow, overloads, size, ways, with_member,
 };
 use pocsag_words::End;
 
@@ -125,7 +125,11 @@ fn limits_and_loads(rt: HostRuntime) {
             &round_of(rt.alloc(), CLOSED_MIXED).expect(&rt, "an answer"),
             *end,
         );
-        let out = closing_ways(&classes, *end, &all_limits(&classes, 1));
+        let limits = all_limits(&classes, 1);
+        let out = ending_ways(&classes, *end, &limits);
         same!(rt; out.as_slice() == *wanted, true, end);
+        if *end == End::Closed {
+            same!(rt; closing_ways(&classes, &limits).as_slice() == *wanted, true);
+        }
     }
 }

@@ -1,8 +1,8 @@
 //! Worked examples of tours.
 
 use crate::{NoTour, round_of, same, tour_of};
-use pocsag_slots::{Choice, Step, classes_of};
-use pocsag_tour::{TourFault, has_run_outside, reached};
+use pocsag_slots::{Choice, Step, carries, classes_of};
+use pocsag_tour::{TourFault, has_run_outside, reached, tour};
 use pocsag_words::End;
 
 // Rounds with a class that starts late, the batches and the end, and the steps of the tour, or why there is none.
@@ -106,6 +106,36 @@ fn tours(rt: HostRuntime) {
             }
             _ => assert!(rt; false, "{pages:?}"),
         }
+    }
+}
+
+// How many of two pages of two codewords in frame 7, which are of class 114, start early, with how many idles stand before
+// each page in two batches, and whether it starts early.
+const LAST_FRAME: [(u32, [(usize, bool); 2]); 2] = [
+    (2, [(14, true), (14, true)]),
+    (1, [(15, false), (13, true)]),
+];
+
+#[test]
+fn starts_in_the_last_frame(rt: HostRuntime) {
+    let round = round_of(rt.alloc(), &[(7, 1), (15, 1)]).expect(&rt, "an answer");
+    let classes = classes_of(&round, End::Open);
+    for (count, wanted) in LAST_FRAME {
+        let mut early = classes.count;
+        if early[114] > count {
+            early[114] = count;
+        }
+        let choice = Choice { early };
+        assert!(rt; carries(&classes, &choice, 2));
+        let steps = tour(rt.alloc(), &classes, &choice, 2, End::Open).expect(&rt, "a tour");
+        let mut due = Vec::new(rt.alloc());
+        for (idles, early) in wanted {
+            due.resize(due.len() + idles, Step::Idle)
+                .expect(&rt, "memory");
+            due.push(Step::Run { class: 114, early })
+                .expect(&rt, "memory");
+        }
+        same!(rt; steps.as_slice(), due.as_slice(), count);
     }
 }
 

@@ -3,7 +3,7 @@
 use crate::same;
 use pocsag_words::{
     DeviceFault, GrowingSink, Kind, MemorySink, MemorySource, Sink, SliceSource, Source, Word,
-    address_word, check_all, from_raw, message_word, repair, write_all,
+    address_word, check_all, from_raw, kind, message_word, repair, write_all,
 };
 
 // High bits of an address and a function, with the address codeword.
@@ -48,8 +48,12 @@ fn codewords(rt: HostRuntime) {
         assert!(rt; item < 1_048_576);
         same!(rt; message_word(item).raw(), raw);
     }
-    for (raw, kind) in KINDS {
-        same!(rt; from_raw(raw).map(Word::kind) == kind, true, raw);
+    for (raw, due) in KINDS {
+        let told = match from_raw(raw) {
+            Some(word) => Some(kind(word)),
+            None => None,
+        };
+        same!(rt; told == due, true, raw);
     }
     let numbers = [0x0000_26EC, 0x0000_26ED, 0x7A89_C197, 0x7CD2_15D8];
     let mut flags = [false; 4];

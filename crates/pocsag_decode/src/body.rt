@@ -10,7 +10,7 @@ use crate::carry::Carry;
 use crate::fault::DecodeFault;
 use crate::open_page::Growing;
 use pocsag_pages::Page;
-use pocsag_words::{BATCH_WORDS, Kind, SYNC_WORD, from_raw};
+use pocsag_words::{BATCH_WORDS, Kind, SYNC_WORD, from_raw, kind};
 use std::alloc::{AllocError, Global};
 
 // The words of a batch, its synchronisation codeword among them.
@@ -51,7 +51,7 @@ impl Body {
         let Some(word) = from_raw(number) else {
             return Err(DecodeFault::BadWord(self.place - self.place / BATCH - 1));
         };
-        let kind = word.kind();
+        let kind = kind(word);
         if matches!(kind, Kind::Message(_)) && self.growing.current.is_none() {
             return Err(DecodeFault::Orphan(self.place - self.place / BATCH - 1));
         }

@@ -7,7 +7,6 @@ use Rattle.pocsag_tree.specs.BoundTrees.{BoundTree}
 use Rattle.pocsag_tree.specs.CertificateText.{IsText}
 use Rattle.pocsag_check.specs.Acceptance.{IsAcceptedFor}
 use Rattle.pocsag_plan.specs.Plans.{NoneHasFewer}
-use Rattle.pocsag_centre.proofs.Shown.{checked}
 use Rattle.pocsag_explain.specs.Verdicts.{DoesNotShow, ShowsItsBatches}
 
 module _ (file text : List ℕ) (end : End) (batches : ℕ) (R : List Page) (tree : BoundTree) (read : verdict file ≡ Ok R)
@@ -16,7 +15,7 @@ module _ (file text : List ℕ) (end : End) (batches : ℕ) (R : List Page) (tre
   shows accepted bound = record {
     end = end;
     batches = batches;
-    checked = checked file text end batches R tree read spelled accepted bound;
+    checked = record { round = R; read = read; tree = tree; text = spelled; accepted = accepted; bound = bound };
   }
 
   pub does_not_show : (¬ IsAcceptedFor false end R batches tree) → DoesNotShow file text

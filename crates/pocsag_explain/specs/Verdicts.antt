@@ -7,8 +7,8 @@ use Rattle.pocsag_pages.specs.PageFile.{verdict}
 use Rattle.pocsag_tree.specs.BoundTrees.{BoundTree}
 use Rattle.pocsag_tree.specs.CertificateText.{IsText}
 use Rattle.pocsag_shell.specs.declared.fault.FileFault.TheVariants as file_fault
-use Rattle.pocsag_centre.specs.Commands.{Checked}
-use Rattle.pocsag_centre.specs.Judgements.{ExplainsJudging, IsNotShown}
+use Rattle.pocsag_plan.specs.Verdicts.{Checked, IsNotShown}
+use Rattle.pocsag_centre.specs.Judgements.{ExplainsJudging}
 use Rattle.pocsag_centre.specs.declared.fault.CentreFault.{CentreFault}
 use Rattle.pocsag_centre.specs.declared.fault.CentreFault.TheVariants as fault
 use Rattle.pocsag_findings.specs.Beginnings.{TellsVerdict}

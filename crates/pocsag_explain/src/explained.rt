@@ -1,32 +1,42 @@
-ghost use Rattle.std.specs.Prelude.{◌≡◌, ◌≢◌, ◌↔◌, false, IfErr, IfOk, IsErrOf, IsFalse, IsTrue, string_bytes};
+ghost use Rattle.std.specs.Prelude.{◌≡◌, ◌≢◌, ◌⊎◌, ◌==◌, ◌↔◌, false, None, Some, IfErr, IfNone, IfOk, IfSome, IsErrOf, IsFalse, IsTrue, string_bytes};
 ghost use Rattle.pocsag_words.specs.Devices.{HasFailed};
 ghost use Rattle.pocsag_pages.specs.declared.fault.RoundFault.TheVariants as round_fault;
 ghost use Rattle.pocsag_tree.specs.declared.refusals.CertificateFault.TheVariants as tree_fault;
 ghost use Rattle.pocsag_tree.specs.Views.{bound_tree_of};
 ghost use Rattle.pocsag_check.specs.Acceptance.{IsAcceptedFor};
 ghost use Rattle.pocsag_plan.specs.Plans.{NoneHasFewer};
+ghost use Rattle.pocsag_shell.specs.ErrorStreams.{stream_of, told_by};
 ghost use Rattle.pocsag_shell.specs.declared.fault.FileFault.TheVariants as file_fault;
-ghost use Rattle.pocsag_centre.specs.Commands.{Checked};
-ghost use Rattle.pocsag_centre.specs.Judgements.{IsNotShown};
+ghost use Rattle.pocsag_centre.specs.Faults.{centre_status};
 ghost use Rattle.pocsag_centre.specs.Refusals.{OrDevice};
 ghost use Rattle.pocsag_findings.specs.Beginnings.{TellsVerdict};
 ghost use Rattle.pocsag_explain.specs.Verdicts.{DoesNotShow, ExplainsUntold, ShowsItsBatches, TookVerdict, TookVerdictPart};
 
-use pocsag_centre::{CentreFault, CheckVerdict, certificate_of, verdict_on};
+use pocsag_centre::CentreFault;
 use pocsag_findings::{Telling, explanation};
-use pocsag_pages::{Round, read_round, round_of};
-use pocsag_shell::put_whole;
+use pocsag_pages::{Round, read_round};
+use pocsag_plan::{CheckVerdict, verdict_on};
+use pocsag_shell::{ErrorStream, put_whole};
 use pocsag_tree::{Certificate, read_certificate};
 use pocsag_words::{OutOfMemory, Sink, Source};
 use std::alloc::Global;
 
-/// A certificate beside the round of a page file, in words, as facts or as a drawing.
+/// The files that `explain` reads.
 #[derive(Drop)]
-pub struct Explained {
-    /// What it names, and the verdict.
-    pub judged: CheckVerdict,
-    /// What `explain` tells of it.
-    pub text: String,
+pub struct ExplainFiles<P: Drop, C: Drop> {
+    /// The page file.
+    pub pages: P,
+    /// The certificate.
+    pub cert: C,
+}
+
+// A certificate beside the round of a page file, in words, as facts or as a drawing.
+#[derive(Drop)]
+struct Explained {
+    // What it names, and the verdict.
+    judged: CheckVerdict,
+    // What `explain` tells of it.
+    text: String,
 }
 
 // Judges a certificate for a round, and makes the text that `explain` tells of it.
@@ -52,58 +62,74 @@ fn judged_and_told(
     })
 }
 
-/// Judges the bytes of a certificate for the round of those of a page file, and makes the text that `explain` tells of it.
-pub fn explain_file(
+// Tells why fewer batches do not suffice for the page file, by its certificate, or which node of the certificate does not hold.
+// Answers whether the certificate shows its number of batches.
+fn explain_held<P: Source + Drop, C: Source + Drop, O: Sink>(
     alloc: Global,
     telling: Telling,
-    pages: &[u8],
-    cert: &[u8],
-) -> Result<Explained, CentreFault>
-    ensures shown { IfOk result (λ e. IsTrue e.judged.is_shown →
-        Checked pages.now cert.now e.judged.end e.judged.batches) }
-    ensures not_shown { IfOk result (λ e. IsFalse e.judged.is_shown →
-        IsNotShown pages.now cert.now e.judged.end e.judged.batches) }
-    ensures told { IfOk result (λ e.
-        TellsVerdict telling e.judged.is_shown e.judged.end e.judged.batches (string_bytes e.text)) }
-    ensures explained { IfErr result (ExplainsUntold pages.now cert.now) }
-{
-    let round = round_of(alloc, pages)?;
-    let certificate = certificate_of(alloc, cert)?;
-    Ok(judged_and_told(alloc, telling, &round, &certificate)?)
-}
-
-/// `explain PAGES CERT`: tells why fewer batches do not suffice for the page file, by its certificate, or which
-/// node of the certificate does not hold. Answers whether the certificate shows its number of batches.
-pub fn run_explain<P: Source, C: Source, O: Sink>(
-    alloc: Global,
-    telling: Telling,
-    pages: &mut P,
-    cert: &mut C,
+    files: &mut ExplainFiles<P, C>,
     out: &mut O,
 ) -> Result<bool, CentreFault>
     ensures shown { P.tells → C.tells → IfOk result (λ shown. IsTrue shown →
-        ShowsItsBatches (P.held pages.old) (C.held cert.old)) }
+        ShowsItsBatches (P.held files.old.pages) (C.held files.old.cert)) }
     ensures not_shown { P.tells → C.tells → IfOk result (λ shown. IsFalse shown →
-        DoesNotShow (P.held pages.old) (C.held cert.old)) }
+        DoesNotShow (P.held files.old.pages) (C.held files.old.cert)) }
     ensures told { C.tells → O.tells → IfOk result (λ shown.
-        TookVerdict telling shown (C.held cert.old) (O.taken out.old) (O.taken out.new)) }
+        TookVerdict telling shown (C.held files.old.cert) (O.taken out.old) (O.taken out.new)) }
     ensures part { P.tells → C.tells → O.tells → IsErrOf result (CentreFault.File file_fault.Write) →
-        TookVerdictPart telling (P.held pages.old) (C.held cert.old) (O.taken out.old) (O.taken out.new) }
+        TookVerdictPart telling (P.held files.old.pages) (C.held files.old.cert) (O.taken out.old) (O.taken out.new) }
     ensures explained { P.tells → C.tells →
-        IfErr result (OrDevice (ExplainsUntold (P.held pages.old) (C.held cert.old))) }
+        IfErr result (OrDevice (ExplainsUntold (P.held files.old.pages) (C.held files.old.cert))) }
     ensures refused { IfErr result (λ e. e ≢ CentreFault.File file_fault.Write → out.new ≡ out.old) }
-
-    // A device's fault is answered only where that device failed.
     ensures read_failed { IsErrOf result (CentreFault.Round round_fault.ReadFault) →
-        HasFailed (P.failures pages.old) (P.failures pages.new) }
+        HasFailed (P.failures files.old.pages) (P.failures files.new.pages) }
     ensures certificate_failed { IsErrOf result (CentreFault.Certificate tree_fault.ReadFault) →
-        HasFailed (C.failures cert.old) (C.failures cert.new) }
+        HasFailed (C.failures files.old.cert) (C.failures files.new.cert) }
     ensures write_failed { IsErrOf result (CentreFault.File file_fault.Write) →
         HasFailed (O.failures out.old) (O.failures out.new) }
 {
-    let round = read_round(alloc, pages)?;
-    let certificate = read_certificate(alloc, cert)?;
+    let round = read_round(alloc, &mut files.pages)?;
+    let certificate = read_certificate(alloc, &mut files.cert)?;
     let explained = judged_and_told(alloc, telling, &round, &certificate)?;
     put_whole(out, explained.text.as_str().as_bytes())?;
     Ok(explained.judged.is_shown)
+}
+
+/// `explain PAGES CERT`: tells why fewer batches do not suffice for the page file, by its certificate, or which node of the
+/// certificate does not hold. Returns the exit status: 0 where the certificate shows its number of batches, 1 where it does not.
+pub fn run_explain<P: Source + Drop, C: Source + Drop, O: Sink, E: Sink + Drop>(
+    alloc: Global,
+    telling: Telling,
+    files: &mut ExplainFiles<P, C>,
+    out: &mut O,
+    err: &mut ErrorStream<CentreFault, E>,
+) -> u8
+    ensures done { IfNone (told_by err.new)
+        (((result ≡ 0) ⊎ (result ≡ 1)) × (stream_of err.new ≡ stream_of err.old)) }
+    ensures status { IfSome (told_by err.new) (λ e. result ≡ centre_status e) }
+    ensures shown { P.tells → C.tells → IfNone (told_by err.new) (result ≡ 0 →
+        ShowsItsBatches (P.held files.old.pages) (C.held files.old.cert)) }
+    ensures not_shown { P.tells → C.tells → IfNone (told_by err.new) (result ≡ 1 →
+        DoesNotShow (P.held files.old.pages) (C.held files.old.cert)) }
+    ensures told { C.tells → O.tells → IfNone (told_by err.new)
+        (TookVerdict telling (result == 0) (C.held files.old.cert) (O.taken out.old) (O.taken out.new)) }
+    ensures part { P.tells → C.tells → O.tells → told_by err.new ≡ Some (CentreFault.File file_fault.Write) →
+        TookVerdictPart telling (P.held files.old.pages) (C.held files.old.cert) (O.taken out.old) (O.taken out.new) }
+    ensures explained { P.tells → C.tells → IfSome (told_by err.new)
+        (OrDevice (ExplainsUntold (P.held files.old.pages) (C.held files.old.cert))) }
+    ensures refused { IfSome (told_by err.new) (λ e. e ≢ CentreFault.File file_fault.Write → out.new ≡ out.old) }
+
+    // A device's fault is told only where that device failed.
+    ensures read_failed { told_by err.new ≡ Some (CentreFault.Round round_fault.ReadFault) →
+        HasFailed (P.failures files.old.pages) (P.failures files.new.pages) }
+    ensures certificate_failed { told_by err.new ≡ Some (CentreFault.Certificate tree_fault.ReadFault) →
+        HasFailed (C.failures files.old.cert) (C.failures files.new.cert) }
+    ensures write_failed { told_by err.new ≡ Some (CentreFault.File file_fault.Write) →
+        HasFailed (O.failures out.old) (O.failures out.new) }
+{
+    match explain_held(alloc, telling, files, out) {
+        Ok(true) => err.end(Ok(0)),
+        Ok(false) => err.end(Ok(1)),
+        Err(fault) => err.end(Err(fault)),
+    }
 }

@@ -1,11 +1,12 @@
-use crate::explained::explain_file;
+use crate::explained::{ExplainFiles, run_explain};
 use crate::words::{EXPLAIN, EXPLAIN_COMMANDS, wanted_telling};
 use clap::{ArgMatches, Error};
 use pocsag_centre::{CentreFault, note_record};
 use pocsag_findings::Telling;
 use pocsag_shell::{
-    CERT, Call, Desk, Group, Names, PAGES, Role, STANDARD, Tables, put_whole, read_both,
+    CERT, Call, Desk, Group, Loaded, MemoryStreams, Names, PAGES, Role, Tables, load_both,
 };
+use pocsag_words::Source;
 use std::alloc::AllocError;
 
 /// The command `explain`.
@@ -26,27 +27,33 @@ impl Group for Explain {
             return None;
         }
         let found = call.found;
+        let telling = wanted_telling(found)?;
+        let (pages, cert) = (found.get_str(PAGES)?, found.get_str(CERT)?);
         let names = Names {
-            pages: Some(found.get_str(PAGES)?),
-            cert: Some(found.get_str(CERT)?),
+            pages: Some(pages),
+            cert: Some(cert),
             ..Names::NONE
         };
-        Some(Ok(desk.end(names, explain_paths(desk, wanted_telling(found)?, names))))
+        Some(Ok(match load_both(desk, pages, cert) {
+            Ok((pages, cert)) => explain_loaded(desk, telling, ExplainFiles { pages, cert }, names),
+            Err(fault) => desk.end(names, Err(fault)),
+        }))
     }
 }
 
-// Explains a certificate; the status is 1 where it does not show its batches.
-fn explain_paths(desk: Desk<'_>, telling: Telling, names: Names<'_>) -> Result<u8, CentreFault> {
-    let (pages, cert) = (
-        names.pages.unwrap_or(STANDARD),
-        names.cert.unwrap_or(STANDARD),
-    );
-    let (file, cert) = read_both(desk, pages, cert)?;
-    let done = explain_file(desk.alloc, telling, file.as_slice(), cert.as_slice());
-    if let Err(CentreFault::Round(fault)) = &done {
-        note_record(desk, names.place(Role::PageFile), file.as_slice(), *fault);
+// Explains a certificate. Returns the exit status.
+fn explain_loaded(
+    desk: Desk<'_>,
+    telling: Telling,
+    mut files: ExplainFiles<Loaded, Loaded>,
+    names: Names<'_>,
+) -> u8 {
+    let mut streams = MemoryStreams::new(desk.alloc);
+    let out = &mut streams.out;
+    let status = run_explain(desk.alloc, telling, &mut files, out, &mut streams.err);
+    if let Some(CentreFault::Round(fault)) = streams.err.fault() {
+        let pages = files.pages.lent().unwrap_or(&[]);
+        note_record(desk, names.place(Role::PageFile), pages, fault);
     }
-    let explained = done?;
-    put_whole(&mut desk.out(), explained.text.as_str().as_bytes())?;
-    Ok(u8::from(!explained.judged.is_shown))
+    streams.end(desk, names, Ok(status))
 }

@@ -5,5 +5,5 @@ mod explained;
 mod group;
 mod words;
 
-pub use explained::{Explained, explain_file, run_explain};
+pub use explained::{ExplainFiles, run_explain};
 pub use group::Explain;

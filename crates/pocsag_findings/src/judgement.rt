@@ -9,7 +9,7 @@ ghost use Rattle.pocsag_findings.specs.Rules.{column_of, columns_at, columns_of,
 use crate::finding::{Column, Fact, Narrowed, Share};
 use crate::inquiry::Inquiry;
 use pocsag_slots::{
-    CLASSES, Class, Classes, Limits, SLOTS, closing_ways, holds, is_certain, least_by_class,
+    CLASSES, Class, Classes, Limits, SLOTS, ending_ways, holds, is_certain, least_by_class,
     least_load, total_cap, ways,
 };
 use pocsag_tree::Tree;
@@ -117,7 +117,7 @@ pub(crate) fn fact_of(inquiry: &Inquiry, limits: &Limits, tree: &Tree) -> Fact
             children: children.len(),
         },
         Tree::Close { children } => Fact::Close {
-            ways: closing_ways(inquiry.classes, inquiry.end, limits).len(),
+            ways: ending_ways(inquiry.classes, inquiry.end, limits).len(),
             children: children.len(),
         },
         Tree::Open => Fact::Open,

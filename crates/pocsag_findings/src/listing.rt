@@ -9,7 +9,7 @@ ghost use Rattle.pocsag_findings.specs.Views.{all_stated};
 use crate::finding::{Fact, Finding, Reached, Share};
 use crate::inquiry::{Inquiry, Position};
 use crate::judgement::{columns_at, fact_of, is_met, narrowed_of, shares_at};
-use pocsag_slots::{Classes, Way, all_limits, closing_ways, ways};
+use pocsag_slots::{Classes, Way, all_limits, ending_ways, ways};
 use pocsag_tree::{Certificate, Tree};
 use pocsag_words::OutOfMemory;
 use std::alloc::Global;
@@ -159,7 +159,7 @@ fn put_node(
             put_each(inquiry, place, out.as_slice(), children, found)
         }
         Tree::Close { children } => {
-            let out = closing_ways(inquiry.classes, inquiry.end, &place.limits);
+            let out = ending_ways(inquiry.classes, inquiry.end, &place.limits);
             put_each(inquiry, place, out.as_slice(), children, found)
         }
     }

@@ -4,7 +4,7 @@ ghost use Rattle.pocsag_pager.specs.Shown.{is_ours};
 ghost use Rattle.pocsag_pager.specs.Turns.{IsHeardAs, ending, next_open};
 
 use pocsag_pages::{Page, Payload};
-use pocsag_words::{Kind, repair};
+use pocsag_words::{Kind, kind, repair};
 use std::alloc::{AllocError, Global};
 
 // The lowest of the 18 high bits of an address in an address codeword.
@@ -15,7 +15,7 @@ pub(crate) fn heard_as(word: u32) -> Option<Kind>
     ensures { IsHeardAs word result }
 {
     match repair(word) {
-        Some(mended) => Some(mended.kind()),
+        Some(mended) => Some(kind(mended)),
         None => None,
     }
 }

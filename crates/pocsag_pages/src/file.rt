@@ -108,7 +108,8 @@ pub fn round_of(alloc: Global, bytes: &[u8]) -> Result<Round, RoundFault>
     judge_all(alloc, &mut reader, &mut row)
 }
 
-/// The round of the page file that a reader holds up to its end, or the file's first fault.
+/// The round of the page file that a reader holds up to its end, or the file's first fault. What the reader lends is judged where
+/// it stands, and let go once it has given the round.
 pub fn read_round<S: Source>(alloc: Global, source: &mut S) -> Result<Round, RoundFault>
     ensures ok { S.tells → IfOk result (λ r. verdict (S.held source.old) ≡ Ok r) }
     ensures err { S.tells → IfErr result
@@ -118,6 +119,15 @@ pub fn read_round<S: Source>(alloc: Global, source: &mut S) -> Result<Round, Rou
         (λ e. (e ≡ RoundFault.ReadFault) ⊎ (S.failures source.new ≡ S.failures source.old)) }
     ensures failed { result ≡ Err RoundFault.ReadFault → HasFailed (S.failures source.old) (S.failures source.new) }
 {
-    let bytes = read_whole(alloc, source, FILE_LIMIT)?;
-    round_of(alloc, bytes.as_slice())
+    let Some(bytes) = source.lent() else {
+        let bytes = read_whole(alloc, source, FILE_LIMIT)?;
+        return round_of(alloc, bytes.as_slice());
+    };
+    match round_of(alloc, bytes) {
+        Ok(round) => {
+            source.release();
+            Ok(round)
+        }
+        Err(fault) => Err(fault),
+    }
 }

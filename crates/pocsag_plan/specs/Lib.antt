@@ -11,4 +11,5 @@ pub mod Plans
 pub mod Reports
 pub mod Streams
 pub mod Tallies
+pub mod Verdicts
 pub mod Within

@@ -2,8 +2,13 @@
 use Rattle.std.specs.Prelude.{◌≡◌, ◌⊎◌, ℕ, ◌+◌, ◌*◌, ◌<◌, ◌≤◌, List, [], ◌∷◌, ◌++◌, codes}
 use Rattle.std.specs.Fmt.{decimal}
 use Rattle.pocsag_words.specs.Frame.{airtime, transmission_bits}
+use Rattle.pocsag_plan.specs.declared.airtime.BoundedReport.{BoundedReport}
 use Rattle.pocsag_plan.specs.declared.airtime.Report.{Report}
 use Rattle.pocsag_plan.specs.declared.answer.Plan.{Plan}
+use Rattle.pocsag_plan.specs.declared.bounded.Bounded.{Bounded}
+use Rattle.pocsag_plan.specs.declared.search.Search.{Search}
+use Rattle.pocsag_plan.specs.Plans.{IsPlanFor}
+use Rattle.pocsag_plan.specs.Streams.{IsOfRound}
 
 -- The rates of transmissions, in bits a second.
 abbrev pub IsRate : ℕ → Type 0
@@ -20,6 +25,18 @@ pub record IsReport (plan : Plan) (rate : ℕ) (report : Report) : Type 0 where
   pub bits : report.bits ≡ transmission_bits plan.batches
   pub enough : 1000 * report.bits ≤ rate * report.airtime_ms
   pub least : rate * report.airtime_ms < 1000 * report.bits + rate
+
+-- The report at a rate of the plan that is owed for what is asked of the page file's round, with its bound.
+pub record IsReportOf (file : List ℕ) (search : Search) (rate : ℕ) (answered : BoundedReport) : Type 0 where
+  pub bounded : Bounded
+  pub plan_of : IsOfRound file (λ round. IsPlanFor search round bounded)
+  pub same_bound : answered.bound ≡ bounded.bound
+  pub report_of : IsReport bounded.plan rate answered.report
+
+-- A plan is owed for what is asked of the page file's round.
+pub record IsPlannable (file : List ℕ) (search : Search) : Type 0 where
+  pub bounded : Bounded
+  pub plan_of : IsOfRound file (λ round. IsPlanFor search round bounded)
 
 -- A transmission of so many batches lasts at most so many milliseconds at the rate, as a report tells it, and one of a batch
 -- more lasts longer. No batch is none.

@@ -17,3 +17,10 @@ pub struct Report {
     /// How long it lasts in milliseconds, rounded up.
     pub airtime_ms: u64,
 }
+
+/// What a plan takes on the air, and its bound: no transmission of the round has fewer batches.
+#[derive(Clone, Copy)]
+pub struct BoundedReport {
+    pub report: Report,
+    pub bound: u32,
+}

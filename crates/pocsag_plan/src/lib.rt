@@ -18,8 +18,9 @@ mod reports;
 mod search;
 mod streams;
 mod tally;
+mod verdict;
 
-pub use airtime::Report;
+pub use airtime::{BoundedReport, Report};
 pub use answer::Plan;
 pub use book::Book;
 pub use bounded::Bounded;
@@ -31,3 +32,4 @@ pub use refusal::{AddFault, BookFault, NotThere, Refused};
 pub use reports::{most_batches, report};
 pub use search::{Effort, Search};
 pub use streams::{bounded_stream, plan_stream, plan_stream_always, send};
+pub use verdict::{CheckVerdict, verdict_on};

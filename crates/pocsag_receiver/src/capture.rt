@@ -1,110 +1,315 @@
 //! `decode`, `hear` and `show` of a capture: of each transmission that it holds, or of one of them.
-ghost use Rattle.std.specs.Prelude.{◌≡◌, ◌≢◌, List, ◌++◌, Err, IfErr, IfOk, IsErrOf, OnOk};
+ghost use Rattle.std.specs.Prelude.{◌≡◌, ◌≢◌, ◌⊎◌, List, ◌++◌, None, Some, IfErr, IfNone, IfOk, IfSome, IsErrOf, OnOk};
 ghost use Rattle.pocsag_words.specs.Devices.{HasFailed};
 ghost use Rattle.pocsag_pages.specs.declared.page.Page.{Page};
 ghost use Rattle.pocsag_capture.specs.Bits.{capture_bits};
 ghost use Rattle.pocsag_capture.specs.Sent.{IsCaptureOf};
 ghost use Rattle.pocsag_decode.specs.Listing.{listing};
+ghost use Rattle.pocsag_shell.specs.ErrorStreams.{stream_of, told_by};
 ghost use Rattle.pocsag_shell.specs.declared.fault.FileFault.TheVariants as file;
 ghost use Rattle.pocsag_receiver.specs.Captures.{ExplainsCapture, ExplainsCaptureFor, ExplainsOne, ListsCaught, ListsCaughtPart, ViewsOne, ViewsOnePart, of_address};
 ghost use Rattle.pocsag_receiver.specs.Faults.{receiver_status};
+ghost use Rattle.pocsag_receiver.specs.Files.{ExplainsUnread};
 ghost use Rattle.pocsag_receiver.specs.declared.fault.ReceiverFault.TheVariants as fault;
 
 use crate::decode::list_decoded;
 use crate::fault::ReceiverFault;
 use crate::hear::list_heard;
 use crate::show::show_bytes;
+use crate::transmission::{read_transmission, refuse_long};
 use pocsag_capture::{Heard, Lifted, caught_pages_are_shown, lift_all, lift_one};
 use pocsag_decode::{readings_have_no_fault, readings_of_bytes_are_one};
+use pocsag_shell::ErrorStream;
 use pocsag_show::View;
-use pocsag_words::Sink;
+use pocsag_words::{Sink, Source};
 use std::alloc::Global;
 
-/// `decode` of the bytes of a capture: lists the pages of all its transmissions, one behind the other. Answers how each
-/// transmission was received.
-pub fn decode_capture<O: Sink>(
+/// The address that is listened to, and how each transmission was received.
+#[derive(Drop)]
+pub struct Listening {
+    pub address: u32,
+    pub heard: Vec<Heard>,
+}
+
+/// Which transmission of a capture is shown, counted from 1, and how, and how it was received.
+#[derive(Drop)]
+pub struct Viewing {
+    pub view: View,
+    pub nth: u64,
+    pub heard: Vec<Heard>,
+}
+
+// Lists the pages of all transmissions of the bytes of a capture, one behind the other.
+fn list_caught<O: Sink>(
     alloc: Global,
+    heard: &mut Vec<Heard>,
     capture: &[u8],
     out: &mut O,
-) -> Result<Vec<Heard>, ReceiverFault>
-    ensures listed { O.tells → IfOk result (λ heard.
-        ListsCaught capture.now (λ pages. pages) heard.items (O.taken out.old) (O.taken out.new)) }
-
-    // *A capture that holds sent transmissions shows their pages*, and no others; so nothing is listed of noise alone.
+) -> Result<u8, ReceiverFault>
+    ensures status { IfOk result (λ status. status ≡ 0) }
+    ensures listed { O.tells → OnOk result
+        (ListsCaught capture.now (λ pages. pages) heard.new.items (O.taken out.old) (O.taken out.new)) }
     ensures sent { O.tells → (pages : List Page) → IsCaptureOf (capture_bits capture.now) pages →
         OnOk result (O.taken out.new ≡ O.taken out.old ++ listing pages) }
     ensures part { O.tells → IsErrOf result (fault.File file.Write) →
         ListsCaughtPart capture.now (λ pages. pages) (O.taken out.old) (O.taken out.new) }
     ensures explained { IfErr result (ExplainsCapture capture.now) }
     ensures refused { IfErr result (λ e. receiver_status e ≡ 1 → out.new ≡ out.old) }
-
-    // A device's fault is answered only where that device failed.
     ensures write_failed { IsErrOf result (fault.File file.Write) →
         HasFailed (O.failures out.old) (O.failures out.new) }
 {
     readings_of_bytes_are_one();
     readings_have_no_fault();
-    let Lifted { bytes, heard } = lift_all(alloc, capture)?;
+    let Lifted { bytes, heard: told } = lift_all(alloc, capture)?;
+    *heard = told;
     match list_decoded(alloc, bytes.as_slice(), out) {
-        Ok(()) => Ok(heard),
+        Ok(status) => Ok(status),
         Err(fault) => Err(fault),
     }
 }
 
-/// `hear` of the bytes of a capture: lists the pages of the address among those of all its transmissions. Answers how each
-/// transmission was received.
-pub fn hear_capture<O: Sink>(
+// Lists the pages of the capture that a device holds. What it lends is read where it stands.
+fn list_caught_held<T: Source, O: Sink>(
     alloc: Global,
-    address: u32,
+    heard: &mut Vec<Heard>,
+    tx: &mut T,
+    out: &mut O,
+) -> Result<u8, ReceiverFault>
+    ensures status { IfOk result (λ status. status ≡ 0) }
+    ensures listed { T.tells → O.tells → OnOk result
+        (ListsCaught (T.held tx.old) (λ pages. pages) heard.new.items (O.taken out.old) (O.taken out.new)) }
+    ensures sent { T.tells → O.tells → (pages : List Page) → IsCaptureOf (capture_bits (T.held tx.old)) pages →
+        OnOk result (O.taken out.new ≡ O.taken out.old ++ listing pages) }
+    ensures part { T.tells → O.tells → IsErrOf result (fault.File file.Write) →
+        ListsCaughtPart (T.held tx.old) (λ pages. pages) (O.taken out.old) (O.taken out.new) }
+    ensures explained { T.tells → IfErr result (λ e. ExplainsUnread (T.held tx.old) e
+        ⊎ ExplainsCapture (T.held tx.old) e) }
+    ensures refused { IfErr result (λ e. receiver_status e ≡ 1 → out.new ≡ out.old) }
+    ensures read_failed { IsErrOf result (fault.File file.Device) →
+        HasFailed (T.failures tx.old) (T.failures tx.new) }
+    ensures write_failed { IsErrOf result (fault.File file.Write) →
+        HasFailed (O.failures out.old) (O.failures out.new) }
+{
+    let Some(capture) = tx.lent() else {
+        let capture = read_transmission(alloc, tx)?;
+        return list_caught(alloc, heard, capture.as_slice(), out);
+    };
+    refuse_long(capture)?;
+    let done = list_caught(alloc, heard, capture, out);
+    tx.release();
+    done
+}
+
+/// `decode TX --capture`: lists the pages of all transmissions of a capture, one behind the other, and says how each was
+/// received. Returns the exit status.
+pub fn run_decode_capture<T: Source, O: Sink, E: Sink + Drop>(
+    alloc: Global,
+    heard: &mut Vec<Heard>,
+    tx: &mut T,
+    out: &mut O,
+    err: &mut ErrorStream<ReceiverFault, E>,
+) -> u8
+    ensures done { IfNone (told_by err.new) ((result ≡ 0) × (stream_of err.new ≡ stream_of err.old)) }
+    ensures status { IfSome (told_by err.new) (λ e. result ≡ receiver_status e) }
+    ensures listed { T.tells → O.tells → IfNone (told_by err.new)
+        (ListsCaught (T.held tx.old) (λ pages. pages) heard.new.items (O.taken out.old) (O.taken out.new)) }
+
+    // *A capture that holds sent transmissions shows their pages*, and no others; so nothing is listed of noise alone.
+    ensures sent { T.tells → O.tells → (pages : List Page) → IsCaptureOf (capture_bits (T.held tx.old)) pages →
+        IfNone (told_by err.new) (O.taken out.new ≡ O.taken out.old ++ listing pages) }
+    ensures part { T.tells → O.tells → told_by err.new ≡ Some (fault.File file.Write) →
+        ListsCaughtPart (T.held tx.old) (λ pages. pages) (O.taken out.old) (O.taken out.new) }
+    ensures explained { T.tells → IfSome (told_by err.new) (λ e. ExplainsUnread (T.held tx.old) e
+        ⊎ ExplainsCapture (T.held tx.old) e) }
+    ensures refused { IfSome (told_by err.new) (λ e. receiver_status e ≡ 1 → out.new ≡ out.old) }
+
+    // A device's fault is told only where that device failed.
+    ensures read_failed { told_by err.new ≡ Some (fault.File file.Device) →
+        HasFailed (T.failures tx.old) (T.failures tx.new) }
+    ensures write_failed { told_by err.new ≡ Some (fault.File file.Write) →
+        HasFailed (O.failures out.old) (O.failures out.new) }
+{
+    err.end(list_caught_held(alloc, heard, tx, out))
+}
+
+// Lists the pages of the address among those of all transmissions of the bytes of a capture.
+fn hear_caught<O: Sink>(
+    alloc: Global,
+    listening: &mut Listening,
     capture: &[u8],
     out: &mut O,
-) -> Result<Vec<Heard>, ReceiverFault>
-    ensures listed { O.tells → IfOk result (λ heard.
-        ListsCaught capture.now (of_address address) heard.items (O.taken out.old) (O.taken out.new)) }
-
-    // *A capture that holds sent transmissions shows their pages*, here those of the address.
+) -> Result<u8, ReceiverFault>
+    ensures status { IfOk result (λ status. status ≡ 0) }
+    ensures listed { O.tells → OnOk result
+        (ListsCaught capture.now (of_address listening.old.address) listening.new.heard.items (O.taken out.old)
+        (O.taken out.new)) }
     ensures sent { O.tells → (pages : List Page) → IsCaptureOf (capture_bits capture.now) pages →
-        OnOk result (O.taken out.new ≡ O.taken out.old ++ listing (of_address address pages)) }
+        OnOk result (O.taken out.new ≡ O.taken out.old ++ listing (of_address listening.old.address pages)) }
     ensures part { O.tells → IsErrOf result (fault.File file.Write) →
-        ListsCaughtPart capture.now (of_address address) (O.taken out.old) (O.taken out.new) }
-    ensures explained { IfErr result (ExplainsCaptureFor address capture.now) }
+        ListsCaughtPart capture.now (of_address listening.old.address) (O.taken out.old) (O.taken out.new) }
+    ensures explained { IfErr result (ExplainsCaptureFor listening.old.address capture.now) }
     ensures refused { IfErr result (λ e. receiver_status e ≡ 1 → out.new ≡ out.old) }
-
-    // A device's fault is answered only where that device failed.
     ensures write_failed { IsErrOf result (fault.File file.Write) →
         HasFailed (O.failures out.old) (O.failures out.new) }
 {
     caught_pages_are_shown();
     let Lifted { bytes, heard } = lift_all(alloc, capture)?;
-    match list_heard(alloc, address, bytes.as_slice(), out) {
-        Ok(()) => Ok(heard),
+    listening.heard = heard;
+    match list_heard(alloc, listening.address, bytes.as_slice(), out) {
+        Ok(status) => Ok(status),
         Err(fault) => Err(fault),
     }
 }
 
-/// `show` of the bytes of a capture: shows one of its transmissions, counted from 1. Answers how it was received.
-pub fn show_capture<O: Sink>(
+// Lists the pages of the address among those of the capture that a device holds. What it lends is read where it stands.
+fn hear_caught_held<T: Source, O: Sink>(
     alloc: Global,
-    view: View,
-    nth: u64,
+    listening: &mut Listening,
+    tx: &mut T,
+    out: &mut O,
+) -> Result<u8, ReceiverFault>
+    ensures status { IfOk result (λ status. status ≡ 0) }
+    ensures listed { T.tells → O.tells → OnOk result
+        (ListsCaught (T.held tx.old) (of_address listening.old.address) listening.new.heard.items (O.taken out.old)
+        (O.taken out.new)) }
+    ensures sent { T.tells → O.tells → (pages : List Page) → IsCaptureOf (capture_bits (T.held tx.old)) pages →
+        OnOk result (O.taken out.new ≡ O.taken out.old ++ listing (of_address listening.old.address pages)) }
+    ensures part { T.tells → O.tells → IsErrOf result (fault.File file.Write) →
+        ListsCaughtPart (T.held tx.old) (of_address listening.old.address) (O.taken out.old) (O.taken out.new) }
+    ensures explained { T.tells → IfErr result (λ e. ExplainsUnread (T.held tx.old) e
+        ⊎ ExplainsCaptureFor listening.old.address (T.held tx.old) e) }
+    ensures refused { IfErr result (λ e. receiver_status e ≡ 1 → out.new ≡ out.old) }
+    ensures read_failed { IsErrOf result (fault.File file.Device) →
+        HasFailed (T.failures tx.old) (T.failures tx.new) }
+    ensures write_failed { IsErrOf result (fault.File file.Write) →
+        HasFailed (O.failures out.old) (O.failures out.new) }
+{
+    let Some(capture) = tx.lent() else {
+        let capture = read_transmission(alloc, tx)?;
+        return hear_caught(alloc, listening, capture.as_slice(), out);
+    };
+    refuse_long(capture)?;
+    let done = hear_caught(alloc, listening, capture, out);
+    tx.release();
+    done
+}
+
+/// `hear ADDRESS TX --capture`: lists the pages of the address among those of all transmissions of a capture, and says how each
+/// was received. Returns the exit status.
+pub fn run_hear_capture<T: Source, O: Sink, E: Sink + Drop>(
+    alloc: Global,
+    listening: &mut Listening,
+    tx: &mut T,
+    out: &mut O,
+    err: &mut ErrorStream<ReceiverFault, E>,
+) -> u8
+    ensures done { IfNone (told_by err.new) ((result ≡ 0) × (stream_of err.new ≡ stream_of err.old)) }
+    ensures status { IfSome (told_by err.new) (λ e. result ≡ receiver_status e) }
+    ensures listed { T.tells → O.tells → IfNone (told_by err.new)
+        (ListsCaught (T.held tx.old) (of_address listening.old.address) listening.new.heard.items (O.taken out.old)
+        (O.taken out.new)) }
+
+    // *A capture that holds sent transmissions shows their pages*, here those of the address.
+    ensures sent { T.tells → O.tells → (pages : List Page) → IsCaptureOf (capture_bits (T.held tx.old)) pages →
+        IfNone (told_by err.new) (O.taken out.new ≡ O.taken out.old
+        ++ listing (of_address listening.old.address pages)) }
+    ensures part { T.tells → O.tells → told_by err.new ≡ Some (fault.File file.Write) →
+        ListsCaughtPart (T.held tx.old) (of_address listening.old.address) (O.taken out.old) (O.taken out.new) }
+    ensures explained { T.tells → IfSome (told_by err.new) (λ e. ExplainsUnread (T.held tx.old) e
+        ⊎ ExplainsCaptureFor listening.old.address (T.held tx.old) e) }
+    ensures refused { IfSome (told_by err.new) (λ e. receiver_status e ≡ 1 → out.new ≡ out.old) }
+
+    // A device's fault is told only where that device failed.
+    ensures read_failed { told_by err.new ≡ Some (fault.File file.Device) →
+        HasFailed (T.failures tx.old) (T.failures tx.new) }
+    ensures write_failed { told_by err.new ≡ Some (fault.File file.Write) →
+        HasFailed (O.failures out.old) (O.failures out.new) }
+{
+    err.end(hear_caught_held(alloc, listening, tx, out))
+}
+
+// Shows one of the transmissions of the bytes of a capture.
+fn show_caught<O: Sink>(
+    alloc: Global,
+    viewing: &mut Viewing,
     capture: &[u8],
     out: &mut O,
-) -> Result<Vec<Heard>, ReceiverFault>
-    ensures shown { O.tells → IfOk result (λ heard.
-        ViewsOne view capture.now nth heard.items (O.taken out.old) (O.taken out.new)) }
+) -> Result<u8, ReceiverFault>
+    ensures status { IfOk result (λ status. status ≡ 0) }
+    ensures shown { O.tells → OnOk result
+        (ViewsOne viewing.old.view capture.now viewing.old.nth viewing.new.heard.items (O.taken out.old)
+        (O.taken out.new)) }
     ensures part { O.tells → IsErrOf result (fault.File file.Write) →
-        ViewsOnePart view capture.now nth (O.taken out.old) (O.taken out.new) }
-    ensures explained { IfErr result (ExplainsOne view capture.now nth) }
+        ViewsOnePart viewing.old.view capture.now viewing.old.nth (O.taken out.old) (O.taken out.new) }
+    ensures explained { IfErr result (ExplainsOne viewing.old.view capture.now viewing.old.nth) }
     ensures untouched { IfErr result (λ e. e ≢ fault.File file.Write → out.new ≡ out.old) }
-
-    // A device's fault is answered only where that device failed.
     ensures write_failed { IsErrOf result (fault.File file.Write) →
         HasFailed (O.failures out.old) (O.failures out.new) }
 {
     readings_have_no_fault();
-    let Lifted { mut bytes, heard } = lift_one(alloc, capture, nth)?;
-    match show_bytes(alloc, view, false, bytes.as_mut_slice(), out) {
-        Ok(_) => Ok(heard),
+    let Lifted { bytes, heard } = lift_one(alloc, capture, viewing.nth)?;
+    viewing.heard = heard;
+    match show_bytes(alloc, viewing.view, bytes.as_slice(), out) {
+        Ok(status) => Ok(status),
         Err(fault) => Err(fault),
     }
+}
+
+// Shows one of the transmissions of the capture that a device holds. What it lends is read where it stands.
+fn show_caught_held<T: Source, O: Sink>(
+    alloc: Global,
+    viewing: &mut Viewing,
+    tx: &mut T,
+    out: &mut O,
+) -> Result<u8, ReceiverFault>
+    ensures status { IfOk result (λ status. status ≡ 0) }
+    ensures shown { T.tells → O.tells → OnOk result
+        (ViewsOne viewing.old.view (T.held tx.old) viewing.old.nth viewing.new.heard.items (O.taken out.old)
+        (O.taken out.new)) }
+    ensures part { T.tells → O.tells → IsErrOf result (fault.File file.Write) →
+        ViewsOnePart viewing.old.view (T.held tx.old) viewing.old.nth (O.taken out.old) (O.taken out.new) }
+    ensures explained { T.tells → IfErr result (λ e. ExplainsUnread (T.held tx.old) e
+        ⊎ ExplainsOne viewing.old.view (T.held tx.old) viewing.old.nth e) }
+    ensures untouched { IfErr result (λ e. e ≢ fault.File file.Write → out.new ≡ out.old) }
+    ensures read_failed { IsErrOf result (fault.File file.Device) →
+        HasFailed (T.failures tx.old) (T.failures tx.new) }
+    ensures write_failed { IsErrOf result (fault.File file.Write) →
+        HasFailed (O.failures out.old) (O.failures out.new) }
+{
+    let Some(capture) = tx.lent() else {
+        let capture = read_transmission(alloc, tx)?;
+        return show_caught(alloc, viewing, capture.as_slice(), out);
+    };
+    refuse_long(capture)?;
+    let done = show_caught(alloc, viewing, capture, out);
+    tx.release();
+    done
+}
+
+/// `show TX --capture`: shows one of the transmissions of a capture, and says how it was received. Returns the exit status.
+pub fn run_show_capture<T: Source, O: Sink, E: Sink + Drop>(
+    alloc: Global,
+    viewing: &mut Viewing,
+    tx: &mut T,
+    out: &mut O,
+    err: &mut ErrorStream<ReceiverFault, E>,
+) -> u8
+    ensures done { IfNone (told_by err.new) ((result ≡ 0) × (stream_of err.new ≡ stream_of err.old)) }
+    ensures status { IfSome (told_by err.new) (λ e. result ≡ receiver_status e) }
+    ensures shown { T.tells → O.tells → IfNone (told_by err.new)
+        (ViewsOne viewing.old.view (T.held tx.old) viewing.old.nth viewing.new.heard.items (O.taken out.old)
+        (O.taken out.new)) }
+    ensures part { T.tells → O.tells → told_by err.new ≡ Some (fault.File file.Write) →
+        ViewsOnePart viewing.old.view (T.held tx.old) viewing.old.nth (O.taken out.old) (O.taken out.new) }
+    ensures explained { T.tells → IfSome (told_by err.new) (λ e. ExplainsUnread (T.held tx.old) e
+        ⊎ ExplainsOne viewing.old.view (T.held tx.old) viewing.old.nth e) }
+    ensures untouched { IfSome (told_by err.new) (λ e. e ≢ fault.File file.Write → out.new ≡ out.old) }
+
+    // A device's fault is told only where that device failed.
+    ensures read_failed { told_by err.new ≡ Some (fault.File file.Device) →
+        HasFailed (T.failures tx.old) (T.failures tx.new) }
+    ensures write_failed { told_by err.new ≡ Some (fault.File file.Write) →
+        HasFailed (O.failures out.old) (O.failures out.new) }
+{
+    err.end(show_caught_held(alloc, viewing, tx, out))
 }

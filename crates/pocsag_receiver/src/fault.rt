@@ -9,7 +9,7 @@ use pocsag_show::{Rows, ShowFault};
 use thiserror::Error;
 
 /// Why a command does not answer for a transmission.
-#[derive(Clone, Copy, Debug, Error)]
+#[derive(Clone, Copy, PartialEq, Eq, Debug, Error)]
 pub enum ReceiverFault {
     /// A file or memory cannot be used.
     #[error(transparent)]

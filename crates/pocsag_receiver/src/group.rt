@@ -1,9 +1,9 @@
-use crate::capture::{decode_capture, hear_capture, show_capture};
-use crate::decode::decode_bytes;
+use crate::capture::{Listening, Viewing, run_decode_capture, run_hear_capture, run_show_capture};
+use crate::decode::run_decode;
 use crate::fault::ReceiverFault;
-use crate::hear::list_heard;
-use crate::show::show_bytes;
-use crate::transmission::TRANSMISSION_LIMIT;
+use crate::hear::run_hear;
+use crate::repair::Repairing;
+use crate::show::{Showing, run_show};
 use crate::words::{
     ADDRESS, BAD_ROWS, CAPTURE, DECODE, HEAR, NTH, RECEIVER_COMMANDS, REPAIR, SHOW, SHOW_SHAPE,
     wanted_view,
@@ -12,23 +12,29 @@ use clap::error::ErrorKind;
 use clap::{ArgMatches, Error};
 use pocsag_capture::{Heard, Polarity, Reception};
 use pocsag_decode::Repaired;
-use pocsag_shell::{Call, Desk, Group, Names, Role, TX, Tables, command, path_of, read_file, tell};
-use pocsag_show::View;
+use pocsag_shell::{
+    Call, Desk, ErrorStream, FileFault, Group, Loaded, MemoryStreams, Names, PAGES_READ, Role, TX,
+    Tables, command, load, open_source, path_of, tell,
+};
+use pocsag_words::{Sink, Source};
 use std::alloc::{AllocError, Global};
+
+// The most bytes of a transmission whose answer is kept in memory until it is printed. That of a longer one is written as it goes.
+const KEPT_BYTES: usize = 4_000_000;
 
 /// The commands `decode`, `hear` and `show`.
 #[derive(Clone, Copy)]
 pub struct Receiver;
 
-// What is asked of a transmission.
-#[derive(Clone, Copy)]
+// What is asked of a transmission, and what is told of it with `--verbose`.
+#[derive(Drop)]
 enum Receiving {
-    Decode { repair: bool },
-    Hear { address: u32 },
-    Show { view: View, repair: bool },
-    DecodeCapture,
-    HearCapture { address: u32 },
-    ShowCapture { view: View, nth: u32 },
+    Decode(Repairing),
+    Hear(u32),
+    Show(Showing),
+    DecodeCapture(Vec<Heard>),
+    HearCapture(Listening),
+    ShowCapture(Viewing),
 }
 
 impl Group for Receiver {
@@ -42,7 +48,7 @@ impl Group for Receiver {
 
     fn obey(&self, desk: Desk<'_>, call: Call<'_, '_>) -> Option<Result<u8, Error>> {
         let (name, found) = (call.name?, call.found);
-        let Some(asked) = asked_of(name, found) else {
+        let Some(asked) = asked_of(desk.alloc, name, found) else {
             return if name == SHOW {
                 Some(Err(bad_rows(desk.alloc)))
             } else {
@@ -54,30 +60,34 @@ impl Group for Receiver {
             tx: Some(tx),
             ..Names::NONE
         };
-        Some(Ok(desk.end(names, receive(desk, asked, tx))))
+        Some(Ok(match load_transmission(desk, tx) {
+            Ok(loaded) => receive(desk, asked, loaded, names),
+            Err(fault) => desk.end(names, Err(fault)),
+        }))
     }
 }
 
 // What the words ask of a transmission; nothing where they are those of no command, or of `show` with rows that are none.
-fn asked_of(name: &str, found: &ArgMatches<'_>) -> Option<Receiving> {
-    let repair = || found.get_flag(REPAIR);
+fn asked_of(alloc: Global, name: &str, found: &ArgMatches<'_>) -> Option<Receiving> {
+    let repairing = Repairing::new(found.get_flag(REPAIR));
+    let heard = Vec::new(alloc);
     match (name, found.get_flag(CAPTURE)) {
-        (DECODE, false) => Some(Receiving::Decode { repair: repair() }),
-        (DECODE, true) => Some(Receiving::DecodeCapture),
-        (HEAR, false) => Some(Receiving::Hear {
+        (DECODE, false) => Some(Receiving::Decode(repairing)),
+        (DECODE, true) => Some(Receiving::DecodeCapture(heard)),
+        (HEAR, false) => Some(Receiving::Hear(found.get_one::<u32>(ADDRESS)?)),
+        (HEAR, true) => Some(Receiving::HearCapture(Listening {
             address: found.get_one::<u32>(ADDRESS)?,
-        }),
-        (HEAR, true) => Some(Receiving::HearCapture {
-            address: found.get_one::<u32>(ADDRESS)?,
-        }),
-        (SHOW, false) => Some(Receiving::Show {
+            heard,
+        })),
+        (SHOW, false) => Some(Receiving::Show(Showing {
             view: wanted_view(found)?,
-            repair: repair(),
-        }),
-        (SHOW, true) => Some(Receiving::ShowCapture {
+            repairing,
+        })),
+        (SHOW, true) => Some(Receiving::ShowCapture(Viewing {
             view: wanted_view(found)?,
-            nth: found.get_one::<u32>(NTH).unwrap_or(1),
-        }),
+            nth: u64::from(found.get_one::<u32>(NTH).unwrap_or(1)),
+            heard,
+        })),
         _ => None,
     }
 }
@@ -95,49 +105,81 @@ fn rows_error(alloc: Global) -> Result<Error, AllocError> {
     show.error(ErrorKind::ValueValidation, BAD_ROWS)
 }
 
-// Reads a transmission and answers what is asked of it. The exit status is 0.
-fn receive(desk: Desk<'_>, asked: Receiving, tx: &str) -> Result<u8, ReceiverFault> {
-    let mut bytes = read_file(desk, Role::Transmission, path_of(tx), TRANSMISSION_LIMIT)?;
-    let bytes = bytes.as_mut_slice();
-    let out = &mut desk.out();
-    match asked {
-        Receiving::Decode { repair } => {
-            let corrected = decode_bytes(desk.alloc, repair, bytes, out)?;
-            note_repair(desk, repair, tx, corrected);
-        }
-        Receiving::Hear { address } => list_heard(desk.alloc, address, bytes, out)?,
-        Receiving::Show { view, repair } => {
-            let corrected = show_bytes(desk.alloc, view, repair, bytes, out)?;
-            note_repair(desk, repair, tx, corrected);
-        }
-        Receiving::DecodeCapture => {
-            tell_heard(desk, 1, decode_capture(desk.alloc, bytes, out)?.as_slice());
-        }
-        Receiving::HearCapture { address } => {
-            tell_heard(
-                desk,
-                1,
-                hear_capture(desk.alloc, address, bytes, out)?.as_slice(),
-            );
-        }
-        Receiving::ShowCapture { view, nth } => {
-            let nth = u64::from(nth);
-            tell_heard(
-                desk,
-                nth,
-                show_capture(desk.alloc, view, nth, bytes, out)?.as_slice(),
-            );
-        }
-    }
-    Ok(0)
+// Opens a transmission and reads it.
+fn load_transmission(desk: Desk<'_>, tx: &str) -> Result<Loaded, FileFault> {
+    let mut source = open_source(desk, Role::Transmission, path_of(tx))?;
+    Ok(load(desk, &mut source, PAGES_READ)?)
 }
 
-// With `--repair` and `--verbose` notes how much was corrected.
-fn note_repair(desk: Desk<'_>, repair: bool, tx: &str, corrected: Repaired) {
-    if repair {
-        let Repaired { words, bits } = corrected;
-        let role = Role::Transmission;
-        desk.note(format_args!("{role} {tx}: corrected bits {bits}, words {words}"));
+// Answers what is asked of a transmission. Returns the exit status.
+fn receive(desk: Desk<'_>, mut asked: Receiving, mut tx: Loaded, names: Names<'_>) -> u8 {
+    let status = if is_kept(&tx) {
+        let mut streams = MemoryStreams::new(desk.alloc);
+        let out = &mut streams.out;
+        let status = carry_out(desk.alloc, &mut asked, &mut tx, out, &mut streams.err);
+        streams.end(desk, names, Ok(status))
+    } else {
+        let mut err = ErrorStream::new(desk.err());
+        let status = carry_out(desk.alloc, &mut asked, &mut tx, &mut desk.out(), &mut err);
+        if err.fault().is_none() {
+            desk.forget_trouble();
+        }
+        desk.tell_more(names);
+        status
+    };
+    if status == 0 {
+        tell_received(desk, &asked, names);
+    }
+    status
+}
+
+// Whether the answer is kept in memory until it is printed.
+fn is_kept(tx: &Loaded) -> bool {
+    match tx.lent() {
+        Some(bytes) => bytes.len() <= KEPT_BYTES,
+        None => true,
+    }
+}
+
+// Carries out the command that was asked for.
+fn carry_out<O: Sink, E: Sink + Drop>(
+    alloc: Global,
+    asked: &mut Receiving,
+    tx: &mut Loaded,
+    out: &mut O,
+    err: &mut ErrorStream<ReceiverFault, E>,
+) -> u8 {
+    match asked {
+        Receiving::Decode(repairing) => run_decode(alloc, repairing, tx, out, err),
+        Receiving::Hear(address) => run_hear(alloc, *address, tx, out, err),
+        Receiving::Show(showing) => run_show(alloc, showing, tx, out, err),
+        Receiving::DecodeCapture(heard) => run_decode_capture(alloc, heard, tx, out, err),
+        Receiving::HearCapture(listening) => run_hear_capture(alloc, listening, tx, out, err),
+        Receiving::ShowCapture(viewing) => run_show_capture(alloc, viewing, tx, out, err),
+    }
+}
+
+// With `--verbose` tells how a transmission was received.
+fn tell_received(desk: Desk<'_>, asked: &Receiving, names: Names<'_>) {
+    match asked {
+        Receiving::Hear(_) => {}
+        Receiving::Decode(repairing) => note_repair(desk, names, *repairing),
+        Receiving::Show(showing) => note_repair(desk, names, showing.repairing),
+        Receiving::DecodeCapture(heard) => tell_heard(desk, 1, heard.as_slice()),
+        Receiving::HearCapture(listening) => tell_heard(desk, 1, listening.heard.as_slice()),
+        Receiving::ShowCapture(viewing) => {
+            tell_heard(desk, viewing.nth, viewing.heard.as_slice());
+        }
+    }
+}
+
+// With `--repair` tells how much was corrected.
+fn note_repair(desk: Desk<'_>, names: Names<'_>, repairing: Repairing) {
+    if repairing.is_asked {
+        let Repaired { words, bits } = repairing.corrected;
+        let place = names.place(Role::Transmission);
+        desk.note(format_args!("{place}: corrected bits {bits}, words {words}"));
+        desk.tell_more(names);
     }
 }
 

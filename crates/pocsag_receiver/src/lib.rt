@@ -11,10 +11,10 @@ mod show;
 mod transmission;
 mod words;
 
-pub use capture::{decode_capture, hear_capture, show_capture};
-pub use decode::{decode_bytes, list_decoded, run_decode};
+pub use capture::{Listening, Viewing, run_decode_capture, run_hear_capture, run_show_capture};
+pub use decode::run_decode;
 pub use fault::ReceiverFault;
 pub use group::Receiver;
-pub use hear::{list_heard, run_hear};
-pub use show::{run_show, show_bytes};
-pub use transmission::TRANSMISSION_LIMIT;
+pub use hear::run_hear;
+pub use repair::Repairing;
+pub use show::{Showing, run_show};

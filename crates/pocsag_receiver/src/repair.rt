@@ -6,6 +6,28 @@ ghost use Rattle.pocsag_receiver.specs.Repair.{AreReadOf};
 
 use pocsag_decode::{Repaired, repair_all};
 
+/// Whether each word of a transmission is repaired before it is read, and how much that corrected.
+#[derive(Clone, Copy)]
+pub struct Repairing {
+    pub is_asked: bool,
+    pub corrected: Repaired,
+}
+
+impl Repairing {
+    /// Nothing is corrected so far.
+    pub fn new(is_asked: bool) -> Repairing
+        ensures { result.is_asked ≡ is_asked }
+    {
+        Repairing {
+            is_asked,
+            corrected: NOTHING,
+        }
+    }
+}
+
+/// Nothing was corrected.
+pub(crate) const NOTHING: Repaired = Repaired { words: 0, bits: 0 };
+
 /// Repairs each word of a transmission, where that is asked for, and answers how much was corrected.
 pub(crate) fn repair_asked(repair: bool, bytes: &mut [u8]) -> Repaired
     ensures read { AreReadOf bytes.old repair bytes.new }
@@ -16,5 +38,5 @@ pub(crate) fn repair_asked(repair: bool, bytes: &mut [u8]) -> Repaired
     if repair {
         return repair_all(bytes);
     }
-    Repaired { words: 0, bits: 0 }
+    NOTHING
 }

@@ -1,22 +1,32 @@
-ghost use Rattle.std.specs.Prelude.{◌≡◌, ◌≢◌, ◌⊎◌, ℕ, List, Err, true, IfErr, IfOk, IsErrOf, OnOk};
+ghost use Rattle.std.specs.Prelude.{◌≡◌, ◌≢◌, ◌⊎◌, ℕ, List, None, Some, true, IfErr, IfNone, IfOk, IfSome, IsErrOf, OnOk};
 ghost use Rattle.pocsag_words.specs.Devices.{HasFailed};
 ghost use Rattle.pocsag_pages.specs.Bytes.{Sent};
 ghost use Rattle.pocsag_decode.specs.Repairs.{Counts};
 ghost use Rattle.pocsag_pager.specs.Damage.{IsDamaged};
+ghost use Rattle.pocsag_shell.specs.ErrorStreams.{stream_of, told_by};
 ghost use Rattle.pocsag_shell.specs.declared.fault.FileFault.TheVariants as file;
+ghost use Rattle.pocsag_receiver.specs.Faults.{receiver_status};
 ghost use Rattle.pocsag_receiver.specs.Files.{ExplainsUnread};
 ghost use Rattle.pocsag_receiver.specs.Repair.{AreReadOf, IsSoOfRead};
 ghost use Rattle.pocsag_receiver.specs.Views.{ExplainsShowing, HasRows, Viewed, ViewedPart};
 ghost use Rattle.pocsag_receiver.specs.declared.fault.ReceiverFault.TheVariants as fault;
 
 use crate::fault::ReceiverFault;
-use crate::repair::repair_asked;
-use crate::transmission::read_transmission;
-use pocsag_decode::{Repaired, judge_bytes};
+use crate::repair::{NOTHING, Repairing, repair_asked};
+use crate::transmission::{read_transmission, refuse_long};
+use pocsag_decode::judge_bytes;
 use pocsag_pages::leading_len;
+use pocsag_shell::ErrorStream;
 use pocsag_show::{View, show};
 use pocsag_words::{BATCH_BYTES, Sink, Source};
 use std::alloc::Global;
+
+/// How a transmission is shown.
+#[derive(Clone, Copy)]
+pub struct Showing {
+    pub view: View,
+    pub repairing: Repairing,
+}
 
 // Rows of which a transmission has none are refused, once its bytes read as pages.
 fn refuse_rows(view: View, bytes: &[u8]) -> Result<(), ReceiverFault>
@@ -36,66 +46,132 @@ fn refuse_rows(view: View, bytes: &[u8]) -> Result<(), ReceiverFault>
     Err(ReceiverFault::NoSuchRows { rows, batches })
 }
 
-/// `show` of the bytes of a transmission, with repair as it is once each of its words is repaired. Rows of which it has
-/// none are refused. Answers how much was corrected.
-pub fn show_bytes<O: Sink>(
+/// Shows the bytes of a transmission. Rows of which it has none are refused.
+pub(crate) fn show_bytes<O: Sink>(
     alloc: Global,
     view: View,
-    repair: bool,
-    bytes: &mut [u8],
+    bytes: &[u8],
     out: &mut O,
-) -> Result<Repaired, ReceiverFault>
-    ensures read { AreReadOf bytes.old repair bytes.new }
-    ensures counted { IfOk result (λ corrected. Counts corrected bytes.old bytes.new) }
-    ensures shown { O.tells → OnOk result (Viewed view bytes.new (O.taken out.old) (O.taken out.new)) }
-    ensures rows { OnOk result (HasRows view bytes.new) }
-
-    // *Repaired for all*: of a transmission with at most two wrong bits in each word it shows what it shows of the
-    // transmission itself.
-    ensures restored { O.tells → repair ≡ true → (X codewords : List ℕ) → Sent X codewords →
-        IsDamaged X bytes.old → OnOk result (Viewed view X (O.taken out.old) (O.taken out.new)) }
-    ensures explained { IfErr result (ExplainsShowing view bytes.new) }
+) -> Result<u8, ReceiverFault>
+    ensures status { IfOk result (λ status. status ≡ 0) }
+    ensures shown { O.tells → OnOk result (Viewed view bytes.now (O.taken out.old) (O.taken out.new)) }
+    ensures rows { OnOk result (HasRows view bytes.now) }
+    ensures explained { IfErr result (ExplainsShowing view bytes.now) }
     ensures part { O.tells → IsErrOf result (fault.File file.Write) →
-        ViewedPart view bytes.new (O.taken out.old) (O.taken out.new) }
+        ViewedPart view bytes.now (O.taken out.old) (O.taken out.new) }
     ensures untouched { IfErr result (λ e. e ≢ fault.File file.Write → out.new ≡ out.old) }
-
-    // A device's fault is answered only where that device failed.
     ensures write_failed { IsErrOf result (fault.File file.Write) →
         HasFailed (O.failures out.old) (O.failures out.new) }
 {
-    let corrected = repair_asked(repair, bytes);
     refuse_rows(view, bytes)?;
     show(alloc, view, bytes, out)?;
-    Ok(corrected)
+    Ok(0)
 }
 
-/// `show` of what a device gives, which is read whole.
-pub fn run_show<T: Source, O: Sink>(
+// Shows the bytes of a transmission, with repair as it is once each of its words is repaired.
+fn show_read<O: Sink>(
     alloc: Global,
-    view: View,
-    repair: bool,
+    showing: &mut Showing,
+    bytes: &mut [u8],
+    out: &mut O,
+) -> Result<u8, ReceiverFault>
+    ensures status { IfOk result (λ status. status ≡ 0) }
+    ensures read { AreReadOf bytes.old showing.old.repairing.is_asked bytes.new }
+    ensures counted { Counts showing.new.repairing.corrected bytes.old bytes.new }
+    ensures shown { O.tells → OnOk result (Viewed showing.old.view bytes.new (O.taken out.old) (O.taken out.new)) }
+    ensures rows { OnOk result (HasRows showing.old.view bytes.new) }
+    ensures restored { O.tells → showing.old.repairing.is_asked ≡ true → (X codewords : List ℕ) → Sent X codewords →
+        IsDamaged X bytes.old → OnOk result (Viewed showing.old.view X (O.taken out.old) (O.taken out.new)) }
+    ensures explained { IfErr result (ExplainsShowing showing.old.view bytes.new) }
+    ensures part { O.tells → IsErrOf result (fault.File file.Write) →
+        ViewedPart showing.old.view bytes.new (O.taken out.old) (O.taken out.new) }
+    ensures untouched { IfErr result (λ e. e ≢ fault.File file.Write → out.new ≡ out.old) }
+    ensures write_failed { IsErrOf result (fault.File file.Write) →
+        HasFailed (O.failures out.old) (O.failures out.new) }
+{
+    showing.repairing.corrected = repair_asked(showing.repairing.is_asked, bytes);
+    show_bytes(alloc, showing.view, bytes, out)
+}
+
+// Shows the transmission that a device holds. Without repair what it lends is shown where it stands.
+fn show_held<T: Source, O: Sink>(
+    alloc: Global,
+    showing: &mut Showing,
     tx: &mut T,
     out: &mut O,
-) -> Result<Repaired, ReceiverFault>
-    ensures shown { T.tells → O.tells → OnOk result
-        (IsSoOfRead (T.held tx.old) repair (λ bytes. Viewed view bytes (O.taken out.old) (O.taken out.new))) }
-    ensures rows { T.tells → OnOk result (IsSoOfRead (T.held tx.old) repair (HasRows view)) }
-
-    // *Repaired for all*: of a transmission with at most two wrong bits in each word it shows what it shows of the
-    // transmission itself.
-    ensures restored { T.tells → O.tells → repair ≡ true → (X codewords : List ℕ) → Sent X codewords →
-        IsDamaged X (T.held tx.old) →
-        OnOk result (Viewed view X (O.taken out.old) (O.taken out.new)) }
+) -> Result<u8, ReceiverFault>
+    ensures status { IfOk result (λ status. status ≡ 0) }
+    ensures counted { T.tells → OnOk result (IsSoOfRead (T.held tx.old) showing.old.repairing.is_asked
+        (Counts showing.new.repairing.corrected (T.held tx.old))) }
+    ensures shown { T.tells → O.tells → OnOk result (IsSoOfRead (T.held tx.old) showing.old.repairing.is_asked
+        (λ bytes. Viewed showing.old.view bytes (O.taken out.old) (O.taken out.new))) }
+    ensures rows { T.tells → OnOk result
+        (IsSoOfRead (T.held tx.old) showing.old.repairing.is_asked (HasRows showing.old.view)) }
+    ensures restored { T.tells → O.tells → showing.old.repairing.is_asked ≡ true → (X codewords : List ℕ) →
+        Sent X codewords → IsDamaged X (T.held tx.old) →
+        OnOk result (Viewed showing.old.view X (O.taken out.old) (O.taken out.new)) }
     ensures explained { T.tells → IfErr result (λ e. ExplainsUnread (T.held tx.old) e
-        ⊎ IsSoOfRead (T.held tx.old) repair (λ bytes. ExplainsShowing view bytes e)) }
+        ⊎ IsSoOfRead (T.held tx.old) showing.old.repairing.is_asked
+        (λ bytes. ExplainsShowing showing.old.view bytes e)) }
+    ensures part { T.tells → O.tells → IsErrOf result (fault.File file.Write) →
+        IsSoOfRead (T.held tx.old) showing.old.repairing.is_asked
+        (λ bytes. ViewedPart showing.old.view bytes (O.taken out.old) (O.taken out.new)) }
     ensures untouched { IfErr result (λ e. e ≢ fault.File file.Write → out.new ≡ out.old) }
-
-    // A device's fault is answered only where that device failed.
     ensures read_failed { IsErrOf result (fault.File file.Device) →
         HasFailed (T.failures tx.old) (T.failures tx.new) }
     ensures write_failed { IsErrOf result (fault.File file.Write) →
         HasFailed (O.failures out.old) (O.failures out.new) }
 {
+    if !showing.repairing.is_asked
+        && let Some(bytes) = tx.lent()
+    {
+        refuse_long(bytes)?;
+        showing.repairing.corrected = NOTHING;
+        let done = show_bytes(alloc, showing.view, bytes, out);
+        tx.release();
+        return done;
+    }
     let mut bytes = read_transmission(alloc, tx)?;
-    show_bytes(alloc, view, repair, bytes.as_mut_slice(), out)
+    show_read(alloc, showing, bytes.as_mut_slice(), out)
+}
+
+/// `show TX`: shows a transmission, with repair as it is once each of its words is repaired, and says how much was corrected.
+/// Rows of which it has none are refused. Returns the exit status.
+pub fn run_show<T: Source, O: Sink, E: Sink + Drop>(
+    alloc: Global,
+    showing: &mut Showing,
+    tx: &mut T,
+    out: &mut O,
+    err: &mut ErrorStream<ReceiverFault, E>,
+) -> u8
+    ensures done { IfNone (told_by err.new) ((result ≡ 0) × (stream_of err.new ≡ stream_of err.old)) }
+    ensures status { IfSome (told_by err.new) (λ e. result ≡ receiver_status e) }
+    ensures counted { T.tells → IfNone (told_by err.new) (IsSoOfRead (T.held tx.old) showing.old.repairing.is_asked
+        (Counts showing.new.repairing.corrected (T.held tx.old))) }
+    ensures shown { T.tells → O.tells → IfNone (told_by err.new)
+        (IsSoOfRead (T.held tx.old) showing.old.repairing.is_asked
+        (λ bytes. Viewed showing.old.view bytes (O.taken out.old) (O.taken out.new))) }
+    ensures rows { T.tells → IfNone (told_by err.new)
+        (IsSoOfRead (T.held tx.old) showing.old.repairing.is_asked (HasRows showing.old.view)) }
+
+    // *Repaired for all*: of a transmission with at most two wrong bits in each word it shows what it shows of the
+    // transmission itself.
+    ensures restored { T.tells → O.tells → showing.old.repairing.is_asked ≡ true → (X codewords : List ℕ) →
+        Sent X codewords → IsDamaged X (T.held tx.old) →
+        IfNone (told_by err.new) (Viewed showing.old.view X (O.taken out.old) (O.taken out.new)) }
+    ensures explained { T.tells → IfSome (told_by err.new) (λ e. ExplainsUnread (T.held tx.old) e
+        ⊎ IsSoOfRead (T.held tx.old) showing.old.repairing.is_asked
+        (λ bytes. ExplainsShowing showing.old.view bytes e)) }
+    ensures part { T.tells → O.tells → told_by err.new ≡ Some (fault.File file.Write) →
+        IsSoOfRead (T.held tx.old) showing.old.repairing.is_asked
+        (λ bytes. ViewedPart showing.old.view bytes (O.taken out.old) (O.taken out.new)) }
+    ensures untouched { IfSome (told_by err.new) (λ e. e ≢ fault.File file.Write → out.new ≡ out.old) }
+
+    // A device's fault is told only where that device failed.
+    ensures read_failed { told_by err.new ≡ Some (fault.File file.Device) →
+        HasFailed (T.failures tx.old) (T.failures tx.new) }
+    ensures write_failed { told_by err.new ≡ Some (fault.File file.Write) →
+        HasFailed (O.failures out.old) (O.failures out.new) }
+{
+    err.end(show_held(alloc, showing, tx, out))
 }

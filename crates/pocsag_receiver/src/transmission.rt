@@ -1,5 +1,6 @@
-ghost use Rattle.std.specs.Prelude.{◌≡◌, ◌≢◌, Err, IfErr, IfOk};
+ghost use Rattle.std.specs.Prelude.{◌≡◌, ◌≢◌, ◌<◌, Err, length, IfErr, IfOk, OnOk};
 ghost use Rattle.pocsag_words.specs.Devices.{HasFailed};
+ghost use Rattle.pocsag_words.specs.Frame.{input_limit};
 ghost use Rattle.pocsag_receiver.specs.Files.{ExplainsUnread};
 ghost use Rattle.pocsag_receiver.specs.declared.fault.ReceiverFault.TheVariants as fault;
 
@@ -8,15 +9,24 @@ use pocsag_shell::FileFault;
 use pocsag_words::{INPUT_LIMIT, Source};
 use std::alloc::Global;
 
-/// The greatest transmission that is read, in bytes.
-pub const TRANSMISSION_LIMIT: usize = INPUT_LIMIT;
-
-/// Reads a whole transmission.
+/// Reads a whole transmission, and then lets go what the device lent.
 pub(crate) fn read_transmission<T: Source>(alloc: Global, tx: &mut T) -> Result<Vec<u8>, FileFault>
     ensures whole { T.tells → IfOk result (λ bytes. bytes.items ≡ T.held tx.old) }
     ensures explained { T.tells → IfErr result (λ e. ExplainsUnread (T.held tx.old) (fault.File e)) }
     ensures unwritten { IfErr result (λ e. e ≢ FileFault.Write) }
     ensures read_failed { result ≡ Err FileFault.Device → HasFailed (T.failures tx.old) (T.failures tx.new) }
 {
-    Ok(read_whole(alloc, tx, TRANSMISSION_LIMIT)?)
+    let bytes = read_whole(alloc, tx, INPUT_LIMIT)?;
+    tx.release();
+    Ok(bytes)
+}
+
+/// Refuses the bytes of a transmission that is larger than is read.
+pub(crate) fn refuse_long(bytes: &[u8]) -> Result<(), FileFault>
+    ensures explained { IfErr result (λ e. (e ≡ FileFault.TooLarge) × (input_limit < length bytes.now)) }
+{
+    if bytes.len() > INPUT_LIMIT {
+        return Err(FileFault::TooLarge);
+    }
+    Ok(())
 }

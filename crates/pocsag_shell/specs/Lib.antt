@@ -1,4 +1,6 @@
 pub mod Besides
+pub mod ErrorStreams
 pub mod Faults
+pub mod Loads
 pub mod Notes
 pub mod Paths

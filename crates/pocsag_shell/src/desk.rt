@@ -93,18 +93,21 @@ impl<'a> Desk<'a> {
         }
     }
 
-    /// Ends a command: writes its fault to standard error, and the line of `--verbose` behind it. It writes nothing if standard
-    /// output lost its reader. Answers the exit status.
+    /// Forgets which file the system refused, which is no trouble of a command that did what it was asked.
+    pub fn forget_trouble(&self) {
+        let _ = self.watch.take_trouble();
+    }
+
+    /// Ends a command: writes its fault to standard error, and the line of `--verbose` behind it. Returns the exit status.
     pub fn end<F: Failure>(&self, names: Names<'_>, done: Result<u8, F>) -> u8
         ensures done { IfOk done (λ status. result ≡ status) }
-        ensures fault { IfErr done (λ fault. (result ≡ F.status_is fault) ⊎ (result ≡ 3)) }
+        ensures fault { IfErr done (λ fault. result ≡ F.status_is fault) }
     {
         let status = match done {
             Ok(status) => {
-                let _ = self.watch.take_trouble();
+                self.forget_trouble();
                 status
             }
-            Err(_) if self.watch.met_closed_output() => return FileFault::Write.status(),
             Err(fault) => tell_fault(&mut self.err(), fault),
         };
         self.tell_more(names);

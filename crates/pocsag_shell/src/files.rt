@@ -4,15 +4,26 @@ use crate::desk::Desk;
 use crate::devices::{ReaderSource, WriterSink};
 use crate::fault::FileFault;
 use crate::lines::put_whole;
+use crate::loaded::Loaded;
 use crate::paths::{Named, are_one, name_one_file};
 use crate::role::Role;
 use crate::streams::{Input, Output};
 use crate::words::{STANDARD, path_of};
 use pocsag_pages::{FILE_LIMIT, read_whole};
-use pocsag_words::{INPUT_LIMIT, Sink};
+use pocsag_words::{OutOfMemory, Sink, Source};
 use std::fs::{self, File, Metadata, OpenFile, OpenOptions};
-use std::io;
+use std::io::{self, Read};
 use std::rt::Files;
+
+// How many bytes are asked for in one read.
+const PIECE: usize = 8192;
+
+/// How many bytes of a page file or of a transmission are read: more than this is too large whatever follows.
+pub const PAGES_READ: usize = FILE_LIMIT + 1;
+
+/// How many bytes of a certificate are read. The longest has a million nodes of at most six bytes, so a longer text has its first
+/// fault among these.
+pub const CERT_READ: usize = 8_000_000;
 
 // The system's error number for a folder in place of a file.
 const IS_FOLDER: i32 = 21;
@@ -68,15 +79,35 @@ pub fn read_file(
     Ok(read_whole(desk.alloc, &mut source, limit)?)
 }
 
-/// Reads a page file and a certificate, of which one may be standard input. It opens both before it reads one.
-pub fn read_both(desk: Desk<'_>, pages: &str, cert: &str) -> Result<(Vec<u8>, Vec<u8>), FileFault> {
+/// Reads what a source holds up to its end, or up to where the system refuses to read on, and at most `limit` bytes.
+pub fn load<R: Read>(
+    desk: Desk<'_>,
+    source: &mut ReaderSource<'_, R>,
+    limit: usize,
+) -> Result<Loaded, OutOfMemory> {
+    let mut bytes = Vec::new(desk.alloc);
+    let mut piece = [0u8; PIECE];
+    while bytes.len() < limit {
+        let Ok(count) = source.read(&mut piece) else {
+            return Ok(Loaded::new(desk.alloc, bytes, true));
+        };
+        if count == 0 {
+            break;
+        }
+        bytes.extend_from_slice(&piece[..count])?;
+    }
+    Ok(Loaded::new(desk.alloc, bytes, false))
+}
+
+/// Opens a page file and a certificate, of which one may be standard input, and then reads both.
+pub fn load_both(desk: Desk<'_>, pages: &str, cert: &str) -> Result<(Loaded, Loaded), FileFault> {
     if pages == STANDARD && cert == STANDARD {
         return Err(FileFault::EqualPaths);
     }
     let mut pages = open_source(desk, Role::PageFile, path_of(pages))?;
     let mut cert = open_source(desk, Role::Certificate, path_of(cert))?;
-    let file = read_whole(desk.alloc, &mut pages, FILE_LIMIT)?;
-    Ok((file, read_whole(desk.alloc, &mut cert, INPUT_LIMIT)?))
+    let pages = load(desk, &mut pages, PAGES_READ)?;
+    Ok((pages, load(desk, &mut cert, CERT_READ)?))
 }
 
 // Opens or makes a file for writing and keeps its bytes, or opens standard output.

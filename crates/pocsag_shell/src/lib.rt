@@ -5,11 +5,14 @@
 mod beside;
 mod desk;
 mod devices;
+mod error_stream;
 mod fault;
 mod files;
 mod group;
 mod left_over;
 mod lines;
+mod loaded;
+mod memory_streams;
 mod note;
 mod paths;
 mod program;
@@ -22,14 +25,17 @@ mod words;
 pub use beside::{Beside, put_files};
 pub use desk::Desk;
 pub use devices::{ReaderSource, WriterSink};
+pub use error_stream::ErrorStream;
 pub use fault::{Failure, FileFault};
 pub use files::{
-    Outputs, is_regular, is_regular_or_none, make_outputs, open_source, read_both, read_file,
-    refuse_one_file, refuse_shared, write_file,
+    CERT_READ, Outputs, PAGES_READ, is_regular, is_regular_or_none, load, load_both, make_outputs,
+    open_source, read_file, refuse_one_file, refuse_shared, write_file,
 };
 pub use group::{Both, Call, Group, Tables};
 pub use lines::{put_whole, tell, tell_fault, tell_numbers};
-pub use paths::{Named, refuse_equal};
+pub use loaded::Loaded;
+pub use memory_streams::MemoryStreams;
+pub use paths::{Named, equal_paths, refuse_equal};
 pub use program::run;
 pub use role::{NamedFile, Names, Role};
 pub use streams::{Input, Output};

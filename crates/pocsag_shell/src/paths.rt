@@ -1,21 +1,46 @@
-ghost use Rattle.std.specs.Prelude.{◌↔◌, ◌⊎◌, IsErrOf, IsTrue, map};
+ghost use Rattle.std.specs.Prelude.{◌↔◌, ◌⊎◌, ◌<◌, IsErrOf, IsTrue, length, map};
 ghost use Rattle.pocsag_shell.specs.declared.fault.FileFault.TheVariants.{EqualPaths};
-ghost use Rattle.pocsag_shell.specs.Paths.{AreOne, HasEqual, paths_of};
+ghost use Rattle.pocsag_shell.specs.Paths.{AreOne, HasEqual, IsNamedBefore, paths_of};
 
 use crate::fault::FileFault;
 use std::fs::{self, Metadata};
 use std::os::unix::fs::{FileTypeExt, MetadataExt};
 use std::rt::Files;
 
+// Whether one of the paths before the place is equal to that at the place.
+fn is_named_before(paths: &[&str], place: usize) -> bool
+    requires { place < length paths.now }
+    ensures { IsTrue result ↔ IsNamedBefore (map (λ path. path.now) paths.now) place }
+{
+    for earlier in 0..place {
+        if paths[earlier] == paths[place] {
+            return true;
+        }
+    }
+    false
+}
+
+/// Whether two of the paths are equal texts.
+pub fn equal_paths(paths: &[&str]) -> bool
+    ensures { IsTrue result ↔ HasEqual (map (λ path. path.now) paths.now) }
+{
+    for place in 0..paths.len() {
+        if is_named_before(paths, place) {
+            return true;
+        }
+    }
+    false
+}
+
 /// Refuses equal texts among the paths of a page file, if there is one, and of two outputs.
 pub fn refuse_equal(pages: Option<&str>, tx: &str, cert: &str) -> Result<(), FileFault>
     ensures { HasEqual (map (λ path. path.now) (paths_of pages.entry tx.entry cert.entry)) ↔ IsErrOf result EqualPaths }
 {
-    let is_input = match pages {
-        Some(pages) => pages == tx || pages == cert,
-        None => false,
+    let equal = match pages {
+        Some(pages) => equal_paths(&[pages, tx, cert]),
+        None => equal_paths(&[tx, cert]),
     };
-    if is_input || tx == cert {
+    if equal {
         return Err(FileFault::EqualPaths);
     }
     Ok(())

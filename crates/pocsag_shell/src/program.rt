@@ -1,61 +1,59 @@
 use crate::desk::Desk;
 use crate::devices::WriterSink;
-use crate::fault::{Failure, FileFault};
+use crate::fault::FileFault;
 use crate::group::{Call, Group};
-use crate::lines::{tell, tell_fault};
+use crate::lines::tell_fault;
 use crate::role::Role;
+use crate::streams::hold_closed;
 use crate::tables::program;
 use crate::watch::Watch;
 use crate::words::{Shape, VERBOSE};
 use clap::error::ErrorKind;
 use clap::{ArgMatches, Command, Error};
-use pocsag_words::Sink;
-use std::alloc::Global;
+use std::alloc::AllocError;
 use std::env;
 use std::io::ErrorKind as IoErrorKind;
+
+// What clap says of words that are no text.
+const NOT_TEXT: &str = "invalid UTF-8 was detected in one or more arguments";
 
 /// Reads the words of the command line and has a group carry out what they ask for. `shape` holds the program's name and
 /// what help says of it. Answers the exit status.
 pub fn run<G: Group>(rt: &HostRuntime, shape: &Shape, group: &G) -> u8 {
-    let alloc = rt.alloc();
-    let unheard = Watch::new(false);
-    let mut err = WriterSink::new(rt.stderr(), Role::Output, &unheard);
-    let words = match words_of(rt, alloc) {
-        Ok(words) => words,
-        Err(fault) => {
-            let status = tell_fault(&mut err, fault);
-            if fault == FileFault::Device {
-                let _ = tell(&mut err, "pocsag: a word of the call is no UTF-8 text\n");
-            }
-            return status;
-        }
+    let _input = hold_closed(rt, "/proc/self/fd/0", true);
+    let _output = hold_closed(rt, "/proc/self/fd/1", false);
+    let _errors = hold_closed(rt, "/proc/self/fd/2", false);
+    let done = match words_of(rt) {
+        Ok(words) => obey(rt, shape, group, Some(words.as_slice())),
+        Err(FileFault::Device) => obey(rt, shape, group, None),
+        Err(_) => Err(Error::from(AllocError)),
     };
-    match obey(rt, shape, group, words.as_slice()) {
+    match done {
         Ok(status) => status,
-        Err(error) => tell_clap_error(rt, &error, &mut err),
+        Err(error) => tell_clap_error(rt, &error),
     }
 }
 
-// The words of the command line. The first is the program's own name.
-fn words_of(rt: &HostRuntime, alloc: Global) -> Result<Vec<String>, FileFault> {
-    let args = match env::args(rt) {
-        Ok(args) => args,
-        Err(error) if error.kind() == IoErrorKind::OutOfMemory => {
-            return Err(FileFault::OutOfMemory);
-        }
-        Err(_) => return Err(FileFault::Device),
-    };
-    Ok(args.collect(alloc)?)
+// The words of the command line, if all are texts. The first is the program's own name.
+fn words_of(rt: &HostRuntime) -> Result<Vec<String>, FileFault> {
+    match env::args(rt) {
+        Ok(args) => Ok(args.collect(rt.alloc())?),
+        Err(error) if error.kind() == IoErrorKind::OutOfMemory => Err(FileFault::OutOfMemory),
+        Err(_) => Err(FileFault::Device),
+    }
 }
 
-// Parses the words and has the group carry them out.
+// Parses the words, where all are texts, and has the group carry them out.
 fn obey<G: Group>(
     rt: &HostRuntime,
     shape: &Shape,
     group: &G,
-    words: &[String],
+    words: Option<&[String]>,
 ) -> Result<u8, Error> {
     let mut program = program(rt.alloc(), shape, group)?;
+    let Some(words) = words else {
+        return Err(program.error(ErrorKind::ValueValidation, NOT_TEXT)?);
+    };
     let matches = program.try_get_matches_from_mut(words)?;
     answer(rt, group, &mut program, &matches)
 }
@@ -85,7 +83,9 @@ fn answer<G: Group>(
 }
 
 // Prints an error of clap, which stands for help too, and answers the exit status.
-fn tell_clap_error<E: Sink>(rt: &HostRuntime, error: &Error, err: &mut E) -> u8 {
+fn tell_clap_error(rt: &HostRuntime, error: &Error) -> u8 {
+    let watch = Watch::new(false);
+    let err = &mut WriterSink::new(rt.stderr(), Role::Output, &watch);
     if error.kind() == ErrorKind::OutOfMemory {
         return tell_fault(err, FileFault::OutOfMemory);
     }
@@ -95,7 +95,6 @@ fn tell_clap_error<E: Sink>(rt: &HostRuntime, error: &Error, err: &mut E) -> u8 
     }
     match printed {
         Ok(()) => 0,
-        Err(error) if error.kind() == IoErrorKind::BrokenPipe => FileFault::Write.status(),
         Err(_) => tell_fault(err, FileFault::Write),
     }
 }

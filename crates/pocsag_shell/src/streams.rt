@@ -1,4 +1,16 @@
+use std::fs::{self, File, OpenOptions};
 use std::io::{self, Read, Stdin, Stdout, Write};
+
+/// Keeps the number of a closed standard stream from the files that the program opens, as long as what it returns is there. The
+/// stream stays one that cannot be used: where the program is to read it, it can only be written, and else only be read.
+pub(crate) fn hold_closed(rt: &HostRuntime, stream: &str, is_read: bool) -> Option<File> {
+    if fs::metadata(rt, stream).is_ok() {
+        return None;
+    }
+    let mut options = OpenOptions::new();
+    options.read(!is_read).write(is_read);
+    options.open(rt, "/dev/null").ok()
+}
 
 /// The input of a command: a file or standard input.
 #[derive(Drop)]

@@ -1,9 +1,6 @@
 use crate::role::Role;
 use std::cell::{Cell, RefCell};
 
-// The system's error number for a pipe without a reader.
-const BROKEN_PIPE: i32 = 32;
-
 /// The system refused a call on a file or a stream.
 #[derive(Clone, Copy)]
 pub(crate) struct Trouble {
@@ -40,16 +37,6 @@ impl Watch {
     /// The last refused call. The watch forgets it.
     pub(crate) fn take_trouble(&self) -> Option<Trouble> {
         self.trouble.replace(None)
-    }
-
-    /// Whether the last refused call was a write to a standard output without a reader.
-    pub(crate) fn met_closed_output(&self) -> bool {
-        match self.trouble.get() {
-            Some(trouble) => {
-                matches!(trouble.role, Role::Output) && trouble.code == Some(BROKEN_PIPE)
-            }
-            None => false,
-        }
     }
 
     /// Whether the user gave `--verbose`.

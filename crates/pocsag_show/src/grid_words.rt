@@ -6,7 +6,7 @@ ghost use Rattle.pocsag_show.specs.Cells.{IsGridOf, Took};
 
 use crate::grid::Grid;
 use pocsag_pages::leading_len;
-use pocsag_words::{BATCH_WORDS, from_raw};
+use pocsag_words::{BATCH_WORDS, from_raw, kind};
 use std::alloc::{AllocError, Global};
 
 // The words of a batch, its synchronisation codeword among them.
@@ -21,7 +21,7 @@ fn take_word(grid: &mut Grid, numbers: &[usize], place: u64, word: u32) -> Resul
         return Ok(());
     }
     match from_raw(word) {
-        Some(word) => grid.take(numbers, word.kind()),
+        Some(word) => grid.take(numbers, kind(word)),
         None => unreachable!(),
     }
 }

@@ -20,4 +20,4 @@ pub use limit::{Limits, all_limits, below_split, from_split, narrow};
 pub use load::{carries, least_by_class, least_load, loads, overloads, total_cap};
 pub use set::{crosses, holds, size, touches, with_member};
 pub use step::Step;
-pub use way::{WAYS, Way, closing_ways, is_certain, ways};
+pub use way::{WAYS, Way, closing_ways, ending_ways, is_certain, ways};

@@ -99,24 +99,34 @@ pub fn ways(classes: &Classes, limits: &Limits, set: u16, _batches: u32) -> Arra
     found
 }
 
-/// The ways in which a transmission may end as the end asks for: an idle in slot 15, or with the closed
-/// end an address codeword alone there, where the limits allow one. The open end asks for none.
+/// The ways in which a transmission may end as the closed end asks for: an idle in slot 15, or an address codeword alone
+/// there, where the limits allow one.
 #[tactic(auto, unfolding(crate::specs::Ways::ways_to_close))]
-pub fn closing_ways(classes: &Classes, end: End, limits: &Limits) -> ArrayVec<Way, 2>
+pub fn closing_ways(classes: &Classes, limits: &Limits) -> ArrayVec<Way, 2>
+    ensures items { result.items ≡ ways_to_close classes.now End.Closed limits.now }
+    ensures allowed { All (MayTake classes.now limits.now) result.items }
+{
+    let mut found = ArrayVec::new();
+    found.push(Way::IdleIn(SLOT_COUNT - 1));
+    push_if(
+        &mut found,
+        limits.lo[CLASSES - 1] < classes.count[CLASSES - 1],
+        Way::Late(CLASS_COUNT - 1),
+    );
+    found
+}
+
+/// The ways in which a transmission may end as the end asks for: none is asked for by the open end, and an idle in slot 15 by the
+/// idle end.
+#[tactic(auto, unfolding(crate::specs::Ways::ways_to_close))]
+pub fn ending_ways(classes: &Classes, end: End, limits: &Limits) -> ArrayVec<Way, 2>
     ensures items { result.items ≡ ways_to_close classes.now end limits.now }
     ensures allowed { All (MayTake classes.now limits.now) result.items }
 {
     let mut found = ArrayVec::new();
     match end {
         End::Open => {}
-        End::Closed => {
-            found.push(Way::IdleIn(SLOT_COUNT - 1));
-            push_if(
-                &mut found,
-                limits.lo[CLASSES - 1] < classes.count[CLASSES - 1],
-                Way::Late(CLASS_COUNT - 1),
-            );
-        }
+        End::Closed => return closing_ways(classes, limits),
         End::Idle => found.push(Way::IdleIn(SLOT_COUNT - 1)),
     }
     found

@@ -7,7 +7,7 @@ use pocsag_shell::{Failure, FileFault};
 use thiserror::Error;
 
 /// Why `wav` writes no sound.
-#[derive(Clone, Copy, Debug, Error)]
+#[derive(Clone, Copy, PartialEq, Eq, Debug, Error)]
 pub enum SoundFault {
     #[error("the rate must be 512, 1200 or 2400")]
     BadRate,

@@ -1,11 +1,17 @@
 use crate::fault::SoundFault;
 use crate::keying::Keying;
-use crate::wav::wav_bytes;
+use crate::wav::run_wav;
 use crate::words::{BIT_RATE, INVERT, LEAD, SAMPLES, SOUND_COMMANDS, WAV};
 use clap::{ArgMatches, Error};
-use pocsag_shell::{Call, Desk, Group, Names, Role, TX, Tables, path_of, read_file};
-use pocsag_words::INPUT_LIMIT;
+use pocsag_shell::{
+    Call, Desk, ErrorStream, Group, Loaded, MemoryStreams, Names, PAGES_READ, Role, TX, Tables,
+    load, open_source, path_of,
+};
+use pocsag_words::Source;
 use std::alloc::AllocError;
+
+// The most samples that are kept in memory until they are printed. A longer sound is written as it goes.
+const KEPT_SAMPLES: u64 = 16_000_000;
 
 /// The command `wav`.
 #[derive(Clone, Copy)]
@@ -34,18 +40,55 @@ impl Group for Sound {
         let samples = found.get_one::<u32>(SAMPLES)?;
         let preamble = found.get_one::<u32>(LEAD);
         let keying = Keying::new(rate, samples, preamble, found.get_flag(INVERT));
-        Some(Ok(desk.end(names, key_path(desk, keying, tx))))
+        Some(Ok(match load_keyed(desk, keying, tx) {
+            Ok((keying, loaded)) => key(desk, keying, loaded, names),
+            Err(fault) => desk.end(names, Err(fault)),
+        }))
     }
 }
 
-// Writes the sound of a transmission to standard output. A bad number is refused before the file is opened.
-fn key_path(
+// The transmission that is to be keyed. A bad number is refused before the file is opened.
+fn load_keyed(
     desk: Desk<'_>,
     keying: Result<Keying, SoundFault>,
     tx: &str,
-) -> Result<u8, SoundFault> {
+) -> Result<(Keying, Loaded), SoundFault> {
     let keying = keying?;
-    let bytes = read_file(desk, Role::Transmission, path_of(tx), INPUT_LIMIT)?;
-    wav_bytes(keying, bytes.as_slice(), &mut desk.out())?;
-    Ok(0)
+    let mut source = open_source(desk, Role::Transmission, path_of(tx))?;
+    match load(desk, &mut source, PAGES_READ) {
+        Ok(loaded) => Ok((keying, loaded)),
+        Err(refused) => Err(SoundFault::File(refused.into())),
+    }
+}
+
+// Writes the sound of a transmission to standard output.
+fn key(desk: Desk<'_>, keying: Keying, mut tx: Loaded, names: Names<'_>) -> u8 {
+    if is_short(keying, &tx) {
+        let mut streams = MemoryStreams::new(desk.alloc);
+        let status = run_wav(
+            desk.alloc,
+            keying,
+            &mut tx,
+            &mut streams.out,
+            &mut streams.err,
+        );
+        return streams.end(desk, names, Ok(status));
+    }
+    let mut err = ErrorStream::new(desk.err());
+    let status = run_wav(desk.alloc, keying, &mut tx, &mut desk.out(), &mut err);
+    if err.fault().is_none() {
+        desk.forget_trouble();
+    }
+    desk.tell_more(names);
+    status
+}
+
+// Whether the sound is short enough to be kept in memory.
+fn is_short(keying: Keying, tx: &Loaded) -> bool {
+    let Some(bytes) = tx.lent() else {
+        return true;
+    };
+    let own = (bytes.len() as u64).saturating_mul(8);
+    let bits = own.saturating_add(u64::from(keying.preamble.unwrap_or(0)));
+    bits.saturating_mul(u64::from(keying.samples)) / u64::from(keying.rate) <= KEPT_SAMPLES
 }

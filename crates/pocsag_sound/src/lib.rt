@@ -11,4 +11,4 @@ mod words;
 pub use fault::SoundFault;
 pub use group::Sound;
 pub use keying::Keying;
-pub use wav::{run_wav, wav_bytes};
+pub use wav::run_wav;

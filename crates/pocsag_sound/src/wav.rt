@@ -1,7 +1,8 @@
-ghost use Rattle.std.specs.Prelude.{◌≡◌, ◌+◌, ◌*◌, ◌/◌, ◌^◌, ◌<◌, ◌≤◌, ◌++◌, length, IfErr, IfOk, IsErrOf, OnErr, OnOk};
+ghost use Rattle.std.specs.Prelude.{◌≡◌, ◌+◌, ◌*◌, ◌/◌, ◌^◌, ◌<◌, ◌≤◌, ◌++◌, length, None, Some, IfErr, IfNone, IfOk, IfSome, IsErrOf, OnErr, OnOk};
 ghost use Rattle.std.specs.List.{flat_map};
 ghost use Rattle.arrayvec.specs.ArrayVec.{array_vec_len};
 ghost use Rattle.pocsag_words.specs.Devices.{CountsFailures, Delivers, HasFailed, TookPrefix};
+ghost use Rattle.pocsag_shell.specs.ErrorStreams.{stream_of, told_by};
 ghost use Rattle.pocsag_shell.specs.declared.fault.FileFault.TheVariants as file;
 ghost use Rattle.pocsag_sound.specs.Faults.{ExplainsSound, ExplainsUnsounded, Sounded, SoundedPart, sound_status};
 ghost use Rattle.pocsag_sound.specs.Wav.{sample_bytes, wav_header};
@@ -14,7 +15,7 @@ use crate::keying::Keying;
 use arrayvec::ArrayVec;
 use pocsag_decode::judge_bytes;
 use pocsag_pages::read_whole;
-use pocsag_shell::{FileFault, put_whole};
+use pocsag_shell::{ErrorStream, FileFault, put_whole};
 use pocsag_words::{BATCH_BITS, INPUT_LIMIT, Sink, Source};
 use std::alloc::Global;
 
@@ -102,16 +103,15 @@ fn put_samples<O: Sink>(
     put_whole(out, piece.as_slice())
 }
 
-/// Writes the sound of the bytes of a transmission as a WAV file. Its length is known before the first byte is written, and
-/// no more than a piece of it is held.
-pub fn wav_bytes<O: Sink>(keying: Keying, bytes: &[u8], out: &mut O) -> Result<(), SoundFault>
+// Writes the sound of the bytes of a transmission as a WAV file. Its length is known before the first byte is written, and no
+// more than a piece of it is held.
+fn put_sound<O: Sink>(keying: Keying, bytes: &[u8], out: &mut O) -> Result<u8, SoundFault>
+    ensures status { IfOk result (λ status. status ≡ 0) }
     ensures sounded { O.tells → OnOk result (Sounded keying bytes.now (O.taken out.old) (O.taken out.new)) }
     ensures part { O.tells → IsErrOf result (fault.File file.Write) →
         SoundedPart keying bytes.now (O.taken out.old) (O.taken out.new) }
     ensures explained { IfErr result (ExplainsSound keying bytes.now) }
     ensures refused { IfErr result (λ e. sound_status e ≡ 1 → out.new ≡ out.old) }
-
-    // A device's fault is answered only where that device failed.
     ensures write_failed { IsErrOf result (fault.File file.Write) →
         HasFailed (O.failures out.old) (O.failures out.new) }
 {
@@ -120,29 +120,62 @@ pub fn wav_bytes<O: Sink>(keying: Keying, bytes: &[u8], out: &mut O) -> Result<(
     let count = sample_count(keying, keyed.bits() + u128::from(BATCH_BITS))?;
     put_whole(out, header(keying.samples, count).as_flattened())?;
     put_samples(keying, &keyed, count, out)?;
-    Ok(())
+    Ok(0)
 }
 
-/// `wav` of what a device gives, which is read whole.
-pub fn run_wav<T: Source, O: Sink>(
+// Writes the sound of the transmission that a device holds. What it lends is keyed where it stands; otherwise it is read whole.
+fn key_held<T: Source, O: Sink>(
     alloc: Global,
     keying: Keying,
     tx: &mut T,
     out: &mut O,
-) -> Result<(), SoundFault>
+) -> Result<u8, SoundFault>
+    ensures status { IfOk result (λ status. status ≡ 0) }
     ensures sounded { T.tells → O.tells → OnOk result
         (Sounded keying (T.held tx.old) (O.taken out.old) (O.taken out.new)) }
     ensures part { T.tells → O.tells → IsErrOf result (fault.File file.Write) →
         SoundedPart keying (T.held tx.old) (O.taken out.old) (O.taken out.new) }
     ensures explained { T.tells → IfErr result (ExplainsUnsounded keying (T.held tx.old)) }
     ensures refused { IfErr result (λ e. sound_status e ≡ 1 → out.new ≡ out.old) }
-
-    // A device's fault is answered only where that device failed.
     ensures read_failed { IsErrOf result (fault.File file.Device) →
         HasFailed (T.failures tx.old) (T.failures tx.new) }
     ensures write_failed { IsErrOf result (fault.File file.Write) →
         HasFailed (O.failures out.old) (O.failures out.new) }
 {
-    let bytes = read_whole(alloc, tx, INPUT_LIMIT)?;
-    wav_bytes(keying, bytes.as_slice(), out)
+    let Some(bytes) = tx.lent() else {
+        let bytes = read_whole(alloc, tx, INPUT_LIMIT)?;
+        return put_sound(keying, bytes.as_slice(), out);
+    };
+    if bytes.len() > INPUT_LIMIT {
+        return Err(SoundFault::File(FileFault::TooLarge));
+    }
+    let done = put_sound(keying, bytes, out);
+    tx.release();
+    done
+}
+
+/// `wav TX`: writes the sound of a transmission as a WAV file. Returns the exit status.
+pub fn run_wav<T: Source, O: Sink, E: Sink + Drop>(
+    alloc: Global,
+    keying: Keying,
+    tx: &mut T,
+    out: &mut O,
+    err: &mut ErrorStream<SoundFault, E>,
+) -> u8
+    ensures done { IfNone (told_by err.new) ((result ≡ 0) × (stream_of err.new ≡ stream_of err.old)) }
+    ensures status { IfSome (told_by err.new) (λ e. result ≡ sound_status e) }
+    ensures sounded { T.tells → O.tells → IfNone (told_by err.new)
+        (Sounded keying (T.held tx.old) (O.taken out.old) (O.taken out.new)) }
+    ensures part { T.tells → O.tells → told_by err.new ≡ Some (fault.File file.Write) →
+        SoundedPart keying (T.held tx.old) (O.taken out.old) (O.taken out.new) }
+    ensures explained { T.tells → IfSome (told_by err.new) (ExplainsUnsounded keying (T.held tx.old)) }
+    ensures refused { IfSome (told_by err.new) (λ e. sound_status e ≡ 1 → out.new ≡ out.old) }
+
+    // A device's fault is told only where that device failed.
+    ensures read_failed { told_by err.new ≡ Some (fault.File file.Device) →
+        HasFailed (T.failures tx.old) (T.failures tx.new) }
+    ensures write_failed { told_by err.new ≡ Some (fault.File file.Write) →
+        HasFailed (O.failures out.old) (O.failures out.new) }
+{
+    err.end(key_held(alloc, keying, tx, out))
 }

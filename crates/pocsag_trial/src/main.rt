@@ -49,6 +49,7 @@ enum Trial {
     FeedBytes,
     List,
     HearAll,
+    HearDamaged,
     HearWords,
     Receive(Received),
     BadFiles,
@@ -70,7 +71,7 @@ enum Trial {
     StreamLong,
 }
 
-const TRIALS: [Trial; 57] = [
+const TRIALS: [Trial; 58] = [
     Trial::PackNumeric,
     Trial::PackAlpha,
     Trial::UnpackNumeric,
@@ -93,6 +94,7 @@ const TRIALS: [Trial; 57] = [
     Trial::FeedBytes,
     Trial::List,
     Trial::HearAll,
+    Trial::HearDamaged,
     Trial::HearWords,
     Trial::Receive(receivers::THREE_TO_ONE_ADDRESS),
     Trial::Receive(receivers::FOUR_TO_ONE_ADDRESS),
@@ -171,6 +173,7 @@ fn name_of(trial: Trial) -> &'static str {
         Trial::FeedBytes => "feed and finish of page-across-batches",
         Trial::List => "list of page-across-batches",
         Trial::HearAll => "hear_all of page-across-batches",
+        Trial::HearDamaged => "hear_all of wrong-bit-in-idle",
         Trial::HearWords => "hear and end of wrong-bit-in-idle",
         Trial::Receive(received) => received.name,
         Trial::BadFiles => "bad files of first_stream",
@@ -217,6 +220,7 @@ fn run(alloc: Global, trial: Trial, line: &mut Line) -> Result<(), OutOfMemory> 
         Trial::FeedBytes => receivers::decode_bytes(alloc, line),
         Trial::List => receivers::list_decoded(alloc, line),
         Trial::HearAll => receivers::hear_whole(alloc, line),
+        Trial::HearDamaged => receivers::hear_damaged(alloc, line),
         Trial::HearWords => receivers::hear_words(alloc, line),
         Trial::Receive(received) => receivers::receive(alloc, received, line),
         Trial::BadFiles => rounds::stream_bad_files(alloc, line),

@@ -1,6 +1,6 @@
 use crate::line::Line;
 use pocsag_core_cases::{THREE_PAGES_TIGHT, ones, round_of};
-use pocsag_pages::{Page, Round, RoundFault, WholeFault, read_round, read_whole};
+use pocsag_pages::{Page, Payload, Round, RoundFault, WholeFault, read_round, read_whole};
 use pocsag_words::{MemorySource, OutOfMemory};
 use std::alloc::Global;
 
@@ -50,7 +50,12 @@ pub fn copy_lone_tone(alloc: Global, line: &mut Line) -> Result<(), OutOfMemory>
 }
 
 pub fn copy_five_digits(alloc: Global, line: &mut Line) -> Result<(), OutOfMemory> {
-    show_copy(&ones(alloc, 0, 1)?, alloc, line)
+    let page = Page {
+        address: 0,
+        function: 0,
+        payload: Payload::from_vec(Vec::from_slice(alloc, &[0x84c2a])?),
+    };
+    show_copy(&page, alloc, line)
 }
 
 pub fn round_of_open_round(alloc: Global, line: &mut Line) -> Result<(), OutOfMemory> {

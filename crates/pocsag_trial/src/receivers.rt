@@ -92,6 +92,16 @@ pub fn hear_whole(alloc: Global, line: &mut Line) -> Result<(), OutOfMemory> {
     show_heard(hear_all(alloc, page_across_batches().as_slice(), 7), line)
 }
 
+/// `wrong-bit-in-idle`: one tone, with two wrong bits in the idle behind it.
+pub fn hear_damaged(alloc: Global, line: &mut Line) -> Result<(), OutOfMemory> {
+    let mut words = [IDLE; 32];
+    words[0] = TONE;
+    words[1] = 0x7a89_c194;
+    let bytes = two_batches(&words);
+    let (first, _second) = bytes.as_slice().split_at(140);
+    show_heard(hear_all(alloc, first, 8), line)
+}
+
 fn show_heard(heard: Result<Vec<Page>, PagerFault>, line: &mut Line) -> Result<(), OutOfMemory> {
     match heard {
         Ok(pages) => line.put_pages(pages.as_slice()),

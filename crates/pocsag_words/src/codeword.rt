@@ -7,10 +7,10 @@ use crate::checks::{DATA_UNIT, check_bits, is_codeword};
 use std::marker::Model;
 
 /// The idle codeword.
-const IDLE: u32 = 0x7A89_C197;
+pub(crate) const IDLE: u32 = 0x7A89_C197;
 
 /// The 21 data bits of the message codeword with no message bit set.
-const MESSAGE: u32 = 0x10_0000;
+pub(crate) const MESSAGE: u32 = 0x10_0000;
 
 /// What a codeword says.
 #[derive(Clone, Copy, PartialEq, Eq)]
@@ -46,8 +46,6 @@ impl Model for Word {
 impl Word {
     ghost use Rattle.std.specs.Prelude.{◌≡◌};
     ghost use Rattle.pocsag_words.specs.Codeword.{IsCodeword};
-    ghost use Rattle.pocsag_words.specs.Kinds.{kind_of, IsInRange};
-
     // The number as a codeword.
     pub(crate) fn new(number: u32) -> Word
         requires { IsCodeword number }
@@ -62,26 +60,6 @@ impl Word {
         ensures codeword { IsCodeword result }
     {
         self.number
-    }
-
-    /// What the codeword says.
-    pub fn kind(self) -> Kind
-        ensures kind { result ≡ kind_of self }
-        ensures codeword { IsCodeword self }
-        ensures ranges { IsInRange result }
-    {
-        let number = self.raw();
-        let bits = number / DATA_UNIT;
-        if number == IDLE {
-            Kind::Idle
-        } else if bits < MESSAGE {
-            Kind::Address {
-                high: bits / 4,
-                function: (bits % 4) as u8,
-            }
-        } else {
-            Kind::Message(bits - MESSAGE)
-        }
     }
 }
 

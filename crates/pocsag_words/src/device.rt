@@ -1,4 +1,4 @@
-ghost use Rattle.std.specs.Prelude.{◌≡◌, ℕ, ◌<◌, ◌≤◌, List, [], ◌++◌, length, take, IfOk, OnOk, OnErr};
+ghost use Rattle.std.specs.Prelude.{◌≡◌, ℕ, ◌<◌, ◌≤◌, List, [], ◌++◌, length, take, IfOk, IfSome, OnOk, OnErr};
 ghost use Rattle.pocsag_words.specs.Devices.{CallsPerByte, CountsFailures, Delivers, one_more};
 
 use thiserror::Error;
@@ -30,6 +30,21 @@ pub trait Source {
         ensures called { calls self.new ≡ one_more (calls self.old) }
         ensures succeeded { OnOk result (failures self.new ≡ failures self.old) }
         ensures failed { OnErr result (failures self.new ≡ one_more (failures self.old)) };
+
+    /// The bytes that are held, where all of them are in memory and no call fails before their end. Whoever takes them in
+    /// place of reads says so by `release`.
+    fn lent(&self) -> Option<&[u8]>
+        ensures lent { tells → IfSome result (λ bytes. bytes.now ≡ held self.now) }
+    {
+        None
+    }
+
+    /// Lets go what was lent: it counts as read. No call of the device is made.
+    fn release(&mut self)
+        ensures calls { calls self.new ≡ calls self.old }
+        ensures failures { failures self.new ≡ failures self.old }
+    {
+    }
 }
 
 /// A writer. `write` takes some bytes of the front of the piece, at least 1 of a non-empty piece,

@@ -11,6 +11,7 @@ mod frame;
 mod growing_sink;
 mod lanes;
 mod laws;
+mod meaning;
 mod memory_sink;
 mod memory_source;
 mod refusal;
@@ -27,6 +28,7 @@ pub use frame::{
 pub use growing_sink::GrowingSink;
 pub use lanes::check_all;
 pub use laws::numbers_are_repaired;
+pub use meaning::kind;
 pub use memory_sink::MemorySink;
 pub use memory_source::MemorySource;
 pub use refusal::{OutOfMemory, WriteFault};

@@ -41,4 +41,12 @@ impl<'a> Source for SliceSource<'a> {
         self.rest = &self.rest[count..];
         Ok(count)
     }
+
+    fn lent(&self) -> Option<&[u8]> {
+        Some(self.rest)
+    }
+
+    fn release(&mut self) {
+        self.rest = &[];
+    }
 }

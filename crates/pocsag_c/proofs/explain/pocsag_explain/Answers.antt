@@ -1,31 +1,30 @@
-use Rattle.std.proofs.Common.{◌≡◌, ℕ, Bool, true, false, List, refl, inl, inr}
-use Rattle.pocsag_c.specs.Answers.{IsNotAccepted, IsShown}
-use Rattle.pocsag_c.specs.Explain.{IsJudgedAs}
+use Rattle.std.proofs.Common.{◌∙◌, ℕ, Bool, true, false, List, subst, sym, inl, inr}
+use Rattle.pocsag_findings.specs.Beginnings.{TellsVerdict}
+use Rattle.pocsag_c.specs.Explain.{IsTextOfVerdict, IsVerdictText}
 use Rattle.pocsag_c.specs.declared.check.CheckInfo.{CheckInfo}
-use Rattle.pocsag_c.proofs.Devices.{untold_in_memory}
 use Rattle.pocsag_c.proofs.explain.pocsag_explain.Goals as goal
 
-judged_as : (is_shown : Bool) (file text : List ℕ) (info : CheckInfo) → (is_shown ≡ true → IsShown file text info) →
-    (is_shown ≡ false → IsNotAccepted file text info) → IsJudgedAs file text info
-judged_as true file text info shown not_shown = inl (shown refl)
-judged_as false file text info shown not_shown = inr (not_shown refl)
+either : (form depth : ℕ) (info : CheckInfo) (is_shown : Bool) (text : List ℕ) → IsVerdictText form depth info is_shown text →
+    IsTextOfVerdict form depth info text
+either form depth info true text tells = inl tells
+either form depth info false text tells = inr tells
 
-pub returns-in-Ok-clause-judged : goal.returns-in-Ok-clause-judged
-returns-in-Ok-clause-judged c = λ _.
-    let judged = c.in-Ok.explained.judged in
-    judged_as judged.is_shown c.args.pages.now c.args.cert.now c.info_of_judged.result
-    (λ yes. record {
-      end = judged.end;
-      same_end = c.info_of_judged.ensures.end;
-      checked = rw c.info_of_judged.ensures.batches (c.in-Ok.ensures.shown yes);
-    })
-    (λ no. record {
-      end = judged.end;
-      same_end = c.info_of_judged.ensures.end;
-      read = rw c.info_of_judged.ensures.batches (c.in-Ok.ensures.not_shown no);
-    })
-
-pub returns-clause-of_bytes : goal.returns-clause-of_bytes
-returns-clause-of_bytes c =
-    c.refusal_in_centre-refusal.ensures.of_bytes
-    (untold_in_memory c.args.pages.now c.args.cert.now c.in-Err.fault c.in-Err.ensures.explained)
+pub returns-in-Ok-explanation-clause-no_room : goal.returns-in-Ok-explanation-clause-no_room
+returns-in-Ok-explanation-clause-no_room c = λ _.
+    let verdict = c.in-Ok.verdict in
+    let telling = c.in-Some.telling in
+    let bytes = c.as_bytes.result.now in
+    record {
+      text = bytes;
+      is = either c.args.form c.args.depth verdict.info verdict.is_shown bytes
+          (record {
+            telling = telling;
+            same_form = c.in-Some.ensures.form;
+            end = verdict.certificate.end;
+            same_end = c.in-Ok.ensures.end;
+            tells = subst (λ (n : ℕ). TellsVerdict telling verdict.is_shown verdict.certificate.end n bytes) (sym c.in-Ok.ensures.batches)
+                (subst (TellsVerdict telling verdict.is_shown verdict.certificate.end verdict.certificate.batches)
+                (sym (c.as_bytes.ensures.value ∙ c.as_str.ensures.value)) c.in-Ok-explanation.ensures.told);
+          });
+      too_small = c.hand_out.ensures.too_small (λ yes. cc);
+    }

@@ -1,7 +1,6 @@
-use Rattle.std.proofs.Common.{◌≡◌, ◌⊎◌, ℕ, subst, inl, inr, arith}
+use Rattle.std.proofs.Common.{◌≡◌, ◌⊎◌, ℕ, refl, subst, inl, inr, arith}
 use Rattle.pocsag_c.specs.Answers.{IsNoEnd}
 use Rattle.pocsag_c.specs.Plans.{IsWithoutRoom}
-use Rattle.pocsag_c.proofs.Devices.{unwritten_in_memory}
 use Rattle.pocsag_c.proofs.Fronts.{is_an_end}
 use Rattle.pocsag_c.proofs.plan.pocsag_plan.Goals as goal
 
@@ -10,14 +9,18 @@ never_two status (inl done) two = omega arith
 never_two status (inr (inl seven)) two = omega arith
 never_two status (inr (inr eight)) two = omega arith
 
+pub returns-in-Ok-clause-no_worse : goal.returns-in-Ok-clause-no_worse
+returns-in-Ok-clause-no_worse c = λ _. record {
+  end = c.in-Some.end;
+  same_end = c.in-Some.ensures;
+  bounded = c.in-Ok.texts.bounded;
+  batches = refl;
+  bound = refl;
+  no_worse = c.in-Ok.ensures.no_worse;
+}
+
 pub returns-in-Ok-clause-bad_end : goal.returns-in-Ok-clause-bad_end
 returns-in-Ok-clause-bad_end c = (
   λ two. absurd (never_two c.hand_out_both.result c.hand_out_both.ensures.status two),
   λ none. absurd (is_an_end c.in-Some.end (subst IsNoEnd c.in-Some.ensures none)),
 )
-
-pub returns-in-Err-clause-of_bytes : goal.returns-in-Err-clause-of_bytes
-returns-in-Err-clause-of_bytes c =
-    c.refusal_in_centre-refusal.ensures.of_bytes
-    (unwritten_in_memory c.args.pages.now (record { limit = c.args.limit; end = c.in-Some.end; effort = c.effort_of-effort.result })
-    c.in-Err.fault c.in-Err.ensures.explained)

@@ -1,22 +1,44 @@
 use Rattle.std.proofs.Common.{ap, refl}
 use Rattle.pocsag_c.specs.declared.refusal.StatusAt.{StatusAt}
-use Rattle.pocsag_c.proofs.Devices.{unreported_in_memory}
 use Rattle.pocsag_c.proofs.report.pocsag_report.Goals as goal
 
 pub returns-in-Err-clause-fault : goal.returns-in-Err-clause-fault
-returns-in-Err-clause-fault c = λ some other. record {
+returns-in-Err-clause-fault c = λ _ _ _. record {
   fault = c.in-Err.fault;
   why = record {
     search = record { limit = c.args.limit; end = c.in-Some.end; effort = c.effort_of-effort.result };
-    asked = record { same_end = c.in-Some.ensures; same_limit = refl };
+    asked = record { same_end = c.in-Some.ensures; same_limit = refl; same_effort = c.effort_of-effort.ensures.value };
     why = c.in-Err.ensures.explained;
   };
-  same_status = ap (λ (r : StatusAt). r.status) c.refusal_in_centre-refusal.ensures.value;
-  same_place = ap (λ (r : StatusAt). r.place) c.refusal_in_centre-refusal.ensures.value;
+  same_status = ap (λ (r : StatusAt). r.status) c.refused_stream-refusal.ensures.value;
+  same_place = ap (λ (r : StatusAt). r.place) c.refused_stream-refusal.ensures.value;
 }
 
-pub returns-in-Err-clause-of_bytes : goal.returns-in-Err-clause-of_bytes
-returns-in-Err-clause-of_bytes c =
-    c.refusal_in_centre-refusal.ensures.of_bytes
-    (unreported_in_memory c.args.pages.now (record { limit = c.args.limit; end = c.in-Some.end; effort = c.effort_of-effort.result })
-    c.args.rate c.in-Err.fault c.in-Err.ensures.explained)
+pub returns-in_default-report-clause-bad_rate : goal.returns-in_default-report-clause-bad_rate
+returns-in_default-report-clause-bad_rate c = λ _. record {
+  search = record { limit = c.args.limit; end = c.in-Some.end; effort = c.effort_of-effort.result };
+  asked = record { same_end = c.in-Some.ensures; same_limit = refl; same_effort = c.effort_of-effort.ensures.value };
+  planned = record { bounded = c.in-Ok.bounded; plan_of = c.in-Ok.ensures.plan };
+  no_rate = c.in_default-report.ensures.bad.0 refl;
+}
+
+pub returns-clause-told : goal.returns-clause-told
+returns-clause-told c = λ _. record {
+  search = record { limit = c.args.limit; end = c.in-Some.end; effort = c.effort_of-effort.result };
+  asked = record { same_end = c.in-Some.ensures; same_limit = refl; same_effort = c.effort_of-effort.ensures.value };
+  answered = record { report = c.in-Ok-report.report; bound = c.in-Ok.bounded.bound };
+  is = record {
+    bounded = c.in-Ok.bounded;
+    plan_of = c.in-Ok.ensures.plan;
+    same_bound = refl;
+    report_of = c.in-Ok-report.ensures.report;
+  };
+  bound = refl;
+  pages = refl;
+  codewords = refl;
+  in_order = refl;
+  batches = refl;
+  idles = refl;
+  bits = refl;
+  airtime = refl;
+}

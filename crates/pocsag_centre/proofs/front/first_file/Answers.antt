@@ -8,18 +8,18 @@ use Rattle.pocsag_centre.proofs.front.first_file.Goals as goal
 pub written_pages-requires : goal.written_pages-requires
 written_pages-requires c =
     let k = c.min-count.result in
-    subst (All IsListable) (sym (ap (λ (v : List Page). take k v) c.pages-2.ensures.pages)) (first_listable k c.in_ok-round.round c.pages.ensures.round)
+    subst (All IsListable) (sym (ap (λ (v : List Page). take k v) c.pages-2.ensures.pages)) (first_listable k c.in-Ok.round c.pages.ensures.round)
 
 pub returns-clause-first : goal.returns-clause-first
 returns-clause-first c =
-    let R = c.in_ok-round.round in
+    let R = c.in-Ok.round in
     let k = c.min-count.result in
     let least : k ≡ min c.args.count (length R) = cc (c.min-count.ensures, ap length c.pages.ensures.pages) in
-    let texts = c.pages_of_files_are_spellable.ensures.files c.args.pages.now R c.in_ok-round.ensures.ok in
+    let texts = c.pages_of_files_are_spellable.ensures.files c.args.pages.now R c.in-Ok.ensures.ok in
     IfOk-weaker c.written_pages.result _ _
     (λ file written. record {
       round = R;
-      read = c.in_ok-round.ensures.ok;
+      read = c.in-Ok.ensures.ok;
       holds = first_held R c.pages.ensures.round texts c.page_files_are_read_back.ensures.pages c.args.count k _ file.items least
           (ap (λ (v : List Page). take k v) c.pages-2.ensures.pages) written;
     })

@@ -94,8 +94,8 @@ put_node-put_each-requires-in-Close t c =
           (
             says.0,
             (
-              rw c.as_slice-in-Close.ensures.value c.closing_ways-out.ensures.allowed,
-              ap length (c.as_slice-in-Close.ensures.value ∙ c.closing_ways-out.ensures.items) ∙ says.1 ∙ count_of_bounds c.in-Close.children.items
+              rw c.as_slice-in-Close.ensures.value c.ending_ways-out.ensures.allowed,
+              ap length (c.as_slice-in-Close.ensures.value ∙ c.ending_ways-out.ensures.items) ∙ says.1 ∙ count_of_bounds c.in-Close.children.items
                   ∙ sym (ap length c.deref-in-Close.ensures.value),
             ),
           ),
@@ -124,7 +124,7 @@ put_node-returns-in-Close t c =
     (λ all. held_node c.args.inquiry.now.classes.now c.args.inquiry.now.end c.args.inquiry.now.batches c.args.inquiry.now.depth
     c.args.place.now.limits c.args.place.now.above c.args.place.now.reached (bound_tree_of c.args.tree.now) _ _ _ _ _ _ (omega arith)
     c.fact_of-fact.ensures c.in_ok-shares.ensures held c.in_ok-put_fact.ensures.put all
-    (rw (is, c.as_slice-in-Close.ensures.value, c.closing_ways-out.ensures.items, c.deref-in-Close.ensures.value) refl))
+    (rw (is, c.as_slice-in-Close.ensures.value, c.ending_ways-out.ensures.items, c.deref-in-Close.ensures.value) refl))
     c.put_each-in-Close.ensures
 
 pub put_node-returns-in_ok-high-in-Split : goal.put_node-returns-in_ok-high-in-Split

@@ -1,0 +1,54 @@
+use crate::desk::Desk;
+use crate::error_stream::ErrorStream;
+use crate::fault::{Failure, FileFault};
+use crate::lines::{put_whole, tell_fault};
+use crate::role::Names;
+use pocsag_words::{GrowingSink, MemorySink};
+use std::alloc::Global;
+
+// The longest line of a fault in bytes.
+const LINE: usize = 200;
+
+/// Standard output and standard error of a command that runs over memory. What they took is printed when it has ended.
+#[derive(Drop)]
+pub struct MemoryStreams<F: Failure + Drop> {
+    pub out: GrowingSink,
+    pub err: ErrorStream<F, MemorySink<LINE>>,
+}
+
+impl<F: Failure + From<FileFault> + PartialEq + Drop> MemoryStreams<F> {
+    /// Streams that took nothing.
+    pub fn new(alloc: Global) -> MemoryStreams<F> {
+        MemoryStreams {
+            out: GrowingSink::new(alloc),
+            err: ErrorStream::new(MemorySink::new(LINE, LINE as u64)),
+        }
+    }
+
+    /// Prints what the streams took, and behind it the line of `--verbose`. `done` is the exit status of the command, or a fault of
+    /// the files that it was to run over or has to write. A writer over memory fails where memory is refused, and nowhere else, so
+    /// its fault is told as want of memory. Returns the exit status.
+    pub fn end(self, desk: Desk<'_>, names: Names<'_>, done: Result<u8, F>) -> u8 {
+        let MemoryStreams { out, err } = self;
+        let errors = &mut desk.err();
+        let status = match (done, err.fault()) {
+            (Err(fault), _) => tell_fault(errors, fault),
+            (Ok(_), Some(fault)) if fault == F::from(FileFault::Write) => {
+                tell_fault(errors, FileFault::OutOfMemory)
+            }
+            (Ok(status), Some(_)) => {
+                let _ = put_whole(errors, err.stream().bytes());
+                status
+            }
+            (Ok(status), None) => match put_whole(&mut desk.out(), out.into_bytes().as_slice()) {
+                Ok(()) => {
+                    desk.forget_trouble();
+                    status
+                }
+                Err(fault) => tell_fault(errors, fault),
+            },
+        };
+        desk.tell_more(names);
+        status
+    }
+}

@@ -1,0 +1,91 @@
+#!/usr/bin/env python3
+"""The completions of three shells, beside the help of the program: the same words for each, and what each shell offers where it
+is installed.
+
+It takes the binary that the gate left in crates/pocsag_app/out. The last line is 'N passed, M failed'.
+"""
+
+import pathlib
+import re
+import shlex
+import shutil
+import subprocess
+import sys
+
+sys.dont_write_bytecode = True
+sys.path.insert(0, str(pathlib.Path(__file__).resolve().parents[1]))
+from tally import PROGRAM, TOP, run_parts
+
+FILES = {shell: TOP / f"completions/pocsag.{shell}" for shell in ("bash", "zsh", "fish")}
+# What prints the words that a shell offers for the last word of a line; the files among them are those of the folder.
+SCRIPTS = {
+    "bash": """. "$1"; compopt() { named=; }; named=named.csv; COMP_WORDS=($2); [ "${2% }" = "$2" ] || COMP_WORDS+=(""); COMP_CWORD=$((${#COMP_WORDS[@]} - 1))
+        _pocsag; printf '%s\\n' "${COMPREPLY[@]:-$named}" """,
+    "zsh": """compadd() { shift; print -l -- "$@" }; _files() { print named.csv }; words=(${=2}); [[ $2 == *' ' ]] && words+=(''); CURRENT=$#words; . $1""",
+    "fish": """source $argv[1]; complete -C "$argv[2]" | string replace -r "\\t.*" "" """,
+}
+NO_CONFIGURATION = {"bash": ["--norc"], "zsh": ["-f"], "fish": ["--no-config"]}
+COMMANDS = {"plan", "check", "explain", "decode", "hear", "show", "wav", "open", "report", "help"}
+# Options with a value, a command that has them, and what is offered for it.
+VALUES = [(option, "plan", set()) for option in ("--limit", "--expect", "--at-most", "--airtime")]
+VALUES += [("--depth", "explain", set()), ("--samples", "wav", set()), ("--preamble", "wav", set()), ("--rows", "show", set()), ("--nth", "show", set())]
+VALUES += [("--end", "plan", {"open", "closed", "idle"}), ("--rate", "report", {"512", "1200", "2400"}), ("--rest", "plan", {"named.csv"})]
+VALUES += [("--why", "plan", {"named.csv"}), ("--journal", "open", {"named.csv"})]
+
+
+def helped(*words):
+    return subprocess.run([str(PROGRAM), *words, "--help"], capture_output=True, text=True, timeout=60).stdout
+
+
+def options_of(text):
+    """The options that a help lists, with their values as they are named there."""
+    part = re.search(r"^Options:\n((?:  .*\n)+)", text, re.M)[1]
+    spelled = [re.split(r"  +", line.strip())[0] for line in part.splitlines() if line.lstrip().startswith("-")]
+    return dict(re.findall(r"(?<![\w<])(--?[\w-]+)(?: (<[\w-]+>))?", " ".join(spelled)))
+
+
+def due():
+    """The options of each command; those of the program itself as those of pocsag. The command help has none of its own."""
+    return {name: options_of(helped(*([] if name == "pocsag" else [name]))) for name in {"pocsag", *COMMANDS} - {"help"}}
+
+
+def try_words(tally, _folder):
+    """Each option of each help stands in each file, and no other."""
+    named = {line.split()[0] for line in re.search(r"^Commands:\n((?:  .*\n)+)", helped(), re.M)[1].splitlines()}
+    tally.check("each command is tried here", named == COMMANDS, named)
+    with_value = {option for options in due().values() for option, value in options.items() if value}
+    tally.check("each option with a value is tried here", with_value == {option for option, _, _ in VALUES}, with_value)
+    for shell, path in FILES.items():
+        text = path.read_text()
+        found = {name: set(options.split()) for name, options in re.findall(r"^ +\[?(\w+)\]?='([^']*)'", text, re.M) if options}
+        for name, options in due().items():
+            tally.check(f"{shell}: the options of {name}", found.get(name) == set(options), (found.get(name), options))
+        listed = re.search(r"(?:commands|named)[= ]'?(plan [\w ]*)", text)[1]
+        tally.check(f"{shell}: the commands", set(listed.split()) == COMMANDS, listed)
+
+
+def offered(shell, line, folder):
+    """What a shell offers for the last word of a line, as far as the word goes."""
+    words = [shell, *NO_CONFIGURATION[shell], "-c", SCRIPTS[shell], *([shell] if shell != "fish" else []), str(FILES[shell]), line]
+    done = subprocess.run(words, cwd=folder, capture_output=True, text=True, timeout=60)
+    begun = line.rsplit(" ", 1)[-1]
+    return {word for word in done.stdout.split() if word.startswith(begun)}, done.stderr
+
+
+def try_shells(tally, folder):
+    """What each shell offers, where it is installed."""
+    (folder / "named.csv").write_text("")
+    for shell in FILES:
+        if not shutil.which(shell):
+            continue
+        rows = [("pocsag ", COMMANDS), ("pocsag re", {"report"}), ("pocsag help ", COMMANDS), ("pocsag plan --end c", {"closed"})]
+        rows += [(f"pocsag {'' if name == 'pocsag' else name + ' '}-", set(options)) for name, options in due().items()]
+        rows += [(f"pocsag {name} ", {"named.csv"}) for name in COMMANDS - {"help"}]
+        rows += [(f"pocsag {name} {option} ", values) for option, name, values in VALUES]
+        for line, wanted in rows:
+            found = offered(shell, line, folder)
+            tally.check(f"{shell}: {shlex.quote(line)}", found == (wanted, ""), (found, wanted))
+
+
+if __name__ == "__main__":
+    sys.exit(run_parts(try_words, try_shells))

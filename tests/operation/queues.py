@@ -1,0 +1,358 @@
+#!/usr/bin/env python3
+"""The queue of docs/OPERATION.md: examples/next-slot and examples/enqueue under kills, refused calls, on two file systems
+and on full disks. Each page that `enqueue` took must be sent once, in order.
+
+    tests/operation/queues.py          ends a script at each call that changes something outside its process
+    tests/operation/queues.py --all    at each system call
+
+Where strace is missing, commands are killed before and behind their work, and not at their calls. It takes the binary that
+the gate left in crates/pocsag_app/out. The last line is 'N passed, M failed'.
+"""
+
+import contextlib
+import os
+import pathlib
+import random
+import signal
+import subprocess
+import sys
+import tempfile
+import threading
+import time
+
+sys.dont_write_bytecode = True
+sys.path.insert(0, str(pathlib.Path(__file__).resolve().parents[1]))
+from channel import HEADER, KILLS, Channel, calls_of, can_trace
+from tally import run_parts
+
+IS_EACH = sys.argv[1:] == ["--all"]
+SECOND = "/dev/shm"  # where the superuser is missing, a second file system
+PAGES = 150  # that are sent under random kills
+
+
+@contextlib.contextmanager
+def disk(folder, size="4m"):
+    """A file system of its own, or a folder of another one, or none."""
+    folder.mkdir()
+    mounted = subprocess.run(["mount", "-t", "tmpfs", "-o", f"size={size}", "queues", str(folder)], capture_output=True).returncode == 0
+    try:
+        if mounted:
+            yield folder
+        elif os.path.isdir(SECOND) and os.stat(SECOND).st_dev != folder.stat().st_dev and size == "4m":
+            with tempfile.TemporaryDirectory(dir=SECOND) as name:
+                yield pathlib.Path(name)
+        else:
+            yield None
+    finally:
+        if mounted:
+            subprocess.run(["umount", "-l", str(folder)], check=True)
+
+
+def after_fault(tally, channel, name):
+    """What must hold once a run of next-slot met a fault: the transmitter takes what is there, a page is added, and the next
+    run sends a slot."""
+    is_good = channel.take()
+    added = channel.add()
+    done = channel.send()
+    is_good &= channel.take()
+    holds = is_good and added[0] == 0 and done == (0, "", "") and channel.is_balanced()
+    tally.check(name, holds, (is_good, added, done, channel.told()))
+
+
+def turns_of(channel):
+    """The turns of the commands of next-slot in a run that sends a slot."""
+    channel.fill()
+    channel.send(at=0)
+    return channel.started()
+
+
+def try_kills(tally, folder):
+    """Kills before and behind each command of next-slot, of the command alone or of all."""
+    channel = Channel(folder / "kills")
+    commands = turns_of(channel)
+    for turn, command in enumerate(commands, 1):
+        for how in KILLS:
+            channel.fill()
+            status = channel.send(at=turn, fault=how)[0]
+            tally.check(f"next-slot tells {how} at {turn} {command}", status != 0, status)
+            after_fault(tally, channel, f"{how} at {turn} {command}")
+    tally.check("next-slot starts commands", len(commands) > 10, commands)
+
+
+def chosen(calls, what):
+    """The calls to try a fault at."""
+    if what == "signal=KILL":
+        return [it for it in calls if IS_EACH or not it.is_idle]
+    return [it for it in calls if it.can_fail]
+
+
+def try_calls(tally, folder):
+    """Ends next-slot at its system calls, and has each call that works on files refused once. `outgoing` is elsewhere."""
+    if not can_trace():
+        return
+    with disk(folder / "other disk") as other:
+        channel = Channel(folder / "calls", outgoing=other)
+        channel.fill()
+        calls = calls_of(channel, "next-slot")
+        channel.take()
+        tally.check("next-slot makes calls", len(calls) > 500 and channel.is_balanced(), (len(calls), channel.told()))
+        for what in ("signal=KILL", "error=EIO"):
+            for call in chosen(calls, what):
+                channel.fill()
+                status = channel.send(**call.fault(what))[0]
+                tally.check(f"next-slot tells {what} at {call}", status != 0 or "KILL" not in what, status)
+                after_fault(tally, channel, f"next-slot: {what} at {call}")
+
+
+def planned(channel, commands):
+    """Ends next-slot as soon as a slot is planned, with its first renaming."""
+    channel.fill()
+    channel.send(at=commands.index("mv") + 1, fault=KILLS[3])
+
+
+def after_addition(tally, channel, name):
+    """What must hold once `enqueue` met a fault while a planned slot waited: the slot is sent, and the page counts or not."""
+    done = channel.send()
+    is_good = channel.take()
+    tally.check(name, is_good and done == (0, "", "") and channel.is_balanced(), (done, channel.told()))
+
+
+def try_additions(tally, folder):
+    """The same of enqueue, while the queue behind a planned slot is in rest.csv."""
+    channel = Channel(folder / "additions")
+    commands = turns_of(channel)
+    channel.take()
+    planned(channel, commands)
+    channel.add(at=0)
+    for turn, command in enumerate(channel.started(), 1):
+        for how in KILLS:
+            planned(channel, commands)
+            status = channel.add(at=turn, fault=how)[0]
+            tally.check(f"enqueue tells {how} at {turn} {command}", status != 0, status)
+            after_addition(tally, channel, f"enqueue: {how} at {turn} {command}")
+    if not can_trace():
+        return
+    planned(channel, commands)
+    page = channel.next_page()
+    calls = calls_of(channel, "enqueue", *page)
+    channel.added.append(page)
+    for what in ("signal=KILL", "error=EIO"):
+        for call in chosen(calls, what):
+            planned(channel, commands)
+            status = channel.add(**call.fault(what))[0]
+            tally.check(f"enqueue tells {what} at {call}", status != 0 or "KILL" not in what, status)
+            after_addition(tally, channel, f"enqueue: {what} at {call}")
+
+
+def transmit(channel, ends, are_good):
+    """A transmitter that looks for slots all the time."""
+    while not ends.is_set():
+        are_good.append(channel.take())
+
+
+def kill_at_random(channel, chance):
+    """Runs next-slot and enqueue at the same time and ends next-slot at random moments, its shell alone or all of it; gives how
+    often it was ended."""
+    silent = {"stdout": subprocess.DEVNULL, "stderr": subprocess.DEVNULL}
+    ended, longest = 0, 0.05
+    for _ in range(PAGES):
+        sending, page = channel.start("next-slot", **silent), channel.next_page()
+        adding = channel.start("enqueue", *page, **silent)
+        time.sleep(chance.uniform(0, longest))
+        if sending.poll() is None:
+            chance.choice([os.kill, os.killpg])(sending.pid, signal.SIGKILL)
+        was_ended = sending.wait(60) < 0
+        ended += was_ended
+        longest = min(longest * (1.1 if was_ended else 0.8), 1.0)
+        if adding.wait(60) == 0:
+            channel.added.append(page)
+    return ended
+
+
+def try_random(tally, folder):
+    """Random kills under a transmitter that never waits and a queue that grows; then the queue is sent to its end."""
+    with disk(folder / "second disk") as other:
+        channel, ends, are_good = Channel(folder / "random", outgoing=other), threading.Event(), []
+        transmitter = threading.Thread(target=transmit, args=(channel, ends, are_good))
+        transmitter.start()
+        ended = kill_at_random(channel, random.Random(7))
+        tally.check("each page is taken while next-slot is killed", len(channel.added) == PAGES, len(channel.added))
+        for _ in range(PAGES):
+            done = channel.send()
+            if not channel.waiting():
+                break
+        ends.set()
+        transmitter.join()
+        tally.check("a polling transmitter meets whole slots", channel.take() and all(are_good), len(are_good))
+        tally.check("each page is sent once, in order", channel.is_balanced() and not channel.waiting(), channel.told())
+        tally.check("the last runs say nothing", done == channel.send() == (0, "", ""), done)
+        tally.check("next-slot was ended at times", PAGES // 4 < ended < PAGES, ended)
+
+
+def crowd(folder):
+    """Fills the disk of a folder, and gives the file to remove."""
+    path = folder / ".crowd"
+    with contextlib.suppress(OSError), path.open("wb", buffering=0) as file:
+        while file.write(bytes(1 << 12)):
+            pass
+    return path
+
+
+def try_full_disks(tally, folder):
+    """A full disk under `outgoing`, before a slot is there and before it has its name, and then under the queue."""
+    with disk(folder / "outgoing disk", "128k") as full:
+        if full:
+            channel = Channel(folder / "full outgoing", outgoing=full)
+            commands = turns_of(channel)
+            last_copy = len(commands) - commands[::-1].index("cp")
+            for fault in ({}, {"at": last_copy + 3, "fault": KILLS[3]}):
+                channel.fill()
+                channel.send(**fault)
+                channel.take()
+                channel.fill()
+                crowding = crowd(full)
+                done = channel.send()
+                tally.check("a full outgoing is told", done[0] == 3 and "next-slot: cannot " in done[2], done)
+                crowding.unlink()
+                after_fault(tally, channel, f"a full outgoing {fault}")
+    with disk(folder / "queue disk", "128k") as full:
+        if full:
+            channel = Channel(folder / "full queue", folder=full)
+            channel.fill()
+            crowding = crowd(full)
+            before = (full / "queue.csv").read_bytes()
+            done = channel.add(), channel.send()
+            holds = (done[0][0], done[1][0]) == (3, 3) and (full / "queue.csv").read_bytes() == before
+            tally.check("a full disk of the queue is told", holds, done)
+            crowding.unlink()
+            after_fault(tally, channel, "a full disk of the queue")
+
+
+# What stands in the folder, the status and the first line of the fault. A refusal leaves all files as they are.
+LONG = "9,alpha," + 999 * "x" + "\n"
+REFUSED = [
+    ("the queue is refused", {"queue.csv": HEADER + "8,tone9,\n"}, 1, "pocsag: record 1: unknown kind"),
+    ("a queue with a quote", {"queue.csv": HEADER + '8,alpha,"a\n'}, 1, "pocsag: record 1: the quote in line 2 is not closed"),
+    ("an empty file", {"queue.csv": ""}, 1, "pocsag: the header must be address,kind,message"),
+    ("no words of a slot", {"slot.options": "\n"}, 2, "error: "),
+    ("wrong words of a slot", {"slot.options": "--at-most x\n"}, 2, "error: "),
+    ("words that are files", {"slot.options": "*\n"}, 2, "error: "),
+    ("the first page is too long", {"queue.csv": HEADER + LONG + "8,tone0,\n"}, 4, "pocsag: page 1 needs 23 batches"),
+    ("no queue", {"queue.csv": None}, 3, "pocsag: cannot read or open a file"),
+    ("no words", {"slot.options": None}, 3, "cat: "),
+    ("no number", {"outgoing/.number": None}, 3, "next-slot: cannot read outgoing/.number"),
+    ("a number of something else", {"outgoing/.number": "1e3\n"}, 3, "next-slot: outgoing/.number is not a number"),
+    ("an octal number", {"outgoing/.number": "010\n"}, 3, "next-slot: outgoing/.number is not a number"),
+    ("a number that is empty", {"outgoing/.number": ""}, 3, "next-slot: cannot read outgoing/.number"),
+]
+
+
+def files_of(folder):
+    return {str(path.relative_to(folder)): path.read_bytes() for path in folder.rglob("*") if path.is_file()}
+
+
+def try_statuses(tally, folder):
+    """Each status of next-slot: what it says, and that nothing changes where it refuses."""
+    channel = Channel(folder / "statuses")
+    tally.check("an empty queue", channel.send() == (0, "", ""))
+    tally.check("stays empty", files_of(channel.folder)["queue.csv"] == HEADER.encode() and not channel.take() is False and not channel.slots)
+    for number, (name, files, status, first) in enumerate(REFUSED):
+        channel = Channel(folder / f"refused {number}")
+        channel.fill()
+        for path, text in files.items():
+            (channel.folder / path).unlink()
+            if text is not None:
+                (channel.folder / path).write_text(text)
+        before = files_of(channel.folder)
+        done = channel.send()
+        tally.check(name, (done[0], done[1]) == (status, "") and done[2].startswith(first) and files_of(channel.folder) == before, (done, before))
+
+
+def try_outgoing(tally, folder):
+    """A transmitter's folder that is away, that comes back, and that has the next name already; and a lock that others hold."""
+    channel = Channel(folder / "outgoing")
+    commands = turns_of(channel)
+    channel.take()
+    for turn in range(1, len(commands) + 1):
+        channel.fill()
+        channel.send(at=turn, fault=KILLS[3])
+        channel.take()
+        before = files_of(channel.folder)
+        channel.outgoing.rename(folder / "away")
+        channel.outgoing.mkdir()
+        done = channel.send()
+        tally.check(f"outgoing is away at {turn}", done == (3, "", "next-slot: cannot read outgoing/.number\n"), done)
+        channel.outgoing.rmdir()
+        (folder / "away").rename(channel.outgoing)
+        tally.check(f"and all else is as it was at {turn}", files_of(channel.folder) == before, os.listdir(channel.folder))
+        after_fault(tally, channel, f"outgoing is back at {turn}")
+    number = int((channel.outgoing / ".number").read_text())
+    other = channel.outgoing / f"{number + 1:08}.bin"
+    other.write_bytes(b"a slot of another")
+    channel.fill()
+    done = channel.send()
+    tally.check("a name that is taken", done[0] == 3 and done[2].startswith(f"next-slot: outgoing/{other.name} exists"), done)
+    tally.check("and stays", other.read_bytes() == b"a slot of another")
+    other.unlink()
+    after_fault(tally, channel, "a name that is free again")
+    channel.fill()
+    with subprocess.Popen(["flock", str(channel.folder), "sleep", "0.5"]) as holder:
+        time.sleep(0.1)
+        start = time.monotonic()
+        done = channel.send(), channel.add(), holder.wait()
+        tally.check("both wait for the lock", done[0] == (0, "", "") and done[1][0] == 0 and time.monotonic() - start > 0.3, done)
+
+
+MESSAGES = ['say "hi"', '"', '""', "a,b", "two\nlines\n", "back\\slash \\n $HOME `ls` '", " spaces", "\rreturn", "*", "-n", "%s"]
+# What enqueue refuses, its status and the first line of the fault.
+NOT_ADDED = [
+    ((), 2, "usage: enqueue ADDRESS KIND MESSAGE"),
+    (("8", "tone0"), 2, "usage: enqueue ADDRESS KIND MESSAGE"),
+    (("9", "tone9", ""), 1, "pocsag: record 1: unknown kind"),
+    (("9", "numeric", "x"), 1, "pocsag: record 1: "),
+    (("2007664", "tone0", ""), 1, "pocsag: record 1: "),
+    (("9", "alpha", "\u00fc"), 1, "pocsag: record 1: "),
+    (("9", "alpha", 999 * "x"), 1, "pocsag: page 1 needs 23 batches"),
+    (("9", "alpha", 4001 * "x"), 1, "pocsag: record 1: "),
+    (("", "", ""), 1, "pocsag: record 1: "),
+    (("9,tone0,\n10", "tone0", ""), 1, "pocsag: pages 2, where 1 were expected"),
+    (("9,alpha,x\n10", "alpha", "y"), 1, "pocsag: pages 2, where 1 were expected"),
+    (('9,alpha,"', "x", "y"), 1, "pocsag: record 1: "),
+    (('"9', "alpha", "y"), 1, "pocsag: record 1: "),
+    (("8", "alpha", "again"), 4, "pocsag: record 3: the address is already there"),
+]
+
+
+def try_enqueue(tally, folder):
+    """Which pages enqueue takes, that they are sent as they were given, and what it says of others."""
+    channel = Channel(folder / "enqueue", options="--at-most 9")
+    for number, message in enumerate(MESSAGES):
+        done = channel.run("enqueue", str(number), "alpha", message)
+        tally.check(f"enqueue {message!r}", done == (0, "", ""), done)
+    tally.check("they are sent", channel.send() == (0, "", "") and channel.take())
+    sent = {number: message for number, _, message in channel.slots[0]}
+    tally.check("as they were given", sent == {str(number): message for number, message in enumerate(MESSAGES)}, sent)
+    queue = channel.folder / "queue.csv"
+    queue.write_text(HEADER + "7,tone0,\n8,tone0,")
+    queue.chmod(0o640)
+    for words, status, first in NOT_ADDED:
+        done = channel.run("enqueue", *words)
+        holds = (done[0], done[1]) == (status, "") and done[2].startswith(first) and queue.read_text() == HEADER + "7,tone0,\n8,tone0,"
+        tally.check(f"enqueue {words} is refused", holds and not (channel.folder / "queue.new").exists(), (done, queue.read_text()))
+    done = channel.run("enqueue", "9", "tone1", "")
+    holds = done == (0, "", "") and queue.read_text() == HEADER + '7,tone0,\n8,tone0,\n9,tone1,""\n' and queue.stat().st_mode & 0o777 == 0o640
+    tally.check("behind a last line without its end", holds, (done, queue.read_text()))
+    queue.write_text(HEADER + "".join(f"{8 * number},tone0,\n" for number in range(20000)))
+    done = channel.run("enqueue", "9", "tone1", "")
+    tally.check("20,000 pages wait", done[0] == 4 and done[2].startswith("pocsag: record 20001: too many pages"), done)
+    queue.unlink()
+    done = channel.run("enqueue", "9", "tone1", "")
+    tally.check("there is no queue", done[0] == 3 and not queue.exists(), done)
+
+
+def main():
+    return run_parts(try_statuses, try_outgoing, try_enqueue, try_kills, try_calls, try_additions, try_random, try_full_disks)
+
+
+if __name__ == "__main__":
+    sys.exit(main())

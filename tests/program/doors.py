@@ -1,0 +1,259 @@
+"""The program at its doors: words that are no text, standard streams that cannot be used, and in which order files are
+opened, emptied and judged."""
+
+import os
+import subprocess
+
+from tally import PROGRAM
+
+HEADER = b"address,kind,message\n"
+TONE = HEADER + b"8,tone0,\n"
+APART = HEADER + b"0,numeric," + b"1" * 75 + b"\n3,numeric," + b"1" * 75 + b"\n"
+BAD = HEADER + b"8,tone0,\n9,tone9,\n"
+QUOTE = HEADER + b'8,alpha,"Ward 3\n'
+OLD = b"older"
+# An emulator opens files of its own, which may take the numbers of closed streams.
+IS_EMULATED = bool(os.environ.get("POCSAG_ONE_IN"))
+NOT_TEXT = b"""error: invalid UTF-8 was detected in one or more arguments
+
+Usage: pocsag [OPTIONS] [COMMAND]
+
+For more information, try '--help'.
+"""
+CANNOT_OPEN = b"pocsag: cannot read or open a file\n"
+CANNOT_WRITE = b"pocsag: cannot write\n"
+BAD_RECORD = b"pocsag: record 2: unknown kind\n"
+BAD_LIMIT = b"pocsag: the limit must be 1 to 1000000\n"
+BAD_RATE = b"pocsag: the rate must be 512, 1200 or 2400\n"
+STOPPED = b"pocsag: search limit reached: at least 2 batches, 3 would do\n"
+NAMED_TWICE = b"pocsag: the same file is named twice\n"
+TOLD = b"pages 1\nbatches 1\n"
+PLAN = ["plan", "pages.csv", "tx.bin", "cert.bin"]
+
+
+def run(words, room, **more):
+    return subprocess.run([str(PROGRAM), *words], cwd=room, capture_output=True, timeout=110, **more)
+
+
+def said(done):
+    return done.returncode, done.stdout, done.stderr
+
+
+def fresh(folder, name):
+    """A folder with a page file, a bad one, and what `plan` writes of the first; gives these two as well."""
+    room = folder / f"doors, {name}"
+    room.mkdir()
+    for file, text in (("pages.csv", TONE), ("apart.csv", APART), ("bad.csv", BAD), ("quote.csv", QUOTE)):
+        (room / file).write_bytes(text)
+    run(PLAN, room)
+    return room, stand(room)
+
+
+def stand(room):
+    """What TX and CERT hold; nothing where they are not there."""
+    return [path.read_bytes() if path.exists() else None for path in (room / "tx.bin", room / "cert.bin")]
+
+
+def put(room, content):
+    """Has TX and CERT hold this; without content they are not there."""
+    for name in ("tx.bin", "cert.bin"):
+        (room / name).unlink(missing_ok=True)
+        if content is not None:
+            (room / name).write_bytes(content)
+
+
+def try_words_of_bytes(tally, folder):
+    """A word that is no UTF-8 text is usage, wherever it stands, and no file is touched."""
+    room, made = fresh(folder, "bytes")
+    before = sorted(os.listdir(room))
+    wrong = b"a\xff"
+    cases = [
+        [wrong], [b"\xc3"], [b"--" + wrong], [b"--verbose", wrong], [b"help", wrong], [b"plan", b"pages.csv", wrong, b"cert.bin"],
+        [b"plan", b"pages.csv", b"tx.bin", b"cert.bin", b"--limit", wrong], [b"plan", b"pages.csv", b"tx.bin", b"cert.bin", b"--end=" + wrong],
+        [b"check", wrong, b"cert.bin"], [b"report", wrong, b"--rate", b"512"], [b"decode", wrong], [b"hear", wrong, b"tx.bin"],
+        [b"show", b"tx.bin", b"--rows", wrong], [b"wav", wrong], [b"open", wrong], [b"explain", b"pages.csv", wrong], [b"--help", wrong],
+    ]  # fmt: skip
+    for words in cases:
+        done = run(words, room)
+        holds = said(done) == (2, b"", NOT_TEXT) and stand(room) == made and sorted(os.listdir(room)) == before
+        tally.check(f"no text {words}", holds, done)
+
+
+# Calls of each command that print, and what standard input holds where it is read.
+PRINTING = [
+    "", "--help", "help plan", "--version", "plan pages.csv tx.bin cert.bin", "plan pages.csv tx.bin cert.bin --always --verify",
+    "plan pages.csv tx.bin cert.bin --keep", "plan pages.csv - cert.bin", "check pages.csv cert.bin", "check apart.csv cert.bin",
+    "report pages.csv --rate 512", "report pages.csv --rate 512 --frames", "decode tx.bin", "decode tx.bin --repair", "decode tx.bin --capture",
+    "hear 8 tx.bin", "hear 8 tx.bin --capture", "show tx.bin", "show tx.bin --svg", "show tx.bin --list", "show tx.bin --capture", "wav tx.bin",
+    "open", "open pages.csv", "explain pages.csv cert.bin", "explain apart.csv cert.bin", "explain pages.csv cert.bin --json",
+    "explain pages.csv cert.bin --svg",
+]  # fmt: skip
+STDIN = {"": TONE, "open": b"add,9,tone0,\n", "open pages.csv": b"list\n"}
+
+
+def unheard(words, room, stdin, output):
+    """Runs the program with a standard output that takes nothing: closed, a pipe that nobody reads, or a full device."""
+    words = [str(PROGRAM), *words]
+    if output == "closed":
+        words = ["sh", "-c", 'exec "$@" >&-', "sh", *words]
+    ours, theirs = os.pipe()
+    os.close(ours)
+    with open("/dev/full", "wb") as full:
+        taker = full.fileno() if output == "full" else theirs
+        done = subprocess.run(words, cwd=room, input=stdin, stdout=taker, stderr=subprocess.PIPE, timeout=60)
+    os.close(theirs)
+    return done
+
+
+def try_unheard(tally, folder):
+    """Each command says that it cannot write, and `plan` has made its files whole."""
+    room, made = fresh(folder, "unheard")
+    for call in PRINTING:
+        for output in ("unread", "full") if IS_EMULATED else ("closed", "unread", "full"):
+            for more in ([],) if "help" in call or "--version" in call else ([], ["--verbose"]):
+                put(room, OLD) if call.startswith("plan") else run(PLAN, room)
+                done = unheard([*call.split(), *more], room, STDIN.get(call, b""), output)
+                told = b"".join(done.stderr.splitlines(True)[:1]) if more else done.stderr
+                holds = (done.returncode, told) == (3, CANNOT_WRITE) and (stand(room) == made or " - " in call)
+                tally.check(f"{output} output: {call} {more}", holds, (done, stand(room)))
+
+
+# Words, closed streams, the status, what is told on the other streams, and what TX and CERT are then: as they were, emptied, or
+# those of the plan.
+CLOSED = [
+    ("", "<&-", 3, b"", CANNOT_OPEN, "old"),
+    ("decode -", "<&-", 3, b"", CANNOT_OPEN, "old"),
+    ("hear 8 -", "<&-", 3, b"", CANNOT_OPEN, "old"),
+    ("check pages.csv -", "<&-", 3, b"", CANNOT_OPEN, "old"),
+    ("report - --rate 512", "<&-", 3, b"", CANNOT_OPEN, "old"),
+    ("plan - tx.bin cert.bin", "<&-", 3, b"", CANNOT_OPEN, "empty"),
+    ("plan pages.csv tx.bin cert.bin", "<&-", 0, TOLD, b"", "made"),
+    ("plan pages.csv tx.bin cert.bin", "2>&-", 0, TOLD, b"", "made"),
+    ("plan pages.csv tx.bin cert.bin", "<&- 2>&-", 0, TOLD, b"", "made"),
+    ("plan pages.csv tx.bin cert.bin", "<&- >&-", 3, b"", CANNOT_WRITE, "made"),
+    ("plan pages.csv tx.bin cert.bin", "<&- >&- 2>&-", 3, b"", b"", "made"),
+    ("plan bad.csv tx.bin cert.bin", "2>&-", 1, b"", b"", "empty"),
+    ("plan bad.csv tx.bin cert.bin", "<&- >&- 2>&-", 1, b"", b"", "empty"),
+    ("check bad.csv cert.bin", "2>&-", 1, b"", b"", "old"),
+    ("bogus", "2>&-", 2, b"", b"", "old"),
+]
+
+
+def try_closed(tally, folder):
+    """No file that the program opens takes the place of a closed stream, and a closed standard error changes no status."""
+    room, made = fresh(folder, "closed")
+    found = {"old": [OLD, OLD], "empty": [b"", b""], "made": made}
+    for words, closed, status, out, err, left in [] if IS_EMULATED else CLOSED:
+        put(room, OLD)
+        done = subprocess.run(["sh", "-c", f'"$0" {words} {closed}', str(PROGRAM)], cwd=room, input=b"", capture_output=True, timeout=60)
+        tally.check(f"{words} {closed}", said(done) == (status, out, err) and stand(room) == found[left], (done, stand(room)))
+
+
+def try_limits(tally, folder):
+    """`plan` opens PAGES, and empties TX and CERT, before it refuses a limit; the limit comes before the round."""
+    room, _ = fresh(folder, "limits")
+    cases = [
+        (["pages.csv", "tx.bin", "cert.bin"], b"", 1, BAD_LIMIT, b""),
+        (["bad.csv", "tx.bin", "cert.bin"], b"", 1, BAD_LIMIT, b""),
+        (["-", "tx.bin", "cert.bin"], TONE, 1, BAD_LIMIT, b""),
+        (["none.csv", "tx.bin", "cert.bin"], b"", 3, CANNOT_OPEN, OLD),
+        ([".", "tx.bin", "cert.bin"], b"", 3, CANNOT_OPEN, OLD),
+        (["pages.csv", "none/tx.bin", "cert.bin"], b"", 3, CANNOT_OPEN, OLD),
+        (["pages.csv", "tx.bin", "none/cert.bin"], b"", 3, CANNOT_OPEN, OLD),
+        (["pages.csv", "tx.bin", "./tx.bin"], b"", 1, NAMED_TWICE, OLD),
+        (["pages.csv", "pages.csv", "cert.bin"], b"", 1, NAMED_TWICE, OLD),
+    ]
+    for files, stdin, status, told, left in cases:
+        for limit in ("0", "1000001", "4294967295"):
+            for always in ([], ["--always"]):
+                put(room, OLD)
+                done = run(["plan", *files, "--limit", limit, *always], room, input=stdin)
+                holds = said(done) == (status, b"", told) and stand(room) == [left, left] and (room / "pages.csv").read_bytes() == TONE
+                tally.check(f"plan {files} --limit {limit} {always}", holds, (done, stand(room)))
+    put(room, None)
+    done = run([*PLAN, "--limit", "0"], room)
+    tally.check("TX and CERT are there and empty", said(done) == (1, b"", BAD_LIMIT) and stand(room) == [b"", b""], (done, stand(room)))
+
+
+def try_reports(tally, folder):
+    """`report` judges the page file, then the limit, then the search, and the rate last."""
+    room, _ = fresh(folder, "reports")
+    cases = [
+        ("none.csv", "9", "0", 3, CANNOT_OPEN),
+        ("bad.csv", "9", "0", 1, BAD_RECORD),
+        ("bad.csv", "512", "0", 1, BAD_RECORD),
+        ("bad.csv", "9", "1", 1, BAD_RECORD),
+        ("pages.csv", "9", "0", 1, BAD_LIMIT),
+        ("pages.csv", "512", "1000001", 1, BAD_LIMIT),
+        ("apart.csv", "9", "1", 1, STOPPED),
+        ("apart.csv", "9", "3", 1, BAD_RATE),
+    ]
+    for pages, rate, limit, status, told in cases:
+        for more in ([], ["--frames"], ["--end", "closed"]):
+            done = run(["report", pages, "--rate", rate, "--limit", limit, *more], room)
+            tally.check(f"report {pages} at {rate} to {limit} {more}", said(done) == (status, b"", told), done)
+
+
+def try_refused(tally, folder):
+    """Whatever refuses the round, TX and CERT are there and empty behind it."""
+    room, _ = fresh(folder, "refused")
+    with open(room / "large.csv", "wb") as large:
+        large.write(TONE)
+        large.truncate(300_000_000)
+    cases = [
+        (["bad.csv"], 1, BAD_RECORD),
+        (["/dev/null"], 1, b"pocsag: the header must be address,kind,message\n"),
+        (["large.csv"], 1, b"pocsag: the file is too large\n"),
+        (["/proc/self/mem"], 3, CANNOT_OPEN),
+        (["apart.csv", "--limit", "2"], 1, STOPPED),
+        (["pages.csv", "--expect", "2"], 1, b"pocsag: pages 1, where 2 were expected\n"),
+        (["quote.csv", "--strict"], 1, b"pocsag: record 1: the quote in line 2 is not closed\n"),
+    ]
+    for (pages, *more), status, told in cases:
+        for content in (OLD, None):
+            for verify in ([], ["--verify"]) if pages[0] != "/" else ([],):
+                put(room, content)
+                done = run(["plan", pages, "tx.bin", "cert.bin", *more, *verify], room)
+                holds = said(done) == (status, b"", told) and stand(room) == [b"", b""]
+                tally.check(f"refused {pages} {more} {verify} over {content}", holds, (done, stand(room)))
+    (room / "large.csv").unlink()
+
+
+def try_fronts(tally, folder):
+    """Where a file of a front cannot be opened, REST and WHY stay as they were."""
+    room, _ = fresh(folder, "fronts")
+    others = room / "rest.csv", room / "why.bin"
+    for files in (["none.csv", "tx.bin", "cert.bin"], ["apart.csv", "none/tx.bin", "cert.bin"], ["apart.csv", "tx.bin", "none/cert.bin"]):
+        put(room, OLD)
+        for path in others:
+            path.write_bytes(OLD)
+        done = run(["plan", *files, "--at-most", "2", "--rest", "rest.csv", "--why", "why.bin"], room)
+        holds = said(done) == (3, b"", CANNOT_OPEN) and [*stand(room), *(path.read_bytes() for path in others)] == 4 * [OLD]
+        tally.check(f"a front with {files}", holds, (done, stand(room)))
+
+
+def try_certificates(tally, folder):
+    """`check` and `explain` open both files, judge PAGES first, and read no more of CERT than a certificate can have."""
+    room, made = fresh(folder, "certificates")
+    with open(room / "long.bin", "wb") as long:
+        long.write(made[1])
+        long.truncate(300_000_000)
+    cases = [
+        ("pages.csv", "/dev/zero", 1, b"pocsag: not a certificate\n"),
+        ("pages.csv", "pages.csv", 1, b"pocsag: not a certificate\n"),
+        ("pages.csv", "/dev/null", 1, b"pocsag: the certificate is cut short\n"),
+        ("pages.csv", "long.bin", 1, b"pocsag: bytes after the certificate\n"),
+        ("pages.csv", "/proc/self/mem", 3, CANNOT_OPEN),
+        ("bad.csv", "/dev/zero", 1, BAD_RECORD),
+        ("bad.csv", "pages.csv", 1, BAD_RECORD),
+        ("bad.csv", "none.bin", 3, CANNOT_OPEN),
+        ("none.csv", "pages.csv", 3, CANNOT_OPEN),
+    ]
+    for pages, cert, status, told in cases:
+        for command in (["check"], ["explain"], ["explain", "--json"]):
+            done = run([*command, pages, cert], room)
+            tally.check(f"{command} {pages} {cert}", said(done) == (status, b"", told), done)
+    (room / "long.bin").unlink()
+
+
+PARTS = (try_words_of_bytes, try_unheard, try_closed, try_limits, try_reports, try_refused, try_fronts, try_certificates)
