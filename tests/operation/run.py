@@ -202,23 +202,26 @@ def try_single_calls(tally, folder):
 
 
 def try_expect(tally, folder):
-    """`--expect` refuses a round of another number of pages, and leaves the files as they are."""
+    """`--expect` refuses a round of another number of pages, and leaves empty files, or with `--keep` those that were there."""
     room = fresh(folder, "expect")
     swallowed = HEADER + b'8,tone0,\n9,alpha,"Pump 4\n16,tone0,\n24,tone0,\n'
     (room / "quote.csv").write_bytes(swallowed)
     fault = b"pocsag: pages 2, where 4 were expected\n"
     for words in (["plan", "quote.csv", "tx.bin", "cert.bin"], ["plan", "quote.csv", "tx.bin", "cert.bin", "--keep"],
                   ["plan", "-", "-", "cert.bin"], ["report", "quote.csv", "--rate", "512"], ["plan", "quote.csv", "tx.bin", "cert.bin", "--always"]):
+        for name, data in zip(("tx.bin", "cert.bin"), OLD):
+            (room / name).write_bytes(data)
         done = run([*words, "--expect", "4"], room, swallowed)
-        tally.check(f"unexpected: {words}", (done.returncode, done.stdout, done.stderr) == (1, b"", fault) and stand(room) == OLD, done)
+        left = tuple(b"" if words[0] == "plan" and "--keep" not in words and name in words else data for name, data in zip(("tx.bin", "cert.bin"), OLD))
+        tally.check(f"unexpected: {words}", (done.returncode, done.stdout, done.stderr) == (1, b"", fault) and stand(room) == left, done)
     for words in (["plan", "quote.csv", "t", "c"], ["plan", "quote.csv", "t", "c", "--keep", "--verify", "--always"], ["report", "quote.csv", "--rate", "512"]):
         plain, done = run(words, room), run([*words, "--expect", "2"], room)
         holds = plain.returncode == 0 and (done.returncode, done.stdout, done.stderr) == (0, plain.stdout, b"")
         tally.check(f"expected: {words}", holds, done)
     done = run(["plan", "bad.csv", "tx.bin", "cert.bin", "--expect", "1"], room)
-    tally.check("a fault before the count", done.stderr == b"pocsag: record 1: unknown kind\n" and stand(room) == OLD, done)
+    tally.check("a fault before the count", done.stderr == b"pocsag: record 1: unknown kind\n" and stand(room) == (b"", b""), done)
     done = run(["plan", "pages.csv", "tx.bin", "cert.bin", "--expect", "x"], room)
-    tally.check("no number", done.returncode == 2 and stand(room) == OLD, done)
+    tally.check("no number", done.returncode == 2 and stand(room) == (b"", b""), done)
 
 
 def try_verify(tally, folder):

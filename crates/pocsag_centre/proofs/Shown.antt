@@ -7,12 +7,12 @@ use Rattle.pocsag_tree.specs.BoundTrees.{BoundTree}
 use Rattle.pocsag_tree.specs.CertificateText.{IsText}
 use Rattle.pocsag_check.specs.Acceptance.{IsAcceptedFor}
 use Rattle.pocsag_plan.specs.Plans.{NoneHasFewer}
-use Rattle.pocsag_centre.specs.Commands.{IsJudged}
+use Rattle.pocsag_centre.specs.Commands.{IsVerdictTold}
 use Rattle.pocsag_centre.specs.Lines.{verdict_text}
 
 module _ (file text : List ℕ) (end : End) (batches : ℕ) (R : List Page) (tree : BoundTree) (read : verdict file ≡ Ok R) (is : IsText end batches tree text) where
   pub shown_told : (e : End) (b : ℕ) → e ≡ end → b ≡ batches → IsAcceptedFor false end R batches tree → NoneHasFewer end R batches →
-      (out out' : List ℕ) → out' ≡ out ++ verdict_text true e b → IsJudged 0 file text out out'
+      (out out' : List ℕ) → out' ≡ out ++ verdict_text true e b → IsVerdictTold 0 file text out out'
   shown_told e b same_end same_batches accepted bound out out' told = inl (
     refl,
     record {
@@ -24,7 +24,7 @@ module _ (file text : List ℕ) (end : End) (batches : ℕ) (R : List Page) (tre
   )
 
   pub not_shown_told : (e : End) (b : ℕ) → (¬ IsAcceptedFor false end R batches tree) → (out out' : List ℕ) → out' ≡ out ++ verdict_text false e b →
-      IsJudged 1 file text out out'
+      IsVerdictTold 1 file text out out'
   not_shown_told e b refused out out' told = inr (
     refl,
     record {

@@ -53,8 +53,8 @@ pub record CheckedAndTold (file certificate out_before out_after : List ℕ) : T
   pub told : out_after ≡ out_before ++ bound_text end batches
 
 -- `check` ended without a fault: with status 0 the certificate shows its batches, and with status 1 it shows nothing.
-abbrev pub IsJudged : (status : ℕ) → (file certificate out_before out_after : List ℕ) → Type 0
-IsJudged status file certificate out_before out_after =
+abbrev pub IsVerdictTold : (status : ℕ) → (file certificate out_before out_after : List ℕ) → Type 0
+IsVerdictTold status file certificate out_before out_after =
     ((status ≡ 0) × CheckedAndTold file certificate out_before out_after)
     ⊎ ((status ≡ 1) × NotShownAndTold file certificate out_before out_after)
 

@@ -4,7 +4,7 @@ ghost use Rattle.pocsag_pages.specs.declared.fault.RoundFault.TheVariants as rou
 ghost use Rattle.pocsag_tree.specs.declared.refusals.CertificateFault.TheVariants as tree_fault;
 ghost use Rattle.pocsag_shell.specs.declared.fault.FileFault.TheVariants as file_fault;
 ghost use Rattle.pocsag_shell.specs.ErrorStreams.{stream_of, told_by};
-ghost use Rattle.pocsag_centre.specs.Commands.{IsJudged};
+ghost use Rattle.pocsag_centre.specs.Commands.{IsVerdictTold};
 ghost use Rattle.pocsag_centre.specs.Faults.{centre_status};
 ghost use Rattle.pocsag_centre.specs.Judgements.{ExplainsJudging};
 ghost use Rattle.pocsag_centre.specs.Lines.{verdict_text};
@@ -30,7 +30,7 @@ pub fn run_check<P: Source, C: Source, O: Sink, E: Sink + Drop>(
 ) -> u8
     // Without a fault the verdict was told.
     ensures judged { P.tells → C.tells → O.tells → IfNone (told_by err.new)
-        (IsJudged result (P.held pages.old) (C.held cert.old) (O.taken out.old) (O.taken out.new)) }
+        (IsVerdictTold result (P.held pages.old) (C.held cert.old) (O.taken out.old) (O.taken out.new)) }
     ensures done { IfNone (told_by err.new)
         (((result ≡ 0) ⊎ (result ≡ 1)) × (stream_of err.new ≡ stream_of err.old)) }
 
@@ -59,7 +59,7 @@ fn judged<P: Source, C: Source, O: Sink>(
     out: &mut O,
 ) -> Result<u8, CentreFault>
     ensures judged { P.tells → C.tells → O.tells → IfOk result (λ status.
-        IsJudged status (P.held pages.old) (C.held cert.old) (O.taken out.old) (O.taken out.new)) }
+        IsVerdictTold status (P.held pages.old) (C.held cert.old) (O.taken out.old) (O.taken out.new)) }
     ensures done { IfOk result (λ status. (status ≡ 0) ⊎ (status ≡ 1)) }
     ensures explained { P.tells → C.tells →
         IfErr result (OrDevice (ExplainsJudging (P.held pages.old) (C.held cert.old))) }

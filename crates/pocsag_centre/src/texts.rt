@@ -13,8 +13,8 @@ that bound.
 
 With --at-most or --airtime the command plans the longest front of the file:
 its first pages, as many as so many batches carry, in the order of the file. It
-adds the line 'left L', the number of the other pages. Nothing is written if
-not even the first page fits.
+adds the line 'left L', the number of the other pages. If not even the first
+page fits, REST and the FILE of --why stay as they are.
 
 Example:
   pocsag plan pages.csv tx.bin cert.bin --strict --always --verify --keep
@@ -52,12 +52,12 @@ The same as --end idle: some receivers show a page only
 when another codeword than a message follows it";
 
 pub(crate) const EXPECT_HELP: &str = "\
-How many pages the round must have. The command refuses
-a round of another number and writes nothing";
+How many pages the round must have: a round of another
+number is refused";
 
 pub(crate) const STRICT_HELP: &str = "\
 Refuses a page file with a quote that is not closed or
-stands inside a field, before it writes anything";
+stands inside a field";
 
 // What refuses --strict in front of a command.
 pub(crate) const EARLY_STRICT: &str =

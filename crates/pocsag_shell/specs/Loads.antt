@@ -7,8 +7,8 @@ abbrev pub left_in : Loaded → List ℕ
 left_in s = drop s.place s.bytes.items
 
 -- The system refused to read on behind the bytes, or it did not.
-abbrev pub IsCut : Loaded → Bool → Type 0
-IsCut s is_cut = s.is_cut ≡ is_cut
+abbrev pub IsCutOff : Loaded → Bool → Type 0
+IsCutOff s is_cut = s.is_cut ≡ is_cut
 
 -- How many calls there were, and how many of them failed.
 abbrev pub loads_called : Loaded → ℕ

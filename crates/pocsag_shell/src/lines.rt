@@ -10,7 +10,7 @@ use pocsag_words::{Sink, write_all};
 use std::fmt::{Display, Write};
 
 // The longest text in bytes.
-const LONGEST: usize = 200;
+pub(crate) const LONGEST: usize = 200;
 
 /// Writes the bytes whole. After a fault a prefix of them was taken.
 pub fn put_whole<S: Sink>(sink: &mut S, bytes: &[u8]) -> Result<(), FileFault>

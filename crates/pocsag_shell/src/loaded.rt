@@ -19,12 +19,12 @@ pub struct Loaded {
 
 impl Loaded {
     ghost use Rattle.std.specs.Prelude.{◌≡◌};
-    ghost use Rattle.pocsag_shell.specs.Loads.{left_in, loads_called, loads_failed, IsCut};
+    ghost use Rattle.pocsag_shell.specs.Loads.{left_in, loads_called, loads_failed, IsCutOff};
 
     /// The source of these bytes, behind which the system refused to read on if it is cut.
     pub fn new(alloc: Global, bytes: Vec<u8>, is_cut: bool) -> Loaded
         ensures held { left_in result ≡ bytes.items }
-        ensures cut { IsCut result is_cut }
+        ensures cut { IsCutOff result is_cut }
         ensures calls { loads_called result ≡ 0 }
         ensures failures { loads_failed result ≡ 0 }
     {

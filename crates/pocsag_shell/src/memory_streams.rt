@@ -1,19 +1,16 @@
 use crate::desk::Desk;
 use crate::error_stream::ErrorStream;
 use crate::fault::{Failure, FileFault};
-use crate::lines::{put_whole, tell_fault};
+use crate::lines::{LONGEST, put_whole, tell_fault};
 use crate::role::Names;
 use pocsag_words::{GrowingSink, MemorySink};
 use std::alloc::Global;
-
-// The longest line of a fault in bytes.
-const LINE: usize = 200;
 
 /// Standard output and standard error of a command that runs over memory. What they took is printed when it has ended.
 #[derive(Drop)]
 pub struct MemoryStreams<F: Failure + Drop> {
     pub out: GrowingSink,
-    pub err: ErrorStream<F, MemorySink<LINE>>,
+    pub err: ErrorStream<F, MemorySink<LONGEST>>,
 }
 
 impl<F: Failure + From<FileFault> + PartialEq + Drop> MemoryStreams<F> {
@@ -21,7 +18,7 @@ impl<F: Failure + From<FileFault> + PartialEq + Drop> MemoryStreams<F> {
     pub fn new(alloc: Global) -> MemoryStreams<F> {
         MemoryStreams {
             out: GrowingSink::new(alloc),
-            err: ErrorStream::new(MemorySink::new(LINE, LINE as u64)),
+            err: ErrorStream::new(MemorySink::new(LONGEST, LONGEST as u64)),
         }
     }
 
