@@ -1,4 +1,3 @@
-pub mod Ended
 pub mod Endings
 pub mod FirstPart
 pub mod Plans

@@ -1,9 +1,12 @@
 //! `decode`, `hear` and `show` of a capture that is worked out by hand: a tone, inverted and one bit late.
 
 use pocsag_capture::{CaptureFault, Heard, Polarity, Reception};
-use pocsag_receiver::{ReceiverFault, decode_capture, hear_capture, show_capture};
+use pocsag_receiver::{
+    Listening, ReceiverFault, Viewing, run_decode_capture, run_hear_capture, run_show_capture,
+};
+use pocsag_shell::ErrorStream;
 use pocsag_show::{Rows, View};
-use pocsag_words::MemorySink;
+use pocsag_words::{MemorySink, SliceSource};
 
 // A one, and then a batch with a tone of address 8 in its first codeword, each bit as the other.
 fn late_tone() -> [u8; 69] {
@@ -32,23 +35,38 @@ fn a_late_tone_is_caught(rt: HostRuntime) {
         corrected: 0,
         lost: 0,
     };
+    let alloc = rt.alloc();
+    let mut err = ErrorStream::new(MemorySink::<100>::new(1, 1000));
     let mut listing = MemorySink::<4000>::new(1000, 4000);
-    let told = decode_capture(rt.alloc(), &capture, &mut listing).expect(&rt, "a listing");
+    let mut told = Vec::new(alloc);
+    let tx = &mut SliceSource::new(&capture);
+    assert_eq!(rt; run_decode_capture(alloc, &mut told, tx, &mut listing, &mut err), 0);
     assert_eq!(rt; told.as_slice(), [due].as_slice());
     assert_eq!(rt;
         listing.bytes(),
         b"address,kind,message\n8,tone0,\n".as_slice()
     );
     let mut other = MemorySink::<4000>::new(1000, 4000);
-    hear_capture(rt.alloc(), 16, &capture, &mut other).expect(&rt, "no pages");
+    let mut listening = Listening {
+        address: 16,
+        heard: Vec::new(alloc),
+    };
+    let tx = &mut SliceSource::new(&capture);
+    assert_eq!(rt; run_hear_capture(alloc, &mut listening, tx, &mut other, &mut err), 0);
     assert_eq!(rt; other.bytes(), b"address,kind,message\n".as_slice());
-    let mut grid = MemorySink::<4000>::new(1000, 4000);
-    let view = View::Grid(Rows::all());
-    show_capture(rt.alloc(), view, 1, &capture, &mut grid).expect(&rt, "a grid");
-    let none = show_capture(rt.alloc(), view, 2, &capture, &mut grid);
+    for (nth, status) in [(1, 0), (2, 1)] {
+        let mut grid = MemorySink::<4000>::new(1000, 4000);
+        let mut viewing = Viewing {
+            view: View::Grid(Rows::all()),
+            nth,
+            heard: Vec::new(alloc),
+        };
+        let tx = &mut SliceSource::new(&capture);
+        assert_eq!(rt; run_show_capture(alloc, &mut viewing, tx, &mut grid, &mut err), status);
+    }
     let is_none = matches!(
-        none,
-        Err(ReceiverFault::Capture(CaptureFault::NoSuchTransmission { nth: 2, found: 1 }))
+        err.fault(),
+        Some(ReceiverFault::Capture(CaptureFault::NoSuchTransmission { nth: 2, found: 1 }))
     );
     assert!(rt; is_none);
 }

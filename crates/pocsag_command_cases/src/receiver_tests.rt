@@ -1,14 +1,13 @@
 //! The commands for transmissions and `explain`, over memory: what each tells, and its exit status.
 
-use pocsag_centre::{DEFAULT_LIMIT, plan_file};
 use pocsag_decode::Repaired;
-use pocsag_explain::run_explain;
+use pocsag_explain::{ExplainFiles, run_explain};
 use pocsag_findings::Telling;
-use pocsag_plan::{Effort, Search};
-use pocsag_receiver::{run_decode, run_hear, run_show};
-use pocsag_shell::{Failure, tell_fault};
+use pocsag_plan::plan_stream;
+use pocsag_receiver::{Repairing, Showing, run_decode, run_hear, run_show};
+use pocsag_shell::{ErrorStream, Failure};
 use pocsag_show::{Rows, View};
-use pocsag_words::{End, MemorySink, MemorySource};
+use pocsag_words::{End, GrowingSink, MemorySink, MemorySource, SliceSource};
 use std::alloc::Global;
 use std::process::Abort;
 use std::test::Fail;
@@ -32,12 +31,6 @@ at least 1 batch, open end: 1 page, 1 codeword, room for 0 in 0 batches
 node 1: all slots: 1 codeword, room for 0
 so 0 batches do not suffice
 ";
-
-const OPEN: Search = Search {
-    limit: DEFAULT_LIMIT,
-    end: End::Open,
-    effort: Effort::Fewest,
-};
 
 // A command, and what its words ask for.
 #[derive(Clone, Copy)]
@@ -70,18 +63,38 @@ const SOUND: Faults = Faults {
 struct Told {
     status: u8,
     out: MemorySink<400>,
-    err: MemorySink<100>,
+    line: [u8; 100],
+    length: usize,
 }
 
-// The exit status of a command.
-fn status_of<T: Drop, F: Failure>(done: Result<T, F>, err: &mut MemorySink<100>) -> u8 {
-    match done {
-        Ok(answer) => {
-            drop(answer);
-            0
-        }
-        Err(fault) => tell_fault(err, fault),
+// The stream of a command, and the line that it took.
+fn errors<F: Failure + Drop>() -> ErrorStream<F, MemorySink<100>> {
+    ErrorStream::new(MemorySink::new(1, 1000))
+}
+
+fn told<F: Failure + Drop>(
+    status: u8,
+    out: MemorySink<400>,
+    err: &ErrorStream<F, MemorySink<100>>,
+) -> Told {
+    let mut line = [0; 100];
+    let taken = err.stream().bytes();
+    let length = taken.len().min(100);
+    line[..length].copy_from_slice(&taken[..length]);
+    Told {
+        status,
+        out,
+        line,
+        length,
     }
+}
+
+// The transmission and the certificate of a lone tone.
+fn planned(rt: &impl Abort, alloc: Global) -> (Vec<u8>, Vec<u8>) {
+    let (mut tx, mut cert) = (GrowingSink::new(alloc), GrowingSink::new(alloc));
+    let pages = &mut SliceSource::new(LONE_TONE);
+    plan_stream(alloc, pages, &mut tx, &mut cert, 100_000, End::Open).expect(rt, "a plan");
+    (tx.into_bytes(), cert.into_bytes())
 }
 
 // The bytes with what is wrong with them.
@@ -97,28 +110,34 @@ fn spoiled(alloc: Global, sent: &[u8], faults: Faults) -> Result<Vec<u8>, Fail> 
 
 // Runs a command on the plan of a lone tone.
 fn run(rt: &impl Abort, alloc: Global, command: Command, faults: Faults) -> Result<Told, Fail> {
-    let written = plan_file(alloc, LONE_TONE, OPEN).expect(rt, "a plan");
-    let bytes = spoiled(alloc, written.sent.as_slice(), faults)?;
+    let (sent, certificate) = planned(rt, alloc);
+    let bytes = spoiled(alloc, sent.as_slice(), faults)?;
     let mut tx = MemorySource::new(bytes.as_slice(), 4, faults.tx);
     let mut out = MemorySink::<400>::new(7, faults.out);
-    let mut err = MemorySink::<100>::new(1, 1000);
+    if let Command::Explain = command {
+        let mut files = ExplainFiles {
+            pages: MemorySource::new(LONE_TONE, 4, 1000),
+            cert: MemorySource::new(certificate.as_slice(), 4, faults.tx),
+        };
+        let mut err = errors();
+        let status = run_explain(alloc, Telling::Lines(3), &mut files, &mut out, &mut err);
+        return Ok(told(status, out, &err));
+    }
+    let mut err = errors();
     let status = match command {
-        Command::Decode { repair } => status_of(
-            run_decode(alloc, repair, &mut tx, &mut out),
-            &mut err,
-        ),
-        Command::Hear(address) => status_of(run_hear(alloc, address, &mut tx, &mut out), &mut err),
+        Command::Decode { repair } => {
+            let mut repairing = Repairing::new(repair);
+            run_decode(alloc, &mut repairing, &mut tx, &mut out, &mut err)
+        }
         Command::Show { view, repair } => {
-            status_of(run_show(alloc, view, repair, &mut tx, &mut out), &mut err)
+            let repairing = Repairing::new(repair);
+            let mut showing = Showing { view, repairing };
+            run_show(alloc, &mut showing, &mut tx, &mut out, &mut err)
         }
-        Command::Explain => {
-            let mut pages = MemorySource::new(LONE_TONE, 4, 1000);
-            let mut cert = MemorySource::new(written.certificate.as_slice(), 4, faults.tx);
-            let done = run_explain(alloc, Telling::Lines(3), &mut pages, &mut cert, &mut out);
-            status_of(done, &mut err)
-        }
+        Command::Hear(address) => run_hear(alloc, address, &mut tx, &mut out, &mut err),
+        Command::Explain => 255,
     };
-    Ok(Told { status, out, err })
+    Ok(told(status, out, &err))
 }
 
 const DECODE: Command = Command::Decode { repair: false };
@@ -202,25 +221,24 @@ fn transmissions_are_read(rt: HostRuntime) -> Result<(), Fail> {
         let told = run(&rt, rt.alloc(), command, faults)?;
         assert_eq!(rt; told.status, status);
         assert_eq!(rt; told.out.bytes(), out.as_bytes());
-        assert_eq!(rt; told.err.bytes(), err.as_bytes());
+        assert_eq!(rt; told.line.get(..told.length), Some(err.as_bytes()));
     }
     Ok(())
 }
 
 #[test]
 fn repairs_are_counted(rt: HostRuntime) -> Result<(), Fail> {
-    let written = plan_file(rt.alloc(), LONE_TONE, OPEN).expect(&rt, "a plan");
+    let (sent, _) = planned(&rt, rt.alloc());
     let cases = [([0, 0, 0], 0, 0), ([1, 0, 0], 1, 1), ([1, 0, 3], 2, 3)];
     for (flipped, words, bits) in cases {
-        let bytes = spoiled(
-            rt.alloc(),
-            written.sent.as_slice(),
-            Faults { flipped, ..SOUND },
-        )?;
-        let mut tx = MemorySource::new(bytes.as_slice(), 4, 1000);
+        let faults = Faults { flipped, ..SOUND };
+        let bytes = spoiled(rt.alloc(), sent.as_slice(), faults)?;
+        let mut tx = SliceSource::new(bytes.as_slice());
         let mut out = MemorySink::<400>::new(7, 1000);
-        let corrected = run_decode(rt.alloc(), true, &mut tx, &mut out).expect(&rt, "its pages");
-        assert_eq!(rt; corrected, Repaired { words, bits });
+        let (mut repairing, mut err) = (Repairing::new(true), errors());
+        let status = run_decode(rt.alloc(), &mut repairing, &mut tx, &mut out, &mut err);
+        assert_eq!(rt; status, 0);
+        assert_eq!(rt; repairing.corrected, Repaired { words, bits });
     }
     Ok(())
 }

@@ -1,6 +1,6 @@
 //! What the commands share, over memory: what names a file, and how a line is told.
 
-use pocsag_shell::{FileFault, NamedFile, Names, Role, tell, tell_fault};
+use pocsag_shell::{FileFault, NamedFile, Names, Role, equal_paths, tell, tell_fault};
 use pocsag_words::MemorySink;
 use std::test::Fail;
 
@@ -69,4 +69,19 @@ fn faults_are_told(rt: HostRuntime) -> Result<(), Fail> {
         assert_eq!(rt; err.bytes(), due.as_bytes());
     }
     Ok(())
+}
+
+// Paths are compared as texts.
+#[test]
+fn equal_paths_are_found(rt: HostRuntime) {
+    let cases: [(&[&str], bool); 5] = [
+        (&[], false),
+        (&["a"], false),
+        (&["a", "b", "a"], true),
+        (&["a", "./a", "A"], false),
+        (&["a", "b", "b"], true),
+    ];
+    for (paths, equal) in cases {
+        assert_eq!(rt; equal_paths(paths), equal);
+    }
 }

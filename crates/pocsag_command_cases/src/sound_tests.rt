@@ -1,6 +1,6 @@
 //! `wav` over memory: the header and samples of a lone tone, worked out by hand, and its faults.
 
-use pocsag_shell::Failure;
+use pocsag_shell::{ErrorStream, Failure};
 use pocsag_sound::{Keying, SoundFault, run_wav};
 use pocsag_words::{MemorySink, MemorySource};
 use std::alloc::Global;
@@ -45,19 +45,21 @@ fn keyed(
     alloc: Global,
     is_inverted: bool,
     most: u64,
-) -> (Result<(), SoundFault>, MemorySink<4000>) {
+) -> (Option<SoundFault>, MemorySink<4000>) {
     let sent = lone_tone();
     let mut tx = MemorySource::new(&sent, 50, 1000);
     let mut out = MemorySink::<4000>::new(1000, most);
     let keying = Keying::new(2400, 2400, None, is_inverted).expect(rt, "a keying");
-    (run_wav(alloc, keying, &mut tx, &mut out), out)
+    let mut err = ErrorStream::new(MemorySink::<100>::new(1, 1000));
+    run_wav(alloc, keying, &mut tx, &mut out, &mut err);
+    (err.fault(), out)
 }
 
 #[test]
 fn a_lone_tone_is_keyed(rt: HostRuntime) -> Result<(), Fail> {
     for (is_inverted, first) in [(false, SYNCHRONISATION), (true, INVERTED)] {
-        let (done, out) = keyed(&rt, rt.alloc(), is_inverted, 4000);
-        done.expect(&rt, "a sound");
+        let (fault, out) = keyed(&rt, rt.alloc(), is_inverted, 4000);
+        assert!(rt; fault.is_none());
         let file = out.bytes();
         assert_eq!(rt; file.len(), 3372);
         assert_eq!(rt; file.get(..44), Some(&HEADER[..]));
@@ -76,8 +78,8 @@ fn a_lone_tone_is_keyed(rt: HostRuntime) -> Result<(), Fail> {
 fn a_failed_write_leaves_a_front(rt: HostRuntime) -> Result<(), Fail> {
     let (_, whole) = keyed(&rt, rt.alloc(), false, 4000);
     for most in [0, 43, 44, 2000, 3371] {
-        let (done, out) = keyed(&rt, rt.alloc(), false, most);
-        let fault = done.err().ok_or("a fault")?;
+        let (fault, out) = keyed(&rt, rt.alloc(), false, most);
+        let fault = fault.ok_or("a fault")?;
         assert_eq!(rt; fault.status(), 3);
         assert_eq!(rt;
             out.bytes(),
