@@ -651,7 +651,8 @@ fn a_front_is_written(rt: HostRuntime) -> Result<(), Fail> {
         let status = run_input(alloc, &mut left, &mut second, &mut err);
         if batches == 2 {
             assert_eq!(rt; sent.len(), 72 + 68);
-            assert_eq!(rt; (status, second.bytes()), (0, b"pages 1\nbatches 1\n".as_slice()));
+            // Sixteen codewords from slot 6 on end in a second batch.
+            assert_eq!(rt; (status, second.bytes()), (0, b"pages 1\nbatches 2\n".as_slice()));
         } else {
             assert_eq!(rt; sent.len(), 72 + 3 * 68);
             assert_eq!(rt; err.fault(), Some(CentreFault::Round(RoundFault::NoPages)));

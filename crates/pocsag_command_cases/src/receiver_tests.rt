@@ -72,7 +72,7 @@ fn errors<F: Failure + Drop>() -> ErrorStream<F, MemorySink<100>> {
     ErrorStream::new(MemorySink::new(1, 1000))
 }
 
-fn told<F: Failure + Drop>(
+fn outcome<F: Failure + Drop>(
     status: u8,
     out: MemorySink<400>,
     err: &ErrorStream<F, MemorySink<100>>,
@@ -121,7 +121,7 @@ fn run(rt: &impl Abort, alloc: Global, command: Command, faults: Faults) -> Resu
         };
         let mut err = errors();
         let status = run_explain(alloc, Telling::Lines(3), &mut files, &mut out, &mut err);
-        return Ok(told(status, out, &err));
+        return Ok(outcome(status, out, &err));
     }
     let mut err = errors();
     let status = match command {
@@ -137,7 +137,7 @@ fn run(rt: &impl Abort, alloc: Global, command: Command, faults: Faults) -> Resu
         Command::Hear(address) => run_hear(alloc, address, &mut tx, &mut out, &mut err),
         Command::Explain => 255,
     };
-    Ok(told(status, out, &err))
+    Ok(outcome(status, out, &err))
 }
 
 const DECODE: Command = Command::Decode { repair: false };
