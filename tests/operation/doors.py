@@ -88,7 +88,9 @@ def try_streams(tally, folder):
     for closed in ("<&- >&-", ">&-", "<&- >&- 2>&-"):
         (room / "t").write_bytes(OLD[0])
         done = shell(f"pocsag plan pages.csv t c2 {closed}", room)
-        tally.check(f"closed: {closed}", done.returncode in (1, 3) and (room / "t").read_bytes() == OLD[0], (done, (room / "t").read_bytes()))
+        sent = (room / "t").read_bytes()
+        told = b"" if "2>&-" in closed else CANNOT_WRITE
+        tally.check(f"closed: {closed}", (done.returncode, done.stderr) == (3, told) and sent[:72] == 72 * b"\xaa" and len(sent) == 140, (done, sent))
         (room / "t").unlink()
     for line in ("plan pages.csv /dev/null c > /dev/null 2>&1", "plan pages.csv - c > o.bin", "plan pages.csv t c > lines", "plan - t c < pages.csv"):
         done = shell(f"pocsag {line}", room)
