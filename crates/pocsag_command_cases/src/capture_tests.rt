@@ -40,7 +40,10 @@ fn a_late_tone_is_caught(rt: HostRuntime) {
     let mut listing = MemorySink::<4000>::new(1000, 4000);
     let mut told = Vec::new(alloc);
     let tx = &mut SliceSource::new(&capture);
-    assert_eq!(rt; run_decode_capture(alloc, &mut told, tx, &mut listing, &mut err), 0);
+    assert_eq!(rt;
+        run_decode_capture(alloc, &mut told, tx, &mut listing, &mut err),
+        0
+    );
     assert_eq!(rt; told.as_slice(), [due].as_slice());
     assert_eq!(rt;
         listing.bytes(),
@@ -52,7 +55,10 @@ fn a_late_tone_is_caught(rt: HostRuntime) {
         heard: Vec::new(alloc),
     };
     let tx = &mut SliceSource::new(&capture);
-    assert_eq!(rt; run_hear_capture(alloc, &mut listening, tx, &mut other, &mut err), 0);
+    assert_eq!(rt;
+        run_hear_capture(alloc, &mut listening, tx, &mut other, &mut err),
+        0
+    );
     assert_eq!(rt; other.bytes(), b"address,kind,message\n".as_slice());
     for (nth, status) in [(1, 0), (2, 1)] {
         let mut grid = MemorySink::<4000>::new(1000, 4000);
@@ -62,7 +68,10 @@ fn a_late_tone_is_caught(rt: HostRuntime) {
             heard: Vec::new(alloc),
         };
         let tx = &mut SliceSource::new(&capture);
-        assert_eq!(rt; run_show_capture(alloc, &mut viewing, tx, &mut grid, &mut err), status);
+        assert_eq!(rt;
+            run_show_capture(alloc, &mut viewing, tx, &mut grid, &mut err),
+            status
+        );
     }
     let is_none = matches!(
         err.fault(),

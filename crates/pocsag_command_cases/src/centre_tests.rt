@@ -559,7 +559,12 @@ fn lent_files_are_planned(rt: HostRuntime) -> Result<(), Fail> {
         (LONE_TONE, OPEN, 72 + 68, "pages 1\nbatches 1\n"),
         (SIXTEEN_TONES, CLOSED, 72 + 68, "pages 16\nbatches 1\n"),
         // An idle codeword behind sixteen others needs a second batch.
-        (SIXTEEN_TONES, IDLE_LAST, 72 + 2 * 68, "pages 16\nbatches 2\n"),
+        (
+            SIXTEEN_TONES,
+            IDLE_LAST,
+            72 + 2 * 68,
+            "pages 16\nbatches 2\n",
+        ),
         (
             LOOPS_APART,
             open_to(1, Effort::Always),
@@ -604,7 +609,10 @@ fn cut_files_are_refused(rt: HostRuntime) -> Result<(), Fail> {
         let (mut out, mut err) = (MemorySink::<500>::new(1, 1000), errors());
         let status = run_input(alloc, &mut pages, &mut out, &mut err);
         assert_eq!(rt; status, if is_cut { 3 } else { 0 });
-        assert_eq!(rt; err.fault(), is_cut.then_some(CentreFault::Round(RoundFault::ReadFault)));
+        assert_eq!(rt;
+            err.fault(),
+            is_cut.then_some(CentreFault::Round(RoundFault::ReadFault))
+        );
     }
     let mut bytes = Vec::new(alloc);
     bytes.extend_from_slice(LONE_TONE).expect(&rt, "memory");
@@ -639,7 +647,10 @@ fn a_front_is_written(rt: HostRuntime) -> Result<(), Fail> {
             search: OPEN,
         };
         let (mut out, mut err) = (MemorySink::<500>::new(1, 1000), errors());
-        assert_eq!(rt; run_front(alloc, asked, &mut files, &mut out, &mut err), status);
+        assert_eq!(rt;
+            run_front(alloc, asked, &mut files, &mut out, &mut err),
+            status
+        );
         assert_eq!(rt; out.bytes(), lines.as_bytes());
         assert_eq!(rt; err.stream().bytes(), text.as_bytes());
         if status != 0 {
@@ -652,7 +663,10 @@ fn a_front_is_written(rt: HostRuntime) -> Result<(), Fail> {
         if batches == 2 {
             assert_eq!(rt; sent.len(), 72 + 68);
             // Sixteen codewords from slot 6 on end in a second batch.
-            assert_eq!(rt; (status, second.bytes()), (0, b"pages 1\nbatches 2\n".as_slice()));
+            assert_eq!(rt;
+                (status, second.bytes()),
+                (0, b"pages 1\nbatches 2\n".as_slice())
+            );
         } else {
             assert_eq!(rt; sent.len(), 72 + 3 * 68);
             assert_eq!(rt; err.fault(), Some(CentreFault::Round(RoundFault::NoPages)));

@@ -43,8 +43,7 @@ pub trait Source {
     fn release(&mut self)
         ensures calls { calls self.new ≡ calls self.old }
         ensures failures { failures self.new ≡ failures self.old }
-    {
-    }
+    {}
 }
 
 /// A writer. `write` takes some bytes of the front of the piece, at least 1 of a non-empty piece,
