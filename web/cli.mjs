@@ -77,13 +77,18 @@ function searchOf(given) {
 
 /* == Files. == */
 
-function bytesAt(path) {
+/* Does what reads or opens a file. */
+function reading(step) {
   try {
-    return readFileSync(path === "-" ? 0 : path);
+    return step();
   } catch {
     throw device("cannot read or open a file");
   }
 }
+
+const sourceAt = (path) => reading(() => (path === "-" ? 0 : openSync(path)));
+const bytesOf = (source) => reading(() => readFileSync(source));
+const bytesAt = (path) => bytesOf(sourceAt(path));
 
 /* What a path names: a file that is there, or else the place where it would be. */
 function namedBy(path) {
@@ -107,13 +112,7 @@ function refuseOneFile(pages, ...written) {
 }
 
 /* A file that is there or is made, not emptied. */
-function opened(path) {
-  try {
-    return path === "-" ? 1 : openSync(path, constants.O_WRONLY | constants.O_CREAT);
-  } catch {
-    throw device("cannot read or open a file");
-  }
-}
+const opened = (path) => reading(() => (path === "-" ? 1 : openSync(path, constants.O_WRONLY | constants.O_CREAT)));
 
 /* These files, all opened before one is emptied. */
 function emptied(...paths) {
@@ -151,12 +150,11 @@ function planFiles({ given, found: [pages, tx, cert] }) {
   if ([given.rest, given.why].some(isMisused)) throw usage("--rest and --why name files, and go with --at-most or --airtime");
   const most = given["at-most"] ?? (isFront ? batchesWithin(given.airtime, given.rate) : null);
   refuseOneFile(pages, tx, cert, given.rest, given.why);
-  const file = bytesAt(pages);
+  const source = sourceAt(pages), files = emptied(tx, cert), file = bytesOf(source);
   refuseOthers(given, file);
-  const front = isFront ? planAtMost(file, most, search) : null;
-  if (given.rest !== undefined) put(...emptied(given.rest), new TextEncoder().encode(front.rest));
-  if (given.why !== undefined) put(...emptied(given.why), front.why);
-  const files = emptied(tx, cert), planned = front ?? plan(file, search);
+  const planned = isFront ? planAtMost(file, most, search) : plan(file, search);
+  if (given.rest !== undefined) put(...emptied(given.rest), new TextEncoder().encode(planned.rest));
+  if (given.why !== undefined) put(...emptied(given.why), planned.why);
   put(files[0], planned.transmission);
   put(files[1], planned.certificate);
   const { bound, batches, left, beyond } = planned;
@@ -177,13 +175,13 @@ function planInput() {
 }
 
 function checkFiles({ found: [pages, cert] }) {
-  const [file, certificate] = [pages, cert].map(bytesAt), { isShown, batches, end } = check(file, certificate);
+  const [file, certificate] = [pages, cert].map(sourceAt).map(bytesOf), { isShown, batches, end } = check(file, certificate);
   say(1, isShown ? `at least ${batches} batches${ENDINGS[end]}\n` : "not shown\n");
   return isShown ? 0 : 1;
 }
 
 function explainFiles({ given, found: [pages, cert] }) {
-  const [file, certificate] = [pages, cert].map(bytesAt);
+  const [file, certificate] = [pages, cert].map(sourceAt).map(bytesOf);
   const { isShown, text } = explain(file, certificate, { form: given.json ? "json" : "words", depth: given.depth ?? 3 });
   say(1, text);
   return isShown ? 0 : 1;
