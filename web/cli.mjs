@@ -12,7 +12,7 @@
  *
  * Words, output, texts and statuses are those of the program: 0 done, 1 refused or not shown, 2 wrong words, 3 a file or memory.
  * `-` is standard input or standard output. Other commands and options are the program's alone. */
-import { closeSync, constants, ftruncateSync, openSync, readFileSync, realpathSync, statSync, writeSync } from "node:fs";
+import { closeSync, constants, fstatSync, ftruncateSync, openSync, readFileSync, realpathSync, statSync, writeSync } from "node:fs";
 import { basename, dirname, join } from "node:path";
 import { check, decode, Fault, explain, hear, plan, planAtMost, report } from "./pocsag.mjs";
 
@@ -86,7 +86,12 @@ function reading(step) {
   }
 }
 
-const sourceAt = (path) => reading(() => (path === "-" ? 0 : openSync(path)));
+function sourceAt(path) {
+  const source = reading(() => (path === "-" ? 0 : openSync(path)));
+  if (source && fstatSync(source).isDirectory()) throw device("cannot read or open a file");
+  return source;
+}
+
 const bytesOf = (source) => reading(() => readFileSync(source));
 const bytesAt = (path) => bytesOf(sourceAt(path));
 
