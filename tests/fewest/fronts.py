@@ -31,8 +31,8 @@ def try_front(rounds, tally, folder, pages, end, batches, needs):
     done = rounds.run(words, folder)
     if count == 0:
         due = (1, b"", f"pocsag: page 1 needs {needs[0]} batches\n".encode())
-        left = [name for name in ("tx.bin", "cert.bin", "rest.csv", "why.bin") if (folder / name).exists()]
-        tally.check("no front", (done.returncode, done.stdout, done.stderr) == due and not left, (case, done, left))
+        left = {name: (folder / name).read_bytes() for name in ("tx.bin", "cert.bin", "rest.csv", "why.bin") if (folder / name).exists()}
+        tally.check("no front", (done.returncode, done.stdout, done.stderr) == due and left == {"tx.bin": b"", "cert.bin": b""}, (case, done, left))
         return
     told = f"pages {count}\nbatches {needs[count - 1]}\nleft {len(pages) - count}\n".encode()
     tally.check("front", (done.returncode, done.stdout, done.stderr) == (0, told, b""), (case, needs, done))

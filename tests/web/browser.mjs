@@ -107,10 +107,16 @@ class Page {
     return false;
   }
 
-  /* Where the middle of an element is, brought into view. */
+  /* Where the middle of an element is, brought into view, once it stands still. */
   async middle(selector) {
-    return this.value(`(() => { const it = document.querySelector(${JSON.stringify(selector)}); it.scrollIntoView({ block: "center" });
+    const place = () => this.value(`(() => { const it = document.querySelector(${JSON.stringify(selector)}); it.scrollIntoView({ block: "center" });
       const { left, top, width, height } = it.getBoundingClientRect(); return [left + width / 2, top + height / 2]; })()`);
+    for (let before = await place(), tries = 0; ; tries++) {
+      await new Promise((next) => setTimeout(next, 30));
+      const after = await place();
+      if (tries === 50 || (after[0] === before[0] && after[1] === before[1])) return after;
+      before = after;
+    }
   }
 
   async mouse(type, [x, y], given = {}) {
