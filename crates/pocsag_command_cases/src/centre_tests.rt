@@ -624,55 +624,75 @@ fn cut_files_are_refused(rt: HostRuntime) -> Result<(), Fail> {
     Ok(())
 }
 
-// The first page of `loops-apart` alone takes a batch, and both take three.
-#[test]
-fn a_front_is_written(rt: HostRuntime) -> Result<(), Fail> {
-    let alloc = rt.alloc();
-    let cases = [
-        (0, 1, "", "pocsag: page 1 needs 1 batches\n"),
-        (2, 0, "pages 1\nbatches 1\nleft 1\n", ""),
-        (3, 0, "pages 2\nbatches 3\nleft 0\n", ""),
-    ];
-    for (batches, status, lines, text) in cases {
-        let mut files = FrontFiles {
-            pages: SliceSource::new(LOOPS_APART),
-            tx: GrowingSink::new(alloc),
-            cert: GrowingSink::new(alloc),
-            rest: GrowingSink::new(alloc),
-            why: GrowingSink::new(alloc),
-            count: 0,
-        };
-        let asked = FrontAsked {
-            batches,
-            search: OPEN,
-        };
-        let (mut out, mut err) = (MemorySink::<500>::new(1, 1000), errors());
-        assert_eq!(rt;
-            run_front(alloc, asked, &mut files, &mut out, &mut err),
-            status
-        );
-        assert_eq!(rt; out.bytes(), lines.as_bytes());
-        assert_eq!(rt; err.stream().bytes(), text.as_bytes());
-        if status != 0 {
-            continue;
-        }
-        let (sent, rest) = (files.tx.into_bytes(), files.rest.into_bytes());
-        let mut second = MemorySink::<100>::new(1, 1000);
-        let mut left = SliceSource::new(rest.as_slice());
-        let status = run_input(alloc, &mut left, &mut second, &mut err);
-        if batches == 2 {
-            assert_eq!(rt; sent.len(), 72 + 68);
-            // Sixteen codewords from slot 6 on end in a second batch.
-            assert_eq!(rt;
-                (status, second.bytes()),
-                (0, b"pages 1\nbatches 2\n".as_slice())
-            );
-        } else {
-            assert_eq!(rt; sent.len(), 72 + 3 * 68);
-            assert_eq!(rt; err.fault(), Some(CentreFault::Round(RoundFault::NoPages)));
-        }
-        assert_eq!(rt; files.why.into_bytes().is_empty(), batches == 3);
+// A front that is asked for: the batches, what is told, the length of the transmission, whether no page is left, and the
+// status and the output of a plan of the pages that are left.
+type FrontCase = (u32, &'static str, usize, bool, u8, &'static str);
+
+fn front_files(alloc: Global) -> FrontFiles<SliceSource<'static>, GrowingSink> {
+    FrontFiles {
+        pages: SliceSource::new(LOOPS_APART),
+        tx: GrowingSink::new(alloc),
+        cert: GrowingSink::new(alloc),
+        rest: GrowingSink::new(alloc),
+        why: GrowingSink::new(alloc),
+        count: 0,
     }
+}
+
+const fn front_of(batches: u32) -> FrontAsked {
+    FrontAsked {
+        batches,
+        search: OPEN,
+    }
+}
+
+// The first page of `loops-apart` alone takes a batch, and both take three. Sixteen codewords from slot 6 on end in a second
+// batch.
+#[test]
+fn fronts_are_written(rt: HostRuntime) -> Result<(), Fail> {
+    let alloc = rt.alloc();
+    let cases: [FrontCase; 2] = [
+        (
+            2,
+            "pages 1\nbatches 1\nleft 1\n",
+            72 + 68,
+            false,
+            0,
+            "pages 1\nbatches 2\n",
+        ),
+        (3, "pages 2\nbatches 3\nleft 0\n", 72 + 3 * 68, true, 1, ""),
+    ];
+    for (batches, lines, sent, is_all, status, second) in cases {
+        let mut files = front_files(alloc);
+        let (mut out, mut err) = (MemorySink::<500>::new(1, 1000), errors());
+        let done = run_front(alloc, front_of(batches), &mut files, &mut out, &mut err);
+        assert_eq!(rt; done, 0);
+        assert_eq!(rt; out.bytes(), lines.as_bytes());
+        assert_eq!(rt; files.tx.into_bytes().len(), sent);
+        assert_eq!(rt; files.why.into_bytes().is_empty(), is_all);
+        let rest = files.rest.into_bytes();
+        let mut left = SliceSource::new(rest.as_slice());
+        let mut told = MemorySink::<100>::new(1, 1000);
+        let done = run_input(alloc, &mut left, &mut told, &mut err);
+        assert_eq!(rt; done, status);
+        assert_eq!(rt; told.bytes(), second.as_bytes());
+    }
+    Ok(())
+}
+
+#[test]
+fn a_front_without_room_is_refused(rt: HostRuntime) -> Result<(), Fail> {
+    let alloc = rt.alloc();
+    let mut files = front_files(alloc);
+    let (mut out, mut err) = (MemorySink::<500>::new(1, 1000), errors());
+    let done = run_front(alloc, front_of(0), &mut files, &mut out, &mut err);
+    assert_eq!(rt; done, 1);
+    assert_eq!(rt;
+        err.stream().bytes(),
+        b"pocsag: page 1 needs 1 batches\n".as_slice()
+    );
+    assert_eq!(rt; files.tx.into_bytes().len(), 0);
+    assert_eq!(rt; files.rest.into_bytes().len(), 0);
     Ok(())
 }
 
