@@ -299,10 +299,10 @@ def try_printing(tally, library, name, words, files, folder):
 
 
 def try_lost(tally, library, folder):
-    """`--verify` on a device that loses what it takes: the page file is closed again when TX is opened, and then CERT."""
+    """`--verify` on a device that loses what it takes: the page file is open when TX is opened, and then CERT."""
     (folder / "pages.csv").write_bytes(b"address,kind,message\n8,tone0,\n")
     command = [str(PROGRAM), "plan", *(str(folder / name) for name in ("pages.csv", "tx.bin", "cert.bin")), "--verify"]
-    for name, number, text in (("transmission", 3, b"the preamble is too short"), ("certificate", 4, b"the certificate is cut short")):
+    for name, number, text in (("transmission", 4, b"the preamble is too short"), ("certificate", 5, b"the certificate is cut short")):
         environment = dict(os.environ, LD_PRELOAD=str(library), REFUSE_LOSE=str(number))
         done = subprocess.run(command, capture_output=True, env=environment, timeout=60)
         due = (1, b"pages 1\nbatches 1\n", b"pocsag: " + text + b"\n")
