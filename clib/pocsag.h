@@ -13,11 +13,16 @@
  *           of `cert`. pocsag_plan_at_most: end, limit, page file, first page, search, size of `rest`, of `why`, of `tx`,
  *           of `cert`. pocsag_report: end, page file, limit, search, rate. pocsag_check: page file, certificate.
  *           pocsag_explain: form, page file, certificate, size of `text`. pocsag_decode: transmission, size of
- *           `listing`; pocsag_hear: before them the address. Where memory is wanting, that may come first.
+ *           `listing`; pocsag_hear: before them the address. pocsag_decode_as and pocsag_hear_as: before all these the
+ *           reading, the capture. pocsag_show: reading, form, batches, capture, transmission, size of `text`. pocsag_wav: rate,
+ *           samples, preamble, transmission, length, size of `wav`.
+ *           pocsag_lay_in_order: page file, size of `tx`. pocsag_write_page: address, kind, message, size of `row`. Where
+ *           memory is wanting, that may come first.
  * Memory.   A call takes memory with malloc and realloc, and has freed all of it when it returns. Where it is
  *           refused, the status is POCSAG_OUT_OF_MEMORY and no buffer was written. As measured it takes at most 16 bytes
- *           for each byte of a page file or a transmission, 40 for each node of a certificate or a search, and for each
- *           node that is explained 180 near the root and up to 4,500 at depth 300, most of them for the text.
+ *           for each byte of a page file or a transmission, a picture 48 and a drawing 120, a sound three times its length,
+ *           40 bytes for each node of a certificate or a search, and for each node that is explained 180 near the root and
+ *           up to 4,500 at depth 300, most of them for the text.
  * Stack.    POCSAG_CHECK_STACK and so on are the bytes of stack that each call needs at most: measured for certificates
  *           of the greatest depth, computed and not measured for the deepest search of a plan.
  * Threads.  The library keeps no state: any number of threads may call at one time, with buffers of their own. No
@@ -41,8 +46,8 @@ extern "C" {
 #endif
 
 /* The number of this interface, which pocsag_version answers, and the version of the package that it is part of. */
-#define POCSAG_VERSION 4u
-#define POCSAG_RELEASE "1.0.0-rc.1"
+#define POCSAG_VERSION 5u
+#define POCSAG_RELEASE "1.0.0-rc.2"
 
 /* The end of a transmission: it ends the last message, or the last codeword is no message codeword, or an idle one. */
 #define POCSAG_END_OPEN 0u
@@ -52,6 +57,26 @@ extern "C" {
 /* How a certificate is explained: as an indented list in words, or the same facts as JSON. */
 #define POCSAG_IN_WORDS 0u
 #define POCSAG_AS_JSON 1u
+
+/* What is read of the bytes of a transmission: these; their repair, by which each word becomes the only codeword that
+ * differs from it in at most two bits; or all transmissions of a capture, one behind the other, each repaired. */
+#define POCSAG_PLAIN 0u
+#define POCSAG_REPAIRED 1u
+#define POCSAG_CAPTURED 2u
+
+/* What is shown of a transmission: a letter for each codeword; where each page stands, as CSV; or an SVG drawing. */
+#define POCSAG_SHOW_TEXT 0u
+#define POCSAG_SHOW_LIST 1u
+#define POCSAG_SHOW_DRAWING 2u
+
+/* The kinds of a page, of which a tone has no message; and the first line of a page file. */
+#define POCSAG_TONE0 0u
+#define POCSAG_TONE1 1u
+#define POCSAG_TONE2 2u
+#define POCSAG_TONE3 3u
+#define POCSAG_NUMERIC 4u
+#define POCSAG_ALPHA 5u
+#define POCSAG_HEADER "address,kind,message\n"
 
 /* How deep the nodes are that the program tells where no depth is given; the root alone has depth 1. */
 #define POCSAG_DEFAULT_DEPTH 3u
@@ -67,7 +92,7 @@ extern "C" {
 #define POCSAG_CHECK_STACK 372736u
 #define POCSAG_EXPLAIN_STACK 372736u
 #define POCSAG_PLAN_STACK 1048576u      /* pocsag_plan_at_most and pocsag_report too */
-#define POCSAG_LISTING_STACK 131072u    /* pocsag_decode, pocsag_hear */
+#define POCSAG_LISTING_STACK 196608u    /* all others, as measured 121,192 */
 
 /* Statuses. */
 #define POCSAG_OK 0u
@@ -109,6 +134,10 @@ extern "C" {
 #define POCSAG_CERT_BAD_FIELD 37u
 #define POCSAG_CERT_TOO_DEEP 38u
 #define POCSAG_CERT_TOO_MANY 39u
+/* Of a quote of a page file: place.record_number says in which record, 0 for the header, place.at in which line, from 1. */
+#define POCSAG_QUOTE_OPEN 41u          /* it is not closed */
+#define POCSAG_QUOTE_INSIDE 42u        /* it stands in a field that begins without one */
+#define POCSAG_QUOTE_FOLLOWED 43u      /* text follows the quote that closes */
 /* Of a transmission. */
 #define POCSAG_SHORT_PREAMBLE 48u
 #define POCSAG_NO_SYNC 49u             /* place.at: the batch, from 0 */
@@ -116,6 +145,13 @@ extern "C" {
 #define POCSAG_ORPHAN 51u              /* place.at: the codeword, from 0 */
 #define POCSAG_TRUNCATED 52u
 #define POCSAG_NO_BATCH 53u
+#define POCSAG_CAPTURE_TOO_LARGE 56u   /* over 268,435,456 bytes */
+#define POCSAG_BAD_ROWS 57u            /* the first batch is 0, or the last is before it */
+#define POCSAG_BAD_READING 58u         /* the reading, or the form of a picture, is none of 0, 1 and 2 */
+/* Of a sound. */
+#define POCSAG_BAD_SAMPLES 60u         /* the samples a second are fewer than the bits, or over 192,000 */
+#define POCSAG_BAD_PREAMBLE 61u        /* the preamble has fewer than 576 bits, or is no multiple of 8 */
+#define POCSAG_TOO_LONG_FOR_WAV 62u    /* a WAV file has 32 bits for its length */
 /* Of the address that a pager is to hear. */
 #define POCSAG_PAGER_BAD_ADDRESS 64u
 #define POCSAG_PAGER_RESERVED_ADDRESS 65u
@@ -125,7 +161,7 @@ struct pocsag_place {
     uint32_t record_number; /* the record of the page file, from 1, the header not counted */
     uint32_t least;         /* POCSAG_SEARCH_LIMIT: at least so many batches are needed */
     uint32_t found;         /* POCSAG_SEARCH_LIMIT: so many, one more, would do; POCSAG_FIRST_PAGE: so many are needed */
-    uint64_t at;            /* a byte of the message, a batch or a codeword, from 0 */
+    uint64_t at;            /* a byte of the message, a batch or a codeword, from 0; of a quote the line, from 1 */
 };
 
 /* What a plan tells. Where there is none, all but the place is 0. */
@@ -187,7 +223,8 @@ POCSAG_CALL uint32_t pocsag_plan(const uint8_t *pages, size_t pages_len,
  * the page file of the pages that are left into `rest`, and into `why` the certificate of one page more, which needs more
  * batches; it has no byte where no page is left. A buffer `rest` or `why` of 0 bytes is not wanted: its length alone is
  * told. REST_TOO_SMALL, WHY_TOO_SMALL, TX_TOO_SMALL, CERT_TOO_SMALL: all lengths and `info` are told. Else: all are 0. Where `always`
- * is not 0, the pages are as many as the search found to fit, and `beyond` may be `batches`. */
+ * is not 0, the pages are as many as the search found to fit, and `beyond` may be `batches`. `least` and `found` of SEARCH_LIMIT
+ * are those of some first pages, of which it is not told how many. */
 POCSAG_CALL uint32_t pocsag_plan_at_most(const uint8_t *pages, size_t pages_len, uint32_t batches,
                                          uint8_t *tx, size_t tx_size, size_t *tx_len,
                                          uint8_t *cert, size_t cert_size, size_t *cert_len,
@@ -225,6 +262,57 @@ POCSAG_CALL uint32_t pocsag_hear(uint32_t address, const uint8_t *tx, size_t tx_
 POCSAG_CALL uint32_t pocsag_report(const uint8_t *pages, size_t pages_len,
                                    uint32_t rate, uint32_t limit, uint32_t end, uint32_t always,
                                    struct pocsag_report_info *info);
+
+/* The same two listings of what is read of `tx` by a reading: POCSAG_PLAIN, POCSAG_REPAIRED or POCSAG_CAPTURED. */
+POCSAG_CALL uint32_t pocsag_decode_as(uint32_t reading, const uint8_t *tx, size_t tx_len,
+                                      uint8_t *listing, size_t listing_size, size_t *listing_len,
+                                      struct pocsag_place *place);
+
+POCSAG_CALL uint32_t pocsag_hear_as(uint32_t reading, uint32_t address, const uint8_t *tx, size_t tx_len,
+                                    uint8_t *listing, size_t listing_size, size_t *listing_len,
+                                    struct pocsag_place *place);
+
+/* Puts a picture of what is read of `tx` by a reading into `text`. `form` is POCSAG_SHOW_TEXT, POCSAG_SHOW_LIST or
+ * POCSAG_SHOW_DRAWING. Text and drawing have the batches from `first` to `last`, counted from 1, as far as there are such;
+ * 1 and UINT64_MAX are all. */
+POCSAG_CALL uint32_t pocsag_show(uint32_t reading, const uint8_t *tx, size_t tx_len,
+                                 uint32_t form, uint64_t first, uint64_t last,
+                                 uint8_t *text, size_t text_size, size_t *text_len,
+                                 struct pocsag_place *place);
+
+/* Puts the sound that a transmitter is keyed with into `wav`, a WAV file of 16-bit samples: `rate` is 512, 1200 or 2400 bits a
+ * second, `samples` the samples a second, from the rate to 192,000, and `preamble` the bits of preamble in place of the
+ * transmission's own, or 0. A 0 has the high level; where `inverted` is not 0, the low one. */
+POCSAG_CALL uint32_t pocsag_wav(const uint8_t *tx, size_t tx_len,
+                                uint32_t rate, uint32_t samples, uint32_t preamble, uint32_t inverted,
+                                uint8_t *wav, size_t wav_size, size_t *wav_len,
+                                struct pocsag_place *place);
+
+/* Puts into `tx` the transmission of a page file in which each page stands at the first place for it, in the order of the
+ * file, with the open end: what a centre without a planner sends. */
+POCSAG_CALL uint32_t pocsag_lay_in_order(const uint8_t *pages, size_t pages_len,
+                                         uint8_t *tx, size_t tx_size, size_t *tx_len,
+                                         struct pocsag_place *place);
+
+/* Puts the record of a page, with its quotes and its line end, into `row`: at most 2 * message_len + 20 bytes. POCSAG_HEADER
+ * and the records of pages behind it are a page file. */
+POCSAG_CALL uint32_t pocsag_write_page(uint32_t address, uint32_t kind, const uint8_t *message, size_t message_len,
+                                       uint8_t *row, size_t row_size, size_t *row_len,
+                                       struct pocsag_place *place);
+
+/* Whether each quote of a page file stands as CSV has it, as `--strict` of the program asks: OK, or QUOTE_OPEN, QUOTE_INSIDE or
+ * QUOTE_FOLLOWED. To be called before a call that reads the page file. */
+POCSAG_CALL uint32_t pocsag_strict(const uint8_t *pages, size_t pages_len, struct pocsag_place *place);
+
+/* Tells the most batches that last at most so many milliseconds at a rate of 512, 1200 or 2400 bits a second; 0 where one lasts
+ * longer. */
+POCSAG_CALL uint32_t pocsag_airtime_batches(uint32_t airtime_ms, uint32_t rate, uint32_t *batches);
+
+/* Puts pocsag_status_text of a status, or POCSAG_RELEASE of the library that is linked, into `text`, without a zero byte at its
+ * end: for languages that do not read this header. OK or TEXT_TOO_SMALL. */
+POCSAG_CALL uint32_t pocsag_text_of_status(uint32_t status, uint8_t *text, size_t text_size, size_t *text_len);
+
+POCSAG_CALL uint32_t pocsag_text_of_version(uint8_t *text, size_t text_size, size_t *text_len);
 
 /* What a status says, in the words of the program; the place says where. It is never null. */
 static inline const char *pocsag_status_text(uint32_t status)
@@ -267,12 +355,21 @@ static inline const char *pocsag_status_text(uint32_t status)
     case POCSAG_CERT_BAD_FIELD: return "the certificate is malformed";
     case POCSAG_CERT_TOO_DEEP: return "the certificate is too deep";
     case POCSAG_CERT_TOO_MANY: return "the certificate has too many nodes";
+    case POCSAG_QUOTE_OPEN: return "the quote is not closed";
+    case POCSAG_QUOTE_INSIDE: return "the quote stands inside a field that begins without one";
+    case POCSAG_QUOTE_FOLLOWED: return "text follows the closing quote";
     case POCSAG_SHORT_PREAMBLE: return "the preamble is too short";
     case POCSAG_NO_SYNC: return "no synchronisation codeword";
     case POCSAG_BAD_WORD: return "not a codeword";
     case POCSAG_ORPHAN: return "a message without an address";
     case POCSAG_TRUNCATED: return "the transmission is cut short";
     case POCSAG_NO_BATCH: return "the transmission has no batch";
+    case POCSAG_CAPTURE_TOO_LARGE: return "the capture is too large";
+    case POCSAG_BAD_ROWS: return "there are no such batches";
+    case POCSAG_BAD_READING: return "a reading or the form of a picture must be 0, 1 or 2";
+    case POCSAG_BAD_SAMPLES: return "the samples a second must be from the rate to 192000";
+    case POCSAG_BAD_PREAMBLE: return "the preamble must have 576 bits or more, a multiple of 8";
+    case POCSAG_TOO_LONG_FOR_WAV: return "the sound is too long for a WAV file";
     case POCSAG_PAGER_BAD_ADDRESS: return "bad address";
     case POCSAG_PAGER_RESERVED_ADDRESS: return "reserved address";
     default: return "unknown status";

@@ -14,7 +14,7 @@ import operator
 import pathlib
 from collections import namedtuple
 
-__version__ = "1.0.0rc1"
+__version__ = "1.0.0rc2"
 
 
 class Place(ctypes.Structure):
@@ -49,7 +49,9 @@ class Fault(Exception):
     def __init__(self, status, place):
         self.status = status
         self.record_number, self.least, self.found, self.at = place.record_number, place.least, place.found, place.at
-        super().__init__(self.text.format(**vars(self)))
+        text = self.text.format(**vars(self))
+        alone = "record 0: " if status < 41 else ""  # a page that stands in no file has no record; the header is record 0
+        super().__init__(text[len(alone) :] if alone and text.startswith(alone) else text)
 
 
 # The name and the text of each status.
@@ -83,12 +85,21 @@ NAMES = {
     37: ("CertBadField", "the certificate is malformed"),
     38: ("CertTooDeep", "the certificate is too deep"),
     39: ("CertTooMany", "the certificate has too many nodes"),
+    41: ("QuoteOpen", "record {record_number}: the quote in line {at} is not closed"),
+    42: ("QuoteInside", "record {record_number}: the quote in line {at} stands inside a field that begins without one"),
+    43: ("QuoteFollowed", "record {record_number}: text follows the closing quote in line {at}"),
     48: ("ShortPreamble", "the preamble is too short"),
     49: ("NoSync", "batch {at}: no synchronisation codeword"),
     50: ("BadWord", "codeword {at}: not a codeword"),
     51: ("Orphan", "codeword {at}: a message without an address"),
     52: ("Truncated", "the transmission is cut short"),
     53: ("NoBatch", "the transmission has no batch"),
+    56: ("CaptureTooLarge", "the capture is too large"),
+    57: ("BadRows", "there are no such batches"),
+    58: ("BadReading", "a reading or the form of a picture must be 0, 1 or 2"),
+    60: ("BadSamples", "the samples a second must be from the rate to 192000"),
+    61: ("BadPreamble", "the preamble must have 576 bits or more, a multiple of 8"),
+    62: ("TooLongForWav", "the sound is too long for a WAV file"),
     64: ("PagerBadAddress", "bad address"),
     65: ("PagerReservedAddress", "reserved address"),
 }
@@ -103,6 +114,11 @@ Explanation = namedtuple("Explanation", "is_shown end batches text")
 LIBRARY = "libpocsag.so.1"
 OPEN, CLOSED, IDLE = 0, 1, 2
 IN_WORDS, AS_JSON = 0, 1
+PLAIN, REPAIRED, CAPTURED = 0, 1, 2
+SHOW_TEXT, SHOW_LIST, SHOW_DRAWING = 0, 1, 2
+KINDS = ("tone0", "tone1", "tone2", "tone3", "numeric", "alpha")
+HEADER = b"address,kind,message\n"
+ALL_BATCHES = (1, 2**64 - 1)
 
 
 GREATEST = 2**32 - 1
@@ -120,11 +136,11 @@ def number_in(value, status):
     return ctypes.c_uint32(value)
 
 
-def small_number(value, name):
+def small_number(value, name, greatest=GREATEST):
     """A number that C takes, of which the library allows each."""
     value = operator.index(value)
-    if not 0 <= value <= GREATEST:
-        raise ValueError(f"{name} must be 0 to {GREATEST}, not {value}")
+    if not 0 <= value <= greatest:
+        raise ValueError(f"{name} must be 0 to {greatest}, not {value}")
     return value
 
 
@@ -155,13 +171,21 @@ class Pocsag:
     def version(self):
         return self.library.pocsag_version()
 
-    def plan(self, pages, limit=100_000, end=OPEN, always=True, sizes=(65_536, 65_536)):
+    def release(self):
+        """The version of the package that the library is part of."""
+        return self._text(self.library.pocsag_text_of_version).decode()
+
+    def status_text(self, status):
+        """What a status says, without its place."""
+        return self._text(self.library.pocsag_text_of_status, ctypes.c_uint32(small_number(status, "a status"))).decode()
+
+    def plan(self, pages, limit=100_000, end=OPEN, always=True, sizes=(65_536, 65_536), strict=False):
         """The plan of a page file. It is asked for once more where one of the sizes does not do. Unless `always` is False no round
-        is refused, and the batches may be one more than the bound."""
+        is refused, and the batches may be one more than the bound. Here and below `strict` is as the call of this name."""
         info, tx_len, cert_len = PlanInfo(), ctypes.c_size_t(), ctypes.c_size_t()
         (tx, tx_size), (cert, cert_size) = map(buffer_of, sizes)
         status = self.library.pocsag_plan(
-            *bytes_in(pages), tx, tx_size, ctypes.byref(tx_len), cert, cert_size, ctypes.byref(cert_len),
+            *self._pages(pages, strict), tx, tx_size, ctypes.byref(tx_len), cert, cert_size, ctypes.byref(cert_len),
             number_in(limit, 5), number_in(end, 2), ctypes.c_uint32(bool(always)), ctypes.byref(info),
         )  # fmt: skip
         if status in (7, 8):
@@ -170,13 +194,13 @@ class Pocsag:
             raise raised(status, info.place)
         return Plan(bytes(tx)[: tx_len.value], bytes(cert)[: cert_len.value], info.pages, info.codewords, info.in_order, info.batches, info.bound)
 
-    def plan_at_most(self, pages, batches, limit=100_000, end=OPEN, always=True, sizes=(65_536,) * 4):
+    def plan_at_most(self, pages, batches, limit=100_000, end=OPEN, always=True, sizes=(65_536,) * 4, strict=False):
         """The plan of as many first pages of a page file as so many batches carry, the page file of the others, and the
         certificate of one page more; of these two None where their size is 0. It is asked for once more where a size does
         not do."""
         info, lens, buffers = FrontInfo(), [ctypes.c_size_t() for _ in sizes], [buffer_of(size) for size in sizes]
         status = self.library.pocsag_plan_at_most(
-            *bytes_in(pages), ctypes.c_uint32(small_number(batches, "the batches")),
+            *self._pages(pages, strict), ctypes.c_uint32(small_number(batches, "the batches")),
             *(word for buffer, told in zip(buffers, lens) for word in (*buffer, ctypes.byref(told))),
             number_in(limit, 5), number_in(end, 2), ctypes.c_uint32(bool(always)), ctypes.byref(info),
         )  # fmt: skip
@@ -188,28 +212,28 @@ class Pocsag:
         texts = (bytes(buffer)[: told.value] if told.value <= size.value else None for (buffer, size), told in zip(buffers, lens))
         return Front(*texts, *(getattr(info, name) for name in Front._fields[4:]))
 
-    def report(self, pages, rate, limit=100_000, end=OPEN, always=True):
+    def report(self, pages, rate, limit=100_000, end=OPEN, always=True, strict=False):
         """What the plan of a page file takes on the air at a rate."""
         info = ReportInfo()
         words = number_in(rate, 4), number_in(limit, 5), number_in(end, 2), ctypes.c_uint32(bool(always))
-        status = self.library.pocsag_report(*bytes_in(pages), *words, ctypes.byref(info))
+        status = self.library.pocsag_report(*self._pages(pages, strict), *words, ctypes.byref(info))
         if status:
             raise raised(status, info.place)
         return Report(*(getattr(info, name) for name in Report._fields))
 
-    def check(self, pages, certificate):
+    def check(self, pages, certificate, strict=False):
         """Whether the certificate shows its number of batches for the page file."""
         info = CheckInfo()
-        status = self.library.pocsag_check(*bytes_in(pages), *bytes_in(certificate), ctypes.byref(info))
+        status = self.library.pocsag_check(*self._pages(pages, strict), *bytes_in(certificate), ctypes.byref(info))
         if status > 1:
             raise raised(status, info.place)
         return Shown(status == 0, info.end, info.batches)
 
-    def explain(self, pages, certificate, form=IN_WORDS, depth=3, size=65_536):
+    def explain(self, pages, certificate, form=IN_WORDS, depth=3, size=65_536, strict=False):
         """Why fewer batches than the certificate's do not suffice for the page file, or which node does not hold."""
         info, length, text = CheckInfo(), ctypes.c_size_t(), buffer_of(size)
         status = self.library.pocsag_explain(
-            *bytes_in(pages), *bytes_in(certificate), number_in(form, 11), ctypes.c_uint32(small_number(depth, "the depth")),
+            *self._pages(pages, strict), *bytes_in(certificate), number_in(form, 11), ctypes.c_uint32(small_number(depth, "the depth")),
             *text, ctypes.byref(length), ctypes.byref(info),
         )  # fmt: skip
         if status == 10:
@@ -218,19 +242,65 @@ class Pocsag:
             raise raised(status, info.place)
         return Explanation(status == 0, info.end, info.batches, bytes(text[0])[: length.value])
 
-    def decode(self, transmission):
-        """The listing of a transmission."""
-        return self._listing(lambda *rest: self.library.pocsag_decode(*bytes_in(transmission), *rest))
+    def decode(self, transmission, reading=PLAIN):
+        """The listing of a transmission; of its repair, or of all transmissions of a capture."""
+        return self._placed_text(self.library.pocsag_decode_as, number_in(reading, 58), *bytes_in(transmission))
 
-    def hear(self, address, transmission):
-        """The listing of what the pager of the address shows of a transmission."""
-        return self._listing(lambda *rest: self.library.pocsag_hear(number_in(address, 64), *bytes_in(transmission), *rest))
+    def hear(self, address, transmission, reading=PLAIN):
+        """The listing of what the pager of the address shows of the same."""
+        return self._placed_text(self.library.pocsag_hear_as, number_in(reading, 58), number_in(address, 64), *bytes_in(transmission))
 
-    def _listing(self, call, size=65_536):
-        place, length, text = Place(), ctypes.c_size_t(), buffer_of(size)
-        status = call(*text, ctypes.byref(length), ctypes.byref(place))
-        if status == 9:
-            return self._listing(call, length.value)
+    def show(self, transmission, form=SHOW_TEXT, batches=ALL_BATCHES, reading=PLAIN):
+        """A picture of the same: a letter for each codeword, where each page stands, or a drawing in SVG; of the batches from one to
+        another, counted from 1."""
+        rows = (ctypes.c_uint64(small_number(row, "a batch", 2**64 - 1)) for row in batches)
+        return self._placed_text(self.library.pocsag_show, number_in(reading, 58), *bytes_in(transmission), number_in(form, 58), *rows)
+
+    def wav(self, transmission, rate, samples=48_000, preamble=None, inverted=False):
+        """The sound that a transmitter is keyed with, as a WAV file; with so many bits of preamble in place of its own."""
+        asked = ctypes.c_uint32(0) if preamble is None else number_in(preamble or 1, 61)  # no preamble has 0 bits or 1
+        keyed = number_in(rate, 4), number_in(samples, 60), asked, ctypes.c_uint32(bool(inverted))
+        return self._placed_text(self.library.pocsag_wav, *bytes_in(transmission), *keyed)
+
+    def lay_in_order(self, pages, strict=False):
+        """The transmission of a page file in the order of the file."""
+        return self._placed_text(self.library.pocsag_lay_in_order, *self._pages(pages, strict))
+
+    def write_page(self, address, kind, message=b""):
+        """The record of a page. `HEADER` and the records behind it are a page file."""
+        number = KINDS.index(kind) if kind in KINDS else len(KINDS)
+        return self._placed_text(self.library.pocsag_write_page, number_in(address, 20), ctypes.c_uint32(number), *bytes_in(message))
+
+    def strict(self, pages):
+        """Refuses a page file in which a quote does not stand as CSV has it."""
+        place = Place()
+        status = self.library.pocsag_strict(*bytes_in(pages), ctypes.byref(place))
         if status:
             raise raised(status, place)
+
+    def airtime_batches(self, airtime_ms, rate):
+        """The most batches that last at most so many milliseconds at a rate."""
+        batches = ctypes.c_uint32()
+        status = self.library.pocsag_airtime_batches(ctypes.c_uint32(small_number(airtime_ms, "the airtime")), number_in(rate, 4), ctypes.byref(batches))
+        if status:
+            raise raised(status, Place())
+        return batches.value
+
+    def _pages(self, pages, strict):
+        """The pointer and the length of a page file, which may be refused for a quote."""
+        if strict:
+            self.strict(pages)
+        return bytes_in(pages)
+
+    def _placed_text(self, call, *words):
+        """The text of a call that tells a place, or its fault."""
+        return self._text(call, *words, told=(Place(),))
+
+    def _text(self, call, *words, told=(), size=65_536):
+        length, text = ctypes.c_size_t(), buffer_of(size)
+        status = call(*words, *text, ctypes.byref(length), *map(ctypes.byref, told))
+        if length.value > size:
+            return self._text(call, *words, told=told, size=length.value)
+        if status:
+            raise raised(status, *told)
         return bytes(text[0])[: length.value]

@@ -12,7 +12,7 @@ _pocsag() {
         mapfile -t COMPREPLY < <(compgen -W "512 1200 2400" -- "$word")
         return
         ;;
-    --limit | --expect | --rows | --nth | --depth | --samples | --preamble | --at-most | --airtime)
+    --limit | --expect | --text | --rows | --nth | --depth | --samples | --preamble | --at-most | --airtime)
         compopt +o default 2>/dev/null
         COMPREPLY=()
         return
@@ -23,11 +23,11 @@ _pocsag() {
     fi
     local -A options=(
         [pocsag]='--strict --verbose --help --version -h -V'
-        [plan]='--limit --end --idle-last --expect --strict --always --verify --keep --at-most --airtime --rate --rest --why --verbose --help -h'
+        [plan]='--limit --end --idle-last --expect --strict --always --verify --keep --at-most --airtime --rate --rest --why --later --oversized --verbose --help -h'
         [check]='--verbose --help -h'
         [explain]='--depth --json --svg --verbose --help -h'
-        [decode]='--repair --capture --verbose --help -h'
-        [hear]='--capture --verbose --help -h'
+        [decode]='--repair --capture --json --text --verbose --help -h'
+        [hear]='--capture --json --text --verbose --help -h'
         [show]='--svg --list --rows --repair --capture --nth --verbose --help -h'
         [wav]='--rate --samples --invert --preamble --verbose --help -h'
         [open]='--journal --read-only --always --keep --verbose --help -h'

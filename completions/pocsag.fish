@@ -2,11 +2,11 @@
 set -l commands plan check explain decode hear show wav open report help
 set -l options \
     pocsag='--strict --verbose --help --version -h -V' \
-    plan='--limit --end --idle-last --expect --strict --always --verify --keep --at-most --airtime --rate --rest --why --verbose --help -h' \
+    plan='--limit --end --idle-last --expect --strict --always --verify --keep --at-most --airtime --rate --rest --why --later --oversized --verbose --help -h' \
     check='--verbose --help -h' \
     explain='--depth --json --svg --verbose --help -h' \
-    decode='--repair --capture --verbose --help -h' \
-    hear='--capture --verbose --help -h' \
+    decode='--repair --capture --json --text --verbose --help -h' \
+    hear='--capture --json --text --verbose --help -h' \
     show='--svg --list --rows --repair --capture --nth --verbose --help -h' \
     wav='--rate --samples --invert --preamble --verbose --help -h' \
     open='--journal --read-only --always --keep --verbose --help -h' \
@@ -27,9 +27,9 @@ for line in $options
                 set value -x -a 'open closed idle'
             case --rate
                 set value -x -a '512 1200 2400'
-            case --limit --expect --rows --nth --depth --samples --preamble --at-most --airtime
+            case --limit --expect --text --rows --nth --depth --samples --preamble --at-most --airtime
                 set value -x # no file names where no value is known
-            case --rest --why --journal
+            case --rest --why --oversized --journal
                 set value -r
         end
         set -l kind -l

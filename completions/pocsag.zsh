@@ -10,7 +10,7 @@ case $words[CURRENT-1] in
     compadd -- 512 1200 2400
     return
     ;;
---limit | --expect | --rows | --nth | --depth | --samples | --preamble | --at-most | --airtime)
+--limit | --expect | --text | --rows | --nth | --depth | --samples | --preamble | --at-most | --airtime)
     return # no file names where no value is known
     ;;
 esac
@@ -19,11 +19,11 @@ if ((CURRENT > 2)); then
 fi
 local -A offered=(
     [pocsag]='--strict --verbose --help --version -h -V'
-    [plan]='--limit --end --idle-last --expect --strict --always --verify --keep --at-most --airtime --rate --rest --why --verbose --help -h'
+    [plan]='--limit --end --idle-last --expect --strict --always --verify --keep --at-most --airtime --rate --rest --why --later --oversized --verbose --help -h'
     [check]='--verbose --help -h'
     [explain]='--depth --json --svg --verbose --help -h'
-    [decode]='--repair --capture --verbose --help -h'
-    [hear]='--capture --verbose --help -h'
+    [decode]='--repair --capture --json --text --verbose --help -h'
+    [hear]='--capture --json --text --verbose --help -h'
     [show]='--svg --list --rows --repair --capture --nth --verbose --help -h'
     [wav]='--rate --samples --invert --preamble --verbose --help -h'
     [open]='--journal --read-only --always --keep --verbose --help -h'

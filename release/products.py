@@ -20,7 +20,7 @@ import lanes
 import make
 import workspace
 from packages import File
-from workspace import WHOLE
+from workspace import PROGRAM
 
 LIBRARY = make.CRATE.name
 CROSS = TOP / "out/aarch64"  # what the toolchain compiles for ARM64
@@ -99,9 +99,9 @@ class Cross:
 def cross_compiled():
     """The object of the program and the archive of the library for ARM64, made anew where their sources have changed."""
     crates = workspace.read_crates()
-    build.build(crates, [WHOLE, LIBRARY])
+    build.build(crates, [PROGRAM, LIBRARY])
     CROSS.mkdir(parents=True, exist_ok=True)
-    made = {name: Cross(crates, name) for name in (WHOLE, LIBRARY)}
+    made = {name: Cross(crates, name) for name in (PROGRAM, LIBRARY)}
     with contextlib.ExitStack() as held:
         for lock in kit.lock([crates[name].folder for name in made]) if any(it.is_old() for it in made.values()) else ():
             held.callback(os.close, lock)
@@ -109,7 +109,7 @@ def cross_compiled():
             if ended.status:
                 raise build.Refused(f"{ended.name} is not built for ARM64:\n{ended.text}")
             made[ended.name].record.write_text(made[ended.name].sum)
-    return made[WHOLE].path, made[LIBRARY].path
+    return made[PROGRAM].path, made[LIBRARY].path
 
 
 def compiled(processor, name, room):
@@ -124,7 +124,7 @@ def built_for_arm(room):
     linker_of(ARM)
     program, archive = cross_compiled()
     memory, system = (compiled(ARM, name, room) for name in ("memory", "system"))
-    linked = room / WHOLE
+    linked = room / PROGRAM
     words = [ARM.compiler, "-pie", "-Wl,--gc-sections,-z,relro,-z,now", "-o", linked, program, memory, system]
     subprocess.run([str(word) for word in words], check=True)
     return linked, archive, memory
@@ -134,8 +134,8 @@ def built(processor, room):
     if processor is ARM:
         return built_for_arm(room)
     crates = workspace.read_crates()
-    build.build(crates, [WHOLE, LIBRARY])
-    return build.Product(crates, WHOLE).path, build.Product(crates, LIBRARY).path, None
+    build.build(crates, [PROGRAM, LIBRARY])
+    return build.Product(crates, PROGRAM).path, build.Product(crates, LIBRARY).path, None
 
 
 def tree(processor):

@@ -1,12 +1,12 @@
 #!/usr/bin/env python3
 """Proves and builds crates of this repository, as many at once as there are processors and memory for.
 
-    build.py program          builds the whole program and prints its path
-    build.py program NAME     the same, or the program NAME where the whole one does not stand; `./pocsag` calls it where a source
-                              has changed. After an edit the toolchain's own compiler makes it, in less time than LLVM
+    build.py program          builds the program with LLVM and prints its path
+    build.py program --quick  the same, but after an edit with the toolchain's own compiler, in less time than LLVM; `./pocsag`
+                              calls it where a source has changed
     build.py proofs [CRATE..] proves and builds these crates, or all, with what they stand on
     build.py tests CRATE..    runs the tests of these crates, where what they stand on is built, and counts them
-    build.py ci               runs `rt ci` and takes the programs that it built; it says how long processors were busy with what
+    build.py ci               runs `rt ci` and takes the program that it built; it says how long processors were busy with what
     build.py library          builds the library for C over what `rt ci` left, with one job, as one thing to pass
 
 What an earlier call proved is not proved again. Exit status 0 where all of it stands, 3 where something does not.
@@ -25,7 +25,7 @@ import kit
 import lanes
 import workspace
 from spent import watched
-from workspace import FIRST, TOP, WHOLE
+from workspace import PROGRAM, TOP
 
 STATE = TOP / "out"  # never committed
 TEST_SECONDS = 3_600  # for each test: compiled with checks one of the greatest sizes takes minutes
@@ -33,13 +33,7 @@ FUNCTIONS_FOR_JOBS = 20  # in a crate with fewer a second job gains nothing
 LLVM, QUICK = "llvm", "rattle"  # the compilers by the names that `rt` has for them; the second is the toolchain's own
 BASE = "pocsag_words"  # the crate that the whole build is compared with
 TAKEN = "begins with what a check kept"  # the toolchain says so where another copy of the repository has proved a crate
-NEEDS = "on four processors, with 2 GB of memory for each of them and 6 GB of disk"
-WAITS = {
-    FIRST: f"proving and building plan, check and report, once: 15 to 25 minutes {NEEDS}. The first call of another command "
-           "takes 10 to 16 minutes more",
-    WHOLE: f"proving and building all commands, once: 12 to 30 minutes {NEEDS}",
-}
-MORE = f"proving and building the other commands, once: 10 to 16 minutes more {NEEDS}"
+WAIT = "proving and building, once: 19 to 30 minutes on four processors, with 2 GB of memory for each of them and 6 GB of disk"
 
 
 def say(text):
@@ -104,7 +98,7 @@ def alone():
 def proof(crates, crate):
     """The proof of a library, or the proof, build and first run of a program. A second job would load what stands below once more,
     which costs more than a small crate gains by it; a program has one function, `main`."""
-    verb, arguments = "run" if crate.is_program else "lib", ["--help"] if crate.name in WAITS else []
+    verb, arguments = "run" if crate.is_program else "lib", ["--help"] if crate.name == PROGRAM else []
     words = lambda jobs: [sys.executable, kit.__file__, verb, str(jobs), *arguments]
     words = words if crate.functions >= FUNCTIONS_FOR_JOBS else words(1)
     return lanes.Task(crate.name, words, crate.folder, crate.uses, workspace.weight(crates, crate.name))
@@ -117,7 +111,7 @@ def tests(crate):
 
 
 def prove(crates, names):
-    """Proves and builds these of the crates, and shows what one that failed printed. At the end it tells how long that took and,
+    """Proves and builds these of the crates, and shows what one that failed printed. At the end it prints how long that took and,
     where all was proved from nothing, how many times as long processors were busy as with the lowest crate."""
     if not shutil.which("rt"):
         raise Refused("the command rt of the toolchain is missing: put the folder bin of its kit into PATH (README, Build it)")
@@ -146,35 +140,29 @@ def prove(crates, names):
     say(f"proved in {now()}" + (f", {sum(busy.values()) / busy[BASE]:.1f} times {BASE}" if is_new and busy[BASE] else ""))
 
 
-def build_program(crates, name=None):
-    """Builds a program where its sources are not those that it was built from; gives the path of the program that stands, which
-    is the whole one where that is current. Where no name is given, LLVM makes it, and otherwise where none stands."""
-    compilers = (LLVM, QUICK) if name else (LLVM,)
-    name = name or WHOLE
-    products = [Product(crates, it) for it in dict.fromkeys((WHOLE, name))]
-    wanted = products[-1]
-    current = next((it for it in products if it.made_by() in compilers), None)
-    old = next((it for it in products if os.access(it.path, os.X_OK)), None)
-    if old and not current and not shutil.which("rt"):
+def build_program(crates, option=None):
+    """Builds the program where its sources are not those that it was built from, or by a compiler that will not do; gives its path.
+    Where the option is given the quick compiler will do too, and makes it where a program stands."""
+    compilers = (LLVM, QUICK) if option == "--quick" else (LLVM,)
+    program = Product(crates, PROGRAM)
+    if program.made_by() in compilers:
+        program.write_record(program.made_by())
+        return program.path
+    if os.access(program.path, os.X_OK) and not shutil.which("rt"):
         say("the sources are not those that the program was built from, and the command rt is missing: the program may be old")
-        return old.path
-    if current:
-        current.write_record(current.made_by())
-        return current.path
+        return program.path
     with alone():
-        current = next((it for it in products if it.made_by() in compilers), None)
-        if current:
-            return current.path
-        compiler = compilers[-1] if wanted.path.exists() else LLVM
+        if program.made_by() in compilers:
+            return program.path
+        compiler = compilers[-1] if program.path.exists() else LLVM
         if compiler != LLVM:
             os.environ["RT_BACKEND"] = compiler
-        has_first = name == WHOLE and Product(crates, FIRST).made_by()
-        say(MORE if has_first else WAITS[name])
-        prove(crates, wanted.crates)
-        if not os.access(wanted.path, os.X_OK):
-            raise Refused(f"'rt run' left no program in {wanted.path.parent.relative_to(TOP)}")
-        wanted.write_record(compiler)
-    return wanted.path
+        say(WAIT)
+        prove(crates, program.crates)
+        if not os.access(program.path, os.X_OK):
+            raise Refused(f"'rt run' left no program in {program.path.parent.relative_to(TOP)}")
+        program.write_record(compiler)
+    return program.path
 
 
 def build(crates, names):

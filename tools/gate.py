@@ -102,7 +102,7 @@ class Gate:
         self.skipped.append(name)
 
     def count(self, name, status, text):
-        """Adds what a part counted. One that fails, tells no count, or counts nothing fails the whole."""
+        """Adds what a part counted. One that fails, prints no count, or counts nothing fails the whole."""
         self.notes += NOTE.findall(text)
         counts = [tuple(map(int, it)) for it in COUNT.findall(text)]
         passed, failed = counts[-1] if counts else (0, 0)

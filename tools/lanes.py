@@ -77,7 +77,7 @@ class Lanes:
                 self.behind[waited] = max(self.behind[waited], self.left[waited].weight + self.behind[task.name])
 
     def begin(self, task, lanes, jobs):
-        """Begins a task with so many jobs; gives what tells that it cannot be run."""
+        """Begins a task with so many jobs; returns what says that it cannot be run."""
         words = task.words(min(jobs, MOST_JOBS, self.width)) if callable(task.words) else task.words
         log = tempfile.TemporaryFile("w+", errors="replace")
         how = {"cwd": task.folder, "stdin": subprocess.DEVNULL, "stdout": log, "stderr": subprocess.STDOUT}

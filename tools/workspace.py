@@ -7,7 +7,7 @@ import re
 
 TOP = pathlib.Path(__file__).resolve().parents[1]
 PARTS = ("src", "specs", "proofs")
-WHOLE, FIRST = "pocsag_app", "pocsag_first"  # the program with all commands, and with those of the centre alone
+PROGRAM = "pocsag_app"  # the crate of the program
 LINE = re.compile(r"([\w-]+(?:/[\w-]+)*)((?: +[\w=+.-]+)*) *(?::([\w\s,/-]*))?")  # a name, what kind of crate it is, its libraries
 TEST = re.compile(r"^\s*#\s*\[[^]]*\btest\b", re.M)
 FUNCTION = re.compile(r"\bfn \w")

@@ -5,7 +5,16 @@ export type Data = string | ArrayBufferView | ArrayBuffer;
 /** What ends the last message: the end of the transmission; a codeword that is no message; an idle codeword. */
 export type End = "open" | "closed" | "idle";
 
-export interface Search {
+/** What is read of bytes: these; their repair; or all transmissions of a capture, one behind the other. */
+export type Reading = "plain" | "repaired" | "captured";
+export type Kind = "tone0" | "tone1" | "tone2" | "tone3" | "numeric" | "alpha";
+
+export interface Strict {
+  /** Refuses a page file in which a quote does not stand as CSV has it. False where it is not given. */
+  strict?: boolean;
+}
+
+export interface Search extends Strict {
   /** The most nodes that the search examines, 1 to 1,000,000; 100,000 where it is not given. */
   limit?: number;
   /** `open` where it is not given. */
@@ -71,9 +80,9 @@ export class Fault extends Error {
   name: string;
   /** The number of that name. */
   status: number;
-  /** The record of the page file, from 1; 0 where the fault is not of one. */
+  /** The record of the page file, from 1; 0 where the fault is not of one, or is a quote of the header. */
   recordNumber: number;
-  /** A byte of the message, a batch or a codeword, from 0. */
+  /** A byte of the message, a batch or a codeword, from 0; of a quote the line, from 1. */
   at: number;
   /** What a search knew at its limit: so many batches are needed at the least, so many would do. */
   least: number;
@@ -92,13 +101,31 @@ export class Pocsag {
   /** What the plan of a page file takes on the air at 512, 1200 or 2400 bits a second. */
   report(pages: Data, rate: number, search?: Search): Report;
   /** Whether a certificate shows its batches for a page file. */
-  check(pages: Data, certificate: Data): Verdict;
+  check(pages: Data, certificate: Data, how?: Strict): Verdict;
   /** Why fewer batches do not suffice, by the nodes no deeper than `depth` (3 where it is not given), or which node does not hold. */
-  explain(pages: Data, certificate: Data, how?: { form?: "words" | "json"; depth?: number }): Explanation;
+  explain(pages: Data, certificate: Data, how?: Strict & { form?: "words" | "json"; depth?: number }): Explanation;
   /** The pages of a transmission, as a listing. */
-  decode(transmission: Data): string;
+  decode(transmission: Data, reading?: Reading): string;
   /** What the pager of an address shows of a transmission, as a listing. */
-  hear(address: number, transmission: Data): string;
+  hear(address: number, transmission: Data, reading?: Reading): string;
+  /** A letter for each codeword of a transmission (`text`, where it is not given), where each page stands (`list`, as CSV), or an
+   * SVG drawing; text and drawing of the batches from `first` to `last`, counted from 1. */
+  show(transmission: Data, how?: { form?: "text" | "list" | "drawing"; first?: number; last?: number; reading?: Reading }): string;
+  /** The sound that a transmitter is keyed with at 512, 1200 or 2400 bits a second, as a WAV file: so many samples a second (48,000
+   * where it is not given), so many bits of preamble in place of the transmission's own, and the levels the other way round. */
+  wav(transmission: Data, rate: number, how?: { samples?: number; preamble?: number | null; inverted?: boolean }): Uint8Array;
+  /** The transmission of a page file in the order of the file, as a centre without a planner sends it. */
+  layInOrder(pages: Data, how?: Strict): Uint8Array;
+  /** The record of a page, with its quotes. `HEADER` and the records behind it are a page file. */
+  writePage(address: number, kind: Kind, message?: Data): string;
+  /** Refuses a page file in which a quote does not stand as CSV has it. */
+  strict(pages: Data): void;
+  /** The most batches that last at most so many milliseconds at a rate; 0 where one lasts longer. */
+  airtimeBatches(airtimeMs: number, rate: number): number;
+  /** What a status says, without its place. */
+  statusText(status: number): string;
+  /** The version of the package. */
+  release(): string;
 }
 
 /** The number of the interface that this module was written for. */
@@ -106,6 +133,9 @@ export const VERSION: number;
 export const DEFAULT_LIMIT: number;
 export const GREATEST_LIMIT: number;
 export const DEFAULT_DEPTH: number;
+/** The first line of a page file. */
+export const HEADER: string;
+export const KINDS: Kind[];
 
 /* The calls of a `Pocsag` over the file pocsag.wasm beside the module. */
 export const version: Pocsag["version"];
@@ -116,3 +146,11 @@ export const check: Pocsag["check"];
 export const explain: Pocsag["explain"];
 export const decode: Pocsag["decode"];
 export const hear: Pocsag["hear"];
+export const show: Pocsag["show"];
+export const wav: Pocsag["wav"];
+export const layInOrder: Pocsag["layInOrder"];
+export const writePage: Pocsag["writePage"];
+export const strict: Pocsag["strict"];
+export const airtimeBatches: Pocsag["airtimeBatches"];
+export const statusText: Pocsag["statusText"];
+export const release: Pocsag["release"];

@@ -38,12 +38,21 @@ const STATUSES = {
   37: ["CERT_BAD_FIELD", "the certificate is malformed"],
   38: ["CERT_TOO_DEEP", "the certificate is too deep"],
   39: ["CERT_TOO_MANY", "the certificate has too many nodes"],
+  41: ["QUOTE_OPEN", "record {recordNumber}: the quote in line {at} is not closed"],
+  42: ["QUOTE_INSIDE", "record {recordNumber}: the quote in line {at} stands inside a field that begins without one"],
+  43: ["QUOTE_FOLLOWED", "record {recordNumber}: text follows the closing quote in line {at}"],
   48: ["SHORT_PREAMBLE", "the preamble is too short"],
   49: ["NO_SYNC", "batch {at}: no synchronisation codeword"],
   50: ["BAD_WORD", "codeword {at}: not a codeword"],
   51: ["ORPHAN", "codeword {at}: a message without an address"],
   52: ["TRUNCATED", "the transmission is cut short"],
   53: ["NO_BATCH", "the transmission has no batch"],
+  56: ["CAPTURE_TOO_LARGE", "the capture is too large"],
+  57: ["BAD_ROWS", "there are no such batches"],
+  58: ["BAD_READING", "there is no such reading or picture"],
+  60: ["BAD_SAMPLES", "the samples a second must be from the rate to 192000"],
+  61: ["BAD_PREAMBLE", "the preamble must have 576 bits or more, a multiple of 8"],
+  62: ["TOO_LONG_FOR_WAV", "the sound is too long for a WAV file"],
   64: ["PAGER_BAD_ADDRESS", "bad address"],
   65: ["PAGER_RESERVED_ADDRESS", "reserved address"],
 };
@@ -52,14 +61,18 @@ const STATUSES = {
 export class Fault extends Error {
   constructor(status, place = { recordNumber: 0, least: 0, found: 0, at: 0 }) {
     const [name, text] = STATUSES[status] ?? ["UNKNOWN", `status ${status}`];
-    super(text.replace(/\{(\w+)\}/g, (_, word) => place[word]));
+    const told = text.replace(/\{(\w+)\}/g, (_, word) => place[word]);
+    super(status < 41 ? told.replace(/^record 0: /, "") : told); // a page that stands in no file has no record
     Object.assign(this, place, { status, name: `POCSAG_${name}` });
   }
 }
 
-export const VERSION = 4;
+export const VERSION = 5;
 export const DEFAULT_LIMIT = 100_000, GREATEST_LIMIT = 1_000_000, DEFAULT_DEPTH = 3;
+export const HEADER = "address,kind,message\n";
+export const KINDS = ["tone0", "tone1", "tone2", "tone3", "numeric", "alpha"];
 const ENDS = ["open", "closed", "idle"], FORMS = ["words", "json"];
+const READINGS = ["plain", "repaired", "captured"], PICTURES = ["text", "list", "drawing"];
 const GREATEST = 2 ** 32 - 1;
 const MOST_BATCHES = 1_760_001;
 const LARGE = 2 ** 26; // bytes: memory never shrinks, so an instance that holds more is not kept for the next call
@@ -70,6 +83,7 @@ const fields = (size, ...names) => names.map((name) => [name, size]);
 const PLAN = fields(4, "pages", "codewords", "inOrder", "batches", "bound");
 const FRONT = fields(4, "pages", "left", "codewords", "inOrder", "batches", "bound", "beyond");
 const CHECK = fields(4, "end", "batches");
+const BATCHES = fields(4, "batches");
 const REPORT = [...PLAN, ...fields(8, "idles", "bits", "airtimeMs")];
 
 /* Where each field stands, as a C compiler lays them out, and where the next structure may begin. */
@@ -96,6 +110,12 @@ function number(value, status) {
   if (!Number.isInteger(value)) throw new TypeError(`a whole number is wanted, not ${value}`);
   if (value < 0 || value > GREATEST) throw status ? new Fault(status) : new RangeError(`0 to ${GREATEST} is wanted, not ${value}`);
   return value;
+}
+
+/* A number that the library takes with 64 bits. */
+function wide(value) {
+  if (!Number.isSafeInteger(value) || value < 0) throw new RangeError(`a whole number is wanted, not ${value}`);
+  return BigInt(value);
 }
 
 /* The number of a name; the fault of the status where it is none. */
@@ -185,10 +205,10 @@ export class Pocsag {
   }
 
   /* Calls `name` with what it reads, buffers of these sizes and numbers, and gives its status, what it tells, and the texts in
-   * the buffers; the numbers may stand before the buffers. A buffer that is too small gets the size that was told. */
-  #call(name, told, { reads = [], first = [], sizes = [], numbers = [], address }) {
+   * the buffers; the numbers may stand before the buffers, or before what it reads. A buffer that is too small gets the size that
+   * was told. */
+  #call(name, told, { head = [], reads = [], first = [], sizes = [], numbers = [] }) {
     return this.#with((buffers, exports) => {
-      const head = address === undefined ? [] : [address];
       const read = reads.flatMap((bytes) => buffers.put(bytes));
       const info = layout(told), place = layout(PLACE, info.end);
       for (;;) {
@@ -212,44 +232,96 @@ export class Pocsag {
     return this.#with((_, exports) => exports.pocsag_version());
   }
 
-  plan(pages, { limit = DEFAULT_LIMIT, end = "open", always = true } = {}) {
-    const bytes = bytesOf(pages), numbers = [number(limit, 5), placeIn(ENDS, end, 2), Number(Boolean(always))];
+  /* What a status says, without its place; and the version of the package. */
+  statusText(status) {
+    return this.#text("pocsag_text_of_status", { head: [number(status)], sizes: [256] });
+  }
+
+  release() {
+    return this.#text("pocsag_text_of_version", { sizes: [256] });
+  }
+
+  /* The text of a call that fills one buffer. */
+  #text(name, words) {
+    return textOf(this.#call(name, [], words).texts[0]);
+  }
+
+  /* The bytes of a page file, which may be refused for a quote. */
+  #pages(pages, isStrict) {
+    const bytes = bytesOf(pages);
+    if (isStrict) this.strict(bytes);
+    return bytes;
+  }
+
+  plan(pages, { limit = DEFAULT_LIMIT, end = "open", always = true, strict = false } = {}) {
+    const bytes = this.#pages(pages, strict), numbers = [number(limit, 5), placeIn(ENDS, end, 2), Number(Boolean(always))];
     const { tx, cert } = bound(bytes.length, limit);
     const { info, texts } = this.#call("pocsag_plan", PLAN, { reads: [bytes], sizes: [tx, cert], numbers });
     return { transmission: texts[0], certificate: texts[1], ...info };
   }
 
-  planAtMost(pages, batches, { limit = DEFAULT_LIMIT, end = "open", always = true } = {}) {
-    const bytes = bytesOf(pages), numbers = [number(limit, 5), placeIn(ENDS, end, 2), Number(Boolean(always))];
+  planAtMost(pages, batches, { limit = DEFAULT_LIMIT, end = "open", always = true, strict = false } = {}) {
+    const bytes = this.#pages(pages, strict), numbers = [number(limit, 5), placeIn(ENDS, end, 2), Number(Boolean(always))];
     const { tx, cert, rest } = bound(bytes.length, limit), sizes = [tx, cert, rest, cert];
     const { info, texts } = this.#call("pocsag_plan_at_most", FRONT, { reads: [bytes], first: [number(batches)], sizes, numbers });
     return { transmission: texts[0], certificate: texts[1], rest: textOf(texts[2]), why: texts[3], ...info };
   }
 
-  report(pages, rate, { limit = DEFAULT_LIMIT, end = "open", always = true } = {}) {
+  report(pages, rate, { limit = DEFAULT_LIMIT, end = "open", always = true, strict = false } = {}) {
     const first = [number(rate, 4), number(limit, 5), placeIn(ENDS, end, 2), Number(Boolean(always))];
-    return this.#call("pocsag_report", REPORT, { reads: [bytesOf(pages)], first }).info;
+    return this.#call("pocsag_report", REPORT, { reads: [this.#pages(pages, strict)], first }).info;
   }
 
-  check(pages, certificate) {
-    const { status, info } = this.#call("pocsag_check", CHECK, { reads: [bytesOf(pages), bytesOf(certificate)] });
+  check(pages, certificate, { strict = false } = {}) {
+    const { status, info } = this.#call("pocsag_check", CHECK, { reads: [this.#pages(pages, strict), bytesOf(certificate)] });
     return { isShown: status === 0, end: ENDS[info.end], batches: info.batches };
   }
 
-  explain(pages, certificate, { form = "words", depth = DEFAULT_DEPTH } = {}) {
-    const reads = [bytesOf(pages), bytesOf(certificate)], first = [placeIn(FORMS, form, 11), number(depth)];
+  explain(pages, certificate, { form = "words", depth = DEFAULT_DEPTH, strict = false } = {}) {
+    const reads = [this.#pages(pages, strict), bytesOf(certificate)], first = [placeIn(FORMS, form, 11), number(depth)];
     const { status, info, texts } = this.#call("pocsag_explain", CHECK, { reads, first, sizes: [2 ** 16] });
     return { isShown: status === 0, end: ENDS[info.end], batches: info.batches, text: textOf(texts[0]) };
   }
 
-  decode(transmission) {
-    const bytes = bytesOf(transmission);
-    return textOf(this.#call("pocsag_decode", [], { reads: [bytes], sizes: [listing(bytes)] }).texts[0]);
+  decode(transmission, reading = "plain") {
+    const bytes = bytesOf(transmission), head = [placeIn(READINGS, reading, 58)];
+    return this.#text("pocsag_decode_as", { head, reads: [bytes], sizes: [listing(bytes)] });
   }
 
-  hear(address, transmission) {
-    const bytes = bytesOf(transmission);
-    return textOf(this.#call("pocsag_hear", [], { address: number(address, 64), reads: [bytes], sizes: [listing(bytes)] }).texts[0]);
+  hear(address, transmission, reading = "plain") {
+    const bytes = bytesOf(transmission), head = [placeIn(READINGS, reading, 58), number(address, 64)];
+    return this.#text("pocsag_hear_as", { head, reads: [bytes], sizes: [listing(bytes)] });
+  }
+
+  show(transmission, { form = "text", first = 1, last = Number.MAX_SAFE_INTEGER, reading = "plain" } = {}) {
+    const bytes = bytesOf(transmission), head = [placeIn(READINGS, reading, 58)];
+    const numbers = [placeIn(PICTURES, form, 58), wide(first), wide(last)];
+    return this.#text("pocsag_show", { head, reads: [bytes], first: numbers, sizes: [2 ** 16] });
+  }
+
+  wav(transmission, rate, { samples = 48_000, preamble = null, inverted = false } = {}) {
+    const bytes = bytesOf(transmission), asked = preamble === null ? 0 : number(preamble, 61) || 1; // no preamble has 0 bits or 1
+    const first = [number(rate, 4), number(samples, 60), asked, Number(Boolean(inverted))];
+    const size = 46 + Math.ceil((2 * samples * (8 * bytes.length + asked + 544)) / Math.max(rate, 1)); // too long from 2 ** 32 on
+    return this.#call("pocsag_wav", [], { reads: [bytes], first, sizes: [size < 2 ** 31 ? size : 0] }).texts[0];
+  }
+
+  layInOrder(pages, { strict = false } = {}) {
+    const bytes = this.#pages(pages, strict), sizes = [bound(bytes.length, 1).tx];
+    return this.#call("pocsag_lay_in_order", [], { reads: [bytes], sizes }).texts[0];
+  }
+
+  writePage(address, kind, message = "") {
+    const bytes = bytesOf(message), named = KINDS.includes(kind) ? KINDS.indexOf(kind) : KINDS.length;
+    return this.#text("pocsag_write_page", { head: [number(address, 20), named], reads: [bytes], sizes: [2 * bytes.length + 20] });
+  }
+
+  strict(pages) {
+    this.#call("pocsag_strict", [], { reads: [bytesOf(pages)] });
+  }
+
+  airtimeBatches(airtimeMs, rate) {
+    return this.#call("pocsag_airtime_batches", BATCHES, { head: [number(airtimeMs), number(rate, 4)] }).info.batches;
   }
 }
 
@@ -271,7 +343,15 @@ export const version = () => library.version();
 export const plan = (pages, search) => library.plan(pages, search);
 export const planAtMost = (pages, batches, search) => library.planAtMost(pages, batches, search);
 export const report = (pages, rate, search) => library.report(pages, rate, search);
-export const check = (pages, certificate) => library.check(pages, certificate);
+export const check = (pages, certificate, how) => library.check(pages, certificate, how);
 export const explain = (pages, certificate, how) => library.explain(pages, certificate, how);
-export const decode = (transmission) => library.decode(transmission);
-export const hear = (address, transmission) => library.hear(address, transmission);
+export const decode = (transmission, reading) => library.decode(transmission, reading);
+export const hear = (address, transmission, reading) => library.hear(address, transmission, reading);
+export const show = (transmission, how) => library.show(transmission, how);
+export const wav = (transmission, rate, how) => library.wav(transmission, rate, how);
+export const layInOrder = (pages, how) => library.layInOrder(pages, how);
+export const writePage = (address, kind, message) => library.writePage(address, kind, message);
+export const strict = (pages) => library.strict(pages);
+export const airtimeBatches = (airtimeMs, rate) => library.airtimeBatches(airtimeMs, rate);
+export const statusText = (status) => library.statusText(status);
+export const release = () => library.release();

@@ -1,5 +1,5 @@
-/* Products and shifts of 128 bits, which the compiler calls by these names where a processor has none. A number is shifted by
- * 0 to 127. */
+/* Products, quotients and shifts of 128 bits, which the compiler calls by these names where a processor has none. A number is
+ * shifted by 0 to 127, and never divided by 0. */
 typedef unsigned long long u64;
 
 union wide {
@@ -45,4 +45,23 @@ unsigned __int128 __lshrti3(unsigned __int128 number, int by)
 __int128 __ashrti3(__int128 number, int by)
 {
     return (__int128)shift_right((unsigned __int128)number, by, number < 0 ? ~0ull : 0);
+}
+
+unsigned __int128 __udivti3(unsigned __int128 number, unsigned __int128 by)
+{
+    union wide a = {number}, b = {by}, quotient = {0}, rest = {0};
+    if (a.half.high == 0 && b.half.high == 0)
+        return a.half.low / b.half.low;
+    for (int bit = 127; bit >= 0; bit--) {
+        u64 carry = rest.half.high >> 63, half = bit < 64 ? a.half.low : a.half.high;
+        rest.whole = rest.whole << 1 | (half >> bit % 64 & 1);
+        if (carry || rest.whole >= by) {
+            rest.whole -= by;
+            if (bit < 64)
+                quotient.half.low |= 1ull << bit;
+            else
+                quotient.half.high |= 1ull << (bit - 64);
+        }
+    }
+    return quotient.whole;
 }

@@ -1,5 +1,6 @@
-//! What planning saves: the batches of random rounds in file order, by the greedy queue of usual encoders
-//! and planned, beside a sixteenth of their codewords; and how many more they are with an idle codeword last.
+//! What planning saves: the airtime of random rounds planned, by a greedy queue, first in, first out, and with a
+//! transmission for each page; the fewest batches beside a sixteenth of the codewords; and how many more batches there
+//! are with an idle codeword last.
 
 #[allow(dead_code)]
 #[path = "../search/choosing.rs"]
@@ -35,13 +36,18 @@ use std::collections::VecDeque;
 
 const NODE_LIMIT: u32 = 100_000;
 
+/// The bits of a preamble and of a batch, and of a second.
+const PREAMBLE: u64 = 576;
+const BATCH: u64 = 544;
+const RATE: u64 = 1_200;
+
 /// How many pages a round has, and how many rounds are made.
-const SIZES: [(u32, u32); 4] = [(10, 1_000), (100, 300), (1_000, 100), (20_000, 10)];
+const SIZES: [(u32, u32); 5] = [(1, 1_000), (10, 1_000), (100, 300), (1_000, 100), (20_000, 10)];
 
 const KINDS: [(&str, fn(&mut Random) -> u32); 4] =
     [("tones", |_| 1), ("numbers of 3 to 12 digits", numeric), ("texts of 20 to 80 characters", alpha), ("mixed", mixed)];
 
-/// How many batches the pages take one after the other, each with idles before it up to its frame.
+/// How many batches the pages take first in, first out: one after the other, each with idles before it up to its frame.
 fn in_order(pages: &[Page]) -> u32 {
     let mut index = 0;
     for page in pages {
@@ -73,30 +79,63 @@ fn fewest(pages: &[Page], end: End) -> u32 {
     }
 }
 
+/// The sums of some rounds.
+#[derive(Default)]
+struct Sums {
+    codewords: u64,
+    fewest: u64,
+    more_idle: u64,
+    queue: u64,
+    order: u64,
+    alone: u64,
+}
+
+impl Sums {
+    fn add(&mut self, pages: &[Page]) {
+        let least = fewest(pages, End::Open);
+        self.codewords += pages.iter().map(|page| u64::from(page.length)).sum::<u64>();
+        self.fewest += u64::from(least);
+        self.more_idle += u64::from(fewest(pages, End::Idle) - least);
+        self.queue += u64::from(by_queue(pages));
+        self.order += u64::from(in_order(pages));
+        self.alone += pages.iter().map(|page| u64::from(in_order(std::slice::from_ref(page)))).sum::<u64>();
+    }
+}
+
+/// The seconds that so many transmissions with so many batches in all take on the air, each with its preamble.
+fn airtime(transmissions: u64, batches: u64) -> f64 {
+    (transmissions * PREAMBLE + batches * BATCH) as f64 / RATE as f64
+}
+
 fn main() {
-    println!("| Round | pages | codewords / 16 | fewest | greedy queue | file order | saved against the queue | more with an idle last |");
-    println!("|---|---|---|---|---|---|---|---|");
+    println!(
+        "| Round | Pages | Codewords / 16 | Fewest batches | Planned | Greedy queue | First in, first out | \
+         A transmission a page | Saved against the queue | against first in, first out | `--idle-last` |"
+    );
+    println!("|---|---|---|---|---|---|---|---|---|---|---|");
     for (name, length) in KINDS {
         for (count, rounds) in SIZES {
             let mut random = Random::new();
-            let (mut codewords, mut least, mut idle, mut queue, mut order) = (0u64, 0u64, 0u64, 0u64, 0u64);
+            let mut sums = Sums::default();
             for _ in 0..rounds {
-                let pages = round(&mut random, count, length);
-                codewords += pages.iter().map(|page| u64::from(page.length)).sum::<u64>();
-                least += u64::from(fewest(&pages, End::Open));
-                idle += u64::from(fewest(&pages, End::Idle));
-                queue += u64::from(by_queue(&pages));
-                order += u64::from(in_order(&pages));
+                sums.add(&round(&mut random, count, length));
             }
-            let average = |sum: u64| sum as f64 / f64::from(rounds);
+            let rounds = u64::from(rounds);
+            let average = |sum: f64| sum / rounds as f64;
+            let planned = airtime(rounds, sums.fewest);
+            let queued = airtime(rounds, sums.queue);
+            let ordered = airtime(rounds, sums.order);
             println!(
-                "| {name} | {count} | {:.1} | {:.1} | {:.1} | {:.1} | {:.1} % | {:.2} |",
-                average(codewords) / 16.0,
-                average(least),
-                average(queue),
-                average(order),
-                100.0 * (queue - least) as f64 / queue as f64,
-                average(idle - least),
+                "| {name} | {count} | {:.1} | {:.1} | {:.1} | {:.1} | {:.1} | {:.1} | {:.1} % | {:.1} % | {:.2} |",
+                average(sums.codewords as f64) / 16.0,
+                average(sums.fewest as f64),
+                average(planned),
+                average(queued),
+                average(ordered),
+                average(airtime(rounds * u64::from(count), sums.alone)),
+                100.0 * (queued - planned) / queued,
+                100.0 * (ordered - planned) / ordered,
+                average(sums.more_idle as f64),
             );
         }
     }

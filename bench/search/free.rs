@@ -61,7 +61,7 @@ pub fn near(classes: &Classes, end: End) -> Near {
     Near { least: least.batches, choice: least.choice, steps, tree: Tree::Overload(least.set) }
 }
 
-/// What the free search answers, and how many nodes it examined.
+/// What the free search returns, and how many nodes it examined.
 pub fn search_freely(classes: &Classes, node_limit: u32, end: End) -> (Result<Found, Near>, u32) {
     let least = least_of(classes);
     let (answer, examined) = tries(classes, least.batches, node_limit, end);

@@ -72,7 +72,7 @@ fn batches_of(pages: &[Page], end: End) -> u32 {
     }
 }
 
-/// Both searches, their trees and tours; answers the nodes of the promised tree.
+/// Both searches, their trees and tours; returns the nodes of the promised tree.
 fn try_round(pages: &[Page], end: End, want: Option<u32>) -> u32 {
     let classes = classes_of(pages, end);
     let (free, _) = search_freely(&classes, LIMIT, end);

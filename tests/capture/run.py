@@ -1,8 +1,8 @@
 #!/usr/bin/env python3
 """Runs `decode`, `hear` and `show` with `--capture` on captures that a keyer of this script made: 2,000 with several
 transmissions at any bit and in either polarity, with noise around them and up to two wrong bits in each word; 400 with
-words past repair and ends cut off, beside a receiver of this script; cases worked by hand; refusals; and the time that
-100 MB of noise takes.
+words past repair, ends cut off and bits lost, beside a receiver of this script; cases worked by hand; refusals; and the
+time that 100 MB of noise takes.
 
 It takes the binary that the gate left in crates/pocsag_app/out. The last line is 'N passed, M failed'.
 """
@@ -111,23 +111,44 @@ def some_noise(chance, count):
 # ---- a receiver, bit by bit
 
 
-def sync_polarity(word):
-    wrong = (word ^ SYNC).bit_count()
-    return "upright" if wrong <= 2 else "inverted" if wrong >= 30 else None
-
-
-def polarity_at(bits, bit):
-    return sync_polarity(int(bits[bit : bit + 32], 2)) if bit + 32 <= len(bits) else None
-
-
-def first_sync(bits, bit):
-    """The first synchronisation codeword from a bit on, or nothing."""
-    window = int(bits[bit : bit + 31] or "0", 2)
-    for at in range(bit, len(bits) - 31):
+def syncs(bits):
+    """Each place at which a synchronisation codeword begins, with its polarity."""
+    found, window = {}, int(bits[:31] or "0", 2)
+    for at in range(len(bits) - 31):
         window = (window << 1 | (bits[at + 31] == "1")) & ONES
-        if sync_polarity(window):
-            return at
-    return None
+        wrong = (window ^ SYNC).bit_count()
+        if wrong <= 2 or wrong >= 30:
+            found[at] = "upright" if wrong <= 2 else "inverted"
+    return found
+
+
+def word_at(bits, at, polarity):
+    """The word from a bit on as it was sent, or nothing where the end cuts it off."""
+    piece = bits[at : at + 32]
+    return int(piece, 2) ^ (ONES if polarity == "inverted" else 0) if len(piece) == 32 else None
+
+
+def is_like(bits, at, polarity):
+    word = word_at(bits, at, polarity)
+    return word is not None and (word ^ SYNC).bit_count() <= 7
+
+
+def runs(bits):
+    """Synchronisation codewords in step: the first and the last place of each run, and the polarity."""
+    near, first = syncs(bits), 0
+    for at, polarity in near.items():
+        if at < first:
+            continue
+        last = at
+        while True:
+            if near.get(last + 544) == polarity:
+                last += 544
+            elif near.get(last + 1088) == polarity and not any(last < other < last + 1088 for other in near):
+                last += 1088
+            else:
+                break
+        first = last + 1
+        yield at, last, polarity
 
 
 def repaired(word):
@@ -142,39 +163,58 @@ def repaired(word):
     return None
 
 
+def mended_at(bits, at, polarity):
+    word = word_at(bits, at, polarity)
+    return None if word is None else repaired(word)
+
+
+def words_read(bits, at, polarity, batches):
+    """How many words are read: up to two past repair in a row in the last batch."""
+    for place in range(17 * (batches - 1) + 1, 17 * batches - 1):
+        if all(mended_at(bits, at + 32 * k, polarity) is None for k in (place, place + 1)):
+            return place
+    return 17 * batches
+
+
+def read_words(bits, start, polarity, batches):
+    """What is told of a transmission: corrected bits, lost words and cut pages, and its pages."""
+    corrected = lost = cut = 0
+    pages, page = [], None
+    end = words_read(bits, start, polarity, batches)
+    for place in range(17 * batches):
+        at = start + 32 * place
+        word = word_at(bits, at, polarity) if place < end else None
+        if place % 17 == 0:
+            wrong = 32 if word is None else (word ^ SYNC).bit_count()
+            corrected, lost = (corrected + wrong, lost) if wrong <= 2 else (corrected, lost + 1)
+            continue
+        mended = None if word is None else repaired(word)
+        if mended is None:
+            lost, cut, page = lost + 1, cut + (page is not None), None
+            continue
+        corrected += (word ^ mended).bit_count()
+        if mended == IDLE:
+            page = None
+        elif mended >> 31:
+            if page is not None:
+                page[2].append(mended >> 11 & 0xFFFFF)
+        else:
+            page = [8 * (mended >> 13 & 0x3FFFF) + (place % 17 - 1) // 2, mended >> 11 & 3, []]
+            pages.append(page)
+    return corrected, lost, cut + (page is not None), pages
+
+
 def heard(bits):
-    """The transmissions of a capture, each as its bit, polarity, batches, corrected bits, lost words and pages."""
-    found, bit = [], 0
-    while (bit := first_sync(bits, bit)) is not None:
-        start, polarity, words = bit, polarity_at(bits, bit), []
-        while polarity_at(bits, bit) == polarity:
-            for place in range(17):
-                piece = bits[bit + 32 * place : bit + 32 * place + 32]
-                if len(piece) < 32:
-                    words.append(IDLE)
-                else:
-                    words.append(int(piece, 2) ^ (ONES if polarity == "inverted" else 0))
-            bit += 544
-        corrected = lost = 0
-        pages, page = [], None
-        for place, word in enumerate(words):
-            if place % 17 == 0:
-                corrected += (word ^ SYNC).bit_count()
+    """The transmissions of a capture, each as its bit, polarity, batches, corrected bits, lost words, cut pages and pages."""
+    found, held = [], 0
+    for first, last, polarity in runs(bits):
+        if first == last:
+            few = sum(mended_at(bits, first + 32 * k, polarity) is None for k in range(1, 17)) <= 5
+            if not few or held > first + 31:
                 continue
-            mended = repaired(word)
-            if mended is None:
-                lost, page = lost + 1, None
-                continue
-            corrected += (word ^ mended).bit_count()
-            if mended == IDLE:
-                page = None
-            elif mended >> 31:
-                if page is not None:
-                    page[2].append(mended >> 11 & 0xFFFFF)
-            else:
-                page = [8 * (mended >> 13 & 0x3FFFF) + (place % 17 - 1) // 2, mended >> 11 & 3, []]
-                pages.append(page)
-        found.append((start, polarity, len(words) // 17, corrected, lost, pages))
+        held = last + 544
+        batches = (held - first) // 544 + is_like(bits, held, polarity)
+        found.append((first, polarity, batches, *read_words(bits, first, polarity, batches)))
     return found
 
 
@@ -207,32 +247,33 @@ def rows_in(listing):
 
 def told_lines(found):
     return "".join(
-        f"pocsag: transmission {k}: bit {bit}, {polarity}, batches {batches}, corrected bits {corrected}, lost words {lost}\n"
-        for k, (bit, polarity, batches, corrected, lost) in enumerate(found, 1)
+        f"pocsag: transmission {k}: bit {bit}, {polarity}, batches {batches}, corrected bits {corrected}, lost words {lost}, cut pages {cut}\n"
+        for k, (bit, polarity, batches, corrected, lost, cut) in enumerate(found, 1)
     ).encode()
 
 
 def some_capture(chance):
-    """A capture, the pages of each transmission, and what is told of each; the noise is drawn again until it is quiet."""
+    """A capture, the pages of each transmission, and what is told of each. It is drawn again until no synchronisation codeword
+    begins anywhere but in its place, and none of seven wrong bits behind a transmission."""
     while True:
-        bits, pages, told, sent, quiet = "", [], [], [], True
+        bits, pages, told, sent, places, ends = "", [], [], [], {}, []
         for _ in range(chance.randint(1, 3)):
             noise = some_noise(chance, chance.randrange(300)) + "10" * chance.randrange(40, 288)
             some = some_pages(chance, 5)
             words = words_of(some)
             damaged = [flipped(chance, word, chance.randrange(3)) for word in words]
-            turned = chance.random() < 0.5
+            polarity = chance.choice(("upright", "inverted"))
             start = len(bits) + len(noise)
-            first = len(bits)
-            bits += inverted(noise + bits_of(damaged)) if turned else noise + bits_of(damaged)
-            quiet = quiet and first_sync(bits, first) == start
+            bits += inverted(noise + bits_of(damaged)) if polarity == "inverted" else noise + bits_of(damaged)
+            places.update((start + 544 * k, polarity) for k in range(len(words) // 17))
+            ends.append((len(bits), polarity))
             pages.append(some)
             sent.append(words)
             wrong = sum((a ^ b).bit_count() for a, b in zip(words, damaged))
-            told.append((start, "inverted" if turned else "upright", len(words) // 17, wrong, 0))
-        end = len(bits)
+            told.append((start, polarity, len(words) // 17, wrong, 0, int(words[-1] != IDLE)))
         bits += some_noise(chance, chance.randrange(300))
-        if quiet and first_sync(bits, end) is None:
+        apart = all(b[0] - a[0] != 544 for a, b in zip(ends, ((bit, None) for bit, *_ in told[1:])))
+        if apart and syncs(bits) == places and not any(is_like(bits, *end) for end in ends):
             return bits, pages, told, sent
 
 
@@ -270,15 +311,18 @@ def try_damaged(tally, folder):
                 if place % 17:
                     words[place] = chance.choice((word, word, flipped(chance, word, chance.randrange(3, 9)), chance.getrandbits(32)))
                 else:
-                    words[place] = flipped(chance, word, chance.choice((0, 1, 2, 2, 3)))
-            bits += inverted(bits_of(words)) if chance.random() < 0.5 else bits_of(words)
+                    words[place] = flipped(chance, word, chance.choice((0, 1, 2, 2, 3, 7, 8)))
+            some = bits_of(words)
+            gone = chance.randrange(2 * len(some))
+            some = some[:gone] + some[gone + 1 :]
+            bits += inverted(some) if chance.random() < 0.5 else some
             bits += some_noise(chance, chance.choice((0, chance.randrange(200))))
         bits = bits[: chance.randint(len(bits) // 2, len(bits)) // 8 * 8]
         (folder / "air.bin").write_bytes(file_of(bits))
         done = run(["decode", "--capture", "air.bin", "--verbose"], cwd=folder)
         found = heard(bits)
-        due = [read_row(page) for one in found for page in one[5]]
-        holds = (done.returncode, rows_in(done.stdout), done.stderr) == (0, due, told_lines([one[:5] for one in found]))
+        due = [read_row(page) for one in found for page in one[6]]
+        holds = (done.returncode, rows_in(done.stdout), done.stderr) == (0, due, told_lines([one[:6] for one in found]))
         tally.check(f"damaged capture {count}", holds, (due, found, done))
 
 
@@ -302,28 +346,53 @@ def try_by_hand(tally, folder):
     listed("all zeros", bytes(1_000), [], [])
     listed("all ones", b"\xff" * 1_000, [], [])
     listed("a preamble alone", b"\xaa" * 500, [], [])
-    listed("one batch from the first bit", bits_of(batch), two, [(0, "upright", 1, 0, 0)])
+    listed("one batch from the first bit", bits_of(batch), two, [(0, "upright", 1, 0, 0, 0)])
     for offset in range(1, 9):
-        listed(f"one batch from bit {offset}", "0" * offset + bits_of(batch), two, [(offset, "upright", 1, 0, 0)])
-        listed(f"inverted from bit {offset}", inverted("0" * offset + bits_of(batch)), two, [(offset, "inverted", 1, 0, 0)])
+        listed(f"one batch from bit {offset}", "0" * offset + bits_of(batch), two, [(offset, "upright", 1, 0, 0, 0)])
+        listed(f"inverted from bit {offset}", inverted("0" * offset + bits_of(batch)), two, [(offset, "inverted", 1, 0, 0, 0)])
     ended = [SYNC, tone, more, lost, more] + [IDLE] * 12
-    listed("a word past repair ends the page", bits_of(ended), one, [(0, "upright", 1, 0, 1)])
+    listed("a word past repair ends the page", bits_of(ended), one, [(0, "upright", 1, 0, 1, 1)])
     gone = [SYNC, tone ^ 0b1011 << 7, more, more] + [IDLE] * 13
-    listed("an address past repair opens none", bits_of(gone), [], [(0, "upright", 1, 0, 1)])
+    listed("an address past repair opens none", bits_of(gone), [], [(0, "upright", 1, 0, 1, 0)])
     orphan = [SYNC, more, tone, *[IDLE] * 14]
-    listed("a message codeword without a page", bits_of(orphan), [["8", "tone0", ""]], [(0, "upright", 1, 0, 0)])
+    listed("a message codeword without a page", bits_of(orphan), [["8", "tone0", ""]], [(0, "upright", 1, 0, 0, 0)])
     goes_on = [SYNC, *[IDLE] * 14, tone, more, SYNC ^ 3, more, *[IDLE] * 15]
     over = [["15", "numeric", numeric([0x12345, 0x12345])]]
-    listed("a page over two batches", bits_of(goes_on), over, [(0, "upright", 2, 2, 0)])
-    stops = [SYNC, *[IDLE] * 14, tone, more, SYNC ^ 7, more, *[IDLE] * 15]
-    listed("no batch without its synchronisation codeword", bits_of(stops), [["15", "numeric", numeric([0x12345])]], [(0, "upright", 1, 0, 0)])
+    listed("a page over two batches", bits_of(goes_on), over, [(0, "upright", 2, 2, 0, 0)])
+    alike = [SYNC, *[IDLE] * 14, tone, more, SYNC ^ 0x7F, more, *[IDLE] * 15]
+    listed("a last batch of seven wrong bits", bits_of(alike), over, [(0, "upright", 2, 0, 1, 0)])
+    begun = [["15", "numeric", numeric([0x12345])]]
+    stops = [SYNC, *[IDLE] * 14, tone, more, SYNC ^ 0xFF, more, *[IDLE] * 15]
+    listed("none of eight wrong bits", bits_of(stops), begun, [(0, "upright", 1, 0, 0, 1)])
+    bridged = [SYNC, *[IDLE] * 14, tone, more, SYNC ^ 0xFFFFF, more, *[IDLE] * 15, SYNC, *[IDLE] * 16]
+    listed("a synchronisation codeword that cannot be recognised", bits_of(bridged), over, [(0, "upright", 3, 0, 1, 0)])
+    late = bits_of(bridged[:34]) + "0" + bits_of(bridged[34:])
+    listed("whose successor is out of step", late, begun, [(0, "upright", 1, 0, 0, 1), (1089, "upright", 1, 0, 0, 0)])
+    taken = bridged[:20] + [SYNC] + bridged[21:]
+    # the synchronisation codeword of the third batch is there an address codeword: 255632 with function 2, in frame 6
+    stray = [*begun, ["2045062", "tone2", ""]]
+    listed("with another between", bits_of(taken), stray, [(0, "upright", 1, 0, 0, 1), (640, "upright", 1, 0, 0, 0)])
     turned = bits_of([SYNC, *[IDLE] * 14, tone, more]) + inverted(bits_of([SYNC, more, *[IDLE] * 15]))
-    listed("the polarity changes", turned, [["15", "numeric", numeric([0x12345])]], [(0, "upright", 1, 0, 0), (544, "inverted", 1, 0, 0)])
-    for length in range(4, 16):
-        due = [] if length < 8 else [["8", "tone0", ""]] if length < 12 else one
-        listed(f"cut off after {length} bytes", file_of(bits_of(batch))[:length], due, [(0, "upright", 1, 0, 0)])
+    listed("the polarity changes", turned, begun, [(0, "upright", 1, 0, 0, 1), (544, "inverted", 1, 0, 0, 0)])
+    call = bits_of([SYNC, *[IDLE] * 16, SYNC, tone, *[IDLE] * 15])
+    listed("a transmission that another cuts off", call[:840] + call, [["8", "tone0", ""], ["8", "tone0", ""]])
+    lost_bit = bits_of([SYNC, tone, *[IDLE] * 15])[:543] + bits_of([SYNC, tone, more, *[IDLE] * 14])
+    listed("a bit that is lost", lost_bit, [["8", "tone0", ""], one[0]])
+    for count in (5, 6, 11):
+        words = [lost if place < 2 * count - 16 or place % 2 and place < 2 * count else IDLE for place in range(16)]
+        told = [(0, "upright", 1, 0, 5, 0)] if count == 5 else []
+        listed(f"{count} lost words in one batch", bits_of([SYNC, *words]), [], told)
+    ends = [SYNC, tone, more, IDLE, lost, lost, tone, more, *[IDLE] * 9]
+    listed("two lost words end the last batch", bits_of(ends), one, [(0, "upright", 1, 0, 13, 0)])
+    ends = [SYNC, *[IDLE] * 16, SYNC, tone, more, IDLE, lost, lost, tone, more, *[IDLE] * 9]
+    listed("two lost words end the last batch of two", bits_of(ends), one, [(0, "upright", 2, 0, 13, 0)])
+    for length in range(4, 48):
+        listed(f"cut off after {length} bytes", file_of(bits_of(batch))[:length], [], [])
+    for length in range(48, 68):
+        told = [(0, "upright", 1, 0, 17 - length // 4, 0)]
+        listed(f"cut off after {length} bytes", file_of(bits_of(batch))[:length], two, told)
     for wrong in (SYNC ^ 1 << 31, SYNC ^ 0x80000001, SYNC ^ 3 << 15):
-        listed(f"{wrong:08X}", bits_of([wrong, *batch[1:]]), two, [(0, "upright", 1, (wrong ^ SYNC).bit_count(), 0)])
+        listed(f"{wrong:08X}", bits_of([wrong, *batch[1:]]), two, [(0, "upright", 1, (wrong ^ SYNC).bit_count(), 0, 0)])
     listed("three wrong bits", bits_of([SYNC ^ 7, *batch[1:]]), [], [])
 
 

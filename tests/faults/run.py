@@ -40,7 +40,7 @@ def build(folder):
 
 
 def run(command, library, kind=None, number=0, stdin=b"", short=False, same=False):
-    """Runs the command with one call refused; tells whether that call was reached. Bytes that are written to a file
+    """Runs the command with one call refused; returns whether that call was reached. Bytes that are written to a file
     after its write was refused are told behind the output, which then is none that is due."""
     reader, writer = os.pipe()
     environment = dict(os.environ, LD_PRELOAD=str(library), REFUSE_MARK=str(writer))
@@ -435,6 +435,7 @@ def try_late_growths(tally, library, folder):
     names = [str(path) for path in (pages, sent, cert)]
     plans = [["plan", *names, *end, *more] for end in ENDS.values() for more in ([], ["--always"])]
     others = [["check", names[0], names[2]], ["decode", names[1]], ["hear", "8", names[1]], ["wav", names[1]]]
+    others += [[*words, *form] for words in others[1:3] for form in (["--json"], ["--text", "0,1,2"])]
     others += [["show", names[1], *more] for more in ([], ["--svg"], ["--list"])]
     others += [["report", names[0], "--rate", "512", *more] for more in ([], ["--always"], ["--frames"])]
     others += [["explain", names[0], names[2], *more] for more in ([], ["--json"], ["--svg"])]
@@ -491,6 +492,9 @@ def main():
         files = {"tx.bin": ACROSS}
         try_printing(tally, library, "decode", ["decode", "tx.bin"], files, folder)
         try_printing(tally, library, "hear", ["hear", "7", "tx.bin"], files, folder)
+        for words in (["decode", "tx.bin"], ["decode", "tx.bin", "--repair"], ["hear", "7", "tx.bin"]):
+            for form in (["--json"], ["--text", "0"]):
+                try_printing(tally, library, f"{words[0]} {form[0]}", [*words, *form], files, folder)
         try_printing(tally, library, "wav", ["wav", "tx.bin", "--samples", "8000"], files, folder)
         for words in (["decode", "tx.bin"], ["hear", "7", "tx.bin"], ["show", "tx.bin"]):
             try_printing(tally, library, f"{words[0]} --capture", [*words, "--capture"], files, folder)

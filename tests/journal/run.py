@@ -304,7 +304,7 @@ def try_synchronised(tally, folder):
     place = folder / "synchronised"
     place.mkdir()
     (place / "pages.csv").write_bytes(HEADER + b"8,tone0,\n")
-    both = ["fsync", "fsync", "rename", "rename", "fsync", "fsync"]
+    both = ["fsync", "fsync", "rename", "fsync", "rename", "fsync"]  # the folder behind each renaming
     for number in range(2):
         done, calls = traced(place, ["plan", "pages.csv", "t", "c", "--keep"], b"")
         tally.check(f"synchronised: plan --keep {number}", done.returncode == 0 and calls == both, (done, calls))

@@ -19,14 +19,14 @@ sys.dont_write_bytecode = True
 sys.path.insert(0, str(pathlib.Path(__file__).resolve().parents[1]))
 from tally import TOP, Tally, as_nobody
 
-CRATES = "low:\nmiddle: low csv\npocsag_first: low\npocsag_app: clap middle low\npocsag_beside: middle\npocsag_trial: low\n"
-NAMES = ("low", "middle", "pocsag_first", "pocsag_app", "pocsag_beside", "pocsag_trial")
+CRATES = "low:\nmiddle: low csv\npocsag_app: clap middle low\npocsag_beside: middle\npocsag_trial: low\n"
+NAMES = ("low", "middle", "pocsag_app", "pocsag_beside", "pocsag_trial")
 # Other forms of the same list that the prover reads.
 FORMS = [
-    "low :\nmiddle : low csv\npocsag_first: low\npocsag_app : clap middle low\npocsag_beside: middle\npocsag_trial: low\n",
-    "low\nmiddle: low, csv\npocsag_first: low\npocsag_app: clap,middle,low\npocsag_beside: middle\npocsag_trial: low\n",
-    "# all\n  low: # the lowest\n\n  middle:  low csv  # next\npocsag_first: low\npocsag_app status=0: clap middle low\npocsag_beside: middle\npocsag_trial: low\n",
-    "pocsag_app: clap middle low\npocsag_trial: low\npocsag_beside: middle\npocsag_first: low\nmiddle: low csv\nlow:\n",
+    "low :\nmiddle : low csv\npocsag_app : clap middle low\npocsag_beside: middle\npocsag_trial: low\n",
+    "low\nmiddle: low, csv\npocsag_app: clap,middle,low\npocsag_beside: middle\npocsag_trial: low\n",
+    "# all\n  low: # the lowest\n\n  middle:  low csv  # next\npocsag_app status=0: clap middle low\npocsag_beside: middle\npocsag_trial: low\n",
+    "pocsag_app: clap middle low\npocsag_trial: low\npocsag_beside: middle\nmiddle: low csv\nlow:\n",
 ]
 COMMANDS = "bash basename cat chmod dirname find mkdir mv pwd readlink rm sh sleep touch".split()
 
@@ -71,7 +71,7 @@ class Clone:
         for crate in NAMES:
             source = self.top / "crates" / crate / "src"
             source.mkdir(parents=True)
-            (source / ("main.rt" if crate in ("pocsag_first", "pocsag_app") else "lib.rt")).write_text("first\n")
+            (source / ("main.rt" if crate == "pocsag_app" else "lib.rt")).write_text("first\n")
         for command in COMMANDS:
             (self.commands / command).symlink_to(shutil.which(command))
         python = shutil.which("python3", path="/usr/bin:/bin") or sys.executable  # one that any user can run
@@ -105,7 +105,7 @@ class Clone:
         return process.returncode, out, err
 
     def builds(self):
-        """How often the whole program was built, and the list of all calls without their jobs."""
+        """How often the program was built, and the list of all calls without their jobs."""
         calls = self.calls.read_text().splitlines() if self.calls.exists() else []
         calls = [call.partition(" --jobs")[0] for call in calls]
         return calls.count("pocsag_app run"), calls
@@ -124,8 +124,9 @@ def try_success(tally, clone):
     tally.check("each crate is told as it begins and ends", all(line in err for line in begun + ended), err)
     tally.check("what it takes is told", "memory" in err and "disk" in err, err)
     tally.check("no log is left", list(clone.temporary.iterdir()) == [], list(clone.temporary.iterdir()))
-    status, out, err = clone.run(["x"])
-    tally.check("built once", (status, err, clone.builds()[0]) == (7, "", 1), (status, err))
+    for words in ([], ["plan"], ["--help"]):
+        status, out, err = clone.run(words)
+        tally.check(f"built once, {words}", (status, err, clone.builds()[0]) == (7, "", 1), (status, err))
     for crate in ("pocsag_beside", "pocsag_trial"):
         clone.source(crate).write_text("edited\n")
         clone.run()
@@ -192,7 +193,7 @@ def try_forms(tally, clone):
         status, _, err = clone.run()
         count, calls = clone.builds()
         tally.check(f"form {number} of the list", status == 7 and calls == ["low lib", "middle lib", "pocsag_app run"], (err, calls))
-    (clone.top / "crates.txt").write_text("low: middle\nmiddle: low\npocsag_app: low\npocsag_first: low\n")
+    (clone.top / "crates.txt").write_text("low: middle\nmiddle: low\npocsag_app: low\n")
     status, _, err = clone.run()
     tally.check("a ring of crates", status == 3 and "uses itself" in err, (status, err))
     (clone.top / "crates.txt").write_text("low:\n! middle\n")
@@ -294,7 +295,7 @@ def try_two_at_once(tally, clone):
 
 def try_side_by_side(tally, clone):
     """Crates that do not wait for each other, each a second long."""
-    (clone.top / "crates.txt").write_text("low:\nmiddle:\npocsag_beside:\npocsag_first: low\npocsag_app: low middle pocsag_beside\n")
+    (clone.top / "crates.txt").write_text("low:\nmiddle:\npocsag_beside:\npocsag_app: low middle pocsag_beside\n")
     rt = clone.commands / "rt"
     rt.write_text(rt.read_text().replace('[ "$1" = run ] || exit 0\n', '[ "$1" = run ] || { sleep 1; exit 0; }\n'))
     start = time.monotonic()
@@ -328,50 +329,9 @@ def try_interrupt(tally, clone):
     tally.check("and the next call builds", clone.run()[0] == 7)
 
 
-def try_first(tally, clone):
-    """The program of the centre's commands, which a call builds that needs no more."""
-
-    def call(name, words, program, calls):
-        before = len(clone.builds()[1])
-        status, out, err = clone.run(words)
-        more = clone.builds()[1][before:]
-        wanted = (7, f"{program}: {' '.join(words)}\nfolder: {clone.top}\n", calls)
-        tally.check(name, (status, out, more) == wanted, (status, out, more, err))
-        return err
-
-    first, rest = ["low lib", "pocsag_first run"], ["low lib", "middle lib", "pocsag_app run"]
-    err = call("no words build the first program", [], "pocsag_first", first)
-    tally.check("the wait for it is told", "building plan, check and report" in err and "minutes" in err and "another command takes" in err, err)
-    for word in ("plan", "check", "report"):
-        call(f"{word} runs it", [word, "--help"], "pocsag_first", [])
-    clone.source("middle").write_text("edited\n")
-    call("an edit above it builds nothing", ["plan"], "pocsag_first", [])
-    err = call("another word builds the rest", ["--help"], "pocsag_app", rest)
-    tally.check("what more is waited for is told", "other commands" in err and "minutes more" in err, err)
-    call("the whole program is run then", ["plan"], "pocsag_app", [])
-    clone.source("middle").write_text("again\n")
-    call("the first one where the whole is old", ["report"], "pocsag_first", [])
-    clone.source("low").write_text("edited\n")
-    call("the first one anew where both are old", ["check"], "pocsag_first", first)
-    for word in ("", "plans", "--version", "decode"):
-        clone.source("middle").write_text(f"for {word}\n")
-        call(f"'{word}' wants the whole", [word], "pocsag_app", rest)
-    os.utime(clone.source("low"), (10**9, 10**9))
-    call("another time alone builds neither", ["plan"], "pocsag_app", [])
-    shutil.rmtree(clone.top / "crates/pocsag_app/out")
-    (clone.commands / "rt").unlink()
-    clone.source("low").write_text("no rt\n")
-    status, out, err = clone.run(["plan"])
-    tally.check("the first one where nothing can be built", out.startswith("pocsag_first: plan\n") and "may be old" in err, (status, out, err))
-    tally.check("and no other command", clone.run(["decode"])[:2] == (3, ""))
-    (clone.commands / "python3").unlink()
-    status, out, err = clone.run(["plan"])
-    tally.check("nor without python3", out.startswith("pocsag_first: plan\n") and "may be old" in err, (status, out, err))
-
-
 def try_multiples(tally, clone):
     """How many times the lowest crate a build takes is told where that crate is proved from nothing too."""
-    (clone.top / "crates.txt").write_text("pocsag_words:\npocsag_first: pocsag_words\npocsag_app: pocsag_words\n")
+    (clone.top / "crates.txt").write_text("pocsag_words:\npocsag_app: pocsag_words\n")
     source = clone.top / "crates/pocsag_words/src/lib.rt"
     source.parent.mkdir(parents=True)
     rt = clone.commands / "rt"
@@ -388,7 +348,7 @@ def try_multiples(tally, clone):
 
 
 def try_compilers(tally, clone):
-    """LLVM makes what is installed, and the first program; the toolchain's own compiler makes the program after an edit."""
+    """LLVM makes what is installed or built for the first time; the toolchain's own compiler makes the program after an edit."""
     whole = [str(clone.commands / "python3"), str(clone.top / "tools/build.py"), "program"]
     for name, edit, words, wanted, count in [
         ("a first build", None, None, "llvm", 1),
@@ -409,27 +369,26 @@ def try_compilers(tally, clone):
 
 
 def try_gate(tally, clone):
-    """The programs that `rt ci` leaves are taken as they are, and only where it passed."""
+    """The program that `rt ci` leaves is taken as it is, and only where it passed."""
     rt = clone.commands / "rt"
     made = rt.read_text()
-    for status, calls in ((1, ["low lib", "pocsag_first run"]), (0, [])):
+    for status, calls in ((1, ["low lib", "middle lib", "pocsag_app run"]), (0, [])):
         rt.write_text(made.replace('[ "$1" = run ]', f"""if [ "$1" = ci ]; then
-    for name in pocsag_first pocsag_app; do (cd crates/$name && {{ {MAKES} }}) done
+    cd crates/pocsag_app && {{ {MAKES} }}
     exit {status}
 fi
 [ "$1" = run ]""", 1))
+        clone.source("low").write_text(f"before status {status}\n")
         words = [str(clone.commands / "python3"), str(clone.top / "tools/build.py"), "ci"]
         ended = subprocess.run(words, cwd=clone.top, env=clone.environment()).returncode
         tally.check(f"its status {status}", ended == status, ended)
         before = len(clone.builds()[1])
         clone.run(["plan"])
         tally.check(f"what is built after status {status}", clone.builds()[1][before:] == calls, clone.builds()[1][before:])
-    tally.check("the whole program is taken too", clone.run(["w"])[0] == 7 and clone.builds()[0] == 0, clone.builds())
 
 
 TRIALS = [
     ("makes", try_success),
-    ("makes", try_first),
     ("makes", try_multiples),
     ("makes", try_compilers),
     ("makes", try_gate),

@@ -107,15 +107,51 @@ static uint32_t front(const struct texts *whole, struct fronts *f, size_t tx_siz
                                always, &f->info);
 }
 
+/* The calls that put one text into a buffer and tell a place, with the status of each where the buffer is too small. */
+static const uint32_t small[] = {POCSAG_LISTING_TOO_SMALL, POCSAG_LISTING_TOO_SMALL, POCSAG_LISTING_TOO_SMALL,
+                                 POCSAG_LISTING_TOO_SMALL, POCSAG_LISTING_TOO_SMALL, POCSAG_LISTING_TOO_SMALL,
+                                 POCSAG_TEXT_TOO_SMALL,    POCSAG_TEXT_TOO_SMALL,    POCSAG_TEXT_TOO_SMALL,
+                                 POCSAG_TX_TOO_SMALL,      POCSAG_TEXT_TOO_SMALL,    POCSAG_TEXT_TOO_SMALL};
+#define TEXTS 12
+
+/* One of them, which reads the transmission, the page file or a message. */
+static uint32_t text_of(int call, const uint8_t *tx, size_t tx_len, uint8_t *text, size_t size, size_t *told)
+{
+    static const uint8_t message[] = "say \"yes\", now";
+    struct pocsag_place place;
+    uint32_t number = (uint32_t)call % 3;
+    switch (call) {
+    case 0:
+        return pocsag_decode(tx, tx_len, text, size, told, &place);
+    case 1:
+    case 2:
+        return pocsag_decode_as(number, tx, tx_len, text, size, told, &place);
+    case 3:
+        return pocsag_hear(8, tx, tx_len, text, size, told, &place);
+    case 4:
+    case 5:
+        return pocsag_hear_as(number, 8, tx, tx_len, text, size, told, &place);
+    case 6:
+    case 7:
+    case 8:
+        return pocsag_show(POCSAG_REPAIRED, tx, tx_len, number, 1, UINT64_MAX, text, size, told, &place);
+    case 9:
+        return pocsag_lay_in_order(pages, pages_len, text, size, told, &place);
+    case 10:
+        return pocsag_wav(tx, tx_len, 2400, 2400, 0, 1, text, size, told, &place);
+    default:
+        return pocsag_write_page(8, POCSAG_ALPHA, message, sizeof message - 1, text, size, told, &place);
+    }
+}
+
 /* How many calls take memory. */
-#define CALLS 8
+#define CALLS (6 + TEXTS)
 
 /* One of them, its texts into t. */
 static uint32_t call_of(int call, const struct texts *whole, struct texts *t)
 {
     struct pocsag_check_info check;
     struct pocsag_report_info report;
-    struct pocsag_place place;
     t->tx_len = t->cert_len = 0;
     switch (call) {
     case 0:
@@ -123,10 +159,11 @@ static uint32_t call_of(int call, const struct texts *whole, struct texts *t)
     case 1:
         return pocsag_check(pages, pages_len, whole->cert, whole->cert_len, &check);
     case 2:
-        return pocsag_decode(whole->tx, whole->tx_len, t->tx, LARGE, &t->tx_len, &place);
     case 3:
-        return pocsag_hear(8, whole->tx, whole->tx_len, t->tx, LARGE, &t->tx_len, &place);
-    case 6: {
+        return pocsag_explain(pages, pages_len, whole->cert, whole->cert_len,
+                              call == 2 ? POCSAG_IN_WORDS : POCSAG_AS_JSON, POCSAG_DEFAULT_DEPTH, t->tx, LARGE,
+                              &t->tx_len, &check);
+    case 4: {
         static struct fronts f;
         memset(&f, 0x5a, sizeof f);
         uint32_t status = front(whole, &f, LARGE, LARGE, LARGE, LARGE);
@@ -134,13 +171,10 @@ static uint32_t call_of(int call, const struct texts *whole, struct texts *t)
         memcpy(t->cert, f.why, LARGE);
         return status;
     }
-    case 4:
     case 5:
-        return pocsag_explain(pages, pages_len, whole->cert, whole->cert_len,
-                              call == 4 ? POCSAG_IN_WORDS : POCSAG_AS_JSON, POCSAG_DEFAULT_DEPTH, t->tx, LARGE,
-                              &t->tx_len, &check);
-    default:
         return pocsag_report(pages, pages_len, 1200, 100000, end, always, &report);
+    default:
+        return text_of(call - 6, whole->tx, whole->tx_len, t->tx, LARGE, &t->tx_len);
     }
 }
 
@@ -176,29 +210,23 @@ static long try_refusals(const struct texts *whole)
     return number;
 }
 
-/* The listing of the pages, or of what one pager shows. */
-static uint32_t list(int heard, const uint8_t *tx, size_t tx_len, uint8_t *listing, size_t size, size_t *told)
+/* Each text in a buffer that just does, and in one of a byte too few. */
+static void try_texts(const struct texts *whole)
 {
-    struct pocsag_place place;
-    return heard ? pocsag_hear(8, tx, tx_len, listing, size, told, &place)
-                 : pocsag_decode(tx, tx_len, listing, size, told, &place);
-}
-
-static void try_listings(const struct texts *whole)
-{
-    static uint8_t listing[LARGE];
-    for (int heard = 0; heard < 2; heard++) {
+    static uint8_t text[LARGE];
+    for (int call = 0; call < TEXTS; call++) {
         size_t wanted, told;
-        if (list(heard, whole->tx, whole->tx_len, listing, LARGE, &wanted) != POCSAG_OK)
-            wrong("the listing", heard);
-        uint8_t *just = guarded(wanted), *small = guarded(wanted - 1), *tx = guarded(whole->tx_len);
+        uint8_t *tx = guarded(whole->tx_len);
         memcpy(tx, whole->tx, whole->tx_len);
-        if (list(heard, tx, whole->tx_len, just, wanted, &told) != POCSAG_OK || told != wanted ||
-            memcmp(just, listing, wanted) != 0)
-            wrong("a listing that just fits", (long)told);
-        if (list(heard, tx, whole->tx_len, small, wanted - 1, &told) != POCSAG_LISTING_TOO_SMALL || told != wanted ||
-            !is_untouched(small, wanted - 1))
-            wrong("a listing that does not fit", (long)told);
+        if (text_of(call, tx, whole->tx_len, text, LARGE, &wanted) != POCSAG_OK)
+            wrong("the text of a call", call);
+        uint8_t *just = guarded(wanted), *less = guarded(wanted - 1);
+        if (text_of(call, tx, whole->tx_len, just, wanted, &told) != POCSAG_OK || told != wanted ||
+            memcmp(just, text, wanted) != 0)
+            wrong("a text that just fits", call);
+        if (text_of(call, tx, whole->tx_len, less, wanted - 1, &told) != small[call] || told != wanted ||
+            !is_untouched(less, wanted - 1))
+            wrong("a text that does not fit", call);
     }
 }
 
@@ -278,7 +306,7 @@ static void try_buffers(const struct texts *whole)
         if (less != 0 && !(is_untouched(tx, tx_size) && is_untouched(cert, cert_size)))
             wrong("a small buffer is written", (long)less);
     }
-    try_listings(whole);
+    try_texts(whole);
     try_explanations(whole);
     try_fronts(whole);
     struct pocsag_check_info check;

@@ -9,6 +9,8 @@ sanitizers where they are installed.
 The last line is 'N passed, M failed'.
 """
 
+import csv
+import io
 import os
 import pathlib
 import random
@@ -25,6 +27,7 @@ import kit
 import make
 import pocsag
 import trees
+import version
 import workspace
 from prover import Room
 from tally import ENDS, LIBRARY, PROGRAM, run_parts
@@ -33,7 +36,8 @@ EXAMPLES = TOP / "clib/examples"
 ROUND = TOP / "examples/round.csv"
 ROUNDS, CHANGED = 1_200, 400
 ROUNDS_OF_BOTH, CHANGED_OF_BOTH = 2_000, 8_000
-CALLS = {"check", "decode", "explain", "hear", "plan", "plan_at_most", "report", "version"}
+CALLS = {"airtime_batches", "check", "decode", "decode_as", "explain", "hear", "hear_as", "lay_in_order", "plan", "plan_at_most"}
+CALLS |= {"report", "show", "strict", "text_of_status", "text_of_version", "version", "wav", "write_page"}
 CALLS = {f"pocsag_{name}" for name in CALLS}
 
 # The words of the program for each end, and what its `check` tells of it.
@@ -53,9 +57,13 @@ SAID = {
     32: "not a certificate", 33: "unknown certificate version", 34: "the certificate is cut short",
     35: "bytes after the certificate", 36: "the certificate is malformed", 37: "the certificate is malformed",
     38: "the certificate is too deep", 39: "the certificate has too many nodes",
+    41: "record {record_number}: the quote in line {at} is not closed",
+    42: "record {record_number}: the quote in line {at} stands inside a field that begins without one",
+    43: "record {record_number}: text follows the closing quote in line {at}",
     48: "the preamble is too short", 49: "batch {at}: no synchronisation codeword", 50: "codeword {at}: not a codeword",
     51: "codeword {at}: a message without an address", 52: "the transmission is cut short", 53: "the transmission has no batch",
-    64: "bad address", 65: "reserved address",
+    56: "the capture is too large", 60: "the samples a second must be from the rate to 192000",
+    61: "the preamble must have 576 bits or more, a multiple of 8", 62: "the sound is too long for a WAV file", 64: "bad address", 65: "reserved address",
 }  # fmt: skip
 
 
@@ -244,7 +252,7 @@ def try_changed(tally, library, plans, count, seed):
 
 def try_faults(tally, library):
     call, sample = library.pocsag, ROUND.read_bytes()
-    tally.check("the version", call.version() == 4)
+    tally.check("the version", call.version() == 5)
     for name, wanted, given in (
         ("a limit of 0", pocsag.BadLimit, dict(limit=0)),
         ("a limit above the greatest", pocsag.BadLimit, dict(limit=1_000_001)),
@@ -308,10 +316,12 @@ def try_header(tally, folder, room):
     built = run("cc", "-std=c11", "-Wall", "-Wextra", "-Werror", HERE / "header.c", f"-I{folder}", "-o", sized)
     tally.check("the header's own functions are compiled", built.returncode == 0, built.stderr)
     told = run(sized, "texts").stdout.decode().splitlines()
-    wanted = {number: re.sub(r"^(record|batch|codeword) \{\w+\}: | at \{at\}$|: at least .*$", "", text).replace("{found}", "more") for number, text in SAID.items()}
+    wanted = {number: re.sub(r"^(record|batch|codeword) \{\w+\}: | at \{at\}$| in line \{at\}|: at least .*$", "", text).replace("{found}", "more") for number, text in SAID.items()}
     texts = dict(line.split(" ", 1) for line in told)
     wrong = [(number, text) for number, text in wanted.items() if texts.get(str(number)) != text]
     tally.check("a status has the program's text", not wrong and len(texts) == 100, wrong)
+    exported = {number: pocsag.Pocsag(str(folder / make.SONAME)).status_text(int(number)) for number in texts}
+    tally.check("the library tells the header's texts", exported == texts, {it for it in texts.items() if exported[it[0]] != it[1]})
     unknown = {number for number, text in texts.items() if text == "unknown status"}
     tally.check("each status of a fault has one", not {str(number) for number in pocsag.NAMES} & unknown, unknown)
     for name, line, flag in (("a status that is dropped", "pocsag_decode(b, 1, b, 1, &n, &p);", "unused-result"),
@@ -405,6 +415,8 @@ def try_stack(tally, folder, room):
         on_stack("report", "PLAN", {0}, name)
         on_stack("decode", "LISTING", {0}, name)
         on_stack("hear", "LISTING", {0}, name)
+        for call in ("repaired", "captured", "heard", "text", "list", "drawing", "sound", "order", "row"):
+            on_stack(call, "LISTING", {0}, name)
     print("stack used:", used)
 
 
@@ -456,6 +468,175 @@ def try_explanations(tally, library):
     tally.check(f"{number} explanations are those of the program", pairs and not wrong, wrong[:2])
     shown = {library.pocsag.explain(*pair).is_shown for pair in pairs}
     tally.check("some of them are of certificates that are not shown", shown == {False, True}, shown)
+
+
+def is_pair(answer, told):
+    """Whether a call and the program give the same text, or the same fault."""
+    return told[0] != 0 and said(answer) == told[1] if isinstance(answer, pocsag.Fault) else (0, answer) == told
+
+
+def damaged(source, sent):
+    """A transmission with up to two wrong bits in each of some words, or past repair."""
+    sent = bytearray(sent)
+    for word in range(18, len(sent) // 4):
+        for _ in range(source.choice([0, 0, 1, 2, 2]) if source.randrange(40) else 3):
+            sent[4 * word + source.randrange(4)] ^= 1 << source.randrange(8)
+    return bytes(sent)
+
+
+def captured(source, sent):
+    """A transmission among other bits, at any of them, and in one polarity or the other."""
+    after = source.randrange(9)
+    bits = (source.getrandbits(64) << 8 * len(sent) | int.from_bytes(sent, "big")) << after
+    whole = bits.to_bytes(len(sent) + 9, "big")
+    return bytes(byte ^ 255 for byte in whole) if source.randrange(2) else whole
+
+
+def try_readings(tally, library, plans, seed):
+    """What is read of damaged transmissions and of captures, and what is shown, beside the program."""
+    source, call, wrong, faults = random.Random(seed), library.pocsag, [], 0
+    repair, capture = ["--repair"], ["--capture"]
+    for number, (pages, plan) in enumerate(plans[::4]):
+        address, rows = int(pages.split(b"\n")[1].split(b",")[0]), (source.randrange(1, 4), source.randrange(4, 9))
+        for reading, words, sent in (
+            (pocsag.PLAIN, [], plan.transmission),
+            (pocsag.REPAIRED, repair, damaged(source, plan.transmission)),
+            (pocsag.CAPTURED, capture, captured(source, damaged(source, plan.transmission))),
+        ):
+            library.tx.write_bytes(sent)
+            pairs = [(attempt(call.decode, sent, reading), program("decode", library.tx, *words))]
+            if reading != pocsag.REPAIRED:
+                pairs.append((attempt(call.hear, address, sent, reading), program("hear", address, library.tx, *words)))
+            if reading != pocsag.CAPTURED:
+                shown = [(pocsag.SHOW_TEXT, []), (pocsag.SHOW_LIST, ["--list"]), (pocsag.SHOW_DRAWING, ["--svg"])]
+                pairs += [(attempt(call.show, sent, form, reading=reading), program("show", library.tx, *words, *how)) for form, how in shown]
+                part = attempt(call.show, sent, pocsag.SHOW_TEXT, rows, reading)
+                if rows[0] <= plan.batches:
+                    pairs.append((part, program("show", library.tx, *words, "--rows", "%d-%d" % rows)))
+            faults += isinstance(pairs[0][0], pocsag.Fault)
+            wrong += [(number, reading, k) for k, pair in enumerate(pairs) if not is_pair(*pair)]
+    tally.check(f"{len(plans[::4])} transmissions are read and shown as the program does", not wrong, wrong[:5])
+    tally.check("some are past repair", faults > 0)
+    sent = call.plan(ROUND.read_bytes()).transmission
+    listing = call.decode(sent)
+    for name, given in (("a bit more", bytes([0]) + sent), ("the other polarity", bytes(byte ^ 255 for byte in sent))):
+        tally.check(f"a capture with {name}", call.decode(given, pocsag.CAPTURED) == listing)
+    tally.check("two transmissions in a capture", call.decode(sent + sent, pocsag.CAPTURED) == listing + listing.split(b"\n", 1)[1])
+    tally.check("noise alone has no pages", call.decode(b"", pocsag.CAPTURED) == pocsag.HEADER)
+    wrong_bit = sent[:80] + bytes([sent[80] ^ 6]) + sent[81:]
+    fault = attempt(call.decode, wrong_bit)
+    tally.check("two wrong bits are a fault", (type(fault), fault.at) == (pocsag.BadWord, 1), fault)
+    tally.check("and are repaired", call.decode(wrong_bit, pocsag.REPAIRED) == listing)
+    for name, wanted, words, given in (
+        ("a reading that is none", pocsag.BadReading, (call.decode, sent, 3), {}),
+        ("one that a pager has not", pocsag.BadReading, (call.hear, 8, sent, 2**32), {}),
+        ("a picture that is none", pocsag.BadReading, (call.show, sent, 3, (0, 9)), {}),
+        ("batch 0", pocsag.BadRows, (call.show, sent, pocsag.SHOW_LIST, (0, 9)), {}),
+        ("batches from the last", pocsag.BadRows, (call.show, sent, pocsag.SHOW_TEXT, (2, 1)), {}),
+        ("a capture of a byte too many", pocsag.CaptureTooLarge, (call.decode, bytes(268_435_457), pocsag.CAPTURED), {}),
+    ):
+        fault = attempt(*words, **given)
+        tally.check(name, type(fault) is wanted, fault)
+    lines = call.show(sent, pocsag.SHOW_TEXT, (2, 2**64 - 1)).splitlines()
+    tally.check("the second batch alone", len(lines) == 3 and lines[2].startswith(b"  2"), lines)
+    tally.check("no batch behind the last", len(call.show(sent, pocsag.SHOW_TEXT, (3, 3)).splitlines()) == 2)
+
+
+def try_sounds(tally, library, plans, seed):
+    """The sounds of transmissions, beside the program."""
+    source, call, wrong = random.Random(seed), library.pocsag.wav, []
+    for number, (_, plan) in enumerate(plans[::30]):
+        rate, samples = source.choice([512, 1200, 2400]), source.choice([2_400, 8_000, 48_000, 2_399, 192_001])
+        preamble, inverted = source.choice([None, 576, 800, 577, 568]), source.randrange(2) == 0
+        words = ["--rate", rate, "--samples", samples, *([] if preamble is None else ["--preamble", preamble]), *["--invert"] * inverted]
+        library.tx.write_bytes(plan.transmission)
+        given = attempt(call, plan.transmission, rate, samples, preamble, inverted)
+        wrong += [(number, words)] * (not is_pair(given, program("wav", library.tx, *words)))
+    tally.check(f"{len(plans[::30])} sounds are those of the program", not wrong, wrong[:5])
+    sent = plans[0][1].transmission
+    for wanted, given in ((pocsag.BadRate, (1201,)), (pocsag.BadSamples, (1200, 2**32)), (pocsag.BadPreamble, (1200, 48_000, 0))):
+        tally.check(f"no sound: {wanted.__name__}", type(attempt(call, sent, *given)) is wanted, attempt(call, sent, *given))
+    fault = attempt(call, sent[:72] + sent[72:] * 160_000, 512, 192_000)
+    tally.check("a sound that is too long", type(fault) is pocsag.TooLongForWav, fault)
+
+
+def try_orders(tally, library, plans):
+    """Transmissions in the order of the file: one worked by hand, and those of random rounds."""
+    idle, sync, call = bytes.fromhex("7a89c197"), bytes.fromhex("7cd215d8"), library.pocsag.lay_in_order
+    # Address 9, tone1, starts in frame 1, and address 8, tone0, in frame 0, behind it in the next batch.
+    batches = sync + idle * 2 + bytes.fromhex("0000283f") + idle * 13 + sync + bytes.fromhex("000026ec") + idle * 15
+    sent = call(pocsag.HEADER + b"9,tone1,\n8,tone0,\n")
+    tally.check("two tones in the order of the file", sent == b"\xaa" * 72 + batches, sent.hex())
+    wrong = []
+    for number, (pages, plan) in enumerate(plans):
+        sent = call(pages)
+        wrong += [number] * (len(sent) != 72 + 68 * plan.in_order or library.pocsag.decode(sent) != pages)
+    tally.check(f"{len(plans)} rounds in the order of the file have its pages", not wrong, wrong[:5])
+    fault = attempt(call, b"address,kind,message\n8,tone9,\n")
+    tally.check("the fault of a page file", (type(fault), fault.record_number) == (pocsag.BadKind, 1), fault)
+
+
+def try_records(tally, library, seed):
+    """Records of pages, their quotes, and what `strict` asks of them."""
+    call, source = library.pocsag.write_page, random.Random(seed)
+    for words, wanted in (
+        ((0, "numeric", b"5550199"), b"0,numeric,5550199\n"),
+        ((2_097_151, "tone3"), b"2097151,tone3,\n"),
+        ((11, "alpha", b"Pump 4, hall B"), b'11,alpha,"Pump 4, hall B"\n'),
+        ((11, "alpha", b'say "yes", now'), b'11,alpha,"say ""yes"", now"\n'),
+        ((11, "alpha", b"two\nlines"), b'11,alpha,"two\nlines"\n'),
+    ):
+        given = attempt(call, *words)
+        tally.check(f"the record of {words}", given == wanted, given)
+    for words, wanted, text in (
+        ((2_097_152, "tone0"), pocsag.BadAddress, "bad address"),
+        ((2**32, "tone0"), pocsag.BadAddress, "bad address"),
+        ((2_007_664, "tone0"), pocsag.ReservedAddress, "reserved address"),
+        ((8, "tone4"), pocsag.BadKind, "unknown kind"),
+        ((8, "tone0", b"a"), pocsag.MessageForTone, "a tone page has no message"),
+        ((8, "alpha"), pocsag.EmptyMessage, "the message is empty"),
+        ((8, "numeric", b"12x4"), pocsag.BadCharacter, "bad character at 2"),
+        ((8, "alpha", b"a" * 4_001), pocsag.TooLong, "the message is too long"),
+    ):
+        fault = attempt(call, *words)
+        tally.check(f"no record of {words[:2]}", (type(fault), str(fault)) == (wanted, text), fault)
+    pages, rows = [], {}
+    for address in range(1, 2_000):
+        message = bytes(source.choices(range(1, 128), k=source.randrange(1, 12)))
+        rows[address] = message
+        pages.append(call(address, "alpha", message))
+        tally.check("a record is no longer than the header says", len(pages[-1]) <= 2 * len(message) + 20, pages[-1])
+    file = pocsag.HEADER + b"".join(pages)
+    tally.check("records of every character are read", library.pocsag.plan(file).pages == len(rows))
+    # A reader of CSV that is not ours. It takes a line end for the end of a record, so the file is read as text without any.
+    read = {int(row[0]): row[2].encode() for row in csv.reader(io.StringIO(file.decode(), newline=""))if row[0] != "address"}
+    tally.check("another reader of CSV reads them alike", read == rows, [it for it in rows.items() if read.get(it[0]) != it[1]][:3])
+    tally.check("each quote stands as it is to", attempt(library.pocsag.strict, file) is None)
+    header = b"address,kind,message\n"
+    for tail, wanted, place in (
+        (b'8,alpha,a"b\n', pocsag.QuoteInside, (1, 2)),
+        (b'7,tone0,\n8,alpha,"a"b\n', pocsag.QuoteFollowed, (2, 3)),
+        (b'7,tone0,\n\n8,alpha,"a\nb\n', pocsag.QuoteOpen, (2, 4)),
+    ):
+        fault = attempt(library.pocsag.strict, header + tail)
+        tally.check(f"the quote of {tail}", (type(fault), (fault.record_number, fault.at)) == (wanted, place), fault)
+        library.pages.write_bytes(header + tail)
+        told = program("plan", library.pages, library.tx, library.cert, "--strict")
+        tally.check(f"{tail} is told as the program tells it", told[0] != 0 and said(fault) == told[1], told)
+        fault = attempt(library.pocsag.plan, header + tail, strict=True)
+        tally.check(f"a plan of {tail} may be strict", type(fault) is wanted, fault)
+    fault = attempt(library.pocsag.strict, b'"address,kind,message\n')
+    tally.check("a quote of the header is that of record 0", str(fault) == "record 0: the quote in line 1 is not closed", str(fault))
+
+
+def try_airtimes(tally, library):
+    """A preamble of 576 bits and a batch of 544 take 933.3 ms at 1200 bits a second, and each batch more 453.3."""
+    call = library.pocsag.airtime_batches
+    wanted = {(933, 1200): 0, (934, 1200): 1, (1_386, 1200): 1, (1_387, 1200): 2, (2_187, 512): 0, (2_188, 512): 1, (467, 2400): 1}
+    given = {words: call(*words) for words in wanted}
+    tally.check("the batches of an airtime", given == wanted, given)
+    tally.check("a rate that is none has none", type(attempt(call, 934, 1201)) is pocsag.BadRate)
+    tally.check("the version of the package", library.pocsag.release() == version.VERSION, library.pocsag.release())
 
 
 def try_symbols(tally, folder):
@@ -542,6 +723,13 @@ def all_answers(library, pages, tx, cert, address, end, always):
         attempt(library.hear, address, tx),
         attempt(library.report, pages, 1200, end=end, always=always),
         attempt(library.plan_at_most, pages, address % 8, end=end, always=always),
+        attempt(library.wav, tx, 1200, 2_400 + address % 9_000, inverted=address % 2),
+        attempt(library.lay_in_order, pages),
+        attempt(library.strict, pages),
+        attempt(library.write_page, address, pocsag.KINDS[address % 6], pages[21 : 21 + address % 40]),
+        *(attempt(library.decode, tx, reading) for reading in (pocsag.REPAIRED, pocsag.CAPTURED)),
+        attempt(library.hear, address, tx, pocsag.CAPTURED),
+        *(attempt(library.show, tx, form, reading=address % 3) for form in range(3)),
     ]
     return [(type(it), vars(it)) if isinstance(it, pocsag.Fault) else it for it in answers]
 
@@ -615,6 +803,11 @@ def try_library(tally, room):
     try_calls(tally, folder, room, ways_to_try())
     plans = try_bytes(tally, library, ROUNDS, 1)
     try_fronts(tally, library, plans, 4)
+    try_readings(tally, library, plans, 5)
+    try_sounds(tally, library, plans, 7)
+    try_orders(tally, library, plans)
+    try_records(tally, library, 6)
+    try_airtimes(tally, library)
     try_changed(tally, library, plans, CHANGED, 2)
     if not LIBRARY:
         try_other_compiler(tally, room, library)

@@ -2,8 +2,9 @@
  *
  *     stack CALL BYTES PAGES CERT
  *
- * CALL is plan, front, report, check, words, json, decode or hear; the last two read CERT as a transmission. It prints the status
- * of the call and how many bytes of the stack were written, the thread's own part included. */
+ * CALL is plan, front, report, check, words, json, order or row, or else decode, hear, repaired, captured, heard, text, list,
+ * drawing or sound, which read CERT as a transmission. It prints the status of the call and how many bytes of the stack were written, the
+ * thread's own part included. */
 #define _GNU_SOURCE
 #include <pthread.h>
 #include <stdio.h>
@@ -59,6 +60,21 @@ static void *run(void *status)
         *told = pocsag_decode(other.bytes, other.len, first, LARGE, &len, &place);
     else if (strcmp(call, "hear") == 0)
         *told = pocsag_hear(8, other.bytes, other.len, first, LARGE, &len, &place);
+    else if (strcmp(call, "repaired") == 0 || strcmp(call, "captured") == 0)
+        *told = pocsag_decode_as(call[0] == 'r' ? POCSAG_REPAIRED : POCSAG_CAPTURED, other.bytes, other.len, first, LARGE, &len,
+                                 &place);
+    else if (strcmp(call, "heard") == 0)
+        *told = pocsag_hear_as(POCSAG_CAPTURED, 8, other.bytes, other.len, first, LARGE, &len, &place);
+    else if (strcmp(call, "text") == 0 || strcmp(call, "list") == 0 || strcmp(call, "drawing") == 0)
+        *told = pocsag_show(POCSAG_CAPTURED, other.bytes, other.len,
+                            call[0] == 't' ? POCSAG_SHOW_TEXT : call[0] == 'l' ? POCSAG_SHOW_LIST : POCSAG_SHOW_DRAWING, 1,
+                            UINT64_MAX, first, LARGE, &len, &place);
+    else if (strcmp(call, "sound") == 0)
+        *told = pocsag_wav(other.bytes, other.len, 2400, 2400, 0, 0, first, LARGE, &len, &place);
+    else if (strcmp(call, "order") == 0)
+        *told = pocsag_lay_in_order(pages.bytes, pages.len, first, LARGE, &len, &place);
+    else if (strcmp(call, "row") == 0)
+        *told = pocsag_write_page(8, POCSAG_ALPHA, (const uint8_t *)"a\"b", 3, first, LARGE, &len, &place);
     else
         *told = pocsag_explain(pages.bytes, pages.len, other.bytes, other.len,
                                strcmp(call, "json") == 0 ? POCSAG_AS_JSON : POCSAG_IN_WORDS, 300, first, LARGE, &len,

@@ -10,7 +10,7 @@ import subprocess
 
 from tally import PROGRAM, TOP
 
-COMMANDS = ("cat", "cp", "flock", "ls", "mv", "rm", "sync", "tail")
+COMMANDS = ("cat", "cp", "flock", "ls", "mv", "rm", "sync", "tail", "wc")
 HEADER = "address,kind,message\n"
 # Stands in PATH for each command. It lists the commands that a script starts, and gives the one whose turn it is the fault.
 STAND_IN = """#!/bin/sh
@@ -135,7 +135,7 @@ class Channel:
     def is_balanced(self):
         """Whether no slot is under way, and each page that was added was sent once or waits once, in order."""
         sent = [page for slot in self.slots for page in sorted(slot, key=lambda it: int(it[0]))]
-        under_way = {"slot.bin", "slot.sent", "rest.csv"} & {*os.listdir(self.folder)}
+        under_way = {"slot.bin", "slot.sent", "rest.csv", "over.csv"} & {*os.listdir(self.folder)}
         return not under_way and sent + self.waiting() == self.added
 
     def told(self):

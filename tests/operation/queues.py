@@ -22,7 +22,7 @@ import time
 
 sys.dont_write_bytecode = True
 sys.path.insert(0, str(pathlib.Path(__file__).resolve().parents[1]))
-from channel import HEADER, KILLS, Channel, calls_of, can_trace
+from channel import HEADER, KILLS, Channel, calls_of, can_trace, pages_of
 from tally import run_parts
 
 IS_EACH = sys.argv[1:] == ["--all"]
@@ -237,7 +237,7 @@ REFUSED = [
     ("no words of a slot", {"slot.options": "\n"}, 2, "error: "),
     ("wrong words of a slot", {"slot.options": "--at-most x\n"}, 2, "error: "),
     ("words that are files", {"slot.options": "*\n"}, 2, "error: "),
-    ("the first page is too long", {"queue.csv": HEADER + LONG + "8,tone0,\n"}, 4, "pocsag: page 1 needs 23 batches"),
+    ("each page is too long", {"queue.csv": HEADER + LONG}, 4, "pocsag: page 1 needs 23 batches"),
     ("no queue", {"queue.csv": None}, 3, "pocsag: cannot read or open a file"),
     ("no words", {"slot.options": None}, 3, "cat: "),
     ("no number", {"outgoing/.number": None}, 3, "next-slot: cannot read outgoing/.number"),
@@ -319,7 +319,6 @@ NOT_ADDED = [
     (("9,alpha,x\n10", "alpha", "y"), 1, "pocsag: pages 2, where 1 were expected"),
     (('9,alpha,"', "x", "y"), 1, "pocsag: record 1: "),
     (('"9', "alpha", "y"), 1, "pocsag: record 1: "),
-    (("8", "alpha", "again"), 4, "pocsag: record 3: the address is already there"),
 ]
 
 
@@ -342,6 +341,9 @@ def try_enqueue(tally, folder):
     done = channel.run("enqueue", "9", "tone1", "")
     holds = done == (0, "", "") and queue.read_text() == HEADER + '7,tone0,\n8,tone0,\n9,tone1,""\n' and queue.stat().st_mode & 0o777 == 0o640
     tally.check("behind a last line without its end", holds, (done, queue.read_text()))
+    queue.write_text(HEADER + "8,tone9,\n")
+    done = channel.run("enqueue", "9", "tone1", "")
+    tally.check("a queue with a wrong record", done[0] == 4 and done[2].startswith("pocsag: record 1: unknown kind"), done)
     queue.write_text(HEADER + "".join(f"{8 * number},tone0,\n" for number in range(20000)))
     done = channel.run("enqueue", "9", "tone1", "")
     tally.check("20,000 pages wait", done[0] == 4 and done[2].startswith("pocsag: record 20001: too many pages"), done)
@@ -350,8 +352,49 @@ def try_enqueue(tally, folder):
     tally.check("there is no queue", done[0] == 3 and not queue.exists(), done)
 
 
+def try_again(tally, folder):
+    """A pager is called several times: its pages go out in the order of the queue, one in each slot."""
+    channel = Channel(folder / "again", options="--at-most 9")
+    pages = [("8", "alpha", "one"), ("16", "tone1", ""), ("8", "alpha", "two"), ("8", "tone2", ""), ("16", "numeric", "3")]
+    for page in pages:
+        done = channel.run("enqueue", *page)
+        tally.check(f"enqueue {page}", done == (0, "", ""), done)
+    for due in ([pages[0], pages[1]], [pages[2], pages[4]], [pages[3]]):
+        done = channel.send()
+        is_good = channel.take()
+        tally.check(f"a slot of {due}", is_good and done == (0, "", "") and sorted(channel.slots[-1]) == sorted(due), (done, channel.slots[-1:]))
+    tally.check("the queue is empty", not channel.waiting() and channel.send() == (0, "", ""), channel.told())
+
+
+def try_oversized(tally, folder):
+    """A page that no slot carries stops nothing: it is in one file of its own, however often next-slot is ended."""
+    page = LONG.strip().split(",")
+    for number, how in enumerate(("", *KILLS)):
+        channel = Channel(folder / f"oversized {number}")
+        commands = turns_of(channel)
+        for turn in range(1, len(commands) + 4) if how else [0]:
+            channel.take()
+            channel.fill()
+            queue = channel.folder / "queue.csv"
+            header, first, *others = queue.read_text().splitlines(True)
+            queue.write_text(header + LONG + first + "".join(others) if turn % 2 else header + first + LONG + "".join(others))
+            done = channel.send(at=turn, fault=how) if how else channel.send()
+            if not how:
+                due = "next-slot: pages that no slot carries are in oversized.2.csv\n"
+                tally.check("an oversized page is told", done == (0, "", due), done)
+            is_good = channel.take()
+            last = channel.send()
+            is_good &= channel.take()
+            files = list(channel.folder.glob("oversized.*.csv"))
+            set_aside = [row for file in files for row in pages_of(file.read_bytes())]
+            holds = is_good and last[0] == 0 and set_aside == [tuple(page)] and channel.is_balanced()
+            tally.check(f"an oversized page: {how} at {turn}", holds, (last, files, channel.told()))
+            for file in files:
+                file.unlink()
+
+
 def main():
-    return run_parts(try_statuses, try_outgoing, try_enqueue, try_kills, try_calls, try_additions, try_random, try_full_disks)
+    return run_parts(try_statuses, try_outgoing, try_enqueue, try_again, try_oversized, try_kills, try_calls, try_additions, try_random, try_full_disks)
 
 
 if __name__ == "__main__":

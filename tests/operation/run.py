@@ -201,6 +201,32 @@ def try_single_calls(tally, folder):
                     break
 
 
+def try_order(tally, folder):
+    """Each new name is brought to the disk before the next file is renamed, in each of four folders."""
+    if not shutil.which("strace"):
+        return
+    places = ["rest/rest.csv", "why/why.bin", "cert/cert.bin", "tx/tx.bin"]
+    for number, has_old in enumerate((False, True)):
+        room = fresh(folder, f"order {number}")
+        for place in places:
+            (room / place).parent.mkdir()
+            if has_old:
+                (room / place).write_bytes(b"older")
+        trace = ["strace", "-y", "-qq", "-o", "trace", "-e", "trace=rename,renameat,renameat2,fsync"]
+        words = [str(PROGRAM), "plan", "apart.csv", places[3], places[2], "--at-most", "2", "--rest", places[0], "--why", places[1], "--keep"]
+        done = subprocess.run([*trace, *words], cwd=room, capture_output=True, timeout=60)
+        steps = []
+        for line in (room / "trace").read_text().splitlines():
+            if line.startswith("rename"):
+                steps.append(("renamed", re.findall(r'"([^"]*)"', line)[-1]))
+            else:
+                steps.append(("synchronised", os.path.relpath(re.search(r"<([^>]*)>", line)[1], os.path.realpath(room))))
+        files = [name.rsplit(".", 2)[0] for _, name in steps[:4]]
+        tally.check(f"first the files {has_old}", done.returncode == 0 and files == places, (done, steps))
+        due = [step for place in places for step in (("renamed", place), ("synchronised", os.path.dirname(place)))]
+        tally.check(f"then name by name {has_old}", steps[4:] == due, steps)
+
+
 def try_expect(tally, folder):
     """`--expect` refuses a round of another number of pages, and leaves empty files, or with `--keep` those that were there."""
     room = fresh(folder, "expect")
@@ -340,7 +366,7 @@ def try_page(tally, folder):
     tally.check("the page has commands", len(shells) > 4 and len(pythons) == 1, (len(shells), len(pythons)))
     for kind, texts in (("bash", shells), ("python", pythons)):
         for text in texts:
-            text = text.replace("/usr/local", str(room / "usr")).replace("/dev/lp0", str(room / "lp0")).replace("/srv/paging", str(room))
+            text = text.replace("/usr/local", str(room / "usr")).replace("/srv/paging", str(room))
             words = ["bash", "-euo", "pipefail", "-c", text] if kind == "bash" else [sys.executable, "-c", text]
             done = subprocess.run(words, cwd=room, env=environment, capture_output=True, text=True, timeout=600)
             wanted = re.findall(r"# prints: (.*)$", text, re.M)
@@ -348,7 +374,7 @@ def try_page(tally, folder):
             tally.check(f"{kind}: {text.splitlines()[0]}", holds or not wanted and done.returncode == 0, done)
     tally.check("./install of the page", (room / "usr/bin/pocsag").read_bytes() == PROGRAM.read_bytes(), os.listdir(room))
     due, due_cert = planned(folder, APART, "due ssh")
-    holds = (room / "lp0").read_bytes() == due and (room / "c.bin").read_bytes() == due_cert
+    holds = (room / "sent.bin").read_bytes() == due and (room / "c.bin").read_bytes() == due_cert
     tally.check("the line with ssh writes both", holds, os.listdir(room))
     sent = {(room / f"channels/{number}.bin").read_bytes() for number in range(3)}
     tally.check("the line with parallel plans each channel", {len(it) for it in sent} == {len(due)}, os.listdir(room / "channels"))
@@ -388,7 +414,7 @@ def try_recipe(tally, folder):
 
 
 def main():
-    return run_parts(try_keep, try_keep_open, try_kills, try_single_calls, try_expect, try_verify, try_pipes, try_terminal, try_page, try_recipe, *doors.PARTS, *slots.PARTS)
+    return run_parts(try_keep, try_keep_open, try_kills, try_single_calls, try_order, try_expect, try_verify, try_pipes, try_terminal, try_page, try_recipe, *doors.PARTS, *slots.PARTS)
 
 
 if __name__ == "__main__":

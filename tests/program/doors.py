@@ -230,6 +230,34 @@ def try_fronts(tally, folder):
         done = run(["plan", *files, "--at-most", "2", "--rest", "rest.csv", "--why", "why.bin"], room)
         holds = said(done) == (3, b"", CANNOT_OPEN) and [*stand(room), *(path.read_bytes() for path in others)] == 4 * [OLD]
         tally.check(f"a front with {files}", holds, (done, stand(room)))
+    # All files are opened before one is changed.
+    files = ["apart.csv", "tx.bin", "cert.bin", "--at-most", "2"]
+    for names in (["--rest", "none/rest.csv", "--why", "why.bin"], ["--rest", "rest.csv", "--why", "none/why.bin"]):
+        put(room, OLD)
+        for path in others:
+            path.write_bytes(OLD)
+        done = run(["plan", *files, *names], room)
+        holds = said(done) == (3, b"", CANNOT_OPEN) and [*stand(room), *(path.read_bytes() for path in others)] == 4 * [OLD]
+        tally.check(f"a front with {names}", holds, (done, stand(room)))
+
+
+def try_input(tally, folder):
+    """The file behind standard input is no place to write to."""
+    room, _ = fresh(folder, "input")
+    queue = (room / "apart.csv").read_bytes()
+    calls = [
+        ["plan", "-", "apart.csv", "cert.bin"],
+        ["plan", "-", "tx.bin", "./apart.csv"],
+        ["plan", "-", "tx.bin", "cert.bin", "--at-most", "2", "--rest", "apart.csv"],
+        ["plan", "-", "tx.bin", "cert.bin", "--at-most", "2", "--why", "apart.csv"],
+    ]
+    for call in calls:
+        for keep in ([], ["--keep"]):
+            put(room, OLD)
+            with open(room / "apart.csv", "rb") as stdin:
+                done = subprocess.run([str(PROGRAM), *call, *keep], stdin=stdin, capture_output=True, cwd=room, timeout=60)
+            holds = said(done) == (1, b"", NAMED_TWICE) and (room / "apart.csv").read_bytes() == queue and stand(room) == [OLD, OLD]
+            tally.check(f"the file behind standard input: {call} {keep}", holds, (done, stand(room)))
 
 
 def try_certificates(tally, folder):
@@ -256,4 +284,4 @@ def try_certificates(tally, folder):
     (room / "long.bin").unlink()
 
 
-PARTS = (try_words_of_bytes, try_unheard, try_closed, try_limits, try_reports, try_refused, try_fronts, try_certificates)
+PARTS = (try_words_of_bytes, try_unheard, try_closed, try_limits, try_reports, try_refused, try_fronts, try_input, try_certificates)

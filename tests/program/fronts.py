@@ -2,6 +2,7 @@
 
 import itertools
 import os
+import random
 import subprocess
 
 from tally import PROGRAM
@@ -100,4 +101,124 @@ def try_refusals(tally, folder):
     tally.check("a front through pipes", done.returncode == 0 and done.stderr == b"pages 2\nbatches 2\nleft 1\n", done)
 
 
-PARTS = (try_options, try_limits, try_refusals)
+# A queue: two pages wait for earlier ones of their addresses. The first page of each address: as in FILE.
+TONES = [b"3,tone1,\n", b"8,tone2,\n"]
+QUEUE = HEADER + b"3,numeric," + LONG + b"\n8,tone0,\n" + TONES[0] + b"0,numeric," + LONG + b"\n" + TONES[1]
+NO_LATER = b"pocsag: record 3: the address is already there\n"
+
+
+def try_later(tally, folder):
+    """`--later`: the first page of each address is sent, and the others are left in the order of the file."""
+    room = fresh(folder, "later")
+    (room / "queue.csv").write_bytes(QUEUE)
+    plan = ["plan", "queue.csv", "tx.bin", "cert.bin"]
+    rest = ["--rest", "rest.csv"]
+    done = run([*plan, "--at-most", "2", *rest], room)
+    tally.check("two pages for one address", said(done) == (1, b"", NO_LATER), done)
+    left = HEADER + TONES[0] + b"0,numeric," + LONG + b"\n" + TONES[1]
+    cases = [
+        (["--at-most", "2"], b"pages 2\nbatches 2\nleft 3\n", left, b"at least 3 batches\n"),
+        (["--at-most", "3"], b"pages 3\nbatches 3\nleft 2\n", HEADER + b"".join(TONES), None),
+        ([], b"pages 3\nbatches 3\nleft 2\n", HEADER + b"".join(TONES), None),
+        (["--airtime", "1387", "--rate", "1200"], b"pages 2\nbatches 2\nleft 3\n", left, b"at least 3 batches\n"),
+    ]
+    for words, told, others, beyond in cases:
+        for more in ([], ["--verify"], ["--keep", "--verify", "--strict", "--always", "--expect", "5"]):
+            done = run([*plan, "--later", *words, *rest, "--why", "why.bin", *more], room)
+            verified = b"verified\n" if "--verify" in more else b""
+            tally.check(f"later pages {words} {more}", said(done) == (0, told + verified, b""), done)
+            tally.check(f"rest of {words} {more}", (room / "rest.csv").read_bytes() == others, (room / "rest.csv").read_bytes())
+            decoded = run(["decode", "tx.bin"], room).stdout.splitlines(True)
+            due = [HEADER] + FILE.splitlines(True)[1:3 if beyond else 4]
+            tally.check(f"sent of {words} {more}", sorted(decoded) == sorted(due), decoded)
+            if beyond:
+                checked = run(["check", "pages.csv", "why.bin"], room)
+                tally.check(f"why of {words}", checked.stdout == beyond, checked)
+            else:
+                tally.check(f"no why of {words}", (room / "why.bin").read_bytes() == b"", words)
+    for word in ("--later", "--later --at-most 2"):
+        done = run([*plan, *word.split()], room)
+        tally.check(f"{word} without --rest", done.returncode == 2 and done.stdout == b"", done)
+    done = run([*plan, "--later", *rest, "--expect", "3"], room)
+    tally.check("each record is counted", said(done) == (1, b"", b"pocsag: pages 5, where 3 were expected\n"), done)
+    faults = [
+        (b"3,tone9,\n", b"pocsag: record 6: unknown kind\n"),
+        (b"3,tone0\n", b"pocsag: record 6: three fields are wanted\n"),
+        (b"2045056,tone0,\n", b"pocsag: record 6: reserved address\n"),
+        (b"3,tone0,\n" * 19_996, b"pocsag: record 20001: too many pages\n"),
+    ]
+    for record, told in faults:
+        (room / "bad.csv").write_bytes(QUEUE + record)
+        done = run(["plan", "bad.csv", "t", "c", "--later", "--at-most", "2", *rest], room)
+        tally.check(f"a later page that is refused {told}", said(done) == (1, b"", told), done)
+    for bad, told in ((HEADER, b"there are no pages"), (b"", b"the header must be address,kind,message")):
+        done = run(["plan", "-", "t", "c", "--later", *rest], room, bad)
+        tally.check(f"no queue {bad}", said(done) == (1, b"", b"pocsag: " + told + b"\n"), done)
+
+
+def try_oversized(tally, folder):
+    """`--oversized`: a page that alone needs more batches than are allowed is set aside, unless all do."""
+    room = fresh(folder, "oversized")
+    (room / "queue.csv").write_bytes(QUEUE)
+    # With its idles in front the first page has 22 codewords, the last one 16.
+    first, tone, last = FILE.splitlines(True)[1:]
+    names = ["--rest", "rest.csv", "--oversized", "over.csv"]
+    cases = [
+        ("pages.csv", ["--at-most", "1"], [tone], [last], [first]),
+        ("pages.csv", ["--airtime", "2188", "--rate", "512"], [tone], [last], [first]),
+        ("pages.csv", ["--at-most", "1", "--end", "closed"], [tone], [], [first, last]),
+        ("pages.csv", ["--at-most", "1", "--idle-last"], [tone], [], [first, last]),
+        ("pages.csv", ["--at-most", "2"], [first, tone], [last], []),
+        ("queue.csv", ["--at-most", "1", "--later"], [tone, TONES[0]], [last, TONES[1]], [first]),
+    ]
+    for file, words, sent, left, aside in cases:
+        batches = 2 if first in sent else 1
+        told = b"pages %d\nbatches %d\nleft %d\noversized %d\n" % (len(sent), batches, len(left), len(aside))
+        for more in ([], ["--verify"], ["--keep", "--verify", "--always", "--why", "why.bin"]):
+            done = run(["plan", file, "tx.bin", "cert.bin", *words, *names, *more], room)
+            verified = b"verified\n" if "--verify" in more else b""
+            tally.check(f"oversized {words} {more}", said(done) == (0, told + verified, b""), done)
+            written = [(room / name).read_bytes().splitlines(True) for name in ("rest.csv", "over.csv")]
+            tally.check(f"its files {words} {more}", written == [[HEADER, *left], [HEADER, *aside]], written)
+            decoded = run(["decode", "tx.bin"], room).stdout.splitlines(True)
+            tally.check(f"what it sends {words} {more}", sorted(decoded) == sorted([HEADER, *sent]), decoded)
+    for name in ("rest.csv", "over.csv"):
+        (room / name).write_bytes(b"old")
+    done = run(["plan", "pages.csv", "tx.bin", "cert.bin", "--at-most", "0", *names], room)
+    holds = said(done) == (1, b"", b"pocsag: page 1 needs 2 batches\n") and {(room / name).read_bytes() for name in ("rest.csv", "over.csv")} == {b"old"}
+    tally.check("no page fits", holds, done)
+    for words in (["--oversized", "o"], ["--later", "--rest", "r", "--oversized", "o"], ["--at-most", "2", "--oversized", "-"]):
+        done = run(["plan", "pages.csv", "t", "c", *words], room)
+        told = b"error: --oversized names a file, and goes with --at-most or --airtime\n"
+        tally.check(f"wrong words {words}", done.returncode == 2 and done.stdout == b"" and done.stderr.startswith(told), done)
+    for place in ("pages.csv", "tx.bin", "./cert.bin", "rest.csv", "./rest.csv"):
+        done = run(["plan", "pages.csv", "tx.bin", "cert.bin", "--at-most", "2", "--rest", "rest.csv", "--oversized", place], room)
+        tally.check(f"--oversized {place}", said(done) == (1, b"", TWICE) and (room / "pages.csv").read_bytes() == FILE, done)
+    (room / "bad.csv").write_bytes(FILE + b"9,tone9,\n")
+    for limit, told in (([], b"pocsag: record 4: unknown kind\n"), (["--limit", "0"], b"pocsag: the limit must be 1 to 1000000\n")):
+        done = run(["plan", "bad.csv", "t", "c", "--at-most", "1", *names, *limit], room)
+        tally.check(f"a bad record {limit}", said(done) == (1, b"", told), done)
+    noted = run(["plan", "bad.csv", "t", "c", "--at-most", "1", *names, "--verbose"], room)
+    tally.check("its line", noted.stderr.endswith(b"\npocsag: page file bad.csv: line 5: 9,tone9,\n"), noted)
+
+
+def try_runs(tally, folder):
+    """Slot by slot each page of a queue is sent once, and the pages of an address in the order of the file."""
+    room = fresh(folder, "runs")
+    records = [b"%d,alpha,%d\n" % (random.choice((0, 1, 8, 11, 2_000_000)), number) for number in range(60)]
+    (room / "queue.csv").write_bytes(HEADER + b"".join(records))
+    sent = []
+    for _ in range(60):
+        done = run(["plan", "queue.csv", "tx.bin", "cert.bin", "--later", "--at-most", "1", "--rest", "rest.csv", "--keep"], room)
+        if done.returncode:
+            break
+        sent += run(["decode", "tx.bin"], room).stdout.splitlines(True)[1:]
+        (room / "rest.csv").rename(room / "queue.csv")
+    tally.check("the queue is empty then", said(done) == (1, b"", b"pocsag: there are no pages\n"), done)
+    tally.check("each page once", sorted(sent) == sorted(records), (len(sent), len(records)))
+    for address in {record.split(b",")[0] for record in records}:
+        mine = [[r for r in pages if r.startswith(address + b",")] for pages in (sent, records)]
+        tally.check(f"the pages of {address} in their order", mine[0] == mine[1], mine)
+
+
+PARTS = (try_options, try_limits, try_refusals, try_later, try_oversized, try_runs)

@@ -63,7 +63,7 @@ class OpenRound:
         return answers
 
     def close(self):
-        """Ends its input, and answers its status and what it wrote to standard error."""
+        """Ends its input, and returns its status and what it wrote to standard error."""
         rest, err = self.process.communicate(timeout=60)
         return self.process.returncode, self.kept + rest, err
 
@@ -123,7 +123,7 @@ class Kept:
         return ok(self.pages)
 
     def lines(self):
-        """What `list` answers."""
+        """What `list` prints."""
         return [HEADER.strip()] + [b"%d,%s,%s" % (address, kind, field(message)) for address, kind, message in self.pages] + [ok(self.pages)]
 
 

@@ -75,7 +75,7 @@ class Due:
         return (index + 15) // 16
 
     def shown(self, bound):
-        """What `check` tells of a certificate for the bound."""
+        """What `check` prints of a certificate for the bound."""
         return b"at least %d batches%s\n" % (bound, FEWEST.TOLD[self.end].encode())
 
     def report(self, rate, batches):
@@ -98,12 +98,12 @@ class Due:
 
 
 def told_bound(lines, batches):
-    """The bound that a text tells behind a plan of so many batches, which stands there only where it is below."""
+    """The bound that a text prints behind a plan of so many batches, which stands there only where it is below."""
     return int(lines[0].split()[2]) if lines and lines[0].startswith(b"at least ") else batches
 
 
 def judged(due, done, limit, is_always):
-    """The batches and the bound that a call answers; none where it is refused as it may be, and false where the
+    """The batches and the bound that a call prints; none where it is refused as it may be, and false where the
     answer is wrong. With a limit of one node alone the search may stop."""
     text = done.stdout.splitlines()
     said = dict(line.split(b" ", 1) for line in text if b" " in line)

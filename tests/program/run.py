@@ -14,7 +14,9 @@ sys.path.insert(0, str(pathlib.Path(__file__).resolve().parents[1]))
 sys.path.insert(0, str(pathlib.Path(__file__).resolve().parent))
 import doors
 import edges
+import forms
 import fronts
+import largest
 import options
 import repair
 import usage
@@ -25,7 +27,7 @@ HEADER = b"address,kind,message\n"
 PREAMBLE = b"\xaa" * 72
 SYNC = "7CD215D8"
 IDLE = "7A89C197"
-# How certificates begin, and what `check` tells of them, for each end.
+# How certificates begin, and what `check` prints of them, for each end.
 HEADS = {"open": b"PCB2\0", "closed": b"PCB2\1", "idle": b"PCB4"}
 TOLD = {"open": b"", "closed": b" with a closed end", "idle": b" with an idle last"}
 MESSAGE = "C44447B9"
@@ -495,7 +497,9 @@ def main():
         *usage.PARTS,
         *doors.PARTS,
         *edges.PARTS,
+        *forms.PARTS,
         *fronts.PARTS,
+        *largest.PARTS,
         *options.PARTS,
         *repair.PARTS,
         *verbose.PARTS,

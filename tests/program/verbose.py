@@ -47,6 +47,7 @@ PAGE_FILES = [
 TWICE_DAMAGED, BEYOND_REPAIR = (b"\xaa" * 72 + bytes.fromhex("7CD215D9" + "7A89C197" * 15 + last) for last in ("7A89C194", "7A89C190"))
 
 # Files, words, standard input, status, what is told on standard output, the fault, and the notes.
+ANYWHERE = "transmission p.csv: for bits off the air that begin anywhere, give --capture"
 NO_FILE, IS_FOLDER, NO_SPACE = (f"{os.strerror(code)} (os error {code})" for code in (2, 21, 28))
 CASES = [
     (APART, ["plan", "none.csv", "tx.bin", "cert.bin"], b"", 3, "", "cannot read or open a file", [f"page file none.csv: {NO_FILE}"]),
@@ -84,13 +85,15 @@ CASES = [
     (APART, ["show", "-", "--repair", "--list"], TWICE_DAMAGED, 0, "batch,frame,slot,codewords,address,kind,message\n", None,
      ["transmission -: corrected bits 3, words 2"]),
     (APART, ["show", "-", "--repair"], BEYOND_REPAIR, 1, "", "codeword 15: not a codeword", []),
+    (APART, ["decode", "p.csv", "--repair"], b"", 1, "", "the preamble is too short", [ANYWHERE]),
+    (APART, ["show", "p.csv", "--repair"], b"", 1, "", "the preamble is too short", []),
     (APART, ["decode", "none", "--repair"], b"", 3, "", "cannot read or open a file", [f"transmission none: {NO_FILE}"]),
     (APART, ["show", "none", "--svg"], b"", 3, "", "cannot read or open a file", [f"transmission none: {NO_FILE}"]),
     (APART, ["wav", "none"], b"", 3, "", "cannot read or open a file", [f"transmission none: {NO_FILE}"]),
     (APART, ["wav", "none", "--rate", "9"], b"", 1, "", "the rate must be 512, 1200 or 2400", []),
     (APART, ["wav", "p.csv"], b"", 1, "", "the preamble is too short", []),
     (APART, ["hear", "2097152", "p.csv"], b"", 1, "", "bad address", []),
-    (APART, ["hear", "8", "p.csv"], b"", 1, "", "the preamble is too short", []),
+    (APART, ["hear", "8", "p.csv"], b"", 1, "", "the preamble is too short", [ANYWHERE]),
     (APART, ["open", "none.csv"], b"", 3, "", "cannot read or open a file", [f"page file none.csv: {NO_FILE}"]),
     (APART, ["open"], b"add,8,tone0,\nplan,none/tx.bin,cert.bin\nplan,tx.bin,none/c\nadd,9,tone0,\nplan,/dev/full,cert.bin\n", 0,
      "ok 1\nrefused: cannot read or open a file\nrefused: cannot read or open a file\nok 2\nrefused: cannot write\n", None,

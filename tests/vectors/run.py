@@ -22,7 +22,7 @@ from tally import PROGRAM, run_parts
 
 IDLE = bytes.fromhex("7A89C197")
 FAULT = "pocsag: "
-TOLD = ("refused", "no certificate")  # the answers of the second checker where the product tells a fault
+TOLD = ("refused", "no certificate")  # the answers of the second checker where the product prints a fault
 
 
 def rows():
@@ -31,7 +31,7 @@ def rows():
 
 
 def run(folder, *words):
-    """The status of the program, and its output or the fault that it tells."""
+    """The status of the program, and its output or the fault that it prints."""
     done = subprocess.run([str(PROGRAM), *words], cwd=folder, capture_output=True, timeout=300)
     return done.returncode, (done.stdout or done.stderr).decode("latin-1").removesuffix("\n")
 
@@ -83,7 +83,7 @@ def is_sent(folder, row, listing):
 
 
 def try_transmissions(tally, folder):
-    """What `decode` tells of each transmission, and the pages that it lists beside those of the page file."""
+    """What `decode` prints of each transmission, and the pages that it lists beside those of the page file."""
     for row in (row for row in rows() if row["tx"]):
         status, text = run(folder, "decode", row["tx"])
         told = ("yes" if is_sent(folder, row, text) else "no") if status == 0 else text

@@ -1,5 +1,5 @@
 /* Calls the WebAssembly module as C would: calls.mjs MODULE. Each line of standard input is a call as JSON, a name and its words:
- * ["bytes", HEX], ["file", PATH], ["room", SIZE], ["number", N] or ["info", SIZE]. Each line of the answer is the status, and of
+ * ["bytes", HEX], ["file", PATH], ["room", SIZE], ["number", N], ["wide", N] of 64 bits, or ["info", SIZE]. Each line of the answer is the status, and of
  * each room the length that was told and a sum of its bytes, and of each structure its bytes. */
 import { createHash } from "node:crypto";
 import { readFileSync } from "node:fs";
@@ -20,6 +20,7 @@ function call([name, ...words]) {
   };
   const given = words.flatMap(([kind, value]) => {
     if (kind === "number") return [value];
+    if (kind === "wide") return [BigInt(value)];
     if (kind === "info") {
       const address = take(value, 0x5a);
       outs.push(() => bytes(address, value).toString("hex"));

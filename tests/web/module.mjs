@@ -24,9 +24,8 @@ for (const [name, [text, open, closed, idle, inOrder]] of Object.entries(rounds)
     tally.is(`${name} ${end}`, [plan.batches, plan.bound, plan.transmission.length], [batches, batches, 72 + 68 * batches]);
     tally.is(`check of ${name} ${end}`, pocsag.check(text, plan.certificate), { isShown: true, end, batches });
     tally.is(`pages of ${name} ${end}`, sorted(pocsag.decode(plan.transmission)), sorted(text));
-    const reading = files.readingOf(plan.transmission), addresses = files.recordsOf(text).map(({ fields }) => Number(fields[0]));
-    const ordered = files.inOrderOf(reading, addresses);
-    tally.is(`${name} in file order`, [(ordered.length - 72) / 68, pocsag.decode(ordered)], [plan.inOrder, pocsag.decode(ordered)]);
+    const addresses = files.recordsOf(text).map(({ fields }) => Number(fields[0])), ordered = pocsag.layInOrder(text);
+    tally.is(`${name} in file order`, (ordered.length - 72) / 68, plan.inOrder);
     tally.is(`${name} in file order reads in that order`, files.readingOf(ordered).pages.map(({ address }) => address), addresses);
     if (inOrder) tally.is(`${name} counted in file order`, plan.inOrder, inOrder);
   }
@@ -72,6 +71,19 @@ const faults = [
   [() => pocsag.hear(2 ** 32 + 8, sent), "POCSAG_PAGER_BAD_ADDRESS", "bad address", {}],
   [() => pocsag.hear(-1, sent), "POCSAG_PAGER_BAD_ADDRESS", "bad address", {}],
   [() => pocsag.hear(2_007_664, sent), "POCSAG_PAGER_RESERVED_ADDRESS", "reserved address", {}],
+  [() => pocsag.decode(sent, "aloud"), "POCSAG_BAD_READING", "there is no such reading or picture", {}],
+  [() => pocsag.show(sent, { form: "film" }), "POCSAG_BAD_READING", "there is no such reading or picture", {}],
+  [() => pocsag.show(sent, { first: 2, last: 1 }), "POCSAG_BAD_ROWS", "there are no such batches", {}],
+  [() => pocsag.writePage(8, "numeric", "12x4"), "POCSAG_BAD_CHARACTER", "bad character at 2", { at: 2 }],
+  [() => pocsag.writePage(8, "tone9"), "POCSAG_BAD_KIND", "unknown kind", {}],
+  [() => pocsag.writePage(2 ** 32, "tone0"), "POCSAG_BAD_ADDRESS", "bad address", {}],
+  [() => pocsag.strict(HEADER + '8,alpha,"a"b\n'), "POCSAG_QUOTE_FOLLOWED", "record 1: text follows the closing quote in line 2", { recordNumber: 1, at: 2 }],
+  [() => pocsag.plan(HEADER + '8,alpha,a"b\n', { strict: true }), "POCSAG_QUOTE_INSIDE", 'record 1: the quote in line 2 stands inside a field that begins without one', { recordNumber: 1, at: 2 }],
+  [() => pocsag.check('"' + HEADER, proof, { strict: true }), "POCSAG_QUOTE_OPEN", "record 0: the quote in line 1 is not closed", { at: 1 }],
+  [() => pocsag.wav(sent, 1201), "POCSAG_BAD_RATE", "the rate must be 512, 1200 or 2400", {}],
+  [() => pocsag.wav(sent, 1200, { samples: 1_199 }), "POCSAG_BAD_SAMPLES", "the samples a second must be from the rate to 192000", {}],
+  [() => pocsag.wav(sent, 1200, { preamble: 0 }), "POCSAG_BAD_PREAMBLE", "the preamble must have 576 bits or more, a multiple of 8", {}],
+  [() => pocsag.airtimeBatches(934, 1201), "POCSAG_BAD_RATE", "the rate must be 512, 1200 or 2400", {}],
 ];
 const header = readFileSync(join(vectors, "../clib/pocsag.h"), "utf8");
 for (const [call, name, message, place] of faults) {
@@ -100,6 +112,25 @@ tally.is("a message of every character", sorted(pocsag.decode(pocsag.plan(every)
 tally.is("and what its pager shows", sorted(pocsag.hear(8, pocsag.plan(every).transmission)), sorted(every));
 const apart = pocsag.plan(rounds["loops-apart"][0]), long = pocsag.explain(rounds["loops-apart"][0], apart.certificate, { form: "json", depth: 300 });
 tally.check("an explanation as JSON", JSON.parse(long.text).nodes === 3 && long.isShown, long.text);
+
+/* == What is read, shown and written. == */
+const turned = sent.map((byte) => byte ^ 255), listed = pocsag.decode(sent), bad = sent.map((byte, k) => (k === 80 ? byte ^ 6 : byte));
+tally.is("a capture of the other polarity", [pocsag.decode(turned, "captured"), pocsag.hear(8, turned, "captured")], [listed, listed]);
+tally.is("two wrong bits are repaired", [tally.attempt(() => pocsag.decode(bad)).name, pocsag.decode(bad, "repaired")], ["POCSAG_BAD_WORD", listed]);
+const grid = "       0  1  2  3  4  5  6  7\n  1   A. .. .. .. .. .. .. ..\n", places = "batch,frame,slot,codewords,address,kind,message\n1,0,0,1,8,tone0,\n";
+tally.is("a text of one tone", pocsag.show(sent).split("\n").slice(1).join("\n"), grid);
+tally.is("its place", pocsag.show(bad, { form: "list", reading: "repaired" }), places);
+tally.check("a drawing", /^<svg [^]*<\/svg>\n$/.test(pocsag.show(sent, { form: "drawing" })));
+tally.is("no batch behind the last", pocsag.show(sent, { first: 2 }).split("\n").length, 3);
+tally.is("a page's record", pocsag.writePage(11, "alpha", 'say "yes", now'), '11,alpha,"say ""yes"", now"\n');
+tally.is("a header and records", pocsag.plan(pocsag.HEADER + pocsag.writePage(8, "tone0")).transmission, sent);
+// 1,664 bits with the silence, of which the last of the preamble is 0 and the first of the synchronisation codeword too.
+const heard = pocsag.wav(sent, 2400, { samples: 2_400 }), turnedRound = pocsag.wav(sent, 2400, { samples: 2_400, inverted: true });
+tally.is("a sound", [heard.length, [...heard.subarray(44 + 2 * 574, 44 + 2 * 578)]], [44 + 2 * 1_664, [0xc0, 0xe0, 0x40, 0x1f, 0x40, 0x1f, 0xc0, 0xe0]]);
+tally.is("and inverted", [...turnedRound.subarray(44 + 2 * 574, 44 + 2 * 578)], [0x40, 0x1f, 0xc0, 0xe0, 0xc0, 0xe0, 0x40, 0x1f]);
+tally.is("a preamble of its own", pocsag.wav(sent, 1200, { preamble: 800 }).length - pocsag.wav(sent, 1200).length, (2 * 224 * 48_000) / 1200);
+tally.is("batches in a time", [933, 934, 1_386, 1_387].map((ms) => pocsag.airtimeBatches(ms, 1200)), [0, 1, 1, 2]);
+tally.is("texts", [pocsag.statusText(20), pocsag.release()], ["bad address", readFileSync(join(vectors, "../VERSION"), "utf8").split(/\s/)[0]]);
 
 /* == Page files as the page itself reads and writes them: as the library does. == */
 for (const text of [every, quotes, SAMPLE, HEADER + '8,alpha,"a,b\r\nc"\r\n\r\n16,alpha,"x"y"z"\r24,alpha,"a""b"c"d"\n32,alpha,"open\n40,tone0,\n', "\ufeff" + SAMPLE]) {
@@ -134,7 +165,8 @@ function limited(most) {
 const tones = HEADER + [...Array(3_000).keys()].map((k) => `${k},tone0,\n`).join(""), ample = pocsag.plan(tones, { limit: 100 });
 const calls = {
   plan: [tones, { limit: 100 }], planAtMost: [tones, 5, { limit: 100 }], report: [tones, 512], check: [tones, ample.certificate],
-  explain: [tones, ample.certificate], decode: [ample.transmission], hear: [8, ample.transmission],
+  explain: [tones, ample.certificate], decode: [ample.transmission, "repaired"], hear: [8, ample.transmission, "captured"],
+  show: [ample.transmission, { form: "drawing" }], layInOrder: [tones], wav: [sent, 1200],
 };
 const { least } = limited(0);
 for (const [name, words] of Object.entries(calls)) {
@@ -156,7 +188,7 @@ WebAssembly.Instance = class {
   constructor(...words) {
     const { exports } = new Instance(...words);
     instances++;
-    this.exports = { ...exports, pocsag_decode: (address, ...rest) => exports.pocsag_decode(traps++ ? address : 2n ** 31n, ...rest) };
+    this.exports = { ...exports, pocsag_decode_as: (reading, address, ...rest) => exports.pocsag_decode_as(reading, traps++ ? address : 2n ** 31n, ...rest) };
   }
 };
 const library = new Pocsag(new WebAssembly.Module(wasm));

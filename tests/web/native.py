@@ -18,6 +18,8 @@ class Native:
         for kind, value in words:
             if kind == "number":
                 given.append(ctypes.c_uint32(value))
+            elif kind == "wide":
+                given.append(ctypes.c_uint64(int(value)))
             elif kind == "info":
                 info = (ctypes.c_uint8 * value)(*b"\x5a" * value)
                 given.append(info)

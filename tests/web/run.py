@@ -1,10 +1,10 @@
 #!/usr/bin/env python3
-"""Tries the WebAssembly module, its ES module and command line in Node, and the page in Chromium.
+"""Tries the WebAssembly module, its ES module and command line in Node, and the page in Chromium and in Firefox.
 
 It makes them twice, in two folders; makes the same calls of the module and of the native library, with random rounds, changed
 files and buffers that are too small; runs the published vectors and the worked examples; refuses memory; and uses the page
 as a user does. Where the C library is that of the release, it tries the release's files. Where Node, the toolchain, Binaryen
-or Chromium is missing it says so and tries the rest.
+or a browser is missing it says so and tries the rest.
 The last line is 'N passed, M failed'.
 """
 
@@ -36,8 +36,8 @@ def script_at(name, path):
 
 
 ROUNDS, PER_BATCH = 2_000, 500
-NODE, CHROMIUM = shutil.which("node"), shutil.which("chromium")
-SIZES = {"plan": 48, "front": 56, "check": 32, "report": 72, "place": 24}
+NODE, CHROMIUM, FIREFOX = shutil.which("node"), shutil.which("chromium"), shutil.which("firefox-esr") or shutil.which("firefox")
+SIZES = {"plan": 48, "front": 56, "check": 32, "report": 72, "place": 24, "number": 4}
 
 
 def run(*words, **how):
@@ -50,6 +50,10 @@ def info(kind):
 
 def number(value):
     return ["number", value]
+
+
+def wide(value):
+    return ["wide", str(value)]  # JSON's numbers end below 2 ** 64
 
 
 def hexed(data):
@@ -73,17 +77,41 @@ def planning_calls(source, pages):
         ["pocsag_plan", hexed(pages), *rooms(source, 4_096, 4_096), *searched(source), info("plan")],
         ["pocsag_plan_at_most", hexed(pages), number(source.randrange(6)), *rooms(source, 4_096, 4_096, 4_096, 4_096), *searched(source), info("front")],
         ["pocsag_report", hexed(pages), number(source.choice([512, 1200, 2400, 1201])), *searched(source), info("report")],
+        ["pocsag_lay_in_order", hexed(pages), *rooms(source, 4_096), info("place")],
+        ["pocsag_strict", hexed(source.choice([pages, pages.replace(b",", b'"', 3), pages + b'8,alpha,"x"y', pages + b'8,alpha,"'])), info("place")],
+    ]
+
+
+def small_calls(source):
+    """The calls that read no file."""
+    address = source.randrange(2_100_000) if source.randrange(8) else source.choice([2_007_664, 2_097_152, 2**32 - 1])
+    message = bytes(source.choices(b'0123456789 -Uab",\n\r\x7f\x00\xff', k=source.choice([0, 1, 5, 6, 40])))
+    return [
+        ["pocsag_write_page", number(address), number(source.randrange(7)), hexed(message), *rooms(source, 256), info("place")],
+        ["pocsag_airtime_batches", number(source.choice([0, 1, 934, 10_000, 2**32 - 1])), number(source.choice([512, 1200, 2400, 0])), info("number")],
+        ["pocsag_text_of_status", number(source.randrange(80)), *rooms(source, 256)],
+        ["pocsag_text_of_version", *rooms(source, 256)],
     ]
 
 
 def reading_calls(source, pages, tx, cert, address):
     """The calls that read a page file with a certificate, and a transmission."""
     depth, form = source.choice([0, 1, 2, 3, 300]), source.choice([0, 1, 1, 0, 2])
+    reading, given = source.randrange(3) if source.randrange(9) else 3, tx
+    if reading == 2:  # bits before the transmission, the last of them within a byte, and each bit as the other
+        shifted = (source.getrandbits(40) << 8 * len(tx) | int.from_bytes(tx, "big")) << source.randrange(8)
+        given = (shifted ^ (1 << 8 * len(tx) + 48) - 1).to_bytes(len(tx) + 6, "big")
+    rows = [wide(source.choice([1, 1, 1, 2, 0])), wide(source.choice([2**64 - 1, 2, 1]))]
     return [
         ["pocsag_check", hexed(pages), hexed(cert), info("check")],
         ["pocsag_explain", hexed(pages), hexed(cert), number(form), number(depth), *rooms(source, 8_192), info("check")],
         ["pocsag_decode", hexed(tx), *rooms(source, 4_096), info("place")],
         ["pocsag_hear", number(address), hexed(tx), *rooms(source, 4_096), info("place")],
+        ["pocsag_decode_as", number(reading), hexed(given), *rooms(source, 4_096), info("place")],
+        ["pocsag_hear_as", number(reading), number(address), hexed(given), *rooms(source, 4_096), info("place")],
+        ["pocsag_wav", hexed(tx), number(source.choice([512, 1200, 2400, 300])), number(source.choice([2_400, 8_000, 2_399, 192_001])),
+         number(source.choice([0, 0, 576, 584, 577])), number(source.randrange(3)), *rooms(source, 1 << 16), info("place")],
+        ["pocsag_show", number(reading), hexed(given), number(source.randrange(4)), *rows, *rooms(source, 16_384), info("place")],
     ]
 
 
@@ -145,7 +173,7 @@ def try_rounds(tally, made):
             pages = made.library.random_file(source)
             if source.randrange(4) == 0:
                 pages = made.library.changed(source, pages)
-            calls += planning_calls(source, pages)
+            calls += planning_calls(source, pages) + small_calls(source)
             try:
                 plan = made.python.plan(pages, limit=2_000, end=source.randrange(3), always=True)
             except made.library.pocsag.Fault:
@@ -204,18 +232,18 @@ def try_node(tally, made):
     tally.check("the ES module in Node", done.returncode == 0 and last and int(last[1]) > 300, done.stderr.decode()[-2000:])
 
 
-def try_page(tally, made):
-    """The page in Chromium, by what stands in page.mjs, with the files that the program makes."""
-    folder = made.room / "page"
+def try_page(tally, made, name, browser, least):
+    """The page in a browser, by the script of its name, with the files that the program makes."""
+    folder = made.room / name
     folder.mkdir()
     shutil.copyfile(TOP / "examples/round.csv", folder / "round.csv")
     done = run(PROGRAM, "plan", "round.csv", "round.bin", "round.cert", cwd=folder)
     (folder / "round.wav").write_bytes(run(PROGRAM, "wav", "round.bin", cwd=folder).stdout)
     tally.check("the program's files", done.returncode == 0)
-    done = run(NODE, HERE / "page.mjs", CHROMIUM, made.folder / "pocsag.html", folder)
+    done = run(NODE, HERE / f"{name}.mjs", browser, made.folder / "pocsag.html", folder)
     print(done.stdout.decode(), end="")
     last = re.search(r"(\d+) passed, (\d+) failed\n$", done.stdout.decode())
-    tally.check("the page in Chromium", done.returncode == 0 and last and int(last[1]) > 60, (done.returncode, done.stderr.decode()[-2000:]))
+    tally.check(f"the page in {browser}", done.returncode == 0 and last and int(last[1]) > least, (done.returncode, done.stderr.decode()[-2000:]))
 
 
 def has_node():
@@ -239,10 +267,11 @@ def main(tally, room):
     try_large(tally, made)
     try_node(tally, made)
     command.try_command(tally, made.folder, room, NODE)
-    if CHROMIUM:
-        try_page(tally, made)
-    else:
-        print("skipped: the page, since chromium is missing in PATH")
+    for name, what, browser, least in (("page", "chromium", CHROMIUM, 60), ("firefox", "firefox", FIREFOX, 10)):
+        if browser:
+            try_page(tally, made, name, browser, least)
+        else:
+            print(f"skipped: the page, since {what} is missing in PATH")
 
 
 if __name__ == "__main__":

@@ -1,7 +1,7 @@
 #!/usr/bin/env python3
-"""Lists each word of specs/ that a public clause cites, and wants a row of docs/DEFINITIONS.md for it that names its
-file; and wants each word of specs/ to have one meaning: no name is given in two modules. Of the code it wants that no
-two crates give a name to two things, a module aside, but for the names of twice.txt, which tells of each why; that
+"""Lists each word of specs/ that a public clause cites, and wants a comment above its definition, and docs/DEFINITIONS.md to be
+what these comments give; and wants each word of specs/ to have one meaning: no name is given in two modules. Of the code it wants that no
+two crates give a name to two things, a module aside, but for the names of twice.txt, which says of each why; that
 each line of a clause ends at column 120 (break_lines.py breaks longer ones); that `thiserror` derives each fault, and a
 table of tests has its text; and that a crate uses the libraries that crates.txt gives it.
 
@@ -15,7 +15,8 @@ import re
 import sys
 
 sys.dont_write_bytecode = True
-sys.path.insert(0, str(pathlib.Path(__file__).resolve().parents[1]))
+sys.path[:0] = [str(pathlib.Path(__file__).resolve().parents[1]), str(pathlib.Path(__file__).resolve().parents[2] / "tools")]
+import definitions
 from tally import TOP, Tally
 
 IMPORT = re.compile(r"ghost use Rattle\.(pocsag_\w+)\.specs\.([\w.]+)\.\{([^}]*)\};")
@@ -197,38 +198,6 @@ def in_clause(lines, place):
     return False
 
 
-def quoted_words(text):
-    """The words in the code that a text quotes."""
-    return {word for quoted in re.findall(r"`([^`]+)`", text) for word in re.findall(r"[\w']+", quoted)}
-
-
-def named_files(row, section):
-    """The files of crates that a row of the page names, as (crate, file), and whether each of them is there."""
-    crates = [*section, *re.findall(r"`(pocsag_\w+)`", row)]
-    names = set(re.findall(r"`([\w/]+\.(?:antt|rt))`", row))
-    folders = [(crate, folder / inner) for crate in crates for folder in TOP.glob(f"crates/{crate}") for inner in ("specs", "")]
-    there = {(crate, name) for crate, folder in folders for name in names if (folder / name).exists()}
-    return there, names == {name for _, name in there}
-
-
-def check_page(tally):
-    """Wants each row of docs/DEFINITIONS.md to stand in a table and to name a file that is there; gives for each
-    word of a row its files, as (crate, module)."""
-    places, section, before = {}, [], ""
-    for line in (TOP / "docs/DEFINITIONS.md").read_text().split("\n"):
-        if line.startswith("## "):
-            section = re.findall(r"crates/(\w+)/specs", line)
-        if line.startswith("| ") and not line.startswith("| Name |"):
-            row = f"row {line.split('|')[1].strip()}"
-            files, are_there = named_files(line, section)
-            tally.check(row, before.startswith("|"), "stands in no table")
-            tally.check(row, files and are_there, f"names no file, or one that is not there: {files}")
-            for word in quoted_words(line):
-                places.setdefault(word, set()).update((crate, name.partition(".")[0]) for crate, name in files)
-        before = line
-    return places
-
-
 def wanted_words():
     """Each word of specs/ that a public clause cites, as (crate, module, name), with a function that cites it."""
     wanted = {}
@@ -255,12 +224,11 @@ def main():
     check_faults(tally)
     check_texts(tally)
     check_libraries(tally)
-    places = check_page(tally)
     check_reader(tally)
-    for (crate, module, word), cited in sorted(wanted_words().items()):
-        told = "the row names another file" if word in places else "no row in docs/DEFINITIONS.md"
-        has_row = (crate, module) in places.get(word, ())
-        tally.check(f"{crate}.specs.{module}.{word}", has_row, f"cited by {cited}: {told}")
+    wanted, told = wanted_words(), set(definitions.told())
+    for word, cited in sorted(wanted.items()):
+        tally.check(".specs.".join(word[:2]) + f".{word[2]}", definitions.given_at(word) in told, f"cited by {cited}: its definition has no comment")
+    tally.check("docs/DEFINITIONS.md", definitions.PAGE.read_text() == definitions.page(wanted), "tools/definitions.py writes another page")
     return tally.end()
 
 

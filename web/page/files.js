@@ -1,4 +1,4 @@
-/* What the page itself reads and writes of page files, transmissions and sound. tests/web compares each with the program. */
+/* What the page itself reads and writes of page files, and reads of transmissions. tests/web compares each with the program. */
 
 export const HEADER = "address,kind,message";
 export const KINDS = ["numeric", "alpha", "tone0", "tone1", "tone2", "tone3"];
@@ -60,44 +60,8 @@ export function readingOf(bytes) {
   return { batches, words, owners, pages };
 }
 
-/* The transmission of the same pages in the order of these addresses: each begins at the first place of its frame that is left. */
-export function inOrderOf({ words, pages }, addresses) {
-  const byAddress = new Map(pages.map((page) => [page.address, page])), placed = [];
-  let next = 0;
-  for (const address of addresses) {
-    const page = byAddress.get(address), frame = address & 7;
-    if (((next >> 1) & 7) !== frame) next += (2 * frame - next) & 15;
-    placed.push([next, page]);
-    next += page.length;
-  }
-  const batches = Math.ceil(next / 16), bytes = new Uint8Array(PREAMBLE + BATCH * batches).fill(0xaa, 0, PREAMBLE);
-  const view = new DataView(bytes.buffer), place = (index) => PREAMBLE + (index >> 4) * BATCH + 4 + 4 * (index & 15);
-  for (let batch = 0; batch < batches; batch++) view.setUint32(PREAMBLE + BATCH * batch, 0x7cd215d8);
-  for (let index = 0; index < 16 * batches; index++) view.setUint32(place(index), IDLE);
-  for (const [at, page] of placed) for (let k = 0; k < page.length; k++) view.setUint32(place(at + k), words[page.start + k]);
-  return bytes;
-}
-
-/* The milliseconds of so many batches at a rate, rounded up; and the most batches of so many milliseconds. */
+/* The milliseconds of so many batches at a rate, rounded up. */
 export const airtimeOf = (batches, rate) => Math.ceil(((576 + 544 * batches) * 1000) / rate);
-export const batchesWithin = (ms, rate) => Math.max(0, Math.floor((Math.floor((ms * rate) / 1000) - 576) / 544));
-
-/* The transmission as sound: a WAV file of 16-bit samples, 8000 for a bit 0 and -8000 for a bit 1, and a batch's time of silence. */
-export function wavOf(bytes, rate, samples = 48_000) {
-  const bits = 8 * bytes.length, count = Math.ceil(((bits + 544) * samples) / rate);
-  const view = new DataView(new ArrayBuffer(44 + 2 * count));
-  const text = (at, word) => [...word].forEach((it, k) => view.setUint8(at + k, it.charCodeAt(0)));
-  text(0, "RIFF"), text(8, "WAVEfmt "), text(36, "data");
-  const numbers = [[4, 36 + 2 * count], [16, 16], [24, samples], [28, 2 * samples], [40, 2 * count]];
-  numbers.forEach(([at, value]) => view.setUint32(at, value, true));
-  [[20, 1], [22, 1], [32, 2], [34, 16]].forEach(([at, value]) => view.setUint16(at, value, true));
-  for (let k = 0; k < count; k++) {
-    const bit = Math.floor((k * rate) / samples);
-    if (bit >= bits) break;
-    view.setInt16(44 + 2 * k, (bytes[bit >> 3] << (bit & 7)) & 128 ? -8000 : 8000, true);
-  }
-  return new Uint8Array(view.buffer);
-}
 
 /* The letter and the hue of each page, as `pocsag show` gives them: by its place among the addresses. */
 export function labelsOf(addresses) {

@@ -1,7 +1,7 @@
 /* The page: a round on the left, its transmissions on the right, and why it takes no fewer batches. */
 import { Library } from "./library.js";
 import { Rows } from "./rows.js";
-import { airtimeOf, batchesWithin, fileOf, HEADER, inOrderOf, KINDS, labelOf, labelsOf, nodesOf, readingOf, recordsOf, wavOf } from "./files.js";
+import { airtimeOf, fileOf, HEADER, KINDS, labelOf, labelsOf, nodesOf, readingOf, recordsOf } from "./files.js";
 import { pictured, unpictured } from "./files.js";
 
 const EXAMPLES = {} /*EXAMPLES*/;
@@ -108,8 +108,9 @@ function showAs(kind) {
 
 function options() {
   const { end, send, rate, batches, ms, limit, always } = element("options").elements;
-  const most = { all: null, batches: Number(batches.value), ms: batchesWithin(Number(ms.value), Number(rate.value)) }[send.value];
-  return { most, rate: Number(rate.value), search: { end: end.value, limit: Number(limit.value), always: always.checked } };
+  const most = { all: async () => null, batches: async () => Number(batches.value) };
+  most.ms = async () => (await library.ask("airtimeBatches", Number(ms.value), Number(rate.value))).given;
+  return { mostBatches: most[send.value], rate: Number(rate.value), search: { end: end.value, limit: Number(limit.value), always: always.checked } };
 }
 
 let timer = 0;
@@ -122,14 +123,16 @@ function replan() {
 
 /* Plans the round, has the checker judge the plan, and shows both; then asks why there are no fewer batches. */
 async function plan() {
-  const { most, search } = options(), file = state.raw ?? state.text;
+  const { mostBatches, search } = options(), file = state.raw ?? state.text;
   const slow = setTimeout(() => say("searching: an edit ends it"), 300);
   try {
+    const most = await mostBatches();
     const { given, took } = await (most === null ? library.ask("plan", file, search) : library.ask("planAtMost", file, most, search));
     const front = most === null ? file : state.text.slice(0, state.records[given.pages - 1].end);
     const { given: verdict } = await library.ask("check", front, given.certificate);
     if (!verdict.isShown || verdict.batches !== given.bound) throw { message: "the checker does not accept the plan's certificate" };
-    showPlan({ ...given, front, took, most });
+    const { given: inOrder } = await library.ask("layInOrder", front);
+    showPlan({ ...given, front, took, most }, inOrder);
     clearTimeout(slow);
     await explain(3);
   } catch (fault) {
@@ -154,9 +157,10 @@ function showFault(fault) {
   if (fault.recordNumber && !element("table").hidden) table.reach(fault.recordNumber - 1);
 }
 
-function showPlan(plan) {
+/* Shows a plan beside the transmission of the same pages in the order of the file. */
+function showPlan(plan, bytes) {
   const fewest = readingOf(plan.transmission), addresses = state.records.slice(0, plan.pages).map(({ fields }) => Number(fields[0]));
-  const bytes = inOrderOf(fewest, addresses), order = readingOf(bytes);
+  const order = readingOf(bytes);
   if (order.batches !== plan.inOrder) throw { message: "the order of the file takes other batches than the library counts" };
   const pages = new Map(fewest.pages.map((page) => [page.address, page])), labels = labelsOf(addresses);
   Object.assign(state, { plan, pages, labels, fault: null, fewest: { ...fewest, bytes: plan.transmission }, order: { ...order, bytes } });
@@ -271,15 +275,23 @@ function stop() {
   player = null;
 }
 
-function play(grid) {
+async function play(grid) {
   const wasHere = player?.grid === grid, sent = state[grid.which], { rate } = options();
   stop();
   if (wasHere || !sent) return;
-  const audio = new Audio(URL.createObjectURL(new Blob([wavOf(sent.bytes, rate)], { type: "audio/wav" })));
+  const audio = new Audio();
   player = { audio, grid };
   grid.play.textContent = "\u25a0 Stop";
   audio.onended = stop;
-  audio.play().then(() => follow(audio, sent, rate)).catch((error) => (stop(), say(`no sound: ${error.message}`, true)));
+  try {
+    const { given } = await library.ask("wav", sent.bytes, rate);
+    if (player?.audio !== audio) return;
+    audio.src = URL.createObjectURL(new Blob([given], { type: "audio/wav" }));
+    await audio.play();
+    follow(audio, sent, rate);
+  } catch (error) {
+    if (player?.audio === audio) stop(), say(`no sound: ${error.message}`, true);
+  }
 }
 
 /* Marks the codeword that sounds, until the sound ends. */
@@ -392,9 +404,9 @@ function showFiles() {
   const files = [["round.csv", () => raw ?? text]];
   if (plan) files.push(["round.bin", () => plan.transmission], ["round.cert", () => plan.certificate]);
   if (plan) files.push(["file-order.bin", () => order.bytes]);
-  if (plan && soundSize(fewest, rate) <= MOST_SOUND) files.push(["round.wav", () => wavOf(plan.transmission, rate)]);
+  if (plan && soundSize(fewest, rate) <= MOST_SOUND) files.push(["round.wav", async () => (await library.ask("wav", plan.transmission, rate)).given]);
   if (plan?.left) files.push(["rest.csv", () => plan.rest], ["why.cert", () => plan.why]);
-  const buttons = files.map(([name, data]) => made("button", { textContent: name, onclick: () => takeAlong(name, data()) }));
+  const buttons = files.map(([name, data]) => made("button", { textContent: name, onclick: async () => takeAlong(name, await data()) }));
   element("files").replaceChildren(...buttons);
 }
 

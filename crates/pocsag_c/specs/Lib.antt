@@ -2,6 +2,12 @@ pub mod Answers
 pub mod Explain
 pub mod Fronts
 pub mod Listings
+pub mod Orders
+pub mod Pictures
 pub mod Plans
+pub mod Readings
+pub mod Records
 pub mod Reports
+pub mod Sounds
 pub mod Statuses
+pub mod Texts

@@ -11,6 +11,7 @@ use Rattle.pocsag_pager.specs.Shown.{AreShown}
 use Rattle.pocsag_pager.specs.declared.fault.PagerFault.{PagerFault}
 use Rattle.pocsag_pager.specs.declared.fault.PagerFault.TheVariants as hearing
 use Rattle.pocsag_c.specs.Answers.{IsDelivered, IsTooSmall}
+use Rattle.pocsag_c.specs.Readings.{IsSoAsRead}
 
 -- A text of which this is said stands in the buffer, with its length told.
 pub record IsListed (IsText : List ℕ → Type 0) (before after : List ℕ) (told : ℕ) : Type 0 where
@@ -44,3 +45,10 @@ pub record IsListingShown (address : ℕ) (tx text : List ℕ) : Type 0 where
 -- The address or the bytes have this fault; or they have none, and memory is wanting.
 abbrev pub ExplainsUnheard : (address : ℕ) (tx : List ℕ) → PagerFault → Type 0
 ExplainsUnheard address tx f = (hearing_fault address tx ≡ Some f) ⊎ ((hearing_fault address tx ≡ None) × (f ≡ hearing.OutOfMemory))
+
+-- The same two listings of the bytes that are read by the reading of a number.
+abbrev pub IsListingAs : (reading : ℕ) → (tx text : List ℕ) → Type 0
+IsListingAs reading tx text = IsSoAsRead reading tx (λ bytes. IsListingOf bytes text)
+
+abbrev pub IsListingShownAs : (reading address : ℕ) → (tx text : List ℕ) → Type 0
+IsListingShownAs reading address tx text = IsSoAsRead reading tx (λ bytes. IsListingShown address bytes text)

@@ -1,15 +1,24 @@
 -- The statuses of the calls, and the places that belong to them (this project's own).
-use Rattle.std.specs.Prelude.{ℕ, ◌≢◌}
+use Rattle.std.specs.Prelude.{ℕ, ◌≡◌, ◌≢◌, ◌⊎◌, min}
 use Rattle.pocsag_pages.specs.declared.fault.PageFault.TheVariants as page
+use Rattle.pocsag_pages.specs.declared.fault.FieldFault.{FieldFault}
 use Rattle.pocsag_pages.specs.declared.fault.FieldFault.TheVariants as field
 use Rattle.pocsag_pages.specs.declared.fault.RecordFault.{RecordFault}
 use Rattle.pocsag_pages.specs.declared.fault.RecordFault.TheVariants as wrong
 use Rattle.pocsag_pages.specs.declared.fault.RoundFault.{RoundFault}
 use Rattle.pocsag_pages.specs.declared.fault.RoundFault.TheVariants as round
+use Rattle.pocsag_pages.specs.declared.fault.QuoteFault.{QuoteFault}
+use Rattle.pocsag_pages.specs.declared.fault.QuoteFault.TheVariants as quote
 use Rattle.pocsag_tree.specs.declared.refusals.CertificateFault.{CertificateFault}
 use Rattle.pocsag_tree.specs.declared.refusals.CertificateFault.TheVariants as certificate
 use Rattle.pocsag_decode.specs.declared.fault.DecodeFault.{DecodeFault}
 use Rattle.pocsag_decode.specs.declared.fault.DecodeFault.TheVariants as decoding
+use Rattle.pocsag_capture.specs.declared.fault.CaptureFault.{CaptureFault}
+use Rattle.pocsag_capture.specs.declared.fault.CaptureFault.TheVariants as capturing
+use Rattle.pocsag_show.specs.declared.fault.ShowFault.{ShowFault}
+use Rattle.pocsag_show.specs.declared.fault.ShowFault.TheVariants as showing
+use Rattle.pocsag_wav.specs.declared.fault.NoSound.{NoSound}
+use Rattle.pocsag_wav.specs.declared.fault.NoSound.TheVariants as sounding
 use Rattle.pocsag_pager.specs.declared.fault.PagerFault.{PagerFault}
 use Rattle.pocsag_pager.specs.declared.fault.PagerFault.TheVariants as hearing
 use Rattle.pocsag_plan.specs.declared.fault.PlanFault.TheVariants as planning
@@ -22,7 +31,7 @@ use Rattle.pocsag_c.specs.declared.refusal.StatusAt.{StatusAt}
 
 -- The number of the interface.
 abbrev pub interface_version : ℕ
-interface_version = 4
+interface_version = 5
 
 -- No place.
 abbrev pub nowhere : Place
@@ -55,6 +64,10 @@ refusal_of_record n (wrong.Page page.BadPayload) = record_refusal 29 n
 refusal_of_record n wrong.DuplicateAddress = record_refusal 27 n
 refusal_of_record n wrong.TooManyPages = record_refusal 28 n
 
+-- The same of a page that stands in no file yet, and so has no number.
+abbrev pub page_refusal : FieldFault → StatusAt
+page_refusal f = refusal_of_record 0 (wrong.Field f)
+
 -- From 16 on: the faults of a page file.
 abbrev pub round_refusal : RoundFault → StatusAt
 round_refusal round.ReadFault = plain_refusal 16
@@ -77,6 +90,17 @@ certificate_refusal certificate.TooMany = plain_refusal 39
 certificate_refusal certificate.ReadFault = plain_refusal 40
 certificate_refusal certificate.OutOfMemory = plain_refusal 3
 
+-- A refusal for a record and a line of the page file. A record number of more than 32 bits is told as the greatest.
+abbrev pub at_record_and_line : (status number line : ℕ) → StatusAt
+at_record_and_line status number line =
+    record { status = status; place = record { record_number = min number 4294967295; least = 0; found = 0; at = line } }
+
+-- From 41 on: the quotes of a page file that do not stand as CSV has them.
+abbrev pub quote_refusal : QuoteFault → StatusAt
+quote_refusal (quote.Unclosed n line) = at_record_and_line 41 n line
+quote_refusal (quote.Inside n line) = at_record_and_line 42 n line
+quote_refusal (quote.Followed n line) = at_record_and_line 43 n line
+
 -- From 48 on: the faults of a transmission.
 abbrev pub transmission_refusal : DecodeFault → StatusAt
 transmission_refusal decoding.ShortPreamble = plain_refusal 48
@@ -88,6 +112,27 @@ transmission_refusal decoding.NoBatch = plain_refusal 53
 transmission_refusal decoding.TooMuch = plain_refusal 54
 transmission_refusal decoding.OutOfMemory = plain_refusal 3
 transmission_refusal decoding.Failed = plain_refusal 55
+
+-- The faults of a picture. It is written to memory, so a fault of writing is want of memory.
+abbrev pub show_refusal : ShowFault → StatusAt
+show_refusal (showing.Transmission f) = transmission_refusal f
+show_refusal showing.WriteFault = plain_refusal 3
+show_refusal showing.OutOfMemory = plain_refusal 3
+
+-- The faults of a sound. It is written to memory, so a fault of writing is want of memory.
+abbrev pub wav_refusal : NoSound → StatusAt
+wav_refusal sounding.BadRate = plain_refusal 4
+wav_refusal sounding.BadSamples = plain_refusal 60
+wav_refusal sounding.BadPreamble = plain_refusal 61
+wav_refusal (sounding.Transmission f) = transmission_refusal f
+wav_refusal sounding.TooLong = plain_refusal 62
+wav_refusal sounding.WriteFault = plain_refusal 3
+
+-- The faults of a capture. No call asks for one of its transmissions alone (59).
+abbrev pub capture_refusal : CaptureFault → StatusAt
+capture_refusal capturing.TooLarge = plain_refusal 56
+capture_refusal (capturing.NoSuchTransmission nth found) = plain_refusal 59
+capture_refusal capturing.OutOfMemory = plain_refusal 3
 
 -- The faults of what a pager is given: those of its address from 64 on.
 abbrev pub pager_refusal : PagerFault → StatusAt
@@ -118,6 +163,10 @@ abbrev pub IsRefusing : ℕ → Type 0
 IsRefusing status =
     (status ≢ 0) × (status ≢ 1) × (status ≢ 2) × (status ≢ 4) × (status ≢ 7) × (status ≢ 8) × (status ≢ 9)
     × (status ≢ 10) × (status ≢ 11) × (status ≢ 13) × (status ≢ 14)
+
+-- The status of a text that has no room: of a transmission in file order, of a listing, or of another text.
+abbrev pub IsTextTooSmall : ℕ → Type 0
+IsTextTooSmall status = (status ≡ 7) ⊎ (status ≡ 9) ⊎ (status ≡ 10)
 
 -- A status that numbers, bytes and memory explain: neither what comes of files alone (15), nor of a reader of a page file or
 -- of a certificate (16, 40), nor of more bytes than are counted (54), nor of a decoder or a pager that has stopped (55, 66).

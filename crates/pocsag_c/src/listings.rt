@@ -1,9 +1,11 @@
-ghost use Rattle.std.specs.Prelude.{◌≡◌, ◌≢◌, ◌⊎◌, IfErr, IfOk, IsErrAnd, IsOkAnd};
-ghost use Rattle.pocsag_c.specs.Answers.{IsDelivered, IsTooSmall, TellsFault};
-ghost use Rattle.pocsag_c.specs.Listings.{ExplainsUnheard, ExplainsUnlisted, HasNoRoom, IsListed, IsListingOf, IsListingShown};
+ghost use Rattle.std.specs.Prelude.{◌≡◌, ◌≢◌, ◌⊎◌, ◌↔◌, IfErr, IfOk};
+ghost use Rattle.pocsag_c.specs.Answers.{TellsFault};
+ghost use Rattle.pocsag_c.specs.Listings.{ExplainsUnheard, ExplainsUnlisted, HasNoRoom, IsListed, IsListingAs, IsListingOf, IsListingShown, IsListingShownAs};
+ghost use Rattle.pocsag_c.specs.Readings.{IsNoReading, IsUnreadOr, number_of_reading};
 ghost use Rattle.pocsag_c.specs.Statuses.{IsOfBytes, IsRefusing, nowhere, pager_refusal, transmission_refusal};
 
-use crate::buffer::hand_out;
+use crate::buffer::hand_out_text;
+use crate::reading::{Reading, read_as, reading_of};
 use crate::refusal::{NOWHERE, Place, StatusAt, refused_hearing, refused_transmission};
 use pocsag_decode::{DecodeFault, judge_bytes, list_sent, list_spent};
 use pocsag_pager::{PagerFault, hear_all};
@@ -43,42 +45,6 @@ fn text_heard(alloc: Global, address: u32, tx: &[u8]) -> Result<Vec<u8>, StatusA
     }
 }
 
-// Hands out a listing, or tells why there is none.
-fn hand_out_listing(
-    listed: Result<Vec<u8>, StatusAt>,
-    listing: &mut [u8],
-    listing_len: &mut usize,
-    place: &mut Place,
-) -> u32
-    requires { IfErr listed (λ r. IsRefusing r.status) }
-    ensures delivered { result ≡ 0 →
-        IsOkAnd listed (λ text. IsDelivered listing.old listing.new listing_len.new text.items) }
-    ensures too_small { result ≡ 9 →
-        IsOkAnd listed (λ text. IsTooSmall listing.old listing.new listing_len.new text.items) }
-    ensures fault { result ≢ 0 → result ≢ 9 →
-        IsErrAnd listed (λ r. (result ≡ r.status) × (place.new ≡ r.place)) }
-    ensures placeless { (result ≡ 0) ⊎ (result ≡ 9) → place.new ≡ nowhere }
-    ensures nothing { result ≢ 0 → result ≢ 9 → listing_len.new ≡ 0 }
-    ensures of_bytes { IfErr listed (λ r. IsOfBytes r.status) → IsOfBytes result }
-    ensures untouched { result ≢ 0 → listing.new ≡ listing.old }
-{
-    match listed {
-        Ok(text) => {
-            *place = NOWHERE;
-            if hand_out(text.as_slice(), listing, listing_len) {
-                0
-            } else {
-                9
-            }
-        }
-        Err(refusal) => {
-            *listing_len = 0;
-            *place = refusal.place;
-            refusal.status
-        }
-    }
-}
-
 /// Puts the listing of the pages of a transmission into a buffer: 0, or 9 where the buffer is too small. In
 /// both cases `listing_len` tells the length of the listing.
 #[unsafe(no_mangle)]
@@ -99,7 +65,7 @@ pub extern "C" fn pocsag_decode(
     ensures untouched { result ≢ 0 → listing.new ≡ listing.old }
 {
     let text = text_decoded(alloc, tx);
-    hand_out_listing(text, listing, listing_len, place)
+    hand_out_text(text, 9, listing, listing_len, place)
 }
 
 /// Puts the listing of what the pager of an address shows of a transmission into a buffer, as
@@ -124,5 +90,99 @@ pub extern "C" fn pocsag_hear(
     ensures untouched { result ≢ 0 → listing.new ≡ listing.old }
 {
     let text = text_heard(alloc, address, tx);
-    hand_out_listing(text, listing, listing_len, place)
+    hand_out_text(text, 9, listing, listing_len, place)
+}
+
+fn text_decoded_as(alloc: Global, reading: Reading, tx: &[u8]) -> Result<Vec<u8>, StatusAt>
+    ensures listed { IfOk result (λ text. IsListingAs (number_of_reading reading) tx.now text.items) }
+    ensures fault { IfErr result (λ r. IsUnreadOr (number_of_reading reading) tx.now r.status r.place
+        (λ bytes. TellsFault transmission_refusal (ExplainsUnlisted bytes) r.status r.place)) }
+    ensures refusing { IfErr result (λ r. IsRefusing r.status) }
+    ensures of_bytes { IfErr result (λ r. IsOfBytes r.status) }
+{
+    match read_as(alloc, reading, tx) {
+        Ok(read) => text_decoded(alloc, read.bytes()),
+        Err(refusal) => Err(refusal),
+    }
+}
+
+fn text_heard_as(
+    alloc: Global,
+    reading: Reading,
+    address: u32,
+    tx: &[u8],
+) -> Result<Vec<u8>, StatusAt>
+    ensures listed { IfOk result (λ text. IsListingShownAs (number_of_reading reading) address tx.now text.items) }
+    ensures fault { IfErr result (λ r. IsUnreadOr (number_of_reading reading) tx.now r.status r.place
+        (λ bytes. TellsFault pager_refusal (ExplainsUnheard address bytes) r.status r.place)) }
+    ensures refusing { IfErr result (λ r. IsRefusing r.status) }
+    ensures of_bytes { IfErr result (λ r. IsOfBytes r.status) }
+{
+    match read_as(alloc, reading, tx) {
+        Ok(read) => text_heard(alloc, address, read.bytes()),
+        Err(refusal) => Err(refusal),
+    }
+}
+
+/// Puts the listing of the pages of a transmission into a buffer as `pocsag_decode` does: with the reading 0 those of the
+/// bytes, with 1 those of their repair, and with 2 those of all transmissions of a capture. 58 where it is no reading.
+#[unsafe(no_mangle)]
+pub extern "C" fn pocsag_decode_as(
+    alloc: Global,
+    reading: u32,
+    tx: &[u8],
+    listing: &mut [u8],
+    listing_len: &mut usize,
+    place: &mut Place,
+) -> u32
+    ensures listed { result ≡ 0 → IsListed (IsListingAs reading tx.now) listing.old listing.new listing_len.new }
+    ensures no_room { result ≡ 9 → HasNoRoom (IsListingAs reading tx.now) listing.old listing.new listing_len.new }
+    ensures bad_reading { result ≡ 58 ↔ IsNoReading reading }
+    ensures fault { result ≢ 0 → result ≢ 9 → result ≢ 58 → IsUnreadOr reading tx.now result place.new
+        (λ bytes. TellsFault transmission_refusal (ExplainsUnlisted bytes) result place.new) }
+    ensures placeless { (result ≡ 0) ⊎ (result ≡ 9) ⊎ (result ≡ 58) → place.new ≡ nowhere }
+    ensures nothing { result ≢ 0 → result ≢ 9 → listing_len.new ≡ 0 }
+    ensures of_bytes { IsOfBytes result }
+    ensures untouched { result ≢ 0 → listing.new ≡ listing.old }
+{
+    let Some(reading) = reading_of(reading) else {
+        *listing_len = 0;
+        *place = NOWHERE;
+        return 58;
+    };
+    let text = text_decoded_as(alloc, reading, tx);
+    hand_out_text(text, 9, listing, listing_len, place)
+}
+
+/// Puts the listing of what the pager of an address shows into a buffer as `pocsag_hear` does, by a reading as
+/// `pocsag_decode_as` has it.
+#[unsafe(no_mangle)]
+pub extern "C" fn pocsag_hear_as(
+    alloc: Global,
+    reading: u32,
+    address: u32,
+    tx: &[u8],
+    listing: &mut [u8],
+    listing_len: &mut usize,
+    place: &mut Place,
+) -> u32
+    ensures listed { result ≡ 0 →
+        IsListed (IsListingShownAs reading address tx.now) listing.old listing.new listing_len.new }
+    ensures no_room { result ≡ 9 →
+        HasNoRoom (IsListingShownAs reading address tx.now) listing.old listing.new listing_len.new }
+    ensures bad_reading { result ≡ 58 ↔ IsNoReading reading }
+    ensures fault { result ≢ 0 → result ≢ 9 → result ≢ 58 → IsUnreadOr reading tx.now result place.new
+        (λ bytes. TellsFault pager_refusal (ExplainsUnheard address bytes) result place.new) }
+    ensures placeless { (result ≡ 0) ⊎ (result ≡ 9) ⊎ (result ≡ 58) → place.new ≡ nowhere }
+    ensures nothing { result ≢ 0 → result ≢ 9 → listing_len.new ≡ 0 }
+    ensures of_bytes { IsOfBytes result }
+    ensures untouched { result ≢ 0 → listing.new ≡ listing.old }
+{
+    let Some(reading) = reading_of(reading) else {
+        *listing_len = 0;
+        *place = NOWHERE;
+        return 58;
+    };
+    let text = text_heard_as(alloc, reading, address, tx);
+    hand_out_text(text, 9, listing, listing_len, place)
 }

@@ -1,13 +1,17 @@
 ghost use Rattle.std.specs.Prelude.{◌≡◌, ◌≢◌};
 ghost use Rattle.pocsag_pages.specs.declared.fault.RoundFault.TheVariants as round_fault;
 ghost use Rattle.pocsag_plan.specs.declared.fault.StreamFault.TheVariants as stream_fault;
-ghost use Rattle.pocsag_c.specs.Statuses.{IsOfBytes, IsRefusing, certificate_refusal, front_refusal, index_refusal, pager_refusal, plain_refusal, record_refusal, refusal_of_record, round_refusal, stream_refusal, transmission_refusal};
+ghost use Rattle.pocsag_decode.specs.declared.fault.DecodeFault.TheVariants as decode_fault;
+ghost use Rattle.pocsag_c.specs.Statuses.{IsOfBytes, IsRefusing, capture_refusal, certificate_refusal, front_refusal, index_refusal, page_refusal, pager_refusal, plain_refusal, record_refusal, refusal_of_record, round_refusal, show_refusal, stream_refusal, transmission_refusal, wav_refusal};
 
+use pocsag_capture::CaptureFault;
 use pocsag_decode::DecodeFault;
 use pocsag_pager::PagerFault;
 use pocsag_pages::{FieldFault, PageFault, RecordFault, RoundFault};
 use pocsag_plan::{PlanFault, StreamFault, UnsentFront};
+use pocsag_show::ShowFault;
 use pocsag_tree::CertificateFault;
+use pocsag_wav::NoSound;
 
 /// Where a fault stands, and what a search knew; each number is 0 where it says nothing.
 #[repr(C)]
@@ -101,6 +105,15 @@ fn refused_record(number: u32, fault: RecordFault) -> StatusAt
     }
 }
 
+// A refusal for a page that stands in no file yet.
+pub(crate) fn refused_page(fault: FieldFault) -> StatusAt
+    ensures value { result ≡ page_refusal fault }
+    ensures refusing { IsRefusing result.status }
+    ensures of_bytes { IsOfBytes result.status }
+{
+    refused_record(0, RecordFault::Field(fault))
+}
+
 pub(crate) fn refused_round(fault: RoundFault) -> StatusAt
     ensures value { result ≡ round_refusal fault }
     ensures refusing { IsRefusing result.status }
@@ -151,6 +164,49 @@ pub(crate) fn refused_transmission(fault: DecodeFault) -> StatusAt
         DecodeFault::OutOfMemory => plain(3),
         DecodeFault::Failed => plain(55),
     }
+}
+
+// A picture is written to memory, so a fault of writing is want of memory.
+pub(crate) fn refused_show(fault: ShowFault) -> StatusAt
+    ensures value { result ≡ show_refusal fault }
+    ensures refusing { IsRefusing result.status }
+    ensures of_bytes { fault ≢ ShowFault.Transmission decode_fault.TooMuch →
+        fault ≢ ShowFault.Transmission decode_fault.Failed → IsOfBytes result.status }
+{
+    match fault {
+        ShowFault::Transmission(fault) => refused_transmission(fault),
+        ShowFault::WriteFault | ShowFault::OutOfMemory => plain(3),
+    }
+}
+
+// A sound is written to memory, so a fault of writing is want of memory.
+pub(crate) fn refused_wav(fault: NoSound) -> StatusAt
+    ensures value { result ≡ wav_refusal fault }
+    ensures done { (result.status ≢ 0) × (result.status ≢ 10) }
+    ensures refusing { fault ≢ NoSound.BadRate → IsRefusing result.status }
+    ensures of_bytes { fault ≢ NoSound.Transmission decode_fault.TooMuch →
+        fault ≢ NoSound.Transmission decode_fault.Failed → IsOfBytes result.status }
+{
+    match fault {
+        NoSound::BadRate => plain(4),
+        NoSound::BadSamples => plain(60),
+        NoSound::BadPreamble => plain(61),
+        NoSound::Transmission(fault) => refused_transmission(fault),
+        NoSound::TooLong => plain(62),
+        NoSound::WriteFault => plain(3),
+    }
+}
+
+pub(crate) fn refused_capture(fault: CaptureFault) -> StatusAt
+    ensures value { result ≡ capture_refusal fault }
+    ensures refusing { IsRefusing result.status }
+    ensures of_bytes { IsOfBytes result.status }
+{
+    plain(match fault {
+        CaptureFault::TooLarge => 56,
+        CaptureFault::NoSuchTransmission { .. } => 59,
+        CaptureFault::OutOfMemory => 3,
+    })
 }
 
 pub(crate) fn refused_hearing(fault: PagerFault) -> StatusAt

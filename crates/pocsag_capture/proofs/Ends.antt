@@ -1,28 +1,28 @@
 -- What is lifted of receptions that a capture holds.
-use Rattle.std.proofs.Common.{◌≡◌, ℕ, zero, suc, ◌+◌, ◌-◌, ◌*◌, ◌%◌, ◌^◌, ◌<◌, ◌≤◌, false, List, [], ◌∷◌, ◌++◌, length, map, replicate, slice_get, All, Option, Some, bit_xor, count_ones, refl, sym, ap, ap₂, subst, ◌∙◌, inl, inr, arith, append_assoc}
+use Rattle.std.proofs.Common.{◌≡◌, ℕ, zero, suc, ◌+◌, ◌*◌, ◌%◌, ◌^◌, ◌<◌, ◌≤◌, false, List, [], ◌∷◌, ◌++◌, length, map, replicate, slice_get, All, Option, Some, None, lit<, refl, sym, ap, ap₂, subst, ◌∙◌, inl, inr, arith, append_assoc}
 use Rattle.std.specs.List.{AllZip, range_with_len}
-use Rattle.std.specs.Int.Bits.{xor_self}
 use Rattle.std.proofs.lemmas.Bool.{cases_eq, eq-eqb, ne_eqb}
 use Rattle.std.proofs.lemmas.List.{length-append}
 use Rattle.std.proofs.lemmas.List.Elements.{All-cons, All-head, All-nil, All-tail}
-use Rattle.std.proofs.lemmas.Nat.{ones_le_self}
 use Rattle.std.proofs.lemmas.Option.{slice_get_cases}
-use Rattle.pocsag_words.proofs.KindLemmas.{IsCodeword-idle}
+use Rattle.pocsag_words.proofs.ErrorLemmas.{HasNoneNear-from_far}
+use Rattle.pocsag_words.specs.Codeword.{HasNoneNear}
+use Rattle.pocsag_words.specs.Columns.{check_of, columns, combine, syndrome_of}
 use Rattle.pocsag_words.specs.Frame.{input_limit}
-use Rattle.pocsag_words.specs.Kinds.{idle_word}
 use Rattle.pocsag_pages.specs.Bytes.{body_bytes, unsynced}
 use Rattle.pocsag_pages.specs.Plain.{pages_from}
 use Rattle.pocsag_pager.specs.Shown.{IsMended, said}
-use Rattle.pocsag_pager.proofs.Mended.{mended_back}
+use Rattle.pocsag_pager.proofs.Mended.{mended_same}
 use Rattle.pocsag_capture.specs.Bits.{capture_bits}
 use Rattle.pocsag_capture.specs.Caught.{settled}
 use Rattle.pocsag_capture.specs.LiftedBytes.{LiftsAll, LiftsReception, PutsLift, PutsLifts}
-use Rattle.pocsag_capture.specs.Receptions.{AreReceptions, IsReception, behind, received, received_word}
+use Rattle.pocsag_capture.specs.Receptions.{AreFound, AreReceptions, IsReception, IsSyncRun, behind, counted, run_end, last_sync, nothing, passed, received, received_word}
 use Rattle.pocsag_capture.specs.declared.lift.Lifted.{Lifted}
 use Rattle.pocsag_capture.specs.declared.reception.Heard.{Heard}
 use Rattle.pocsag_capture.specs.declared.reception.Reception.{Reception}
+use Rattle.pocsag_capture.specs.declared.reception.Run.{Run}
 use Rattle.pocsag_capture.proofs.Joined.{IsBody, all_body, all_bytes, all_caught, all_codewords, all_pages, all_told, body_join, body_reads, join_body, one_body, one_caught, pages_in, sent_body}
-use Rattle.pocsag_capture.proofs.Lifts.{word_cut}
+use Rattle.pocsag_capture.proofs.Lifts.{word_unread}
 use Rattle.pocsag_capture.proofs.Windows.{bits_long}
 
 -- ---- how far receptions go
@@ -31,17 +31,25 @@ pub record IsShort (r : Reception) : Type 0 where
   pub some : 0 < r.batches
   pub end : behind r < 2 ^ 60
 
-reception_short : (bytes : List ℕ) (first : ℕ) (r : Reception) → length bytes ≤ input_limit → IsReception (capture_bits bytes) first r → IsShort r
-reception_short bytes first r few is =
-    let some = is.some in
-    let last = is.batches (r.batches - 1) (omega arith) in
-    record { some = some; end = omega (arith, last.within, bits_long bytes) }
+reception_short : (bytes : List ℕ) (first : ℕ) (u : Run) (r : Reception) → length bytes ≤ input_limit → IsSyncRun (capture_bits bytes) first u
+    → IsReception (capture_bits bytes) u r → IsShort r
+reception_short bytes first u r few run is =
+    let some = run.some in
+    let bit = is.bit in
+    elim is.batches [
+      | inl more ↦ record { some = omega (arith, more.1); end = omega (arith, more.1, run.last.within, bits_long bytes) }
+      | inr same ↦ record { some = omega (arith, same.1); end = omega (arith, same.1, run.last.within, bits_long bytes) }
+    ]
 
-pub receptions_short : (bytes : List ℕ) (first : ℕ) (rs : List Reception) → length bytes ≤ input_limit → AreReceptions (capture_bits bytes) first rs
-    → All IsShort rs
-receptions_short bytes first [] few are = All-nil IsShort
-receptions_short bytes first (r ∷ rs) few are =
-    All-cons IsShort r rs (reception_short bytes first r few are.0) (receptions_short bytes (behind r) rs few are.1)
+receptions_short_from : (bytes : List ℕ) (first held : ℕ) (rs : List Reception) → length bytes ≤ input_limit
+    → AreFound (capture_bits bytes) first held rs → All IsShort rs
+receptions_short_from bytes first held rs few (nothing quiet) = All-nil IsShort
+receptions_short_from bytes first held rs few (counted u r more run counts is rest) =
+    All-cons IsShort r more (reception_short bytes first u r few run is) (receptions_short_from bytes (last_sync u + 1) (run_end u) more few rest)
+receptions_short_from bytes first held rs few (passed u more run not rest) = receptions_short_from bytes (last_sync u + 1) held more few rest
+
+pub receptions_short : (bytes : List ℕ) (rs : List Reception) → length bytes ≤ input_limit → AreReceptions (capture_bits bytes) rs → All IsShort rs
+receptions_short bytes rs few are = receptions_short_from bytes 0 0 rs few are
 
 pub one_of : (rs : List Reception) (i : ℕ) (r : Reception) → All IsShort rs → slice_get rs i ≡ Some r → IsShort r
 one_of rs i r all is =
@@ -52,54 +60,56 @@ one_of rs i r all is =
       | inr past ↦ absurd (cc)
     ]
 
--- ---- a batch behind the capture's end says nothing
+-- ---- a batch of which nothing is read says nothing
 
-idle_words : (bits : List ℕ) (r : Reception) → length bits ≤ r.bit → (a n : ℕ) → All (λ w. w ≡ idle_word) (map (received_word bits r) (range_with_len a n))
-idle_words bits r past a zero = All-nil (λ w. w ≡ idle_word)
-idle_words bits r past a (suc n) =
-    All-cons (λ w. w ≡ idle_word) (received_word bits r a) (map (received_word bits r) (range_with_len (a + 1) n))
-    (word_cut bits r a (omega arith)) (idle_words bits r past (a + 1) n)
+unread_far : HasNoneNear 0x0000000b
+unfolding syndrome_of check_of combine columns
+unread_far = HasNoneNear-from_far 0x0000000b (lit< tt) refl
 
-idle_unsynced : (j : ℕ) (ws : List ℕ) → All (λ w. w ≡ idle_word) ws → All (λ w. w ≡ idle_word) (unsynced j ws)
-idle_unsynced j [] all = All-nil (λ w. w ≡ idle_word)
-idle_unsynced j (w ∷ ws) all =
-    let rest = idle_unsynced (j + 1) ws (All-tail (λ w. w ≡ idle_word) w ws all) in
+unread_words : (bits : List ℕ) (r : Reception) → r.words ≡ 0 → (a n : ℕ)
+    → All (λ w. w ≡ 0x0000000b) (map (received_word bits r) (range_with_len a n))
+unread_words bits r none a zero = All-nil (λ w. w ≡ 0x0000000b)
+unread_words bits r none a (suc n) =
+    All-cons (λ w. w ≡ 0x0000000b) (received_word bits r a) (map (received_word bits r) (range_with_len (a + 1) n))
+    (word_unread bits r a (omega arith)) (unread_words bits r none (a + 1) n)
+
+unread_unsynced : (j : ℕ) (ws : List ℕ) → All (λ w. w ≡ 0x0000000b) ws → All (λ w. w ≡ 0x0000000b) (unsynced j ws)
+unread_unsynced j [] all = All-nil (λ w. w ≡ 0x0000000b)
+unread_unsynced j (w ∷ ws) all =
+    let rest = unread_unsynced (j + 1) ws (All-tail (λ w. w ≡ 0x0000000b) w ws all) in
     elim (cases_eq (j % 17) 0) [
       | inl sync ↦ rw (eq-eqb _ _ sync) rest
-      | inr other ↦ rw (ne_eqb _ _ other) (All-cons (λ w. w ≡ idle_word) w (unsynced (j + 1) ws) (All-head (λ w. w ≡ idle_word) w ws all) rest)
+      | inr other ↦ rw (ne_eqb _ _ other) (All-cons (λ w. w ≡ 0x0000000b) w (unsynced (j + 1) ws) (All-head (λ w. w ≡ 0x0000000b) w ws all) rest)
     ]
 
-idle_mended : (w : ℕ) (m : Option ℕ) → w ≡ idle_word → IsMended w m → m ≡ Some idle_word
-idle_mended w m is mended =
-    let near : count_ones (bit_xor idle_word w) ≤ 2 =
-    rw (is, xor_self idle_word) (omega (arith, ones_le_self 0)) in
-    mended_back idle_word w m IsCodeword-idle near mended
+unread_mended : (w : ℕ) (m : Option ℕ) → w ≡ 0x0000000b → IsMended w m → m ≡ None
+unread_mended w m is mended = mended_same 0x0000000b m None (subst (λ (v : ℕ). IsMended v m) is mended) unread_far
 
-idle_pages : (i : ℕ) (ws : List ℕ) (ms : List (Option ℕ)) → All (λ w. w ≡ idle_word) ws → AllZip IsMended ws ms
+unread_pages : (i : ℕ) (ws : List ℕ) (ms : List (Option ℕ)) → All (λ w. w ≡ 0x0000000b) ws → AllZip IsMended ws ms
     → pages_from i (settled false (map said ms)) ≡ []
-idle_pages i [] [] all each = refl
-idle_pages i [] (m ∷ ms) all each = absurd each
-idle_pages i (w ∷ ws) [] all each = absurd each
-idle_pages i (w ∷ ws) (m ∷ ms) all each =
-    let is = idle_mended w m (All-head (λ w. w ≡ idle_word) w ws all) each.0 in
-    let rest = idle_pages (i + 1) ws ms (All-tail (λ w. w ≡ idle_word) w ws all) each.1 in
+unread_pages i [] [] all each = refl
+unread_pages i [] (m ∷ ms) all each = absurd each
+unread_pages i (w ∷ ws) [] all each = absurd each
+unread_pages i (w ∷ ws) (m ∷ ms) all each =
+    let is = unread_mended w m (All-head (λ w. w ≡ 0x0000000b) w ws all) each.0 in
+    let rest = unread_pages (i + 1) ws ms (All-tail (λ w. w ≡ 0x0000000b) w ws all) each.1 in
     ap (λ (n : Option ℕ). pages_from i (settled false (said n ∷ map said ms))) is ∙ rest
 
-silent : (bits : List ℕ) (h : Heard) (before after : List ℕ) (f : PutsLift bits h before after) → length bits ≤ h.reception.bit → pages_in f.codewords ≡ []
-silent bits h before after f past =
+silent : (bits : List ℕ) (h : Heard) (before after : List ℕ) (f : PutsLift bits h before after) → h.reception.words ≡ 0 → pages_in f.codewords ≡ []
+silent bits h before after f none =
     let lifted = f.is.lifted in
     ap (pages_from 0) lifted.kinds
-    ∙ idle_pages 0 (unsynced 0 (received bits h.reception)) lifted.mended
-    (idle_unsynced 0 (received bits h.reception) (idle_words bits h.reception past 0 (17 * h.reception.batches))) lifted.each
+    ∙ unread_pages 0 (unsynced 0 (received bits h.reception)) lifted.mended
+    (unread_unsynced 0 (received bits h.reception) (unread_words bits h.reception none 0 (17 * h.reception.batches))) lifted.each
 
 -- ---- all receptions, behind a batch that says nothing
 
 pub lifts_all : (capture : List ℕ) (l : Lifted) (start mid : List ℕ) (silence : Heard) (found : List Reception) → start ≡ replicate 72 0xaa
-    → 8 * length capture ≤ silence.reception.bit → silence.reception.batches ≡ 1 → PutsLift (capture_bits capture) silence start mid
-    → PutsLifts (capture_bits capture) found l.heard.items mid l.bytes.items → AreReceptions (capture_bits capture) 0 found → LiftsAll capture l
-lifts_all capture l start mid silence found begun past one f g are =
+    → silence.reception.words ≡ 0 → silence.reception.batches ≡ 1 → PutsLift (capture_bits capture) silence start mid
+    → PutsLifts (capture_bits capture) found l.heard.items mid l.bytes.items → AreReceptions (capture_bits capture) found → LiftsAll capture l
+lifts_all capture l start mid silence found begun unread one f g are =
     let bits = capture_bits capture in
-    let none = silent bits silence start mid f (omega (arith, bits_long capture)) in
+    let none = silent bits silence start mid f unread in
     let first = subst (IsBody f.codewords) none (one_body bits silence f.codewords f.is) in
     let rest = all_body bits l.heard.items g.codewords g.each in
     let whole = join_body f.codewords (all_codewords g.codewords) [] (all_pages g.codewords) first rest in
@@ -110,7 +120,7 @@ lifts_all capture l start mid silence found begun past one f g are =
     record {
       pages = all_pages g.codewords;
       caught = record {
-        found = subst (AreReceptions bits 0) (sym g.same) are;
+        found = subst (AreReceptions bits) (sym g.same) are;
         pages = map pages_in g.codewords;
         each = all_caught bits l.heard.items g.codewords g.each;
         all = refl;

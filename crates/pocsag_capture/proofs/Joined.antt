@@ -35,14 +35,14 @@ settled_no_orphan false (Some (Message bits) ∷ ms) = settled_no_orphan false m
 
 -- ---- codewords behind others, which begin no message
 
-no_orphan_any : (b : Bool) (B : List Kind) → HasNoOrphan false B → HasNoOrphan b B
+pub no_orphan_any : (b : Bool) (B : List Kind) → HasNoOrphan false B → HasNoOrphan b B
 no_orphan_any b [] h = tt
 no_orphan_any b (Idle ∷ B) h = h
 no_orphan_any b (Address high function ∷ B) h = h
 no_orphan_any true (Message bits ∷ B) h = (refl, h.1)
 no_orphan_any false (Message bits ∷ B) h = h
 
-no_orphan_join : (b : Bool) (A B : List Kind) → HasNoOrphan b A → HasNoOrphan false B → HasNoOrphan b (A ++ B)
+pub no_orphan_join : (b : Bool) (A B : List Kind) → HasNoOrphan b A → HasNoOrphan false B → HasNoOrphan b (A ++ B)
 no_orphan_join b [] B h k = no_orphan_any b B k
 no_orphan_join b (Idle ∷ A) B h k = no_orphan_join false A B h k
 no_orphan_join b (Address high function ∷ A) B h k = no_orphan_join true A B h k
@@ -60,7 +60,7 @@ items_join (Idle ∷ A) B h = refl
 items_join (Address high function ∷ A) B h = refl
 items_join (Message bits ∷ A) B h = ap (λ (l : List ℕ). bits ∷ l) (items_join A B h)
 
-pages_join : (i j : ℕ) (A B : List Kind) → j ≡ i + length A → HasNoOrphan false B → pages_from i (A ++ B) ≡ pages_from i A ++ pages_from j B
+pub pages_join : (i j : ℕ) (A B : List Kind) → j ≡ i + length A → HasNoOrphan false B → pages_from i (A ++ B) ≡ pages_from i A ++ pages_from j B
 pages_join i j [] B e h = ap (λ (n : ℕ). pages_from n B) (omega arith)
 pages_join i j (Idle ∷ A) B e h = pages_join (i + 1) j A B (omega arith) h
 pages_join i j (Address high function ∷ A) B e h =
@@ -69,7 +69,7 @@ pages_join i j (Address high function ∷ A) B e h =
 pages_join i j (Message bits ∷ A) B e h = pages_join (i + 1) j A B (omega arith) h
 
 -- whole batches before them change no frame
-pages_shift : (i j : ℕ) (B : List Kind) → i % 16 ≡ j % 16 → pages_from i B ≡ pages_from j B
+pub pages_shift : (i j : ℕ) (B : List Kind) → i % 16 ≡ j % 16 → pages_from i B ≡ pages_from j B
 pages_shift i j [] e = refl
 pages_shift i j (Idle ∷ B) e = pages_shift (i + 1) (j + 1) B (omega arith)
 pages_shift i j (Address high function ∷ B) e =

@@ -1,27 +1,35 @@
 -- Receptions that are lifted one behind the other.
-use Rattle.std.proofs.Common.{◌≡◌, ◌≢◌, ℕ, ◌+◌, ◌*◌, ◌%◌, ◌<◌, ◌≤◌, List, [], ◌∷◌, ◌++◌, length, map, refl, sym, ap, subst, ◌∙◌, arith}
+use Rattle.std.proofs.Common.{◌≡◌, ◌≢◌, ℕ, ◌+◌, ◌*◌, ◌%◌, ◌<◌, ◌≤◌, List, [], ◌∷◌, ◌++◌, length, map, Bool, false, cond, refl, sym, ap, ap₂, subst, ◌∙◌, arith}
 use Rattle.std.specs.List.{AllZip, range_with_len}
-use Rattle.std.proofs.lemmas.Bool.{le-leb, lt-leb, ne_eqb}
+use Rattle.std.proofs.lemmas.Bool.{le-leb, le-ltb, lt-leb, lt-ltb, ne_eqb}
 use Rattle.std.proofs.lemmas.List.{append-nil, flat_map_more, map-append}
 use Rattle.std.proofs.lemmas.List.FromFn.{length-map-range_with_len, map-range_with_len_more}
 use Rattle.pocsag_pages.specs.Bytes.{body_bytes}
+use Rattle.pocsag_pager.specs.Shown.{said}
 use Rattle.pocsag_capture.specs.Bits.{as_sent, word_on}
 use Rattle.pocsag_capture.specs.Lifted.{AreLifted}
 use Rattle.pocsag_capture.specs.LiftedBytes.{IsLift, PutsLift, PutsLifts}
-use Rattle.pocsag_capture.specs.Receptions.{received, received_word}
+use Rattle.pocsag_capture.specs.Receptions.{received, received_word, sent_at}
+use Rattle.pocsag_capture.specs.declared.polarity.Polarity.{Polarity}
 use Rattle.pocsag_capture.specs.declared.reception.Heard.{Heard}
 use Rattle.pocsag_capture.specs.declared.reception.Reception.{Reception}
 use Rattle.pocsag_capture.specs.declared.settle.Settler.{Settler}
-use Rattle.pocsag_capture.proofs.Settled.{IsSettling, begun_batch}
+use Rattle.pocsag_capture.proofs.Settled.{IsSettling, begun_batch, cut_all}
 
 -- ---- a word of a reception
 
-pub word_there : (bits : List ℕ) (r : Reception) (place : ℕ) → r.bit + 32 * place + 32 ≤ length bits
-    → received_word bits r place ≡ as_sent r.polarity (word_on bits (r.bit + 32 * place))
-word_there bits r place there = rw (le-leb _ _ there) refl
+pub word_there : (bits : List ℕ) (p : Polarity) (bit : ℕ) → bit + 32 ≤ length bits → sent_at bits p bit ≡ as_sent p (word_on bits bit)
+word_there bits p bit there = rw (le-leb _ _ there) refl
 
-pub word_cut : (bits : List ℕ) (r : Reception) (place : ℕ) → length bits < r.bit + 32 * place + 32 → received_word bits r place ≡ 0x7a89c197
-word_cut bits r place cut = rw (lt-leb _ _ cut) refl
+pub word_cut : (bits : List ℕ) (p : Polarity) (bit : ℕ) → length bits < bit + 32 → sent_at bits p bit ≡ 0x0000000b
+word_cut bits p bit cut = rw (lt-leb _ _ cut) refl
+
+pub word_read : (bits : List ℕ) (r : Reception) (place : ℕ) → place < r.words
+    → received_word bits r place ≡ sent_at bits r.polarity (r.bit + 32 * place)
+word_read bits r place read = rw (lt-ltb _ _ read) refl
+
+pub word_unread : (bits : List ℕ) (r : Reception) (place : ℕ) → r.words ≤ place → received_word bits r place ≡ 0x0000000b
+word_unread bits r place past = rw (le-ltb _ _ past) refl
 
 -- ---- the words so far
 
@@ -41,8 +49,8 @@ begun_none n whole =
 
 -- all of them
 pub lift_all_words : (bits : List ℕ) (h : Heard) (s : Settler) (before now : List ℕ) (place : ℕ) → place ≡ 17 * h.reception.batches
-    → h.corrected ≡ s.corrected → h.lost ≡ s.lost → IsSettling (first_words bits h.reception place) s before now → PutsLift bits h before now
-lift_all_words bits h s before now place all corrected lost f =
+    → h.corrected ≡ s.corrected → h.lost ≡ s.lost → h.cut ≡ s.cut + cond s.is_open 1 0 → IsSettling (first_words bits h.reception place) s before now → PutsLift bits h before now
+lift_all_words bits h s before now place all corrected lost cut f =
     let same : first_words bits h.reception place ≡ received bits h.reception = ap (first_words bits h.reception) all in
     let long = first_long bits h.reception place in
     record {
@@ -50,12 +58,13 @@ lift_all_words bits h s before now place all corrected lost f =
       is = record {
         are = f.are;
         long = omega (arith, f.long);
-        lifted = subst (λ (l : List ℕ). AreLifted l f.codewords h.corrected h.lost) same (record {
+        lifted = subst (λ (l : List ℕ). AreLifted l f.codewords h.corrected h.lost h.cut) same (record {
           mended = f.mended;
           each = f.each;
           kinds = f.kinds;
           bits = corrected ∙ f.bits;
           beyond = lost ∙ f.beyond;
+          cuts = cut ∙ ap₂ (λ (n : ℕ) (b : Bool). n + cond b 1 0) f.cuts f.open_page ∙ sym (cut_all false (map said f.mended));
         });
       };
       bytes = f.bytes ∙ ap (λ (l : List ℕ). before ++ l) (ap (λ (l : List ℕ). body_bytes f.codewords ++ l)

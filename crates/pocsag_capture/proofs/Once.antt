@@ -1,5 +1,5 @@
 -- A capture holds one list of receptions, and one list of pages is caught of it.
-use Rattle.std.proofs.Common.{◌≡◌, ℕ, ◌+◌, ◌*◌, ◌^◌, ◌<◌, ◌≤◌, lit<, List, [], ◌∷◌, length, map, take, drop, filter, Option, Some, None, Bool, true, false, cond, refl, sym, ap, ap₂, subst, ◌∙◌, inl, inr, arith}
+use Rattle.std.proofs.Common.{◌≡◌, ℕ, ◌+◌, ◌-◌, ◌*◌, ◌^◌, ◌<◌, ◌≤◌, lit<, List, [], ◌∷◌, length, map, take, drop, filter, Option, Some, None, Bool, true, false, cond, refl, sym, ap, ap₂, subst, ◌∙◌, inl, inr, arith}
 use Rattle.std.specs.List.{AllZip, flat_map}
 use Rattle.std.proofs.Math.Pow.{pow_mono}
 use Rattle.std.proofs.lemmas.Bool.{cases_lt}
@@ -19,10 +19,11 @@ use Rattle.pocsag_pager.proofs.Mended.{all_mended_same}
 use Rattle.pocsag_pager.proofs.Damage.{shown_is_chosen}
 use Rattle.pocsag_capture.specs.Bits.{capture_bits, word_on}
 use Rattle.pocsag_capture.specs.Caught.{AreCaught, HasCaught, settled}
-use Rattle.pocsag_capture.specs.Receptions.{AreReceptions, IsQuiet, IsReception, IsSynchronised, behind, received}
+use Rattle.pocsag_capture.specs.Receptions.{AreFound, IsOnAir, HasBatches, IsBridged, IsInStep, IsQuiet, IsReadTo, IsReception, IsSyncRun, IsSynchronised, counted, run_end, last_sync, nothing, passed, received}
 use Rattle.pocsag_capture.specs.declared.polarity.Polarity.{Polarity}
 use Rattle.pocsag_capture.specs.declared.polarity.Polarity.TheVariants.{Upright, Inverted}
 use Rattle.pocsag_capture.specs.declared.reception.Reception.{Reception}
+use Rattle.pocsag_capture.specs.declared.reception.Run.{Run}
 use Rattle.pocsag_capture.proofs.Polarities.{one_polarity}
 
 -- ---- one polarity
@@ -40,57 +41,102 @@ same_polarity bits bit Inverted Upright fits f g = absurd (one_polarity (word_on
 abbrev pub WordsFit : List ℕ → Type 0
 WordsFit bits = (bit : ℕ) → word_on bits bit < 2 ^ 32
 
-first_batch : (bits : List ℕ) (first : ℕ) (r : Reception) → IsReception bits first r → IsSynchronised bits r.bit r.polarity
-first_batch bits first r f =
-    let same : r.bit + 544 * 0 ≡ r.bit = omega arith in
-    subst (λ (n : ℕ). IsSynchronised bits n r.polarity) same (f.batches 0 f.some)
-
-same_bit : (bits : List ℕ) (first : ℕ) (r s : Reception) → IsReception bits first r → IsReception bits first s → r.bit ≡ s.bit
-same_bit bits first r s f g =
-    elim (cases_lt r.bit s.bit) [
-      | inl less ↦ absurd (g.quiet r.bit f.later less r.polarity (first_batch bits first r f))
+same_bit : (bits : List ℕ) (first : ℕ) (u v : Run) → IsSyncRun bits first u → IsSyncRun bits first v → u.bit ≡ v.bit
+same_bit bits first u v f g =
+    elim (cases_lt u.bit v.bit) [
+      | inl less ↦ absurd (g.quiet u.bit f.later less u.polarity f.begins)
       | inr more ↦
-          elim (cases_lt s.bit r.bit) [
-            | inl less ↦ absurd (f.quiet s.bit g.later less s.polarity (first_batch bits first s g))
+          elim (cases_lt v.bit u.bit) [
+            | inl less ↦ absurd (f.quiet v.bit g.later less v.polarity g.begins)
             | inr other ↦ omega arith
           ]
     ]
 
-same_batches : (bits : List ℕ) (bit m n : ℕ) (p : Polarity) → ((k : ℕ) → k < m → IsSynchronised bits (bit + 544 * k) p)
-    → ¬ IsSynchronised bits (bit + 544 * m) p → ((k : ℕ) → k < n → IsSynchronised bits (bit + 544 * k) p) → ¬ IsSynchronised bits (bit + 544 * n) p → m ≡ n
-same_batches bits bit m n p f last g end =
+-- no synchronisation codeword in step follows where a run is over
+pub no_more : (bits : List ℕ) (bit m n : ℕ) (p : Polarity) → 0 < m → ((k : ℕ) → k < n → IsInStep bits (bit + 544 * k) p)
+    → ¬ IsSynchronised bits (bit + 544 * m) p → ¬ IsBridged bits (bit + 544 * (m - 1)) p → n ≤ m
+no_more bits bit m n p some each here over =
     elim (cases_lt m n) [
-      | inl less ↦ absurd (last (g m less))
-      | inr more ↦
-          elim (cases_lt n m) [
-            | inl less ↦ absurd (end (f n less))
-            | inr other ↦ omega arith
+      | inl less ↦
+          elim (each m less) [
+            | inl there ↦ absurd (here there)
+            | inr bridged ↦
+                let same : bit + 544 * m - 544 ≡ bit + 544 * (m - 1) = omega arith in
+                absurd (over (subst (λ (q : ℕ). IsBridged bits q p) same bridged))
           ]
+      | inr more ↦ more
     ]
 
-same_reception : (bits : List ℕ) (first : ℕ) (r s : Reception) → WordsFit bits → IsReception bits first r → IsReception bits first s → r ≡ s
-same_reception bits first r s fits f g =
-    let bit = same_bit bits first r s f g in
-    let polarity = same_polarity bits r.bit r.polarity s.polarity (fits r.bit) (first_batch bits first r f)
-    (subst (λ (n : ℕ). IsSynchronised bits n s.polarity) (sym bit) (first_batch bits first s g)) in
-    let batches = same_batches bits r.bit r.batches s.batches r.polarity f.batches f.last
-    (λ k below. rw (bit, polarity) (g.batches k below)) (rw (bit, polarity) g.last) in
-    ap₂ (λ (b : ℕ) (n : ℕ). (record { bit = b; polarity = r.polarity; batches = n })) bit batches
-    ∙ ap (λ (p : Polarity). (record { bit = s.bit; polarity = p; batches = s.batches })) polarity
+pub same_run : (bits : List ℕ) (first : ℕ) (u v : Run) → WordsFit bits → IsSyncRun bits first u → IsSyncRun bits first v → u ≡ v
+same_run bits first u v fits f g =
+    let bit = same_bit bits first u v f g in
+    let polarity = same_polarity bits u.bit u.polarity v.polarity (fits u.bit) f.begins
+    (subst (λ (n : ℕ). IsSynchronised bits n v.polarity) (sym bit) g.begins) in
+    let some = f.some in
+    let least = g.some in
+    let most : v.batches ≤ u.batches = no_more bits u.bit u.batches v.batches u.polarity some (λ k below. rw (bit, polarity) (g.each k below)) f.none f.over in
+    let back = sym bit in
+    let again = sym polarity in
+    let more : u.batches ≤ v.batches = no_more bits v.bit v.batches u.batches v.polarity least (λ k below. rw (back, again) (f.each k below)) g.none g.over in
+    let batches : u.batches ≡ v.batches = omega arith in
+    ap₂ (λ (b : ℕ) (n : ℕ). (record { bit = b; polarity = u.polarity; batches = n })) bit batches
+    ∙ ap (λ (p : Polarity). (record { bit = v.bit; polarity = p; batches = v.batches })) polarity
 
-pub same_receptions : (bits : List ℕ) (first : ℕ) (rs ss : List Reception) → WordsFit bits → AreReceptions bits first rs → AreReceptions bits first ss → rs ≡ ss
-same_receptions bits first [] [] fits f g = refl
-same_receptions bits first [] (s ∷ ss) fits f g =
-    let there = first_batch bits first s g.0 in
-    absurd (f s.bit g.0.later (omega (arith, there.within)) s.polarity there)
-same_receptions bits first (r ∷ rs) [] fits f g =
-    let there = first_batch bits first r f.0 in
-    absurd (g r.bit f.0.later (omega (arith, there.within)) r.polarity there)
-same_receptions bits first (r ∷ rs) (s ∷ ss) fits f g =
-    let one = same_reception bits first r s fits f.0 g.0 in
-    let end = ap behind one in
-    ap₂ (λ (a : Reception) (l : List Reception). a ∷ l) one
-    (same_receptions bits (behind r) rs ss fits f.1 (subst (λ (n : ℕ). AreReceptions bits n ss) (sym end) g.1))
+same_extended : (bits : List ℕ) (u : Run) (m n : ℕ) → HasBatches bits u m → HasBatches bits u n → m ≡ n
+same_extended bits u m n (inl f) (inl g) = f.1 ∙ sym g.1
+same_extended bits u m n (inl f) (inr g) = absurd (g.0 f.0)
+same_extended bits u m n (inr f) (inl g) = absurd (f.0 g.0)
+same_extended bits u m n (inr f) (inr g) = f.1 ∙ sym g.1
+
+no_further : (bits : List ℕ) (p : Polarity) (bit n v w : ℕ) → IsReadTo bits p bit n v → IsReadTo bits p bit n w → w ≤ v
+no_further bits p bit n v w f g =
+    elim (cases_lt v w) [
+      | inl less ↦
+          elim f.ends [
+            | inl all ↦ omega (arith, g.most)
+            | inr broken ↦ absurd (g.unbroken v less broken)
+          ]
+      | inr more ↦ more
+    ]
+
+same_reception : (bits : List ℕ) (u : Run) (r s : Reception) → IsReception bits u r → IsReception bits u s → r ≡ s
+same_reception bits u r s f g =
+    let bit = f.bit ∙ sym g.bit in
+    let polarity = f.polarity ∙ sym g.polarity in
+    let batches = same_extended bits u r.batches s.batches f.batches g.batches in
+    let read : IsReadTo bits u.polarity u.bit r.batches s.words =
+    subst (λ (n : ℕ). IsReadTo bits u.polarity u.bit n s.words) (sym batches) g.words in
+    let least = no_further bits u.polarity u.bit r.batches r.words s.words f.words read in
+    let most = no_further bits u.polarity u.bit r.batches s.words r.words read f.words in
+    let words : r.words ≡ s.words = omega arith in
+    ap₂ (λ (b : ℕ) (n : ℕ). (record { bit = b; polarity = r.polarity; batches = n; words = r.words })) bit batches
+    ∙ ap₂ (λ (p : Polarity) (w : ℕ). (record { bit = s.bit; polarity = p; batches = s.batches; words = w })) polarity words
+
+pub same_found : (bits : List ℕ) (first held : ℕ) (rs ss : List Reception) → WordsFit bits → AreFound bits first held rs → AreFound bits first held ss
+    → rs ≡ ss
+same_found bits first held rs ss fits (nothing quiet) (nothing other) = refl
+same_found bits first held rs ss fits (nothing quiet) (counted v s more run counts is rest) =
+    absurd (quiet v.bit run.later (omega (arith, run.begins.within)) v.polarity run.begins)
+same_found bits first held rs ss fits (nothing quiet) (passed v more run not rest) =
+    absurd (quiet v.bit run.later (omega (arith, run.begins.within)) v.polarity run.begins)
+same_found bits first held rs ss fits (counted u r more run counts is rest) (nothing quiet) =
+    absurd (quiet u.bit run.later (omega (arith, run.begins.within)) u.polarity run.begins)
+same_found bits first held rs ss fits (counted u r more run counts is rest) (counted v s other runs count are rests) =
+    let one = same_run bits first u v fits run runs in
+    let back = sym one in
+    ap₂ (λ (a : Reception) (l : List Reception). a ∷ l)
+    (same_reception bits u r s is (subst (λ (q : Run). IsReception bits q s) back are))
+    (same_found bits (last_sync u + 1) (run_end u) more other fits rest
+    (subst (λ (q : Run). AreFound bits (last_sync q + 1) (run_end q) other) back rests))
+same_found bits first held rs ss fits (counted u r more run counts is rest) (passed v other runs not rests) =
+    absurd (not (subst (IsOnAir bits held) (same_run bits first u v fits run runs) counts))
+same_found bits first held rs ss fits (passed u more run not rest) (nothing quiet) =
+    absurd (quiet u.bit run.later (omega (arith, run.begins.within)) u.polarity run.begins)
+same_found bits first held rs ss fits (passed u more run not rest) (counted v s other runs count are rests) =
+    absurd (not (subst (IsOnAir bits held) (sym (same_run bits first u v fits run runs)) count))
+same_found bits first held rs ss fits (passed u more run not rest) (passed v other runs nots rests) =
+    same_found bits (last_sync u + 1) held more other fits rest
+    (subst (λ (q : Run). AreFound bits (last_sync q + 1) held other) (sym (same_run bits first u v fits run runs)) rests)
 
 -- ---- one list of pages
 
@@ -116,7 +162,7 @@ bits_are : (capture : List ℕ) → AreBits (capture_bits capture)
 bits_are [] = All-nil (λ b. b < 2)
 bits_are (x ∷ xs) = All-append (λ b. b < 2) (high_first 8 x) (capture_bits xs) (AreBits-high_first 8 x) (bits_are xs)
 
-capture_fits : (capture : List ℕ) → WordsFit (capture_bits capture)
+pub capture_fits : (capture : List ℕ) → WordsFit (capture_bits capture)
 capture_fits capture bit =
     let rest = drop bit (capture_bits capture) in
     let piece = take 32 rest in
@@ -130,7 +176,7 @@ capture_fits capture bit =
 pub one_thing : (capture : List ℕ) (rs ss : List Reception) (ps qs : List Page) → HasCaught capture rs ps → HasCaught capture ss qs → (rs ≡ ss) × (ps ≡ qs)
 one_thing capture rs ss ps qs f g =
     let bits = capture_bits capture in
-    let same = same_receptions bits 0 rs ss (capture_fits capture) f.found g.found in
+    let same = same_found bits 0 0 rs ss (capture_fits capture) f.found g.found in
     let pages = same_lists_of_pages bits rs f.pages g.pages f.each
     (subst (λ (l : List Reception). AllZip (λ (r : Reception) (here : List Page). AreCaught (received bits r) here) l g.pages) (sym same) g.each) in
     (same, f.all ∙ ap (flat_map (λ (here : List Page). here)) pages ∙ sym g.all)
@@ -163,11 +209,12 @@ caught_shown words a ps qs f g =
 
 -- ---- noise alone
 
-no_reception : (bits : List ℕ) (first : ℕ) (rs : List Reception) → IsQuiet bits first (length bits) → AreReceptions bits first rs → rs ≡ []
-no_reception bits first [] quiet f = refl
-no_reception bits first (r ∷ rs) quiet f =
-    let there = first_batch bits first r f.0 in
-    absurd (quiet r.bit f.0.later (omega (arith, there.within)) r.polarity there)
+no_reception : (bits : List ℕ) (first held : ℕ) (rs : List Reception) → IsQuiet bits first (length bits) → AreFound bits first held rs → rs ≡ []
+no_reception bits first held rs quiet (nothing other) = refl
+no_reception bits first held rs quiet (counted u r more run counts is rest) =
+    absurd (quiet u.bit run.later (omega (arith, run.begins.within)) u.polarity run.begins)
+no_reception bits first held rs quiet (passed u more run not rest) =
+    absurd (quiet u.bit run.later (omega (arith, run.begins.within)) u.polarity run.begins)
 
 no_pages : (bits : List ℕ) (rs : List Reception) (pss : List (List Page)) → rs ≡ []
     → AllZip (λ (r : Reception) (here : List Page). AreCaught (received bits r) here) rs pss → pss ≡ []
@@ -178,5 +225,5 @@ no_pages bits (r ∷ rs) pss none f = absurd (cc)
 pub nothing_of_noise : (capture : List ℕ) (rs : List Reception) (ps : List Page) → IsQuiet (capture_bits capture) 0 (length (capture_bits capture))
     → HasCaught capture rs ps → (rs ≡ []) × (ps ≡ [])
 nothing_of_noise capture rs ps quiet f =
-    let none = no_reception (capture_bits capture) 0 rs quiet f.found in
+    let none = no_reception (capture_bits capture) 0 0 rs quiet f.found in
     (none, f.all ∙ ap (flat_map (λ (here : List Page). here)) (no_pages (capture_bits capture) rs f.pages none f.each))

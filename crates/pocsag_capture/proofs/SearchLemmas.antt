@@ -1,13 +1,15 @@
 -- The search for a synchronisation codeword, bit by bit or eight bits at once.
-use Rattle.std.proofs.Common.{◌≡◌, ℕ, ◌+◌, ◌-◌, ◌*◌, ◌/◌, ◌%◌, ◌^◌, ◌<◌, ◌≤◌, List, [], ◌∷◌, ◌++◌, append_assoc, length, Option, Some, None, sym, ap, subst, ◌∙◌, inl, inr, arith}
+use Rattle.std.proofs.Common.{◌≡◌, ℕ, ◌+◌, ◌-◌, ◌*◌, ◌/◌, ◌%◌, ◌^◌, ◌<◌, ◌≤◌, List, [], ◌∷◌, ◌++◌, append_assoc, length, Option, Some, None, refl, sym, ap, subst, ◌∙◌, inl, inr, arith}
 use Rattle.std.proofs.lemmas.Bool.{cases_lt}
 use Rattle.std.proofs.lemmas.List.{append-nil}
 use Rattle.pocsag_words.specs.Codeword.{IsNear}
 use Rattle.pocsag_pages.specs.Bytes.{sync_word}
 use Rattle.pocsag_capture.specs.Bits.{as_sent, capture_bits, word_on}
-use Rattle.pocsag_capture.specs.Receptions.{AreReceptions, IsQuiet, IsReception, IsSynchronised, behind}
+use Rattle.pocsag_capture.specs.Receptions.{AreFound, AreReceptions, IsOnAir, IsBridged, IsInStep, IsQuiet, IsReception, IsSyncRun, IsSynchronised, counted, run_end, last_sync, nothing, passed}
+use Rattle.pocsag_capture.specs.Runs.{BeginsRun, Steps}
 use Rattle.pocsag_capture.specs.declared.polarity.Polarity.{Polarity}
 use Rattle.pocsag_capture.specs.declared.reception.Reception.{Reception}
+use Rattle.pocsag_capture.specs.declared.reception.Run.{Run}
 use Rattle.pocsag_capture.proofs.Windows.{bits_long}
 
 -- nothing yet
@@ -57,35 +59,117 @@ synchronised_at bytes bit word polarity is within near =
       near = subst (λ (n : ℕ). IsNear sync_word (as_sent polarity n)) is near;
     }
 
--- ---- batches that follow one another
+-- ---- synchronisation codewords in step
 
-pub one_batch : (bits : List ℕ) (bit : ℕ) (polarity : Polarity) → IsSynchronised bits bit polarity → (k : ℕ) → k < 1
-    → IsSynchronised bits (bit + 544 * k) polarity
-one_batch bits bit polarity there k below =
-    let same : bit ≡ bit + 544 * k = omega arith in
-    subst (λ (n : ℕ). IsSynchronised bits n polarity) same there
+pub record IsChain (bits : List ℕ) (bit : ℕ) (polarity : Polarity) (n : ℕ) : Type 0 where
+  pub each : (k : ℕ) → k < n → IsInStep bits (bit + 544 * k) polarity
+  pub last : IsSynchronised bits (bit + 544 * (n - 1)) polarity
 
-pub batch_more : (bits : List ℕ) (bit n : ℕ) (polarity : Polarity) → ((k : ℕ) → k < n → IsSynchronised bits (bit + 544 * k) polarity)
-    → IsSynchronised bits (bit + 544 * n) polarity → (k : ℕ) → k < n + 1 → IsSynchronised bits (bit + 544 * k) polarity
-batch_more bits bit n polarity before here k below =
-    elim (cases_lt k n) [
-      | inl less ↦ before k less
-      | inr more ↦
-          let same : n ≡ k = omega arith in
-          subst (λ (m : ℕ). IsSynchronised bits (bit + 544 * m) polarity) same here
+pub chain_first : (bits : List ℕ) (bit : ℕ) (polarity : Polarity) → IsSynchronised bits bit polarity → IsChain bits bit polarity 1
+chain_first bits bit polarity there =
+    let e : bit ≡ bit + 544 * (1 - 1) = omega arith in
+    record {
+      each = λ k below.
+          let same : bit ≡ bit + 544 * k = omega arith in
+          inl (subst (λ (n : ℕ). IsSynchronised bits n polarity) same there);
+      last = subst (λ (n : ℕ). IsSynchronised bits n polarity) e there;
+    }
+
+chain_one : (bits : List ℕ) (bit n : ℕ) (polarity : Polarity) → 0 < n → IsChain bits bit polarity n
+    → IsSynchronised bits (bit + 544 * (n - 1) + 544) polarity → IsChain bits bit polarity (n + 1)
+chain_one bits bit n polarity some f there =
+    let e : bit + 544 * (n - 1) + 544 ≡ bit + 544 * n = omega arith in
+    let here : IsSynchronised bits (bit + 544 * n) polarity = subst (λ (q : ℕ). IsSynchronised bits q polarity) e there in
+    let last : bit + 544 * n ≡ bit + 544 * (n + 1 - 1) = omega arith in
+    record {
+      each = λ k below.
+          elim (cases_lt k n) [
+            | inl less ↦ f.each k less
+            | inr more ↦
+                let same : bit + 544 * n ≡ bit + 544 * k = omega arith in
+                inl (subst (λ (q : ℕ). IsSynchronised bits q polarity) same here)
+          ];
+      last = subst (λ (q : ℕ). IsSynchronised bits q polarity) last here;
+    }
+
+chain_two : (bits : List ℕ) (bit n : ℕ) (polarity : Polarity) → 0 < n → IsChain bits bit polarity n
+    → IsBridged bits (bit + 544 * (n - 1)) polarity → IsChain bits bit polarity (n + 2)
+chain_two bits bit n polarity some f over =
+    let last : bit + 544 * (n - 1) + 2 * 544 ≡ bit + 544 * (n + 2 - 1) = omega arith in
+    record {
+      each = λ k below.
+          elim (cases_lt k n) [
+            | inl less ↦ f.each k less
+            | inr more ↦
+                elim (cases_lt n k) [
+                  | inl later ↦
+                      let same : bit + 544 * (n - 1) + 2 * 544 ≡ bit + 544 * k = omega arith in
+                      inl (subst (λ (q : ℕ). IsSynchronised bits q polarity) same over.there)
+                  | inr here ↦
+                      let same : bit + 544 * (n - 1) ≡ bit + 544 * k - 544 = omega arith in
+                      inr (subst (λ (q : ℕ). IsBridged bits q polarity) same over)
+                ]
+          ];
+      last = subst (λ (q : ℕ). IsSynchronised bits q polarity) last over.there;
+    }
+
+pub chain_on : (bits : List ℕ) (bit n steps : ℕ) (polarity : Polarity) → 0 < n → 0 < steps → IsChain bits bit polarity n
+    → Steps bits (bit + 544 * (n - 1)) polarity steps → IsChain bits bit polarity (n + steps)
+chain_on bits bit n steps polarity some more f s =
+    elim (cases_lt steps 2) [
+      | inl less ↦
+          let one : steps ≡ 1 = omega arith in
+          subst (λ (m : ℕ). IsChain bits bit polarity (n + m)) (sym one) (chain_one bits bit n polarity some f (s.one one))
+      | inr other ↦
+          let two : steps ≡ 2 = omega (arith, s.most) in
+          subst (λ (m : ℕ). IsChain bits bit polarity (n + m)) (sym two) (chain_two bits bit n polarity some f (s.two two))
     ]
+
+pub chain_ends : (bits : List ℕ) (bit n : ℕ) (polarity : Polarity) → 0 < n → IsChain bits bit polarity n
+    → Steps bits (bit + 544 * (n - 1)) polarity 0 → BeginsRun bits bit polarity (record { bit = bit; polarity = polarity; batches = n })
+chain_ends bits bit n polarity some f s =
+    let e : bit + 544 * (n - 1) + 544 ≡ bit + 544 * n = omega arith in
+    let over = s.none refl in
+    record {
+      same_bit = refl;
+      same_polarity = refl;
+      some = some;
+      each = f.each;
+      last = f.last;
+      none = λ there. over.0 (subst (λ (q : ℕ). IsSynchronised bits q polarity) (sym e) there);
+      over = over.1;
+    }
+
+-- a run that the first synchronisation codeword begins
+pub run_begins : (bits : List ℕ) (first bit : ℕ) (polarity : Polarity) (u : Run) → first ≤ bit → IsQuiet bits first bit
+    → IsSynchronised bits bit polarity → BeginsRun bits bit polarity u → IsSyncRun bits first u
+run_begins bits first bit polarity u later quiet there f = record {
+  later = omega (arith, f.same_bit);
+  quiet = subst (IsQuiet bits first) (sym f.same_bit) quiet;
+  some = f.some;
+  begins = subst (λ (p : Polarity). IsSynchronised bits u.bit p) (sym f.same_polarity)
+      (subst (λ (n : ℕ). IsSynchronised bits n polarity) (sym f.same_bit) there);
+  each = f.each;
+  last = f.last;
+  none = f.none;
+  over = f.over;
+}
 
 -- ---- the receptions so far
 
-abbrev pub SoFar : (bits : List ℕ) → (first : ℕ) → List Reception → Type 0
-SoFar bits first found = (rest : List Reception) → AreReceptions bits first rest → AreReceptions bits 0 (found ++ rest)
+abbrev pub SoFar : (bits : List ℕ) → (first held : ℕ) → List Reception → Type 0
+SoFar bits first held found = (rest : List Reception) → AreFound bits first held rest → AreFound bits 0 0 (found ++ rest)
 
-pub reception_more : (bits : List ℕ) (first next : ℕ) (found now : List Reception) (r : Reception) → SoFar bits first found → IsReception bits first r
-    → next ≡ behind r → now ≡ found ++ r ∷ [] → SoFar bits next now
-reception_more bits first next found now r before here is pushed = λ rest more.
-    let all = before (r ∷ rest) (here, subst (λ (n : ℕ). AreReceptions bits n rest) is more) in
-    subst (AreReceptions bits 0) (sym (append_assoc found (r ∷ []) rest) ∙ ap (λ (l : List Reception). l ++ rest) (sym pushed)) all
+pub found_all : (bits : List ℕ) (first held : ℕ) (found : List Reception) → SoFar bits first held found → IsQuiet bits first (length bits)
+    → AreReceptions bits found
+found_all bits first held found so_far quiet = subst (AreFound bits 0 0) (append-nil found) (so_far [] (nothing quiet))
 
-pub receptions_all : (bits : List ℕ) (first : ℕ) (found : List Reception) → SoFar bits first found → IsQuiet bits first (length bits)
-    → AreReceptions bits 0 found
-receptions_all bits first found so_far none = subst (AreReceptions bits 0) (append-nil found) (so_far [] none)
+pub found_more : (bits : List ℕ) (first held : ℕ) (found now : List Reception) (u : Run) (r : Reception) → SoFar bits first held found
+    → IsSyncRun bits first u → IsOnAir bits held u → IsReception bits u r → now ≡ found ++ r ∷ [] → SoFar bits (last_sync u + 1) (run_end u) now
+found_more bits first held found now u r before run counts is pushed = λ rest more.
+    let all = before (r ∷ rest) (counted u r rest run counts is more) in
+    subst (AreFound bits 0 0) (sym (append_assoc found (r ∷ []) rest) ∙ ap (λ (l : List Reception). l ++ rest) (sym pushed)) all
+
+pub found_same : (bits : List ℕ) (first held : ℕ) (found : List Reception) (u : Run) → SoFar bits first held found → IsSyncRun bits first u
+    → (¬ IsOnAir bits held u) → SoFar bits (last_sync u + 1) held found
+found_same bits first held found u before run not = λ rest more. before rest (passed u rest run not more)

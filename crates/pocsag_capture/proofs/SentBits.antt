@@ -1,17 +1,19 @@
--- A capture of transmissions that were sent holds a reception of each.
-use Rattle.std.proofs.Common.{◌≡◌, ◌≢◌, ℕ, zero, suc, ◌+◌, ◌-◌, ◌*◌, ◌/◌, ◌%◌, ◌^◌, ◌<◌, ◌≤◌, List, [], ◌∷◌, ◌++◌, length, map, take, get_or, All, Option, Some, Bool, true, false, refl, sym, ap, ap₂, subst, ◌∙◌, inl, inr, arith, append_assoc, eq-eqb}
-use Rattle.std.specs.List.{AllZip, flat_map}
+-- A capture that holds a sent transmission shows its pages.
+use Rattle.std.proofs.Common.{◌≡◌, ◌≢◌, ◌⊎◌, ℕ, zero, suc, lit<, ◌+◌, ◌-◌, ◌*◌, ◌/◌, ◌%◌, ◌^◌, ◌<◌, ◌≤◌, ◌==◌, if◌then◌else◌, cond, List, [], ◌∷◌, ◌++◌, length, map, take, get_or, All, Option, Some, None, Bool, true, false, bit_xor, count_ones, refl, sym, ap, ap₂, subst, ◌∙◌, inl, inr, arith, append_assoc, eq-eqb}
+use Rattle.std.specs.List.{AllZip, flat_map, range_with_len}
 use Rattle.std.specs.Int.Bits.{xor_self}
 use Rattle.std.proofs.Math.Seq.{drop-append-add}
 use Rattle.std.proofs.lemmas.Nat.{ones_le_self}
-use Rattle.std.proofs.lemmas.Bool.{cases_eq, ne_eqb}
-use Rattle.std.proofs.lemmas.Grind.{same_number_lists}
-use Rattle.std.proofs.lemmas.List.{length-append, length-map}
+use Rattle.std.proofs.lemmas.Bool.{cases_eq, cases_lt, ne_eqb}
+use Rattle.std.proofs.lemmas.Grind.{flat_map-append, same_number_lists}
+use Rattle.std.proofs.lemmas.List.{length-append, length-map, map-append}
 use Rattle.std.proofs.lemmas.List.FromFn.{get_or-map-range_with_len, length-map-range_with_len}
-use Rattle.std.proofs.lemmas.List.Elements.{All-head, All-tail, AllZip-get_or}
+use Rattle.std.proofs.lemmas.List.Elements.{All-cons, All-get_or, All-head, All-nil, All-tail, AllZip-get_or}
 use Rattle.std.proofs.lemmas.Slice.Zip.{AllZip-long}
-use Rattle.pocsag_words.specs.Codeword.{IsCodeword, IsNear, IsOnlyNear}
+use Rattle.pocsag_words.specs.Codeword.{HasNoneNear, IsCodeword, IsNear, IsOnlyNear}
+use Rattle.pocsag_words.specs.Columns.{check_of, columns, combine}
 use Rattle.pocsag_words.specs.Kinds.{kind_of}
+use Rattle.pocsag_words.proofs.BlockCode.{IsCodeword-from_low}
 use Rattle.pocsag_words.proofs.ErrorLemmas.{numbers_are_repaired_lem}
 use Rattle.pocsag_words.specs.declared.codeword.Kind.{Kind}
 use Rattle.pocsag_words.specs.declared.codeword.Kind.TheVariants.{Idle, Address, Message}
@@ -20,23 +22,29 @@ use Rattle.pocsag_text.proofs.BitLists.{length-high_first}
 use Rattle.pocsag_text.proofs.Cuts.{length-flat_map-wide}
 use Rattle.pocsag_pages.specs.declared.page.Page.{Page}
 use Rattle.pocsag_pages.specs.Bytes.{after_preamble, body_bytes, sync_word, synced, unsynced, words_of}
-use Rattle.pocsag_pages.specs.Plain.{HasNoOrphan}
-use Rattle.pocsag_pages.specs.Reading.{Reads}
-use Rattle.pocsag_pages.proofs.Lengths.{synced_count, synced_small, words_again}
+use Rattle.pocsag_pages.specs.Plain.{HasNoOrphan, pages_from}
+use Rattle.pocsag_pages.specs.Reading.{EndsIdle, Reads}
+use Rattle.pocsag_pages.proofs.Lengths.{synced_count, synced_small, unsynced_count, unsynced_more, words_again}
 use Rattle.pocsag_pages.proofs.Readings.{reads_plainly}
 use Rattle.pocsag_decode.specs.Faults.{ReadsAs}
 use Rattle.pocsag_decode.proofs.Preambles.{after_is}
 use Rattle.pocsag_decode.proofs.SentBytes.{body_begins}
 use Rattle.pocsag_pager.specs.Shown.{IsMended, said}
+use Rattle.pocsag_pager.proofs.Mended.{all_mended_same}
 use Rattle.pocsag_capture.specs.Bits.{as_sent, capture_bits, word_on}
 use Rattle.pocsag_capture.specs.Caught.{AreCaught, HasCaught, settled}
-use Rattle.pocsag_capture.specs.Receptions.{AreReceptions, IsQuiet, IsReception, IsSynchronised, behind, received, received_word}
-use Rattle.pocsag_capture.specs.Sent.{IsCaptureOf, IsReceived, noise, sent}
+use Rattle.pocsag_capture.specs.Lost.{lost_words}
+use Rattle.pocsag_capture.specs.Receptions.{AreFound, HasFewLost, IsLikeSynchronised, IsQuiet, IsReception, IsSyncRun, IsSynchronised, counted, run_end, last_sync, nothing, passed, received, received_word, sent_at}
+use Rattle.pocsag_capture.specs.Sent.{HoldsSent, NothingFollows, IsReceived, StandAmong}
 use Rattle.pocsag_capture.specs.declared.polarity.Polarity.{Polarity}
 use Rattle.pocsag_capture.specs.declared.polarity.Polarity.TheVariants.{Upright, Inverted}
 use Rattle.pocsag_capture.specs.declared.reception.Reception.{Reception}
-use Rattle.pocsag_capture.proofs.Lifts.{word_there}
-use Rattle.pocsag_capture.proofs.Once.{one_thing}
+use Rattle.pocsag_capture.specs.declared.reception.Run.{Run}
+use Rattle.pocsag_capture.proofs.Joined.{no_orphan_any, no_orphan_join, pages_join, pages_shift, settled_no_orphan}
+use Rattle.pocsag_capture.proofs.Lifts.{word_read, word_there}
+use Rattle.pocsag_capture.proofs.Once.{WordsFit, capture_fits, no_more, same_polarity}
+use Rattle.pocsag_capture.proofs.Settled.{open_after_all}
+use Rattle.pocsag_capture.specs.TakenWords.{stays_open}
 use Rattle.pocsag_capture.proofs.Windows.{number_behind}
 
 -- ---- words behind other bits
@@ -51,16 +59,11 @@ module _ (A B : List ℕ) (q : ℕ) (p : Polarity) where
     near = subst (λ (w : ℕ). IsNear sync_word (as_sent p w)) (shift_word A B q) f.near;
   }
 
-  shift_on : IsSynchronised B q p → IsSynchronised (A ++ B) (length A + q) p
-  shift_on f = record {
-    within = omega (arith, f.within, length-append A B);
-    near = subst (λ (w : ℕ). IsNear sync_word (as_sent p w)) (sym (shift_word A B q)) f.near;
-  }
-
-quiet_behind : (A B : List ℕ) (first last n : ℕ) → IsQuiet B 0 n → length A ≤ first → last ≤ length A + n → IsQuiet (A ++ B) first last
-quiet_behind A B first last n quiet low high = λ bit above below p f.
-    let same : bit ≡ length A + (bit - length A) = omega arith in
-    quiet (bit - length A) (omega arith) (omega arith) p (shift_back A B (bit - length A) p (subst (λ (k : ℕ). IsSynchronised (A ++ B) k p) same f))
+like_back : (A B : List ℕ) (q : ℕ) (p : Polarity) → IsLikeSynchronised (A ++ B) (length A + q) p → IsLikeSynchronised B q p
+like_back A B q p f = record {
+  within = omega (arith, f.within, length-append A B);
+  like = subst (λ (w : ℕ). count_ones (bit_xor sync_word (as_sent p w)) ≤ 7) (shift_word A B q) f.like;
+}
 
 -- ---- the words of a transmission
 
@@ -176,6 +179,9 @@ settled_same b (Address high function ∷ ks) h = ap (λ (l : List Kind). Addres
 settled_same true (Message bits ∷ ks) h = ap (λ (l : List Kind). Message bits ∷ l) (settled_same true ks h.1)
 settled_same false (Message bits ∷ ks) h = absurd (cc h.0)
 
+settled_any : (b : Bool) (ks : List Kind) → HasNoOrphan false ks → settled b (map Some ks) ≡ ks
+settled_any b ks h = settled_same b ks (no_orphan_any b ks h)
+
 caught_of_sent : (T Y : List ℕ) (ps : List Page) → All IsCodeword T → All (λ y. y < 2 ^ 32) Y → AllZip IsNear (synced 0 T) Y
     → Reads (map kind_of T) 0 ps → AreCaught Y ps
 caught_of_sent T Y ps are fit near reads =
@@ -187,117 +193,519 @@ caught_of_sent T Y ps are fit near reads =
       holds = subst (λ (ks : List Kind). Reads ks 0 ps) (sym same) reads;
     }
 
--- ---- the reception of a transmission
+-- ---- a transmission among other bits
 
-abbrev all_bits : List ℕ → List ℕ → List ℕ → List ℕ → List ℕ
-all_bits A N X R = A ++ (N ++ (X ++ R))
+sync_codeword : IsCodeword 0x7cd215d8
+unfolding combine columns check_of
+sync_codeword = IsCodeword-from_low 0x7cd215d8 (lit< tt) refl
 
-module _ (A N R : List ℕ) (p : Polarity) (ps : List Page) (X : List ℕ) (f : IsReceived p ps X) where
-  abbrev heard : Reception
-  heard = record { bit = length A + length N; polarity = p; batches = f.batches }
+synced_codewords : (i : ℕ) (T : List ℕ) → All IsCodeword T → All IsCodeword (synced i T)
+synced_codewords i [] are = All-nil IsCodeword
+synced_codewords i (w ∷ T) are =
+    let rest = All-cons IsCodeword w (synced (i + 1) T) (All-head IsCodeword w T are) (synced_codewords (i + 1) T (All-tail IsCodeword w T are)) in
+    elim (cases_eq (i % 16) 0) [
+      | inl e ↦ rw (eq-eqb _ _ e) (All-cons IsCodeword sync_word (w ∷ synced (i + 1) T) sync_codeword rest)
+      | inr n ↦ rw (ne_eqb _ _ n) rest
+    ]
+
+-- words of which none is past repair
+none_lost : (g : ℕ → ℕ) (a n : ℕ) → ((j : ℕ) → a ≤ j → j < a + n → (g j < 2 ^ 32) × (¬ HasNoneNear (g j)))
+    → (ms : List (Option ℕ)) × AllZip IsMended (map g (range_with_len a n)) ms × (lost_words ms ≡ 0)
+none_lost g a zero kept = ([], tt, refl)
+none_lost g a (suc n) kept =
+    let rest = none_lost g (a + 1) n (λ j low high. kept j (omega arith) (omega arith)) in
+    let here = kept a (omega arith) (omega arith) in
+    elim (numbers_are_repaired_lem (g a) here.0) [
+      | inl far ↦ absurd (here.1 far)
+      | inr only ↦ (Some only.0 ∷ rest.0, (only.1, rest.1), rest.2)
+    ]
+
+-- ---- the run that holds a synchronisation codeword before which it is quiet
+
+pub record IsOn (b : ℕ) (p : Polarity) (u : Run) : Type 0 where
+  pub k : ℕ
+  pub below : k < u.batches
+  pub place : u.bit + 544 * k ≡ b
+  pub polarity : u.polarity ≡ p
+
+on_step : (bits : List ℕ) (first b k : ℕ) (p : Polarity) (u : Run) → WordsFit bits → IsSyncRun bits first u → IsSynchronised bits b p
+    → IsQuiet bits (b - 544) b → k < u.batches → u.bit + 544 * k ≤ b → b < u.bit + 544 * k + 544 → IsOn b p u
+on_step bits first b k p u fits run there quiet below low high =
+    elim (cases_eq k 0) [
+      | inl start ↦
+          elim (cases_lt u.bit b) [
+            | inl less ↦ absurd (quiet u.bit (omega arith) less u.polarity run.begins)
+            | inr more ↦
+                let same : u.bit ≡ b = omega arith in
+                record {
+                  k = k;
+                  below = below;
+                  place = omega arith;
+                  polarity = same_polarity bits b u.polarity p (fits b) (subst (λ (n : ℕ). IsSynchronised bits n u.polarity) same run.begins) there;
+                }
+          ]
+      | inr later ↦
+          elim (run.each k below) [
+            | inl here ↦
+                elim (cases_lt (u.bit + 544 * k) b) [
+                  | inl less ↦ absurd (quiet (u.bit + 544 * k) (omega arith) less u.polarity here)
+                  | inr more ↦
+                      let same : u.bit + 544 * k ≡ b = omega arith in
+                      record {
+                        k = k;
+                        below = below;
+                        place = same;
+                        polarity = same_polarity bits b u.polarity p (fits b) (subst (λ (n : ℕ). IsSynchronised bits n u.polarity) same here) there;
+                      }
+                ]
+            | inr bridged ↦ absurd (bridged.quiet b (omega arith) (omega arith) p there)
+          ]
+    ]
+
+on_run : (bits : List ℕ) (first b : ℕ) (p : Polarity) (u : Run) → WordsFit bits → IsSyncRun bits first u → IsSynchronised bits b p
+    → IsQuiet bits (b - 544) b → first ≤ b → b ≤ last_sync u → IsOn b p u
+on_run bits first b p u fits run there quiet low high =
+    elim (cases_lt b u.bit) [
+      | inl less ↦ absurd (run.quiet b low less p there)
+      | inr more ↦
+          let some = run.some in
+          on_step bits first b ((b - u.bit) / 544) p u fits run there quiet (omega arith) (omega arith) (omega arith)
+    ]
+
+end_early : (bits : List ℕ) (first b : ℕ) (u : Run) → IsSyncRun bits first u → IsQuiet bits (b - 544) b → last_sync u < b → run_end u ≤ b + 31
+end_early bits first b u run quiet before =
+    let some = run.some in
+    elim (cases_lt (last_sync u) (b - 544)) [
+      | inl early ↦ omega arith
+      | inr late ↦ absurd (quiet (last_sync u) late before u.polarity run.last)
+    ]
+
+record IsHolder (bits : List ℕ) (b : ℕ) (p : Polarity) (rs : List Reception) : Type 0 where
+  pub front : List Reception
+  pub reception : Reception
+  pub back : List Reception
+  pub whole : rs ≡ front ++ reception ∷ back
+  pub first : ℕ
+  pub run : Run
+  pub is_run : IsSyncRun bits first run
+  pub is : IsReception bits run reception
+  pub on : IsOn b p run
+
+found_on : (bits : List ℕ) (first held b : ℕ) (p : Polarity) (rs : List Reception) → WordsFit bits → IsSynchronised bits b p
+    → IsQuiet bits (b - 544) b → ((u : Run) → u.bit ≡ b → u.polarity ≡ p → HasFewLost bits u) → first ≤ b → held ≤ b + 31
+    → AreFound bits first held rs → IsHolder bits b p rs
+found_on bits first held b p rs fits there quiet few low late (nothing none) = absurd (none b low (omega (arith, there.within)) p there)
+found_on bits first held b p rs fits there quiet few low late (counted u r more run counts is rest) =
+    elim (cases_lt (last_sync u) b) [
+      | inl before ↦
+          let next = found_on bits (last_sync u + 1) (run_end u) b p more fits there quiet few (omega arith) (end_early bits first b u run quiet before) rest in
+          record {
+            front = r ∷ next.front;
+            reception = next.reception;
+            back = next.back;
+            whole = ap (λ (l : List Reception). r ∷ l) next.whole;
+            first = next.first;
+            run = next.run;
+            is_run = next.is_run;
+            is = next.is;
+            on = next.on;
+          }
+      | inr after ↦ record {
+        front = [];
+        reception = r;
+        back = more;
+        whole = refl;
+        first = first;
+        run = u;
+        is_run = run;
+        is = is;
+        on = on_run bits first b p u fits run there quiet low after;
+      }
+    ]
+found_on bits first held b p rs fits there quiet few low late (passed u more run not rest) =
+    elim (cases_lt (last_sync u) b) [
+      | inl before ↦ found_on bits (last_sync u + 1) held b p more fits there quiet few (omega arith) late rest
+      | inr after ↦
+          let on = on_run bits first b p u fits run there quiet low after in
+          absurd (elim (cases_lt 1 u.batches) [
+            | inl many ↦ not (inl many)
+            | inr one ↦
+                let bit : u.bit ≡ b = omega (arith, on.place, on.below) in
+                not (inr (omega arith, few u bit on.polarity))
+          ])
+    ]
+
+-- ---- what is caught behind other words
+
+unsynced_shift : (i j : ℕ) (ws : List ℕ) → i % 17 ≡ j % 17 → unsynced i ws ≡ unsynced j ws
+unsynced_shift i j [] e = refl
+unsynced_shift i j (w ∷ ws) e =
+    ap₂ (λ (n : ℕ) (l : List ℕ). if n == 0 then l else (w ∷ l)) e (unsynced_shift (i + 1) (j + 1) ws (omega arith))
+
+record IsSplit (xs ys : List ℕ) (ms : List (Option ℕ)) : Type 0 where
+  pub left : List (Option ℕ)
+  pub right : List (Option ℕ)
+  pub whole : ms ≡ left ++ right
+  pub of_left : AllZip IsMended xs left
+  pub of_right : AllZip IsMended ys right
+
+zip_split : (xs ys : List ℕ) (ms : List (Option ℕ)) → AllZip IsMended (xs ++ ys) ms → IsSplit xs ys ms
+zip_split [] ys ms each = record { left = []; right = ms; whole = refl; of_left = tt; of_right = each }
+zip_split (x ∷ xs) ys [] each = absurd each
+zip_split (x ∷ xs) ys (m ∷ ms) each =
+    let rest = zip_split xs ys ms each.1 in
+    record {
+      left = m ∷ rest.left;
+      right = rest.right;
+      whole = ap (λ (l : List (Option ℕ)). m ∷ l) rest.whole;
+      of_left = (each.0, rest.of_left);
+      of_right = rest.of_right;
+    }
+
+mended_long : (xs : List ℕ) (ms : List (Option ℕ)) → AllZip IsMended xs ms → length xs ≡ length ms
+mended_long [] [] each = refl
+mended_long [] (m ∷ ms) each = absurd each
+mended_long (x ∷ xs) [] each = absurd each
+mended_long (x ∷ xs) (m ∷ ms) each = let rest = mended_long xs ms each.1 in omega arith
+
+settled_long : (b : Bool) (ms : List (Option Kind)) → length (settled b ms) ≡ length ms
+settled_long b [] = refl
+settled_long b (None ∷ ms) = let rest = settled_long false ms in omega arith
+settled_long b (Some Idle ∷ ms) = let rest = settled_long false ms in omega arith
+settled_long b (Some (Address high function) ∷ ms) = let rest = settled_long true ms in omega arith
+settled_long b (Some (Message bits) ∷ ms) = let rest = settled_long b ms in omega arith
+
+settled_two : (b : Bool) (ms ns : List (Option Kind)) → settled b (ms ++ ns) ≡ settled b ms ++ settled (open_after_all b ms) ns
+settled_two b [] ns = refl
+settled_two b (None ∷ ms) ns = ap (λ (l : List Kind). Idle ∷ l) (settled_two false ms ns)
+settled_two b (Some Idle ∷ ms) ns = ap (λ (l : List Kind). Idle ∷ l) (settled_two false ms ns)
+settled_two b (Some (Address high function) ∷ ms) ns = ap (λ (l : List Kind). Address high function ∷ l) (settled_two true ms ns)
+settled_two b (Some (Message bits) ∷ ms) ns = ap (λ (l : List Kind). cond b (Message bits) Idle ∷ l) (settled_two b ms ns)
+
+ends_closed : (b : Bool) (ks : List Kind) → EndsIdle ks → open_after_all b (map Some ks) ≡ false
+ends_closed b [] e = absurd e
+ends_closed b (w ∷ []) e = ap (λ (k : Kind). stays_open b (Some k)) e
+ends_closed b (w ∷ v ∷ ks) e = ends_closed (stays_open b (Some w)) (v ∷ ks) e
+
+-- nothing is open after words, or none follow
+after_closed : (b : Bool) (after : List ℕ) (ms : List (Option ℕ)) → AllZip IsMended (unsynced 0 after) ms → (after ≡ []) ⊎ (b ≡ false)
+    → HasNoOrphan false (settled b (map said ms))
+after_closed b after ms each (inr closed) = rw closed (settled_no_orphan false (map said ms))
+after_closed b [] [] each (inl none) = tt
+after_closed b [] (m ∷ ms) each (inl none) = absurd each
+after_closed b (w ∷ after) ms each (inl none) = absurd (cc)
+
+module _ (before Y after T : List ℕ) (ps : List Page) (are : All IsCodeword T) (fit : All (λ y. y < 2 ^ 32) Y) (near : AllZip IsNear (synced 0 T) Y)
+    (reads : Reads (map kind_of T) 0 ps) where
+  -- the kinds of words that stand between others
+  record IsBetween (ms : List (Option ℕ)) : Type 0 where
+    pub left : List (Option ℕ)
+    pub right : List (Option ℕ)
+    pub whole : ms ≡ left ++ (map Some T ++ right)
+    pub of_left : AllZip IsMended (unsynced 0 before) left
+    pub of_right : AllZip IsMended (unsynced 0 after) right
+
+  between : (ms : List (Option ℕ)) → length before % 17 ≡ 0 → length Y % 17 ≡ 0 → AllZip IsMended (unsynced 0 (before ++ (Y ++ after))) ms
+      → IsBetween ms
+  between ms first_whole whole each =
+      let later : unsynced 0 (Y ++ after) ≡ unsynced 0 Y ++ unsynced 0 after =
+      unsynced_more 0 Y after ∙ ap (λ (l : List ℕ). unsynced 0 Y ++ l) (unsynced_shift (0 + length Y) 0 after (omega arith)) in
+      let words : unsynced 0 (before ++ (Y ++ after)) ≡ unsynced 0 before ++ (unsynced 0 Y ++ unsynced 0 after) =
+      unsynced_more 0 before (Y ++ after)
+      ∙ ap (λ (l : List ℕ). unsynced 0 before ++ l) (unsynced_shift (0 + length before) 0 (Y ++ after) (omega arith) ∙ later) in
+      let parts = zip_split (unsynced 0 before) (unsynced 0 Y ++ unsynced 0 after) ms (subst (λ (l : List ℕ). AllZip IsMended l ms) words each) in
+      let rest = zip_split (unsynced 0 Y) (unsynced 0 after) parts.right parts.of_right in
+      let same : rest.left ≡ map Some T =
+      all_mended_same (unsynced 0 Y) rest.left (map Some T) rest.of_left (all_mended 0 0 T Y (omega arith) are fit near) in
+      record {
+        left = parts.left;
+        right = rest.right;
+        whole = parts.whole ∙ ap (λ (l : List (Option ℕ)). parts.left ++ l) (rest.whole ∙ ap (λ (l : List (Option ℕ)). l ++ rest.right) same);
+        of_left = parts.of_left;
+        of_right = rest.of_right;
+      }
+
+  kinds_between : (ms : List (Option ℕ)) (f : IsBetween ms) → (b : Bool) × (settled false (map said ms)
+      ≡ settled false (map said f.left) ++ (map kind_of T ++ settled b (map said f.right)))
+      × (EndsIdle (map kind_of T) → b ≡ false)
+  kinds_between ms f =
+      let front : List (Option Kind) = map said f.left in
+      let back : List (Option Kind) = map said f.right in
+      let middle : List (Option Kind) = map said (map Some T) in
+      let b : Bool = open_after_all false front in
+      let plain = reads_plainly reads in (
+        open_after_all b middle,
+        ap (λ (l : List (Option ℕ)). settled false (map said l)) f.whole
+            ∙ ap (settled false) (map-append said f.left (map Some T ++ f.right) ∙ ap (λ (l : List (Option Kind)). front ++ l) (map-append said (map Some T) f.right))
+            ∙ settled_two false front (middle ++ back)
+            ∙ ap (λ (l : List Kind). settled false front ++ l) (settled_two b middle back
+            ∙ ap (λ (l : List Kind). l ++ settled (open_after_all b middle) back) (ap (settled b) (said_some T) ∙ settled_any b (map kind_of T) plain.no_orphan)),
+        λ idle. ap (open_after_all b) (said_some T) ∙ ends_closed b (map kind_of T) idle,
+      )
+
+  caught_between : (here : List Page) → length before % 17 ≡ 0 → length Y % 17 ≡ 0 → (after ≡ []) ⊎ EndsIdle (map kind_of T)
+      → AreCaught (before ++ (Y ++ after)) here → StandAmong ps here
+  caught_between here first_whole whole ended g =
+      let f = between g.mended first_whole whole g.each in
+      let k = kinds_between g.mended f in
+      let K : List Kind = map kind_of T in
+      let first : List Kind = settled false (map said f.left) in
+      let last : List Kind = settled k.0 (map said f.right) in
+      let plain = reads_plainly reads in
+      let closed : HasNoOrphan false last = after_closed k.0 after f.right f.of_right
+      (elim ended [ inl none ↦ inl none | inr idle ↦ inr (k.2 idle) ]) in
+      let joined : HasNoOrphan false (K ++ last) = no_orphan_join false K last plain.no_orphan closed in
+      let long : length first ≡ length (unsynced 0 before) =
+      settled_long false (map said f.left) ∙ length-map f.left said ∙ sym (mended_long (unsynced 0 before) f.left f.of_left) in
+      let count = unsynced_count 0 before in
+      record {
+        front = pages_from 0 first;
+        back = pages_from (length K) last;
+        whole = (reads_plainly g.holds).pages ∙ ap (pages_from 0) k.1
+            ∙ pages_join 0 (length first) first (K ++ last) (omega arith) joined
+            ∙ ap (λ (l : List Page). pages_from 0 first ++ l) (pages_shift (length first) 0 (K ++ last) (omega (arith, long, count))
+            ∙ pages_join 0 (length K) K last (omega arith) closed ∙ ap (λ (l : List Page). l ++ pages_from (length K) last) (sym plain.pages));
+      }
+
+-- words at following places in two parts
+range_two : (g : ℕ → ℕ) (a m n : ℕ) → map g (range_with_len a (m + n)) ≡ map g (range_with_len a m) ++ map g (range_with_len (a + m) n)
+range_two g a zero n =
+    let same : 0 + n ≡ n = omega arith in
+    let from : a ≡ a + 0 = omega arith in
+    ap₂ (λ (b c : ℕ). map g (range_with_len b c)) from same
+range_two g a (suc m) n =
+    let more : suc m + n ≡ suc (m + n) = omega arith in
+    let from : a + 1 + m ≡ a + suc m = omega arith in
+    ap (λ (c : ℕ). map g (range_with_len a c)) more
+    ∙ ap (λ (l : List ℕ). g a ∷ l) (range_two g (a + 1) m n
+    ∙ ap (λ (b : ℕ). map g (range_with_len (a + 1) m) ++ map g (range_with_len b n)) from)
+
+like_of : (bits : List ℕ) (b : ℕ) (p : Polarity) → IsSynchronised bits b p → IsLikeSynchronised bits b p
+like_of bits b p f = let near = f.near in record { within = f.within; like = omega arith }
+
+-- ---- a transmission among other bits
+
+module _ (A R : List ℕ) (p : Polarity) (ps : List Page) (X : List ℕ) (f : IsReceived p ps X) where
+  abbrev whole_bits : List ℕ
+  whole_bits = A ++ (X ++ R)
 
   words_long : length f.words ≡ 17 * f.batches
   words_long = omega (arith, AllZip-long IsNear (synced 0 f.codewords) f.words f.near, synced_count 0 f.codewords, f.whole.1)
 
+  sent_long : length (synced 0 f.codewords) ≡ 17 * f.batches
+  sent_long = omega (arith, synced_count 0 f.codewords, f.whole.1)
+
   batches_long : length X ≡ 544 * f.batches
   batches_long = omega (arith, ap length f.sent, word_bits_long p f.words, words_long)
 
-  all_long : length (all_bits A N X R) ≡ length A + length N + 544 * f.batches + length R
-  all_long = omega (arith, length-append A (N ++ (X ++ R)), length-append N (X ++ R), length-append X R, batches_long)
+  all_long : length whole_bits ≡ length A + 544 * f.batches + length R
+  all_long = omega (arith, length-append A (X ++ R), length-append X R, batches_long)
 
-  word_of : (j : ℕ) → j < 17 * f.batches → as_sent p (word_on (all_bits A N X R) (length A + length N + 32 * j)) ≡ get_or f.words j 0
+  word_of : (j : ℕ) → j < 17 * f.batches → sent_at whole_bits p (length A + 32 * j) ≡ get_or f.words j 0
   word_of j below =
-      let e : length A + length N + 32 * j ≡ length A + (length N + 32 * j) = omega arith in
-      ap (λ (n : ℕ). as_sent p (word_on (all_bits A N X R) n)) e
-      ∙ ap (as_sent p) (shift_word A (N ++ (X ++ R)) (length N + 32 * j) ∙ shift_word N (X ++ R) (32 * j))
+      word_there whole_bits p (length A + 32 * j) (omega (arith, all_long))
+      ∙ ap (as_sent p) (shift_word A (X ++ R) (32 * j))
       ∙ ap (λ (l : List ℕ). as_sent p (word_on (l ++ R) (32 * j))) f.sent
       ∙ word_in p f.words R j f.fit (omega (arith, words_long))
 
-  batch_there : (k : ℕ) → k < f.batches → IsSynchronised (all_bits A N X R) (length A + length N + 544 * k) p
+  word_near : (j : ℕ) → j < 17 * f.batches → IsNear (get_or (synced 0 f.codewords) j 0) (sent_at whole_bits p (length A + 32 * j))
+  word_near j below =
+      subst (IsNear (get_or (synced 0 f.codewords) j 0)) (sym (word_of j below))
+      (AllZip-get_or IsNear (synced 0 f.codewords) f.words j 0 0 f.near (omega (arith, sent_long)))
+
+  word_kept : (j : ℕ) → j < 17 * f.batches → ¬ HasNoneNear (sent_at whole_bits p (length A + 32 * j))
+  word_kept j below far =
+      far (get_or (synced 0 f.codewords) j 0)
+      (All-get_or IsCodeword (synced 0 f.codewords) j 0 (omega (arith, sent_long)) (synced_codewords 0 f.codewords f.are)) (word_near j below)
+
+  batch_there : (k : ℕ) → k < f.batches → IsSynchronised whole_bits (length A + 544 * k) p
   batch_there k below =
       let e : 32 * (17 * k) ≡ 544 * k = omega arith in
-      let long : length (synced 0 f.codewords) ≡ 17 * f.batches = omega (arith, synced_count 0 f.codewords, f.whole.1) in
-      let here = AllZip-get_or IsNear (synced 0 f.codewords) f.words (17 * k) 0 0 f.near (omega arith) in
-      let sync = sync_there 0 0 (17 * k) f.codewords (omega arith) (omega arith) (omega arith) in
-      let word = word_of (17 * k) (omega arith) in
+      let sync = sync_there 0 0 (17 * k) f.codewords (omega arith) (omega (arith, sent_long)) (omega arith) in
+      let within : length A + 32 * (17 * k) + 32 ≤ length whole_bits = omega (arith, all_long) in
       record {
         within = omega (arith, all_long);
-        near = subst (λ (w : ℕ). IsNear sync_word w)
-            (sym word ∙ ap (λ (n : ℕ). as_sent p (word_on (all_bits A N X R) (length A + length N + n))) e)
-            (subst (λ (s : ℕ). IsNear s (get_or f.words (17 * k) 0)) sync here);
+        near = subst (λ (n : ℕ). IsNear sync_word (as_sent p (word_on whole_bits (length A + n)))) e
+            (subst (λ (w : ℕ). IsNear sync_word w) (word_there whole_bits p (length A + 32 * (17 * k)) within)
+            (subst (λ (s : ℕ). IsNear s (sent_at whole_bits p (length A + 32 * (17 * k)))) sync (word_near (17 * k) (omega arith))));
       }
 
-  received_are : received (all_bits A N X R) heard ≡ f.words
-  received_are =
-      same_number_lists (received (all_bits A N X R) heard) f.words
-      (length-map-range_with_len (received_word (all_bits A N X R) heard) 0 (17 * f.batches) ∙ sym words_long)
-      (λ k below.
-      let small : k < 17 * f.batches = omega (arith, length-map-range_with_len (received_word (all_bits A N X R) heard) 0 (17 * f.batches)) in
-      get_or-map-range_with_len (received_word (all_bits A N X R) heard) 0 (17 * f.batches) k k 0 small (omega arith)
-      ∙ word_there (all_bits A N X R) heard k (omega (arith, all_long)) ∙ word_of k small)
+  joined : (A ++ X) ++ R ≡ whole_bits
+  joined = append_assoc A X R
 
-  joined : (A ++ (N ++ X)) ++ R ≡ all_bits A N X R
-  joined = append_assoc A (N ++ X) R ∙ ap (λ (l : List ℕ). A ++ l) (append_assoc N X R)
+  place_behind : (q : ℕ) → length A + 544 * f.batches + q ≡ length (A ++ X) + q
+  place_behind q = omega (arith, length-append A X, batches_long)
 
-  pub reception_of : IsQuiet (N ++ (X ++ R)) 0 (length N) → ¬ IsSynchronised R 0 p → IsReception (all_bits A N X R) (length A) heard
-  reception_of quiet last = record {
-    later = omega arith;
-    quiet = quiet_behind A (N ++ (X ++ R)) (length A) (length A + length N) (length N) quiet (omega arith) (omega arith);
-    some = f.whole.0;
-    batches = batch_there;
-    last = λ there.
-        let place : behind heard ≡ length (A ++ (N ++ X)) + 0 = omega (arith, length-append A (N ++ X), length-append N X, batches_long) in
-        last (shift_back (A ++ (N ++ X)) R 0 p (subst (λ (l : List ℕ). IsSynchronised l (length (A ++ (N ++ X)) + 0) p) (sym joined)
-        (subst (λ (n : ℕ). IsSynchronised (all_bits A N X R) n p) place there)));
-  }
+  none_like : ¬ IsLikeSynchronised R 0 p → ¬ IsLikeSynchronised whole_bits (length A + 544 * f.batches) p
+  none_like none there =
+      let e : length A + 544 * f.batches ≡ length (A ++ X) + 0 = omega (arith, place_behind 0) in
+      none (like_back (A ++ X) R 0 p (subst (λ (l : List ℕ). IsLikeSynchronised l (length (A ++ X) + 0) p) (sym joined)
+      (subst (λ (n : ℕ). IsLikeSynchronised whole_bits n p) e there)))
 
-  pub caught_of : AreCaught (received (all_bits A N X R) heard) ps
-  caught_of = subst (λ (ws : List ℕ). AreCaught ws ps) (sym received_are)
-      (caught_of_sent f.codewords f.words ps f.are f.fit f.near f.reads)
+  none_later : ¬ IsSynchronised R 544 p → ¬ IsSynchronised whole_bits (length A + 544 * f.batches + 544) p
+  none_later none there =
+      none (shift_back (A ++ X) R 544 p (subst (λ (l : List ℕ). IsSynchronised l (length (A ++ X) + 544) p) (sym joined)
+      (subst (λ (n : ℕ). IsSynchronised whole_bits n p) (place_behind 544) there)))
 
--- ---- a reception of each
+  at_place : (u : Run) (q j : ℕ) → u.polarity ≡ p → q ≡ length A + 32 * j → sent_at whole_bits u.polarity q ≡ sent_at whole_bits p (length A + 32 * j)
+  at_place u q j polarity place = ap₂ (λ (r : Polarity) (n : ℕ). sent_at whole_bits r n) polarity place
 
-record IsHeld (bits : List ℕ) (first : ℕ) (ps : List Page) : Type 0 where
-  pub receptions : List Reception
-  pub found : AreReceptions bits first receptions
-  pub pages : List (List Page)
-  pub each : AllZip (λ (r : Reception) (here : List Page). AreCaught (received bits r) here) receptions pages
-  pub all : ps ≡ flat_map (λ (here : List Page). here) pages
+  few_lost : (u : Run) → u.bit ≡ length A → u.polarity ≡ p → HasFewLost whole_bits u
+  few_lost u bit polarity =
+      let some = f.whole.0 in
+      let all = none_lost (λ j. sent_at whole_bits u.polarity (u.bit + 32 * j)) 1 16
+      (λ j low high.
+      let same = at_place u (u.bit + 32 * j) j polarity (omega (arith, bit)) in (
+        subst (λ (w : ℕ). w < 2 ^ 32) (sym (same ∙ word_of j (omega arith))) (All-get_or (λ w. w < 2 ^ 32) f.words j 0 (omega (arith, words_long)) f.fit),
+        λ far. word_kept j (omega arith) (subst HasNoneNear same far),
+      )) in
+      record { mended = all.0; each = all.1; few = omega (arith, all.2) }
 
-held : (A B : List ℕ) (ps : List Page) → IsCaptureOf B ps → IsHeld (A ++ B) (length A) ps
-held A B ps (noise quiet) = record {
-  receptions = [];
-  found = quiet_behind A B (length A) (length (A ++ B)) (length B) quiet (omega arith) (omega (arith, length-append A B));
-  pages = [];
-  each = tt;
-  all = refl;
-}
-held A B ps (sent N X R p here there quiet f last rest) =
-    let before : List ℕ = A ++ (N ++ X) in
-    let next : IsHeld (before ++ R) (length before) there = held before R there rest in
-    let end : length before ≡ behind (heard A N R p here X f) =
-    omega (arith, length-append A (N ++ X), length-append N X, batches_long A N R p here X f) in
-    let whole = joined A N R p here X f in
+  module _ (first : ℕ) (u : Run) (r : Reception) (run : IsSyncRun whole_bits first u) (is : IsReception whole_bits u r) (on : IsOn (length A) p u) where
+    least : on.k + f.batches ≤ u.batches
+    least =
+        elim (cases_lt u.batches (on.k + f.batches)) [
+          | inl less ↦
+              let e : length A + 544 * (u.batches - on.k) ≡ u.bit + 544 * u.batches = omega (arith, on.place, on.below) in
+              let there = batch_there (u.batches - on.k) (omega (arith, on.below)) in
+              absurd (run.none (subst (λ (q : Polarity). IsSynchronised whole_bits (run_end u) q) (sym on.polarity)
+              (subst (λ (n : ℕ). IsSynchronised whole_bits n p) e there)))
+          | inr more ↦ more
+        ]
+
+    least_batches : on.k + f.batches ≤ r.batches
+    least_batches = elim is.batches [ inl more ↦ omega (arith, more.1, least) | inr same ↦ omega (arith, same.1, least) ]
+
+    -- no word of it is left out
+    least_words : 17 * (on.k + f.batches) ≤ r.words
+    least_words =
+        let some = f.whole.0 in
+        elim (cases_lt r.words (17 * (on.k + f.batches))) [
+          | inl less ↦
+              elim is.words.ends [
+                | inl all ↦ absurd (omega (arith, all, less, least_batches))
+                | inr broken ↦
+                    let j : ℕ = r.words - 17 * on.k in
+                    let same = at_place u (u.bit + 32 * r.words) j on.polarity (omega (arith, on.place, broken.last, least_batches)) in
+                    absurd (word_kept j (omega (arith, less, broken.last, least_batches)) (subst HasNoneNear same broken.here))
+              ]
+          | inr more ↦ more
+        ]
+
+    -- where nothing goes on behind it, no batch follows
+    no_more_batches : NothingFollows p R → r.batches ≡ on.k + f.batches
+    no_more_batches over =
+        let some = f.whole.0 in
+        let end : u.bit + 544 * (on.k + f.batches) ≡ length A + 544 * f.batches = omega (arith, on.place) in
+        let later : u.bit + 544 * (on.k + f.batches - 1) + 2 * 544 ≡ length A + 544 * f.batches + 544 = omega (arith, on.place) in
+        let most : u.batches ≤ on.k + f.batches =
+        no_more whole_bits u.bit (on.k + f.batches) u.batches u.polarity (omega arith) run.each
+        (λ there. none_like over.ends (like_of whole_bits (length A + 544 * f.batches) p
+        (subst (λ (q : Polarity). IsSynchronised whole_bits (length A + 544 * f.batches) q) on.polarity
+        (subst (λ (n : ℕ). IsSynchronised whole_bits n u.polarity) end there))))
+        (λ bridged. none_later over.stays (subst (λ (q : Polarity). IsSynchronised whole_bits (length A + 544 * f.batches + 544) q) on.polarity
+        (subst (λ (n : ℕ). IsSynchronised whole_bits n u.polarity) later bridged.there))) in
+        let here : run_end u ≡ length A + 544 * f.batches = omega (arith, on.place, least, most) in
+        elim is.batches [
+          | inl like ↦
+              absurd (none_like over.ends (subst (λ (q : Polarity). IsLikeSynchronised whole_bits (length A + 544 * f.batches) q) on.polarity
+              (subst (λ (n : ℕ). IsLikeSynchronised whole_bits n u.polarity) here like.0)))
+          | inr same ↦ omega (arith, same.1, least, most)
+        ]
+
+    -- the words at so many places from one on
+    abbrev placed_words : (place count : ℕ) → List ℕ
+    placed_words place count = map (received_word whole_bits r) (range_with_len place count)
+
+    own_words : map (received_word whole_bits r) (range_with_len (17 * on.k) (17 * f.batches)) ≡ f.words
+    own_words =
+        same_number_lists (map (received_word whole_bits r) (range_with_len (17 * on.k) (17 * f.batches))) f.words
+        (length-map-range_with_len (received_word whole_bits r) (17 * on.k) (17 * f.batches) ∙ sym words_long)
+        (λ i below.
+        let small : i < 17 * f.batches = omega (arith, length-map-range_with_len (received_word whole_bits r) (17 * on.k) (17 * f.batches)) in
+        let polarity : r.polarity ≡ p = is.polarity ∙ on.polarity in
+        let place : r.bit + 32 * (17 * on.k + i) ≡ length A + 32 * i = omega (arith, is.bit, on.place) in
+        get_or-map-range_with_len (received_word whole_bits r) (17 * on.k) (17 * f.batches) i (17 * on.k + i) 0 small refl
+        ∙ word_read whole_bits r (17 * on.k + i) (omega (arith, least_words))
+        ∙ ap₂ (λ (q : Polarity) (n : ℕ). sent_at whole_bits q n) polarity place ∙ word_of i small)
+
+    received_are : received whole_bits r ≡ (placed_words 0 (17 * on.k)) ++ (f.words ++ (placed_words (17 * on.k + 17 * f.batches) (17 * (r.batches - (on.k + f.batches)))))
+    received_are =
+        let count : 17 * r.batches ≡ 17 * on.k + (17 * f.batches + 17 * (r.batches - (on.k + f.batches))) = omega (arith, least_batches) in
+        let start : 0 + 17 * on.k ≡ 17 * on.k = omega arith in
+        ap (λ (n : ℕ). map (received_word whole_bits r) (range_with_len 0 n)) count
+        ∙ range_two (received_word whole_bits r) 0 (17 * on.k) (17 * f.batches + 17 * (r.batches - (on.k + f.batches)))
+        ∙ ap (λ (n : ℕ). (placed_words 0 (17 * on.k)) ++ map (received_word whole_bits r) (range_with_len n (17 * f.batches + 17 * (r.batches - (on.k + f.batches))))) start
+        ∙ ap (λ (l : List ℕ). (placed_words 0 (17 * on.k)) ++ l) (range_two (received_word whole_bits r) (17 * on.k) (17 * f.batches) (17 * (r.batches - (on.k + f.batches)))
+        ∙ ap (λ (l : List ℕ). l ++ placed_words (17 * on.k + 17 * f.batches) (17 * (r.batches - (on.k + f.batches)))) own_words)
+
+    no_words_behind : NothingFollows p R → placed_words (17 * on.k + 17 * f.batches) (17 * (r.batches - (on.k + f.batches))) ≡ []
+    no_words_behind over =
+        let none : 17 * (r.batches - (on.k + f.batches)) ≡ 0 = omega (arith, no_more_batches over) in
+        ap (λ (n : ℕ). map (received_word whole_bits r) (range_with_len (17 * on.k + 17 * f.batches) n)) none
+
+    caught_of : (here : List Page) → EndsIdle (map kind_of f.codewords) ⊎ NothingFollows p R → AreCaught (received whole_bits r) here → StandAmong ps here
+    caught_of here ended g =
+        let long = length-map-range_with_len (received_word whole_bits r) 0 (17 * on.k) in
+        caught_between (placed_words 0 (17 * on.k)) f.words (placed_words (17 * on.k + 17 * f.batches) (17 * (r.batches - (on.k + f.batches)))) f.codewords ps f.are f.fit f.near f.reads here (omega (arith, long)) (omega (arith, words_long))
+        (elim ended [ inl idle ↦ inr idle | inr over ↦ inl (no_words_behind over) ])
+        (subst (λ (ws : List ℕ). AreCaught ws here) received_are g)
+
+-- ---- the pages of a transmission stand among those of the capture
+
+record IsAmongLists (bits : List ℕ) (r : Reception) (pss : List (List Page)) : Type 0 where
+  pub front : List (List Page)
+  pub here : List Page
+  pub back : List (List Page)
+  pub whole : pss ≡ front ++ here ∷ back
+  pub caught : AreCaught (received bits r) here
+
+zip_at : (bits : List ℕ) (front : List Reception) (r : Reception) (back : List Reception) (pss : List (List Page))
+    → AllZip (λ (s : Reception) (here : List Page). AreCaught (received bits s) here) (front ++ r ∷ back) pss → IsAmongLists bits r pss
+zip_at bits [] r back [] each = absurd each
+zip_at bits [] r back (ps ∷ pss) each = record { front = []; here = ps; back = pss; whole = refl; caught = each.0 }
+zip_at bits (s ∷ front) r back [] each = absurd each
+zip_at bits (s ∷ front) r back (ps ∷ pss) each =
+    let rest = zip_at bits front r back pss each.1 in
     record {
-      receptions = heard A N R p here X f ∷ next.receptions;
-      found = (
-        reception_of A N R p here X f quiet last,
-        subst (λ (n : ℕ). AreReceptions (A ++ (N ++ (X ++ R))) n next.receptions) end
-            (subst (λ (l : List ℕ). AreReceptions l (length before) next.receptions) whole next.found),
-      );
-      pages = here ∷ next.pages;
-      each = (
-        caught_of A N R p here X f,
-        subst (λ (l : List ℕ). AllZip (λ (r : Reception) (hs : List Page). AreCaught (received l r) hs) next.receptions next.pages) whole next.each,
-      );
-      all = ap (λ (l : List Page). here ++ l) next.all;
+      front = ps ∷ rest.front;
+      here = rest.here;
+      back = rest.back;
+      whole = ap (λ (l : List (List Page)). ps ∷ l) rest.whole;
+      caught = rest.caught;
     }
 
-pub shows_what_was_sent : (capture : List ℕ) (rs : List Reception) (ps qs : List Page) → IsCaptureOf (capture_bits capture) ps → HasCaught capture rs qs
-    → qs ≡ ps
-shows_what_was_sent capture rs ps qs f g =
-    let h : IsHeld (capture_bits capture) 0 ps = held [] (capture_bits capture) ps f in
-    (one_thing capture rs h.receptions qs ps g (record { found = h.found; pages = h.pages; each = h.each; all = h.all })).1
+abbrev pages_of : List (List Page) → List Page
+pages_of pss = flat_map (λ (here : List Page). here) pss
+
+pub shows_what_was_sent : (capture : List ℕ) (rs : List Reception) (ps qs : List Page) → HoldsSent (capture_bits capture) ps → HasCaught capture rs qs
+    → StandAmong ps qs
+shows_what_was_sent capture rs ps qs h g =
+    let A : List ℕ = h.before in
+    let R : List ℕ = h.after in
+    let X : List ℕ = h.batches in
+    let p : Polarity = h.polarity in
+    let f = h.received in
+    let bits : List ℕ = A ++ (X ++ R) in
+    let start : length A + 544 * 0 ≡ length A = omega arith in
+    let there = subst (λ (n : ℕ). IsSynchronised bits n p) start (batch_there A R p ps X f 0 f.whole.0) in
+    let holder = found_on bits 0 0 (length A) p rs (subst WordsFit h.whole (capture_fits capture)) there
+    (subst (λ (l : List ℕ). IsQuiet l (length A - 544) (length A)) h.whole h.quiet) (few_lost A R p ps X f) (omega arith) (omega arith)
+    (subst (λ (l : List ℕ). AreFound l 0 0 rs) h.whole g.found) in
+    let each : AllZip (λ (s : Reception) (here : List Page). AreCaught (received bits s) here) (holder.front ++ holder.reception ∷ holder.back) g.pages =
+    subst (λ (l : List Reception). AllZip (λ (s : Reception) (here : List Page). AreCaught (received bits s) here) l g.pages) holder.whole
+    (subst (λ (l : List ℕ). AllZip (λ (s : Reception) (here : List Page). AreCaught (received l s) here) rs g.pages) h.whole g.each) in
+    let lists = zip_at bits holder.front holder.reception holder.back g.pages each in
+    let mine = caught_of A R p ps X f holder.first holder.run holder.reception holder.is_run holder.is holder.on lists.here h.ended lists.caught in
+    record {
+      front = pages_of lists.front ++ mine.front;
+      back = mine.back ++ pages_of lists.back;
+      whole = g.all ∙ ap pages_of lists.whole ∙ flat_map-append (λ (here : List Page). here) lists.front (lists.here ∷ lists.back)
+          ∙ ap (λ (l : List Page). pages_of lists.front ++ (l ++ pages_of lists.back)) mine.whole
+          ∙ ap (λ (l : List Page). pages_of lists.front ++ l) (append_assoc mine.front (ps ++ mine.back) (pages_of lists.back)
+          ∙ ap (λ (l : List Page). mine.front ++ l) (append_assoc ps mine.back (pages_of lists.back)))
+          ∙ sym (append_assoc (pages_of lists.front) mine.front (ps ++ (mine.back ++ pages_of lists.back)));
+    }
 
 -- ---- a transmission itself
 

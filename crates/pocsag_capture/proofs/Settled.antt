@@ -2,7 +2,7 @@
 use Rattle.std.proofs.Common.{◌≡◌, ◌≢◌, ℕ, ◌+◌, ◌*◌, ◌/◌, ◌%◌, ◌≤◌, ◌==◌, Bool, true, false, cond, List, [], ◌∷◌, ◌++◌, length, map, All, Option, Some, None, bit_xor, count_ones, refl, sym, ap, subst, ◌∙◌, inl, inr, arith, append_assoc, eq-eqb, if◌then◌else◌}
 use Rattle.std.specs.Int.{to_be_bytes, w32}
 use Rattle.std.specs.List.{AllZip, flat_map}
-use Rattle.std.proofs.lemmas.Bool.{cases_eq, ne_eqb}
+use Rattle.std.proofs.lemmas.Bool.{cases_eq, cases_lt, le-leb, lt-leb, ne_eqb}
 use Rattle.std.proofs.lemmas.Grind.{flat_map-append}
 use Rattle.std.proofs.lemmas.List.{append-nil, length-append, map-append}
 use Rattle.std.proofs.lemmas.List.Elements.{All-nil, All-push}
@@ -14,8 +14,9 @@ use Rattle.pocsag_pages.specs.Bytes.{body_bytes, sync_word, synced, unsynced}
 use Rattle.pocsag_pages.proofs.Lengths.{unsynced_codeword, unsynced_more, unsynced_sync}
 use Rattle.pocsag_pager.specs.Shown.{IsMended, said}
 use Rattle.pocsag_capture.specs.Caught.{settled}
-use Rattle.pocsag_capture.specs.Lifted.{lost_words, mended_errors, synchronisation_errors}
-use Rattle.pocsag_capture.specs.TakenWords.{TakesWord, is_lost, stays_open, wrong_bits}
+use Rattle.pocsag_capture.specs.Lifted.{cut_pages, far_words, lost_synchronisations, mended_errors, near_errors, synchronisation_errors}
+use Rattle.pocsag_capture.specs.Lost.{lost_words}
+use Rattle.pocsag_capture.specs.TakenWords.{TakesWord, cut_by, is_lost, stays_open, wrong_bits}
 use Rattle.pocsag_capture.specs.declared.settle.Settler.{Settler}
 
 -- whether a page is open after words
@@ -44,17 +45,45 @@ stays_as b k bits message = rw message refl
 
 -- ---- counts
 
+-- what one word at the place of a synchronisation codeword adds
+near_few : (n : ℕ) → near_errors n ≤ 2
+near_few n =
+    elim (cases_lt 2 n) [
+      | inl far ↦ rw (lt-leb _ _ far) (omega arith)
+      | inr near ↦ rw (le-leb _ _ near) near
+    ]
+
+far_few : (n : ℕ) → far_words n ≤ 1
+far_few n =
+    elim (cases_lt 2 n) [
+      | inl far ↦ rw (lt-leb _ _ far) (omega arith)
+      | inr near ↦ rw (le-leb _ _ near) (omega arith)
+    ]
+
 sync_more : (j : ℕ) (ws : List ℕ) (w : ℕ) → synchronisation_errors j (ws ++ w ∷ [])
-    ≡ synchronisation_errors j ws + cond ((j + length ws) % 17 == 0) (count_ones (bit_xor sync_word w)) 0
+    ≡ synchronisation_errors j ws + cond ((j + length ws) % 17 == 0) (near_errors (count_ones (bit_xor sync_word w))) 0
 sync_more j [] w =
     let e : j + 0 ≡ j = omega arith in
     rw e (omega arith)
 sync_more j (v ∷ ws) w =
     let e : j + 1 + length ws ≡ j + length (v ∷ ws) = omega arith in
     let rest : synchronisation_errors (j + 1) (ws ++ w ∷ [])
-    ≡ synchronisation_errors (j + 1) ws + cond ((j + length (v ∷ ws)) % 17 == 0) (count_ones (bit_xor sync_word w)) 0 =
+    ≡ synchronisation_errors (j + 1) ws + cond ((j + length (v ∷ ws)) % 17 == 0) (near_errors (count_ones (bit_xor sync_word w))) 0 =
     sync_more (j + 1) ws w
-    ∙ ap (λ (n : ℕ). synchronisation_errors (j + 1) ws + cond (n % 17 == 0) (count_ones (bit_xor sync_word w)) 0) e in
+    ∙ ap (λ (n : ℕ). synchronisation_errors (j + 1) ws + cond (n % 17 == 0) (near_errors (count_ones (bit_xor sync_word w))) 0) e in
+    omega (arith, rest)
+
+far_more : (j : ℕ) (ws : List ℕ) (w : ℕ) → lost_synchronisations j (ws ++ w ∷ [])
+    ≡ lost_synchronisations j ws + cond ((j + length ws) % 17 == 0) (far_words (count_ones (bit_xor sync_word w))) 0
+far_more j [] w =
+    let e : j + 0 ≡ j = omega arith in
+    rw e (omega arith)
+far_more j (v ∷ ws) w =
+    let e : j + 1 + length ws ≡ j + length (v ∷ ws) = omega arith in
+    let rest : lost_synchronisations (j + 1) (ws ++ w ∷ [])
+    ≡ lost_synchronisations (j + 1) ws + cond ((j + length (v ∷ ws)) % 17 == 0) (far_words (count_ones (bit_xor sync_word w))) 0 =
+    far_more (j + 1) ws w
+    ∙ ap (λ (n : ℕ). lost_synchronisations (j + 1) ws + cond (n % 17 == 0) (far_words (count_ones (bit_xor sync_word w))) 0) e in
     omega (arith, rest)
 
 errors_more : (ws : List ℕ) (ms : List (Option ℕ)) (w : ℕ) (m : Option ℕ) → AllZip IsMended ws ms
@@ -66,11 +95,39 @@ errors_more (v ∷ ws) [] w m each = absurd each
 errors_more (v ∷ ws) (None ∷ ms) w m each = errors_more ws ms w m each.1
 errors_more (v ∷ ws) (Some u ∷ ms) w m each = let rest = errors_more ws ms w m each.1 in omega arith
 
-lost_more : (ms : List (Option ℕ)) (m : Option ℕ) → lost_words (ms ++ m ∷ []) ≡ lost_words ms + is_lost m
+pub lost_more : (ms : List (Option ℕ)) (m : Option ℕ) → lost_words (ms ++ m ∷ []) ≡ lost_words ms + is_lost m
 lost_more [] None = omega arith
 lost_more [] (Some v) = omega arith
 lost_more (None ∷ ms) m = let rest = lost_more ms m in omega arith
 lost_more (Some u ∷ ms) m = lost_more ms m
+
+-- pages that are cut so far
+abbrev pub cut_so_far : Bool → List (Option Kind) → ℕ
+cut_so_far b [] = 0
+cut_so_far b (m ∷ ms) = cut_by b m + cut_so_far (stays_open b m) ms
+
+cut_more : (b : Bool) (ms : List (Option Kind)) (m : Option Kind)
+    → cut_so_far b (ms ++ m ∷ []) ≡ cut_so_far b ms + cut_by (open_after_all b ms) m
+cut_more b [] m = omega arith
+cut_more b (k ∷ ms) m = let rest = cut_more (stays_open b k) ms m in omega arith
+
+pub cut_all : (b : Bool) (ms : List (Option Kind)) → cut_pages b ms ≡ cut_so_far b ms + cond (open_after_all b ms) 1 0
+cut_all b [] = omega arith
+cut_all b (None ∷ ms) = let rest = cut_all false ms in omega arith
+cut_all b (Some Idle ∷ ms) = let rest = cut_all false ms in omega arith
+cut_all b (Some (Address high function) ∷ ms) = let rest = cut_all true ms in omega arith
+cut_all b (Some (Message bits) ∷ ms) = let rest = cut_all b ms in omega arith
+
+pub cut_open : (b : Bool) (n : ℕ) → b ≡ true → n + 1 ≡ n + cut_by b None
+cut_open b n e = rw e refl
+
+pub cut_closed : (b : Bool) (n : ℕ) → b ≡ false → n ≡ n + cut_by b None
+cut_closed b n e = rw e (omega arith)
+
+few_cut : (b : Bool) (m : Option Kind) → cut_by b m ≤ 1
+few_cut true None = omega arith
+few_cut false None = omega arith
+few_cut b (Some k) = omega arith
 
 -- ---- bytes
 
@@ -106,14 +163,16 @@ pub record IsSettling (words : List ℕ) (s : Settler) (before now : List ℕ) :
   pub kinds : map kind_of codewords ≡ settled false (map said mended)
   pub open_page : s.is_open ≡ open_after_all false (map said mended)
   pub bits : s.corrected ≡ synchronisation_errors 0 words + mended_errors (unsynced 0 words) mended
-  pub beyond : s.lost ≡ lost_words mended
+  pub beyond : s.lost ≡ lost_synchronisations 0 words + lost_words mended
   pub long : length codewords + (length words + 16) / 17 ≡ length words
   pub bytes : now ≡ before ++ (body_bytes codewords ++ begun_batch (length words))
+  pub cuts : s.cut ≡ cut_so_far false (map said mended)
+  pub few_cuts : s.cut ≤ length words
   pub few_bits : s.corrected ≤ 32 * length words
   pub few_lost : s.lost ≤ length words
 
-pub settling_none : (s : Settler) (before : List ℕ) → s.is_open ≡ false → s.corrected ≡ 0 → s.lost ≡ 0 → IsSettling [] s before before
-settling_none s before closed none zero = record {
+pub settling_none : (s : Settler) (before : List ℕ) → s.is_open ≡ false → s.corrected ≡ 0 → s.lost ≡ 0 → s.cut ≡ 0 → IsSettling [] s before before
+settling_none s before closed none zero uncut = record {
   codewords = [];
   mended = [];
   are = All-nil IsCodeword;
@@ -122,13 +181,15 @@ settling_none s before closed none zero = record {
   open_page = closed;
   bits = none;
   beyond = zero;
+  cuts = uncut;
+  few_cuts = omega arith;
   long = omega arith;
   bytes = sym (append-nil before);
   few_bits = omega arith;
   few_lost = omega arith;
 }
 
-mended_push : (ws : List ℕ) (ms : List (Option ℕ)) (w : ℕ) (m : Option ℕ) → AllZip IsMended ws ms → IsMended w m
+pub mended_push : (ws : List ℕ) (ms : List (Option ℕ)) (w : ℕ) (m : Option ℕ) → AllZip IsMended ws ms → IsMended w m
     → AllZip IsMended (ws ++ w ∷ []) (ms ++ m ∷ [])
 mended_push [] [] w m each here = (here, tt)
 mended_push [] (n ∷ ms) w m each here = absurd each
@@ -166,15 +227,22 @@ module _ (words : List ℕ) (s t : Settler) (before now after : List ℕ) (w : �
   count_more : length (words ++ w ∷ []) ≡ length words + 1
   count_more = omega (arith, length-append words (w ∷ []))
 
-  settling_sync : length words % 17 ≡ 0 → t.corrected ≡ s.corrected + count_ones (bit_xor sync_word w) → count_ones (bit_xor sync_word w) ≤ 32
-      → t.is_open ≡ s.is_open → t.lost ≡ s.lost → after ≡ now ++ to_be_bytes w32 sync_word → IsSettling (words ++ w ∷ []) t before after
-  settling_sync place bits few is_open lost bytes =
+  settling_sync : length words % 17 ≡ 0 → t.corrected ≡ s.corrected + near_errors (count_ones (bit_xor sync_word w))
+      → t.is_open ≡ s.is_open → t.lost ≡ s.lost + far_words (count_ones (bit_xor sync_word w)) → t.cut ≡ s.cut
+      → after ≡ now ++ to_be_bytes w32 sync_word
+      → IsSettling (words ++ w ∷ []) t before after
+  settling_sync place bits is_open lost cut bytes =
+      let wrong = count_ones (bit_xor sync_word w) in
+      let few = near_few wrong in
+      let one_lost = far_few wrong in
       let same : unsynced 0 (words ++ w ∷ []) ≡ unsynced 0 words =
       unsynced_more 0 words (w ∷ []) ∙ ap (λ (l : List ℕ). unsynced 0 words ++ l) (unsynced_sync (0 + length words) w (omega arith))
       ∙ append-nil (unsynced 0 words) in
       let here : (0 + length words) % 17 ≡ 0 = omega arith in
-      let errors : synchronisation_errors 0 (words ++ w ∷ []) ≡ synchronisation_errors 0 words + count_ones (bit_xor sync_word w) =
+      let errors : synchronisation_errors 0 (words ++ w ∷ []) ≡ synchronisation_errors 0 words + near_errors wrong =
       sync_more 0 words w ∙ rw (eq-eqb _ _ here) refl in
+      let missing : lost_synchronisations 0 (words ++ w ∷ []) ≡ lost_synchronisations 0 words + far_words wrong =
+      far_more 0 words w ∙ rw (eq-eqb _ _ here) refl in
       let one : length (words ++ w ∷ []) % 17 ≡ 1 = omega (arith, count_more) in
       let not_one : length words % 17 ≢ 1 = λ wrong. absurd (omega arith) in
       let none : begun_batch (length words) ≡ [] = rw (ne_eqb _ _ not_one) refl in
@@ -186,16 +254,18 @@ module _ (words : List ℕ) (s t : Settler) (before now after : List ℕ) (w : �
         each = subst (λ (l : List ℕ). AllZip IsMended l f.mended) (sym same) f.each;
         kinds = f.kinds;
         open_page = is_open ∙ f.open_page;
-        bits = bits ∙ ap (λ (n : ℕ). n + count_ones (bit_xor sync_word w)) f.bits
+        bits = bits ∙ ap (λ (n : ℕ). n + near_errors wrong) f.bits
             ∙ (let e = ap (λ (l : List ℕ). mended_errors l f.mended) same in omega (arith, errors, e));
-        beyond = lost ∙ f.beyond;
+        beyond = lost ∙ ap (λ (n : ℕ). n + far_words wrong) f.beyond ∙ omega (arith, missing);
         long = omega (arith, count_more, f.long);
         bytes = bytes ∙ ap (λ (l : List ℕ). l ++ to_be_bytes w32 sync_word) (f.bytes ∙ ap (λ (l : List ℕ). before ++ (body_bytes f.codewords ++ l)) none
             ∙ ap (λ (l : List ℕ). before ++ l) (append-nil (body_bytes f.codewords)))
             ∙ append_assoc before (body_bytes f.codewords) (to_be_bytes w32 sync_word)
             ∙ ap (λ (l : List ℕ). before ++ (body_bytes f.codewords ++ l)) (sym begun);
-        few_bits = omega (arith, count_more, f.few_bits);
-        few_lost = omega (arith, count_more, f.few_lost);
+        cuts = cut ∙ f.cuts;
+        few_cuts = omega (arith, count_more, f.few_cuts);
+        few_bits = omega (arith, count_more, f.few_bits, bits, few);
+        few_lost = omega (arith, count_more, f.few_lost, lost, one_lost);
       }
 
   settling_codeword : (v : ℕ) → length words % 17 ≢ 0 → TakesWord s t w v → after ≡ now ++ to_be_bytes w32 v
@@ -208,6 +278,8 @@ module _ (words : List ℕ) (s t : Settler) (before now after : List ℕ) (w : �
       unsynced_more 0 words (w ∷ []) ∙ ap (λ (l : List ℕ). unsynced 0 words ++ l) (unsynced_codeword (0 + length words) w inside) in
       let errors : synchronisation_errors 0 (words ++ w ∷ []) ≡ synchronisation_errors 0 words =
       sync_more 0 words w ∙ rw (ne_eqb _ _ inside) (omega arith) in
+      let missing : lost_synchronisations 0 (words ++ w ∷ []) ≡ lost_synchronisations 0 words =
+      far_more 0 words w ∙ rw (ne_eqb _ _ inside) (omega arith) in
       let mended_now : map said (f.mended ++ takes.mended ∷ []) ≡ map said f.mended ++ said takes.mended ∷ [] =
       map-append said f.mended (takes.mended ∷ []) in
       let not_one : length (words ++ w ∷ []) % 17 ≢ 1 = λ wrong. place (omega (arith, count_more)) in
@@ -229,24 +301,30 @@ module _ (words : List ℕ) (s t : Settler) (before now after : List ℕ) (w : �
             ∙ (let e = errors_more (unsynced 0 words) f.mended w takes.mended f.each in
             let m = ap (λ (l : List ℕ). mended_errors l (f.mended ++ takes.mended ∷ [])) same in
             omega (arith, errors, e, m, f.bits));
-        beyond = takes.beyond ∙ ap (λ (n : ℕ). n + is_lost takes.mended) f.beyond ∙ sym (lost_more f.mended takes.mended);
+        beyond = takes.beyond ∙ (let more = lost_more f.mended takes.mended in omega (arith, f.beyond, missing, more));
         long = omega (arith, count_more, f.long, length-append f.codewords (v ∷ []));
         bytes = bytes ∙ ap (λ (l : List ℕ). l ++ to_be_bytes w32 v) f.bytes
             ∙ bytes_with f.codewords (length words) v before place f.long
             ∙ ap (λ (l : List ℕ). before ++ l) (sym (append-nil (body_bytes (f.codewords ++ v ∷ [])))
             ∙ ap (λ (l : List ℕ). body_bytes (f.codewords ++ v ∷ []) ++ l) (sym none));
+        cuts = takes.cuts ∙ ap (λ (n : ℕ). n + cut_by s.is_open (said takes.mended)) f.cuts
+            ∙ ap (λ (b : Bool). cut_so_far false (map said f.mended) + cut_by b (said takes.mended)) f.open_page
+            ∙ sym (cut_more false (map said f.mended) (said takes.mended)) ∙ ap (cut_so_far false) (sym mended_now);
+        few_cuts = (let one = few_cut s.is_open (said takes.mended) in omega (arith, count_more, f.few_cuts, takes.cuts));
         few_bits = omega (arith, count_more, f.few_bits, takes.bits);
         few_lost = omega (arith, count_more, f.few_lost, takes.beyond);
       }
 
   -- either
   pub settling_more : (v : ℕ) → (length words % 17 ≡ 0 → v ≡ sync_word)
-      → (length words % 17 ≡ 0 → t.corrected ≡ s.corrected + count_ones (bit_xor sync_word w)) → count_ones (bit_xor sync_word w) ≤ 32
-      → (length words % 17 ≡ 0 → t.is_open ≡ s.is_open) → (length words % 17 ≡ 0 → t.lost ≡ s.lost)
+      → (length words % 17 ≡ 0 → t.corrected ≡ s.corrected + near_errors (count_ones (bit_xor sync_word w)))
+      → (length words % 17 ≡ 0 → t.is_open ≡ s.is_open)
+      → (length words % 17 ≡ 0 → t.lost ≡ s.lost + far_words (count_ones (bit_xor sync_word w)))
+      → (length words % 17 ≡ 0 → t.cut ≡ s.cut)
       → (length words % 17 ≢ 0 → TakesWord s t w v) → after ≡ now ++ to_be_bytes w32 v → IsSettling (words ++ w ∷ []) t before after
-  settling_more v is bits few is_open lost takes bytes =
+  settling_more v is bits is_open lost cut takes bytes =
       elim (cases_eq (length words % 17) 0) [
-        | inl sync ↦ settling_sync sync (bits sync) few (is_open sync) (lost sync)
+        | inl sync ↦ settling_sync sync (bits sync) (is_open sync) (lost sync) (cut sync)
             (bytes ∙ ap (λ (n : ℕ). now ++ to_be_bytes w32 n) (is sync))
         | inr other ↦ settling_codeword v other (takes other) bytes
       ]

@@ -25,7 +25,7 @@ AreCaught words ps = HoldsOnceMended words (λ ms. Reads (settled false ms) 0 ps
 
 -- *Caught*: the bytes of a capture hold these receptions, and these are the pages of all of them in order.
 pub record HasCaught (capture : List ℕ) (receptions : List Reception) (ps : List Page) : Type 0 where
-  pub found : AreReceptions (capture_bits capture) 0 receptions
+  pub found : AreReceptions (capture_bits capture) receptions
   pub pages : List (List Page)
   pub each : AllZip (λ r here. AreCaught (received (capture_bits capture) r) here) receptions pages
   pub all : ps ≡ flat_map (λ here. here) pages

@@ -2,6 +2,8 @@ pub mod Bits
 pub mod Caught
 pub mod Lifted
 pub mod LiftedBytes
+pub mod Lost
 pub mod Receptions
+pub mod Runs
 pub mod Sent
 pub mod TakenWords

@@ -20,7 +20,7 @@ use Rattle.pocsag_capture.specs.declared.reception.Reception.{Reception}
 pub record IsLift (bits : List ℕ) (heard : Heard) (codewords : List ℕ) : Type 0 where
   pub are : All IsCodeword codewords
   pub long : length codewords ≡ 16 * heard.reception.batches
-  pub lifted : AreLifted (received bits heard.reception) codewords heard.corrected heard.lost
+  pub lifted : AreLifted (received bits heard.reception) codewords heard.corrected heard.lost heard.cut
 
 -- The batches of a reception as it is lifted were put behind bytes.
 pub record PutsLift (bits : List ℕ) (heard : Heard) (before after : List ℕ) : Type 0 where
@@ -35,10 +35,10 @@ pub record PutsLifts (bits : List ℕ) (receptions : List Reception) (heard : Li
   pub same : map (λ (h : Heard). h.reception) heard ≡ receptions
   pub bytes : after ≡ before ++ flat_map body_bytes codewords
 
--- So many bits of a reception were wrong, and so many of its words are past repair.
+-- So many bits of a reception were wrong, and so many of its words are lost, and so many of its pages are cut.
 pub record TellsHeard (bits : List ℕ) (heard : Heard) : Type 0 where
   pub codewords : List ℕ
-  pub lifted : AreLifted (received bits heard.reception) codewords heard.corrected heard.lost
+  pub lifted : AreLifted (received bits heard.reception) codewords heard.corrected heard.lost heard.cut
 
 -- *Lifted*: the bytes are a transmission that reads as the pages that are caught of a capture, and its receptions are told.
 pub record LiftsAll (capture : List ℕ) (lifted : Lifted) : Type 0 where
@@ -52,7 +52,7 @@ pub record LiftsReception (capture : List ℕ) (reception : Reception) (heard : 
   pub of : heard.reception ≡ reception
   pub codewords : List ℕ
   pub sent : Sent bytes codewords
-  pub words : AreLifted (received (capture_bits capture) heard.reception) codewords heard.corrected heard.lost
+  pub words : AreLifted (received (capture_bits capture) heard.reception) codewords heard.corrected heard.lost heard.cut
   pub pages : List Page
   pub caught : AreCaught (received (capture_bits capture) heard.reception) pages
   pub reads : ReadsAs bytes pages
@@ -60,7 +60,7 @@ pub record LiftsReception (capture : List ℕ) (reception : Reception) (heard : 
 -- The same of the reception of a number, counted from 1.
 pub record LiftsOne (capture : List ℕ) (nth : ℕ) (heard : List Heard) (bytes : List ℕ) : Type 0 where
   pub receptions : List Reception
-  pub found : AreReceptions (capture_bits capture) 0 receptions
+  pub found : AreReceptions (capture_bits capture) receptions
   pub counted : 1 ≤ nth
   pub reception : Reception
   pub is : slice_get receptions (nth - 1) ≡ Some reception
@@ -78,7 +78,7 @@ ExplainsUnlifted capture _ = ⊥
 pub record IsNoneOf (capture : List ℕ) (nth asked found : ℕ) : Type 0 where
   pub is_asked : asked ≡ nth
   pub receptions : List Reception
-  pub are : AreReceptions (capture_bits capture) 0 receptions
+  pub are : AreReceptions (capture_bits capture) receptions
   pub count : found ≡ length receptions
   pub outside : (nth ≡ 0) ⊎ (length receptions < nth)
 

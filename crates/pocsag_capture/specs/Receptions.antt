@@ -1,13 +1,15 @@
 -- Which transmissions a capture holds (this project's own), and the words of each.
-use Rattle.std.specs.Prelude.{ℕ, ◌+◌, ◌*◌, ◌<◌, ◌≤◌, nat_le, if◌then◌else◌, List, [], ◌∷◌, length, map}
-use Rattle.std.specs.List.{range_with_len}
-use Rattle.pocsag_words.specs.Codeword.{IsNear}
+use Rattle.std.specs.Prelude.{◌≡◌, ◌⊎◌, ℕ, ◌+◌, ◌-◌, ◌*◌, ◌<◌, ◌≤◌, nat_le, nat_lt, if◌then◌else◌, List, [], ◌∷◌, length, map, Option, bit_xor, count_ones}
+use Rattle.std.specs.List.{AllZip, range_with_len}
+use Rattle.pocsag_words.specs.Codeword.{HasNoneNear, IsNear}
 use Rattle.pocsag_words.specs.Frame.{batch_words}
-use Rattle.pocsag_words.specs.Kinds.{idle_word}
 use Rattle.pocsag_pages.specs.Bytes.{sync_word}
+use Rattle.pocsag_pager.specs.Shown.{IsMended}
 use Rattle.pocsag_capture.specs.Bits.{as_sent, word_on}
+use Rattle.pocsag_capture.specs.Lost.{lost_words}
 use Rattle.pocsag_capture.specs.declared.polarity.Polarity.{Polarity}
 use Rattle.pocsag_capture.specs.declared.reception.Reception.{Reception}
+use Rattle.pocsag_capture.specs.declared.reception.Run.{Run}
 
 -- The bits of a batch: seventeen words of 32 bits.
 abbrev pub batch_bits : ℕ
@@ -18,34 +20,117 @@ pub record IsSynchronised (bits : List ℕ) (bit : ℕ) (polarity : Polarity) : 
   pub within : bit + 32 ≤ length bits
   pub near : IsNear sync_word (as_sent polarity (word_on bits bit))
 
+-- The same in at most seven.
+pub record IsLikeSynchronised (bits : List ℕ) (bit : ℕ) (polarity : Polarity) : Type 0 where
+  pub within : bit + 32 ≤ length bits
+  pub like : count_ones (bit_xor sync_word (as_sent polarity (word_on bits bit))) ≤ 7
+
 -- No bit from the first on, before the last, begins a synchronisation codeword in either polarity.
 abbrev pub IsQuiet : (bits : List ℕ) → (first last : ℕ) → Type 0
 IsQuiet bits first last = (bit : ℕ) → first ≤ bit → bit < last → (polarity : Polarity) → ¬ IsSynchronised bits bit polarity
+
+-- The synchronisation codeword after the next is in step with the one at this bit, and no other begins between the two.
+pub record IsBridged (bits : List ℕ) (bit : ℕ) (polarity : Polarity) : Type 0 where
+  pub quiet : IsQuiet bits (bit + 1) (bit + 2 * batch_bits)
+  pub there : IsSynchronised bits (bit + 2 * batch_bits) polarity
+
+-- In step: a synchronisation codeword begins here, or it is the one that cannot be recognised between two that can.
+abbrev pub IsInStep : (bits : List ℕ) → (bit : ℕ) → Polarity → Type 0
+IsInStep bits bit polarity = IsSynchronised bits bit polarity ⊎ IsBridged bits (bit - batch_bits) polarity
+
+-- Where the last synchronisation codeword of a run begins, and the bit behind its batch.
+abbrev pub last_sync : Run → ℕ
+last_sync u = u.bit + batch_bits * (u.batches - 1)
+
+abbrev pub run_end : Run → ℕ
+run_end u = u.bit + batch_bits * u.batches
+
+-- *Run*: synchronisation codewords in step. The first from a bit on, at any bit and in either polarity, begins it, and behind
+-- the last neither the next nor the one after it is in step.
+pub record IsSyncRun (bits : List ℕ) (first : ℕ) (u : Run) : Type 0 where
+  pub later : first ≤ u.bit
+  pub quiet : IsQuiet bits first u.bit
+  pub some : 0 < u.batches
+  pub begins : IsSynchronised bits u.bit u.polarity
+  pub each : (k : ℕ) → k < u.batches → IsInStep bits (u.bit + batch_bits * k) u.polarity
+  pub last : IsSynchronised bits (last_sync u) u.polarity
+  pub none : ¬ IsSynchronised bits (run_end u) u.polarity
+  pub over : ¬ IsBridged bits (last_sync u) u.polarity
+
+-- A word past repair, which stands for each word that was expected and not read.
+abbrev pub unread_word : ℕ
+unread_word = 0x0000000b
+
+-- The word from a bit on as it was sent; one that the capture's end cuts off is not read.
+abbrev pub sent_at : (bits : List ℕ) → Polarity → (bit : ℕ) → ℕ
+sent_at bits polarity bit = if nat_le (bit + 32) (length bits) then as_sent polarity (word_on bits bit) else unread_word
+
+-- At most five of the sixteen words behind a synchronisation codeword are past repair.
+pub record HasFewLost (bits : List ℕ) (u : Run) : Type 0 where
+  pub mended : List (Option ℕ)
+  pub each : AllZip IsMended (map (λ j. sent_at bits u.polarity (u.bit + 32 * j)) (range_with_len 1 16)) mended
+  pub few : lost_words mended ≤ 5
+
+-- On the air: a run that has a second synchronisation codeword, or one of whose batch few words are lost and which does not begin
+-- inside the last batch of the one before it, which ends at a held bit; 31 bits may be missing there.
+abbrev pub IsOnAir : (bits : List ℕ) → (held : ℕ) → Run → Type 0
+IsOnAir bits held u = (1 < u.batches) ⊎ ((held ≤ u.bit + 31) × HasFewLost bits u)
+
+-- The batches of a run, and one more where the word behind them differs from the synchronisation codeword in at most seven bits.
+abbrev pub HasBatches : (bits : List ℕ) → Run → (batches : ℕ) → Type 0
+HasBatches bits u batches =
+    (IsLikeSynchronised bits (run_end u) u.polarity × (batches ≡ u.batches + 1))
+    ⊎ ((¬ IsLikeSynchronised bits (run_end u) u.polarity) × (batches ≡ u.batches))
+
+-- In the last of so many batches from a bit on the word at this place and the next are past repair.
+pub record IsBreak (bits : List ℕ) (polarity : Polarity) (bit batches place : ℕ) : Type 0 where
+  pub last : batch_words * (batches - 1) < place
+  pub two : place + 1 < batch_words * batches
+  pub here : HasNoneNear (sent_at bits polarity (bit + 32 * place))
+  pub next : HasNoneNear (sent_at bits polarity (bit + 32 * (place + 1)))
+
+-- So many words are read of these batches: up to the first two past repair in a row of the last batch.
+pub record IsReadTo (bits : List ℕ) (polarity : Polarity) (bit batches words : ℕ) : Type 0 where
+  pub most : words ≤ batch_words * batches
+  pub unbroken : (place : ℕ) → place < words → ¬ IsBreak bits polarity bit batches place
+  pub ends : (words ≡ batch_words * batches) ⊎ IsBreak bits polarity bit batches words
+
+-- *Reception* of a run: its batches, and those of their words that are read.
+pub record IsReception (bits : List ℕ) (u : Run) (r : Reception) : Type 0 where
+  pub bit : r.bit ≡ u.bit
+  pub polarity : r.polarity ≡ u.polarity
+  pub batches : HasBatches bits u r.batches
+  pub words : IsReadTo bits u.polarity u.bit r.batches r.words
+
+-- The receptions from a bit on, where the one before them ends at a held bit: those of the runs that are on the air. Each run is
+-- searched behind the last synchronisation codeword of the run before it, and behind the last run there is none.
+pub data AreFound (bits : List ℕ) : (first held : ℕ) → List Reception → Type 0 where
+  nothing : {first held : ℕ} → IsQuiet bits first (length bits) → AreFound bits first held []
+  counted :
+      {first held : ℕ} (u : Run) (r : Reception) (rs : List Reception) →
+      IsSyncRun bits first u →
+      IsOnAir bits held u →
+      IsReception bits u r →
+      AreFound bits (last_sync u + 1) (run_end u) rs →
+      AreFound bits first held (r ∷ rs)
+  passed :
+      {first held : ℕ} (u : Run) (rs : List Reception) →
+      IsSyncRun bits first u →
+      (¬ IsOnAir bits held u) →
+      AreFound bits (last_sync u + 1) held rs →
+      AreFound bits first held rs
+
+-- The receptions of the bits of a capture.
+abbrev pub AreReceptions : (bits : List ℕ) → List Reception → Type 0
+AreReceptions bits rs = AreFound bits 0 0 rs
 
 -- The bit behind a reception's last batch.
 abbrev pub behind : Reception → ℕ
 behind r = r.bit + batch_bits * r.batches
 
--- *Reception*: the first synchronisation codeword from a bit on, at any bit and in either polarity, begins it. Its batches
--- follow one another while each begins with a synchronisation codeword in its polarity.
-pub record IsReception (bits : List ℕ) (first : ℕ) (r : Reception) : Type 0 where
-  pub later : first ≤ r.bit
-  pub quiet : IsQuiet bits first r.bit
-  pub some : 0 < r.batches
-  pub batches : (k : ℕ) → k < r.batches → IsSynchronised bits (r.bit + batch_bits * k) r.polarity
-  pub last : ¬ IsSynchronised bits (behind r) r.polarity
-
--- The receptions from a bit on: each is searched behind the last batch of the one before it, and behind the last of them
--- there is none.
-abbrev pub AreReceptions : (bits : List ℕ) → (first : ℕ) → List Reception → Type 0
-AreReceptions bits first [] = IsQuiet bits first (length bits)
-AreReceptions bits first (r ∷ rs) = IsReception bits first r × AreReceptions bits (behind r) rs
-
--- A word of a reception by its place, its first synchronisation codeword being at 0. A word that the capture's end cuts off,
--- and each one behind it, counts as idle.
+-- A word of a reception by its place, its first synchronisation codeword being at 0.
 abbrev pub received_word : (bits : List ℕ) → Reception → (place : ℕ) → ℕ
-received_word bits r place =
-    if nat_le (r.bit + 32 * place + 32) (length bits) then as_sent r.polarity (word_on bits (r.bit + 32 * place)) else idle_word
+received_word bits r place = if nat_lt place r.words then sent_at bits r.polarity (r.bit + 32 * place) else unread_word
 
 -- The words of a reception: those of its batches.
 abbrev pub received : (bits : List ℕ) → Reception → List ℕ

@@ -1,13 +1,15 @@
--- A capture of transmissions that were sent (this project's own).
-use Rattle.std.specs.Prelude.{◌≡◌, ℕ, ◌^◌, ◌<◌, List, [], ◌++◌, length, map, All}
+-- Captures that hold what was sent (this project's own).
+use Rattle.std.specs.Prelude.{◌≡◌, ◌⊎◌, ℕ, ◌-◌, ◌^◌, ◌<◌, List, ◌++◌, length, map, All}
 use Rattle.std.specs.List.{AllZip, flat_map}
 use Rattle.pocsag_words.specs.Codeword.{IsCodeword, IsNear}
+use Rattle.pocsag_words.specs.Kinds.{kind_of}
 use Rattle.pocsag_pages.specs.declared.page.Page.{Page}
 use Rattle.pocsag_pages.specs.Bytes.{synced}
-use Rattle.pocsag_pages.specs.Reading.{IsBatchList, ReadsWords}
+use Rattle.pocsag_pages.specs.Reading.{EndsIdle, IsBatchList, ReadsWords}
+use Rattle.pocsag_decode.specs.Faults.{ReadsAs}
 use Rattle.pocsag_text.specs.Bits.{high_first}
 use Rattle.pocsag_capture.specs.Bits.{as_sent}
-use Rattle.pocsag_capture.specs.Receptions.{IsQuiet, IsSynchronised}
+use Rattle.pocsag_capture.specs.Receptions.{IsLikeSynchronised, IsQuiet, IsSynchronised}
 use Rattle.pocsag_capture.specs.declared.polarity.Polarity.{Polarity}
 
 -- These bits are received of batches that read as these pages: each word, synchronisation codewords included, with at most
@@ -23,15 +25,33 @@ pub record IsReceived (polarity : Polarity) (ps : List Page) (bits : List ℕ) :
   pub near : AllZip IsNear (synced 0 codewords) words
   pub sent : bits ≡ flat_map (high_first 32) (map (as_sent polarity) words)
 
--- *Capture of what was sent*: noise, the batches of a transmission, noise and so on. No bit of the noise begins 32 bits that
--- differ from the synchronisation codeword in at most two, in either polarity, and none that do in its polarity follow the
--- last batch of a transmission. Preambles are noise.
-pub data IsCaptureOf : (bits : List ℕ) → List Page → Type 0 where
-  noise : {bits : List ℕ} → IsQuiet bits 0 (length bits) → IsCaptureOf bits []
-  sent :
-      (before batches after : List ℕ) (polarity : Polarity) (ps qs : List Page) →
-      IsQuiet (before ++ (batches ++ after)) 0 (length before) →
-      IsReceived polarity ps batches →
-      ¬ IsSynchronised after 0 polarity →
-      IsCaptureOf after qs →
-      IsCaptureOf (before ++ (batches ++ after)) (ps ++ qs)
+-- Nothing goes on behind a transmission: in its polarity no 32 bits that differ from the synchronisation codeword in at most
+-- seven follow its last batch, and none that differ in at most two follow one batch later.
+pub record NothingFollows (polarity : Polarity) (after : List ℕ) : Type 0 where
+  pub ends : ¬ IsLikeSynchronised after 0 polarity
+  pub stays : ¬ IsSynchronised after 544 polarity
+
+-- *A capture that holds a sent transmission*: its batches as they were received, with any bits before and after. No bit of the
+-- 544 before it begins 32 bits that differ from the synchronisation codeword in at most two, in either polarity. Its last
+-- codeword is idle, or nothing goes on behind it.
+pub record HoldsSent (bits : List ℕ) (ps : List Page) : Type 0 where
+  pub before : List ℕ
+  pub batches : List ℕ
+  pub after : List ℕ
+  pub whole : bits ≡ before ++ (batches ++ after)
+  pub polarity : Polarity
+  pub received : IsReceived polarity ps batches
+  pub quiet : IsQuiet bits (length before - 544) (length before)
+  pub ended : EndsIdle (map kind_of received.codewords) ⊎ NothingFollows polarity after
+
+-- Pages stand among others, one behind the other.
+pub record StandAmong (ps qs : List Page) : Type 0 where
+  pub front : List Page
+  pub back : List Page
+  pub whole : qs ≡ front ++ (ps ++ back)
+
+-- The bytes are a transmission that reads as pages among which these are.
+pub record ReadsAmong (bytes : List ℕ) (ps : List Page) : Type 0 where
+  pub pages : List Page
+  pub among : StandAmong ps pages
+  pub reads : ReadsAs bytes pages

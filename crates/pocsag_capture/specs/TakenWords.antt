@@ -1,5 +1,5 @@
 -- What one word changes.
-use Rattle.std.specs.Prelude.{◌≡◌, ℕ, ◌+◌, Bool, true, false, [], ◌∷◌, Option, Some, None, bit_xor, count_ones}
+use Rattle.std.specs.Prelude.{◌≡◌, ℕ, ◌+◌, if◌then◌else◌, Bool, true, false, [], ◌∷◌, Option, Some, None, bit_xor, count_ones}
 use Rattle.pocsag_words.specs.Codeword.{IsCodeword}
 use Rattle.pocsag_words.specs.Kinds.{kind_of}
 use Rattle.pocsag_words.specs.declared.codeword.Kind.{Kind}
@@ -24,6 +24,11 @@ abbrev pub is_lost : Option ℕ → ℕ
 is_lost None = 1
 is_lost (Some v) = 0
 
+-- How many pages end at a word past repair.
+abbrev pub cut_by : (is_open : Bool) → Option Kind → ℕ
+cut_by is_open None = if is_open then 1 else 0
+cut_by is_open (Some k) = 0
+
 -- The word was taken and is settled as this codeword.
 pub record TakesWord (before after : Settler) (word codeword : ℕ) : Type 0 where
   pub mended : Option ℕ
@@ -33,3 +38,4 @@ pub record TakesWord (before after : Settler) (word codeword : ℕ) : Type 0 whe
   pub open_after : after.is_open ≡ stays_open before.is_open (said mended)
   pub bits : after.corrected ≡ before.corrected + wrong_bits word mended
   pub beyond : after.lost ≡ before.lost + is_lost mended
+  pub cuts : after.cut ≡ before.cut + cut_by before.is_open (said mended)

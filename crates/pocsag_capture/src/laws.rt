@@ -6,14 +6,14 @@ ghost use Rattle.pocsag_decode.specs.Faults.{ReadsAs};
 ghost use Rattle.pocsag_pager.specs.Shown.{AreShown};
 ghost use Rattle.pocsag_capture.specs.Bits.{capture_bits};
 ghost use Rattle.pocsag_capture.specs.Caught.{AreCaught, HasCaught};
-ghost use Rattle.pocsag_capture.specs.Sent.{IsCaptureOf};
+ghost use Rattle.pocsag_capture.specs.Sent.{StandAmong, HoldsSent};
 ghost use Rattle.pocsag_capture.specs.declared.reception.Reception.{Reception};
 
-/// *A capture that holds sent transmissions shows their pages*: those of each, one behind the other, whatever the bits
-/// and the polarities are at which they begin, and with up to two wrong bits in each word.
+/// *A capture that holds a sent transmission shows its pages*, whole and one behind the other, whatever else it holds,
+/// whatever the bit and the polarity are at which it begins, and with up to two wrong bits in each word.
 pub fn captures_show_what_was_sent()
     ensures { (capture : List ℕ) (receptions : List Reception) (ps qs : List Page) →
-        IsCaptureOf (capture_bits capture) ps → HasCaught capture receptions qs → qs ≡ ps }
+        HoldsSent (capture_bits capture) ps → HasCaught capture receptions qs → StandAmong ps qs }
 {}
 
 /// Of what is caught of words the pages of an address are those that its pager shows of them; and what the bytes of a

@@ -2,21 +2,20 @@
 ghost use Rattle.std.specs.Prelude.{◌≡◌, ◌⊎◌, ℕ, ◌+◌, ◌-◌, ◌*◌, ◌^◌, ◌<◌, ◌≤◌, List, [], ◌∷◌, ◌++◌, All, Some, length, map, replicate, slice_get, IfErr, IfNone, IfOk, IfSome, OnOk};
 ghost use Rattle.pocsag_words.specs.Frame.{input_limit, preamble_byte, preamble_length};
 ghost use Rattle.pocsag_pages.specs.declared.page.Page.{Page};
-ghost use Rattle.pocsag_decode.specs.Faults.{ReadsAs};
 ghost use Rattle.pocsag_capture.specs.Bits.{capture_bits};
 ghost use Rattle.pocsag_capture.specs.LiftedBytes.{ExplainsNone, ExplainsUnlifted, LiftsAll, LiftsOne, LiftsReception, PutsLift, PutsLifts};
-ghost use Rattle.pocsag_capture.specs.Receptions.{AreReceptions, behind, received_word};
-ghost use Rattle.pocsag_capture.specs.Sent.{IsCaptureOf};
+ghost use Rattle.pocsag_capture.specs.Receptions.{AreReceptions, behind};
+ghost use Rattle.pocsag_capture.specs.Sent.{HoldsSent, ReadsAmong};
 ghost use Rattle.pocsag_capture.specs.declared.reception.Heard.{Heard};
 ghost use Rattle.pocsag_capture.specs.declared.reception.Reception.{Reception};
 
-use crate::bits::word_on;
 use crate::fault::CaptureFault;
 use crate::laws::captures_show_what_was_sent;
 use crate::polarity::Polarity;
+use crate::reading::received_word;
 use crate::reception::{Heard, Reception};
 use crate::search::receptions;
-use crate::settle::{BATCH, IDLE_WORD, Settler};
+use crate::settle::{BATCH, Settler};
 use pocsag_words::{INPUT_LIMIT, PREAMBLE_BYTE, PREAMBLE_BYTES};
 use std::alloc::{AllocError, Global};
 
@@ -27,20 +26,6 @@ pub struct Lifted {
     pub bytes: Vec<u8>,
     /// The receptions that it is lifted from.
     pub heard: Vec<Heard>,
-}
-
-// A word of a reception by its place.
-#[inline(always)]
-fn received_word(capture: &[u8], reception: Reception, place: u64) -> u32
-    requires few { length capture.now ≤ input_limit }
-    requires place { reception.bit + 32 * place < 2 ^ 61 }
-    ensures { result ≡ received_word (capture_bits capture.now) reception place }
-{
-    let bit = reception.bit + 32 * place;
-    if bit + 32 > 8 * capture.len() as u64 {
-        return IDLE_WORD;
-    }
-    reception.polarity.sent(word_on(capture, bit))
 }
 
 // Puts the batches of a reception behind the bytes, each word as it is settled.
@@ -54,15 +39,22 @@ fn put_lift(capture: &[u8], reception: Reception, bytes: &mut Vec<u8>) -> Result
         is_open: false,
         corrected: 0,
         lost: 0,
+        cut: 0,
     };
     for place in 0..BATCH * reception.batches {
         let word = settler.take(place, received_word(capture, reception, place));
         bytes.extend_from_slice(&word.to_be_bytes())?;
     }
+    let cut = if settler.is_open {
+        settler.cut + 1
+    } else {
+        settler.cut
+    };
     Ok(Heard {
         reception,
         corrected: settler.corrected,
         lost: settler.lost,
+        cut,
     })
 }
 
@@ -95,15 +87,16 @@ fn preamble(alloc: Global) -> Result<Vec<u8>, AllocError>
 // Lifts receptions out of the capture that holds them.
 fn lifted_all(alloc: Global, capture: &[u8], found: &[Reception]) -> Result<Lifted, AllocError>
     requires few { length capture.now ≤ input_limit }
-    requires found { AreReceptions (capture_bits capture.now) 0 found.now }
+    requires found { AreReceptions (capture_bits capture.now) found.now }
     ensures { IfOk result (LiftsAll capture.now) }
 {
     let mut bytes = preamble(alloc)?;
-    // Behind the capture's end each word is idle: a transmission has at least one batch.
+    // A transmission has at least one batch: here one of which nothing is read.
     let silence = Reception {
         bit: 8 * capture.len() as u64,
         polarity: Polarity::Upright,
         batches: 1,
+        words: 0,
     };
     put_lift(capture, silence, &mut bytes)?;
     let heard = put_lifts(alloc, capture, found, &mut bytes)?;
@@ -128,7 +121,7 @@ fn lifted_one(alloc: Global, capture: &[u8], reception: Reception) -> Result<Lif
 
 // The receptions of a capture, which may be too large.
 fn receptions_in(alloc: Global, capture: &[u8]) -> Result<Vec<Reception>, CaptureFault>
-    ensures found { IfOk result (λ found. AreReceptions (capture_bits capture.now) 0 found.items) }
+    ensures found { IfOk result (λ found. AreReceptions (capture_bits capture.now) found.items) }
     ensures few { OnOk result (length capture.now ≤ input_limit) }
     ensures explained { IfErr result (ExplainsUnlifted capture.now) }
 {
@@ -139,13 +132,13 @@ fn receptions_in(alloc: Global, capture: &[u8]) -> Result<Vec<Reception>, Captur
 }
 
 /// Lifts all transmissions out of a capture, one behind the other: the bytes are a transmission that reads as all their
-/// pages. Each word is repaired; a word past repair, and a message codeword that continues no page, become idle.
+/// pages. Each word is repaired; a word that is lost, and a message codeword that continues no page, become idle.
 pub fn lift_all(alloc: Global, capture: &[u8]) -> Result<Lifted, CaptureFault>
     ensures lifted { IfOk result (LiftsAll capture.now) }
 
-    // *A capture that holds sent transmissions shows their pages*, and no others.
-    ensures sent { (pages : List Page) → IsCaptureOf (capture_bits capture.now) pages →
-        IfOk result (λ lifted. ReadsAs lifted.bytes.items pages) }
+    // *A capture that holds a sent transmission shows its pages*, one behind the other, whatever else it holds.
+    ensures sent { (pages : List Page) → HoldsSent (capture_bits capture.now) pages →
+        IfOk result (λ lifted. ReadsAmong lifted.bytes.items pages) }
     ensures few { OnOk result (length capture.now ≤ input_limit) }
     ensures explained { IfErr result (ExplainsUnlifted capture.now) }
 {

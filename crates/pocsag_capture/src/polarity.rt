@@ -6,7 +6,7 @@ ghost use Rattle.pocsag_capture.specs.Bits.{as_sent};
 use pocsag_words::SYNC_WORD;
 
 // The bits that may be wrong in a synchronisation codeword.
-const NEAR_BITS: u32 = 2;
+pub(crate) const NEAR_BITS: u32 = 2;
 
 const WORD_BITS: u32 = 32;
 

@@ -1,5 +1,15 @@
 use crate::polarity::Polarity;
 
+/// Synchronisation codewords in step, from the first to the last.
+#[derive(Clone, Copy, PartialEq, Eq, Debug)]
+pub struct Run {
+    /// The bit at which the first of them begins, the capture's first bit being 0.
+    pub bit: u64,
+    pub polarity: Polarity,
+    /// How many batches begin from the first of them to the last.
+    pub batches: u64,
+}
+
 /// A transmission in a capture.
 #[derive(Clone, Copy, PartialEq, Eq, Debug)]
 pub struct Reception {
@@ -7,6 +17,8 @@ pub struct Reception {
     pub bit: u64,
     pub polarity: Polarity,
     pub batches: u64,
+    /// How many of its words are read.
+    pub words: u64,
 }
 
 /// A transmission in a capture, and how well it was received.
@@ -15,6 +27,8 @@ pub struct Heard {
     pub reception: Reception,
     /// How many bits were wrong, in synchronisation codewords and in those that were repaired.
     pub corrected: u64,
-    /// How many words are past repair.
+    /// How many words are past repair or were not read.
     pub lost: u64,
+    /// How many pages are cut: a word that is lost or the end stands directly behind what is shown of them.
+    pub cut: u64,
 }

@@ -5,16 +5,23 @@ ghost use Rattle.pocsag_words.specs.Codeword.{IsNear};
 ghost use Rattle.pocsag_words.specs.Frame.{input_limit};
 ghost use Rattle.pocsag_pages.specs.Bytes.{sync_word};
 ghost use Rattle.pocsag_capture.specs.Bits.{as_sent, capture_bits};
-ghost use Rattle.pocsag_capture.specs.Receptions.{AreReceptions, IsQuiet, IsSynchronised};
+ghost use Rattle.pocsag_capture.specs.Receptions.{AreReceptions, IsOnAir, IsQuiet, IsSynchronised, run_end};
+ghost use Rattle.pocsag_capture.specs.Runs.{BeginsRun, Steps};
 ghost use Rattle.pocsag_capture.specs.declared.polarity.Polarity.{Polarity};
+ghost use Rattle.pocsag_capture.specs.declared.reception.Run.{Run};
 
 use crate::bits::{window_on, word_in, word_on};
 use crate::polarity::{Polarity, polarity_of};
-use crate::reception::Reception;
+use crate::reading::{has_few_lost, reception_of};
+use crate::reception::{Reception, Run};
 use pocsag_words::BATCH_BITS;
 use std::alloc::{AllocError, Global};
 
+// How many bits before the end of a batch the next transmission may begin, since bits are lost.
+const WORD_SLACK: u64 = 31;
+
 // Where a synchronisation codeword begins.
+#[derive(Drop)]
 pub(crate) struct SyncPlace {
     pub(crate) bit: u64,
     pub(crate) polarity: Polarity,
@@ -68,38 +75,80 @@ fn is_synchronised(capture: &[u8], bit: u64, polarity: Polarity) -> bool
     bit + 32 <= 8 * capture.len() as u64 && polarity.has_sync(word_on(capture, bit))
 }
 
-// How many batches follow one another from a synchronisation codeword on.
-fn batches_on(capture: &[u8], bit: u64, polarity: Polarity) -> u64
+// Whether no synchronisation codeword begins from a bit on, before the last.
+fn is_quiet_to(capture: &[u8], first: u64, last: u64) -> bool
+    requires few { length capture.now ≤ input_limit }
+    requires first { first < 2 ^ 60 }
+    ensures { IsTrue result ↔ IsQuiet (capture_bits capture.now) first last }
+{
+    match find(capture, first) {
+        Some(place) => last <= place.bit,
+        None => true,
+    }
+}
+
+// How many batches behind a synchronisation codeword the next one in step begins; 0 where none does.
+fn steps_on(capture: &[u8], bit: u64, polarity: Polarity) -> u64
     requires few { length capture.now ≤ input_limit }
     requires there { IsSynchronised (capture_bits capture.now) bit polarity }
-    ensures some { 0 < result }
-    ensures each { (k : ℕ) → k < result → IsSynchronised (capture_bits capture.now) (bit + 544 * k) polarity }
-    ensures last { ¬ IsSynchronised (capture_bits capture.now) (bit + 544 * result) polarity }
-    ensures few { bit + 544 * result < 2 ^ 60 }
+    ensures { Steps (capture_bits capture.now) bit polarity result }
 {
-    let mut batches = 1;
-    while is_synchronised(capture, bit + BATCH_BITS * batches, polarity) {
-        batches += 1;
+    if is_synchronised(capture, bit + BATCH_BITS, polarity) {
+        return 1;
     }
-    batches
+    let next = bit + 2 * BATCH_BITS;
+    if is_synchronised(capture, next, polarity) && is_quiet_to(capture, bit + 1, next) {
+        2
+    } else {
+        0
+    }
+}
+
+// The run that a synchronisation codeword begins.
+fn run_of(capture: &[u8], place: SyncPlace) -> Run
+    requires few { length capture.now ≤ input_limit }
+    requires there { IsSynchronised (capture_bits capture.now) place.bit place.polarity }
+    ensures run { BeginsRun (capture_bits capture.now) place.bit place.polarity result }
+    ensures end { run_end result < 2 ^ 59 }
+{
+    let SyncPlace { bit, polarity } = place;
+    let mut batches = 1;
+    let mut steps = steps_on(capture, bit, polarity);
+    while steps > 0 {
+        batches += steps;
+        steps = steps_on(capture, bit + BATCH_BITS * (batches - 1), polarity);
+    }
+    Run {
+        bit,
+        polarity,
+        batches,
+    }
+}
+
+// Whether a run is on the air, where the last batch of the one before it ends at a bit.
+fn counts(capture: &[u8], held: u64, run: Run) -> bool
+    requires few { length capture.now ≤ input_limit }
+    requires end { run_end run < 2 ^ 60 }
+    ensures { IsTrue result ↔ IsOnAir (capture_bits capture.now) held run }
+{
+    run.batches > 1 || (held <= run.bit + WORD_SLACK && has_few_lost(capture, run))
 }
 
 // The receptions of a capture.
 pub(crate) fn receptions(alloc: Global, capture: &[u8]) -> Result<Vec<Reception>, AllocError>
     requires { length capture.now ≤ input_limit }
-    ensures { IfOk result (λ found. AreReceptions (capture_bits capture.now) 0 found.items) }
+    ensures { IfOk result (λ found. AreReceptions (capture_bits capture.now) found.items) }
 {
     let mut found = Vec::new(alloc);
     let mut first = 0;
+    let mut held = 0;
     while let Some(place) = find(capture, first) {
-        let SyncPlace { bit, polarity } = place;
-        let batches = batches_on(capture, bit, polarity);
-        found.push(Reception {
-            bit,
-            polarity,
-            batches,
-        })?;
-        first = bit + BATCH_BITS * batches;
+        let run = run_of(capture, place);
+        first = run.bit + BATCH_BITS * (run.batches - 1) + 1;
+        if counts(capture, held, run) {
+            found.push(reception_of(capture, run))?;
+            held = run.bit + BATCH_BITS * run.batches;
+        }
     }
     Ok(found)
 }

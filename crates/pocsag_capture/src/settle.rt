@@ -1,15 +1,17 @@
 //! The words of a reception, repaired one after the other.
 ghost use Rattle.std.specs.Prelude.{◌≡◌, ◌≢◌, ◌+◌, ◌%◌, ◌^◌, ◌<◌, bit_xor, count_ones};
 ghost use Rattle.pocsag_pages.specs.Bytes.{sync_word};
+ghost use Rattle.pocsag_capture.specs.Lifted.{far_words, near_errors};
 ghost use Rattle.pocsag_capture.specs.TakenWords.{TakesWord};
 
+use crate::polarity::NEAR_BITS;
 use pocsag_words::{BATCH_WORDS, Kind, SYNC_WORD, kind, repair};
 
 // The words of a batch, its synchronisation codeword among them.
 pub(crate) const BATCH: u64 = BATCH_WORDS as u64;
 
-/// The idle codeword.
-pub(crate) const IDLE_WORD: u32 = 0x7A89_C197;
+// The idle codeword.
+const IDLE_WORD: u32 = 0x7A89_C197;
 
 // What is known of the words so far.
 #[derive(Drop)]
@@ -18,8 +20,10 @@ pub(crate) struct Settler {
     pub(crate) is_open: bool,
     // How many bits were wrong.
     pub(crate) corrected: u64,
-    // How many words are past repair.
+    // How many words are past repair or were not read.
     pub(crate) lost: u64,
+    // How many pages ended at such a word.
+    pub(crate) cut: u64,
 }
 
 impl Settler {
@@ -28,17 +32,25 @@ impl Settler {
     pub(crate) fn take(&mut self, place: u64, word: u32) -> u32
         requires corrected { self.old.corrected + 32 < 2 ^ 64 }
         requires lost { self.old.lost + 1 < 2 ^ 64 }
+        requires cut { self.old.cut + 1 < 2 ^ 64 }
         ensures sync { place % 17 ≡ 0 → result ≡ sync_word }
         ensures sync_bits { place % 17 ≡ 0 →
-            self.new.corrected ≡ self.old.corrected + count_ones (bit_xor sync_word word) }
+            self.new.corrected ≡ self.old.corrected + near_errors (count_ones (bit_xor sync_word word)) }
         ensures sync_open { place % 17 ≡ 0 → self.new.is_open ≡ self.old.is_open }
-        ensures sync_lost { place % 17 ≡ 0 → self.new.lost ≡ self.old.lost }
+        ensures sync_lost { place % 17 ≡ 0 →
+            self.new.lost ≡ self.old.lost + far_words (count_ones (bit_xor sync_word word)) }
+        ensures sync_cut { place % 17 ≡ 0 → self.new.cut ≡ self.old.cut }
         ensures codeword { place % 17 ≢ 0 → TakesWord self.old self.new word result }
     {
         if place % BATCH != 0 {
             return self.settle(word);
         }
-        self.corrected += u64::from((SYNC_WORD ^ word).count_ones());
+        let wrong = (SYNC_WORD ^ word).count_ones();
+        if wrong <= NEAR_BITS {
+            self.corrected += u64::from(wrong);
+        } else {
+            self.lost += 1;
+        }
         SYNC_WORD
     }
 
@@ -46,10 +58,14 @@ impl Settler {
     fn settle(&mut self, word: u32) -> u32
         requires corrected { self.old.corrected + 32 < 2 ^ 64 }
         requires lost { self.old.lost + 1 < 2 ^ 64 }
+        requires cut { self.old.cut + 1 < 2 ^ 64 }
         ensures { TakesWord self.old self.new word result }
     {
         let Some(mended) = repair(word) else {
             self.lost += 1;
+            if self.is_open {
+                self.cut += 1;
+            }
             self.is_open = false;
             return IDLE_WORD;
         };

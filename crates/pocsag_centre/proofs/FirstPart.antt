@@ -1,5 +1,5 @@
 -- The two parts of a page file's round, and what is written of them.
-use Rattle.std.proofs.Common.{◌≡◌, ℕ, refl, ◌≤◌, List, [], ◌++◌, All, length, take, drop, min, sym, ap, subst, ◌∙◌, arith, inl, inr}
+use Rattle.std.proofs.Common.{◌≡◌, ℕ, refl, false, ◌≤◌, List, [], ◌++◌, All, length, take, drop, min, sym, ap, subst, ◌∙◌, arith, inl, inr}
 use Rattle.std.proofs.lemmas.Bool.{cases_lt}
 use Rattle.std.proofs.Math.Seq.{drop-append_seam}
 use Rattle.std.proofs.lemmas.List.{drop_all, length-drop, take_at, take_min}
@@ -8,6 +8,7 @@ use Rattle.pocsag_pages.specs.declared.page.Page.{Page}
 use Rattle.pocsag_pages.specs.Listable.{IsListable}
 use Rattle.pocsag_pages.specs.PageFile.{verdict}
 use Rattle.pocsag_pages.specs.PageList.{unless_empty}
+use Rattle.pocsag_pages.specs.Queues.{firsts, held_pages, left_of}
 use Rattle.pocsag_pages.specs.Pages.{AreGood, IsGoodPage, IsRound, page_limit}
 use Rattle.pocsag_pages.proofs.FirstPages.{first_round, good_last}
 use Rattle.pocsag_pages.proofs.GoodPages.{good_pages}
@@ -17,12 +18,14 @@ use Rattle.pocsag_tree.specs.BoundTrees.{BoundTree}
 use Rattle.pocsag_tree.specs.CertificateText.{written_text}
 use Rattle.pocsag_tree.specs.Views.{bound_tree_of}
 use Rattle.pocsag_tree.specs.declared.shape.Certificate.{Certificate}
+use Rattle.pocsag_plan.specs.declared.search.Effort.TheVariants.{Fewest}
 use Rattle.pocsag_plan.specs.declared.search.Search.{Search}
 use Rattle.pocsag_plan.specs.declared.front.FrontPlan.{FrontPlan}
 use Rattle.pocsag_plan.specs.Fronts.{ExplainsFront, IsFrontFor, IsLongestFront, IsWhyNoMore}
 use Rattle.pocsag_plan.specs.declared.fault.NoFront.{NoFront}
 use Rattle.pocsag_plan.specs.declared.fault.NoFront.TheVariants as front
 use Rattle.pocsag_plan.specs.declared.fault.PlanFault.TheVariants as planning
+use Rattle.pocsag_centre.specs.declared.front.FrontAsked.{FrontAsked}
 use Rattle.pocsag_centre.specs.Faults.{fault_of_front}
 use Rattle.pocsag_centre.specs.Refusals.{OrDevice}
 use Rattle.pocsag_plan.specs.Headline.{RoundHeadline}
@@ -50,17 +53,17 @@ module _ (R F S : List Page) (n : ℕ) (parts : F ++ S ≡ R) (long : n ≡ leng
 -- What is written of pages of a round is a page file of them.
 module _ (R : List Page) (round : IsRound R) (texts : All IsSpellable R)
     (read_back : (ps : List Page) → AreGood ps → length ps ≤ page_limit → All IsSpellable ps → verdict (page_file ps) ≡ unless_empty ps) where
-  pub rest_held : (n : ℕ) (S : List Page) (rest : List ℕ) → S ≡ drop n R → rest ≡ page_file S → IsPageFileOf (drop n R) rest
+  pub rest_held : (n : ℕ) (S : List Page) (rest : List ℕ) → S ≡ drop n R → rest ≡ page_file S → IsPageFileOf false (drop n R) rest
   rest_held n S rest is written =
       let back : verdict (page_file (drop n R)) ≡ unless_empty (drop n R) =
       read_back (drop n R) (good_last n R round.good) (omega (arith, length-drop n R, round.few)) (All-drop IsSpellable n R texts) in
       ap verdict (written ∙ ap page_file is) ∙ back
 
-  pub first_held : (n k : ℕ) (S : List Page) (file : List ℕ) → k ≡ min n (length R) → S ≡ take k R → file ≡ page_file S → IsPageFileOf (take n R) file
+  pub first_held : (n k : ℕ) (S : List Page) (file : List ℕ) → k ≡ min n (length R) → S ≡ take k R → file ≡ page_file S → IsPageFileOf false (take n R) file
   first_held n k S file least is written =
       let few : k ≤ length R = omega arith in
       let same : take k R ≡ take n R = ap (λ (m : ℕ). take m R) least ∙ take_min n R in
-      subst (λ (ps : List Page). IsPageFileOf ps file) same
+      subst (λ (ps : List Page). IsPageFileOf false ps file) same
       (elim (cases_lt 0 k) [
         | inl more ↦
             let good = first_round k R round more few in
@@ -69,7 +72,7 @@ module _ (R : List Page) (round : IsRound R) (texts : All IsSpellable R)
             let zero : k ≡ 0 = omega arith in
             let nothing : take k R ≡ [] = ap (λ (m : ℕ). take m R) zero in
             let good : AreGood [] = subst AreGood (drop_all (length R) R (omega arith)) (good_last (length R) R round.good) in
-            subst (λ (ps : List Page). IsPageFileOf ps file) (sym nothing)
+            subst (λ (ps : List Page). IsPageFileOf false ps file) (sym nothing)
             (ap verdict (written ∙ ap page_file (is ∙ nothing)) ∙ read_back [] good (omega arith) (All-nil IsSpellable))
       ])
 
@@ -82,10 +85,33 @@ first_listable k R round =
 module _ (file : List ℕ) (R F S : List Page) (read : verdict file ≡ Ok R) (round : IsRound R) (texts : All IsSpellable R)
     (read_back : (ps : List Page) → AreGood ps → length ps ≤ page_limit → All IsSpellable ps → verdict (page_file ps) ≡ unless_empty ps)
     (parts : F ++ S ≡ R) where
-  pub left_held : IsPageFileOf S (page_file S)
+  pub left_held : IsPageFileOf false S (page_file S)
   left_held =
       let is : S ≡ drop (length F) R = rest_is R F S (length F) parts refl in
-      subst (λ (ps : List Page). IsPageFileOf ps (page_file S)) (sym is) (rest_held R round texts read_back (length F) S (page_file S) is refl)
+      subst (λ (ps : List Page). IsPageFileOf false ps (page_file S)) (sym is) (rest_held R round texts read_back (length F) S (page_file S) is refl)
+
+-- What is planned of a queue's round is the front of the page file.
+module _ (file : List ℕ) (asked : FrontAsked) (Q R : List Page) (front : FrontPlan) (read : held_pages asked.may_wait file ≡ Ok Q)
+    (same : R ≡ firsts Q) (first : front.round ≡ take (length front.round) R) (left : front.rest.items ≡ left_of front.round Q) where
+  pub front_read : IsFrontFor asked.search R asked.batches (length front.round)
+      → (asked.search.effort ≡ Fewest → IsLongestFront asked.search.end R asked.batches (length front.round))
+      → IsPlanFor asked.search front.round front.bounded
+      → front.bounded.plan.batches ≤ asked.batches
+      → IsWhyNoMore asked.search R asked.batches (length front.round) front.why
+      → IsPageFileOf asked.may_wait front.rest.items (page_file front.rest.items)
+      → IsFrontRead file asked front
+  front_read front_for longest plan_of within no_more others = record {
+    queue = Q;
+    read = read;
+    first = subst (λ (v : List Page). front.round ≡ take (length front.round) v) same first;
+    left = left;
+    front_for = subst (λ (v : List Page). IsFrontFor asked.search v asked.batches (length front.round)) same front_for;
+    longest = λ fewest. subst (λ (v : List Page). IsLongestFront asked.search.end v asked.batches (length front.round)) same (longest fewest);
+    plan_of = plan_of;
+    within = within;
+    no_more = subst (λ (v : List Page). IsWhyNoMore asked.search v asked.batches (length front.round) front.why) same no_more;
+    others_of = others;
+  }
 
 -- What is written of a certificate for one page more certifies the same.
 pub why_written : (search : Search) (R : List Page) (batches count : ℕ) (why : Option Certificate) →
@@ -107,61 +133,64 @@ why_written search R batches count (Some c) is =
     )
 
 -- What was written of a front is the front of its page file.
-module _ (file : List ℕ) (search : Search) (batches : ℕ) (front : FrontPlan) (is : IsFrontRead file search batches front)
+module _ (file : List ℕ) (asked : FrontAsked) (front : FrontPlan) (is : IsFrontRead file asked front)
     (tx tx' cert cert' rest rest' why why' : List ℕ) (sends : WritesAllOf (HeadlineOf front.round front.bounded) tx tx' cert cert')
     (left : rest' ≡ rest ++ page_file front.rest.items) (shown : why' ≡ why ++ certificate_text front.why) where
   abbrev count : ℕ
   count = front.bounded.plan.pages
 
+  abbrev round : List Page
+  round = firsts is.queue
+
   long : count ≡ length front.round
   long = is.plan_of.plan_of.pages
 
-  first : front.round ≡ take count is.round
-  first = first_is is.round front.round front.rest.items count is.parts long
+  first : front.round ≡ take count round
+  first = is.first ∙ ap (λ (n : ℕ). take n round) (sym long)
 
-  behind : front.rest.items ≡ drop count is.round
-  behind = rest_is is.round front.round front.rest.items count is.parts long
+  behind : front.rest.items ≡ left_of (take count round) is.queue
+  behind = is.left ∙ ap (λ (v : List Page). left_of v is.queue) first
 
-  pub front_written : IsFrontWritten file search batches front.bounded.plan.pages tx tx' cert cert' rest rest' why why'
+  pub front_written : IsFrontWritten file asked front.bounded.plan.pages tx tx' cert cert' rest rest' why why'
   front_written = record {
-    round = is.round;
+    queue = is.queue;
     read = is.read;
-    front = subst (IsFrontFor search is.round batches) (sym long) is.front_for;
-    longest = λ fewest. subst (IsLongestFront search.end is.round batches) (sym long) (is.longest fewest);
+    front = subst (IsFrontFor asked.search round asked.batches) (sym long) is.front_for;
+    longest = λ fewest. subst (IsLongestFront asked.search.end round asked.batches) (sym long) (is.longest fewest);
     bounded = front.bounded;
     pages = refl;
-    plan_of = subst (λ (ps : List Page). IsPlanFor search ps front.bounded) first is.plan_of;
+    plan_of = subst (λ (ps : List Page). IsPlanFor asked.search ps front.bounded) first is.plan_of;
     within = is.within;
     writes = subst
-        (λ (ps : List Page). WritesAllOf (RoundHeadline ps search.end front.bounded.plan.batches front.bounded.bound (bound_tree_of front.bounded.plan.tree)) tx tx' cert cert')
-        first (all_as _ _ (asked_headline search front.round front.bounded is.plan_of) tx tx' cert cert' sends);
+        (λ (ps : List Page). WritesAllOf (RoundHeadline ps asked.search.end front.bounded.plan.batches front.bounded.bound (bound_tree_of front.bounded.plan.tree)) tx tx' cert cert')
+        first (all_as _ _ (asked_headline asked.search front.round front.bounded is.plan_of) tx tx' cert cert' sends);
     others = page_file front.rest.items;
-    others_of = subst (λ (ps : List Page). IsPageFileOf ps (page_file front.rest.items)) behind is.others_of;
+    others_of = subst (λ (ps : List Page). IsPageFileOf asked.may_wait ps (page_file front.rest.items)) behind is.others_of;
     rest = left;
     beyond = beyond_of front.why;
     written = certificate_text front.why;
-    written_of = subst (λ (n : ℕ). IsWhyWritten search is.round batches n (beyond_of front.why) (certificate_text front.why)) (sym long)
-        (why_written search is.round batches (length front.round) front.why is.no_more);
+    written_of = subst (λ (n : ℕ). IsWhyWritten asked.search round asked.batches n (beyond_of front.why) (certificate_text front.why)) (sym long)
+        (why_written asked.search round asked.batches (length front.round) front.why is.no_more);
     why = shown;
   }
 
   pub front_told : (out out' : List ℕ) →
       out' ≡ out ++ plan_text front.bounded.plan.pages front.bounded.plan.batches ++ below_text front.bounded.plan.batches front.bounded.bound
-      ++ left_text (length front.rest.items) ++ why_text batches (beyond_of front.why) →
-      IsFrontTold file search batches front.bounded.plan.pages tx tx' cert cert' rest rest' why why' out out'
+      ++ left_text (length front.rest.items) ++ why_text asked.batches (beyond_of front.why) →
+      IsFrontTold file asked front.bounded.plan.pages tx tx' cert cert' rest rest' why why' out out'
   unfolding front_written
   front_told out out' told = record {
     front = front_written;
     told = told
         ∙ ap (λ (ps : List Page). out ++ plan_text front.bounded.plan.pages front.bounded.plan.batches ++ below_text front.bounded.plan.batches front.bounded.bound
-        ++ left_text (length ps) ++ why_text batches (beyond_of front.why)) behind;
+        ++ left_text (length ps) ++ why_text asked.batches (beyond_of front.why)) behind;
   }
 
--- why there is no front of a round says why none of its page file is written
-pub front_unwritten : (file : List ℕ) (search : Search) (batches : ℕ) (R : List Page) → verdict file ≡ Ok R → (e : NoFront) →
-    ExplainsFront search R batches e → OrDevice (ExplainsNoFront file search batches) (fault_of_front e)
-front_unwritten file search batches R read (front.Plan planning.BadLimit) said = said
-front_unwritten file search batches R read (front.Plan (planning.SearchLimit stop)) said =
-    (said.0, said.1, record { round = R; read = read; holds = (bound_tree_of stop.tree, said.2) })
-front_unwritten file search batches R read (front.Plan planning.OutOfMemory) said = (said, subst IsOk (sym read) refl)
-front_unwritten file search batches R read (front.FirstPage needed) said = (said.0, record { round = R; read = read; holds = said.1 })
+-- why there is no front of the round says why none of its page file is written
+pub front_unwritten : (file : List ℕ) (asked : FrontAsked) (Q : List Page) → held_pages asked.may_wait file ≡ Ok Q → (e : NoFront) →
+    ExplainsFront asked.search (firsts Q) asked.batches e → OrDevice (ExplainsNoFront file asked) (fault_of_front e)
+front_unwritten file asked Q read (front.Plan planning.BadLimit) said = said
+front_unwritten file asked Q read (front.Plan (planning.SearchLimit stop)) said =
+    (said.0, said.1, record { queue = Q; read = read; holds = (bound_tree_of stop.tree, said.2) })
+front_unwritten file asked Q read (front.Plan planning.OutOfMemory) said = (said, subst IsOk (sym read) refl)
+front_unwritten file asked Q read (front.FirstPage needed) said = (said.0, record { queue = Q; read = read; holds = said.1 })

@@ -1,6 +1,9 @@
+pub mod AlonePages
+pub mod AsidePages
 pub mod Endings
 pub mod FirstPart
 pub mod Plans
+pub mod QueueRounds
 pub mod ReportLines
 pub mod Rooms
 pub mod Shown

@@ -1,5 +1,6 @@
 -- What was planned and told.
 use Rattle.std.proofs.Common.{◌≡◌, ℕ, List, ◌++◌, Ok, refl}
+use Rattle.std.specs.Prelude.{IfNone, None, Option, Some}
 use Rattle.pocsag_words.specs.declared.ending.End.TheVariants.{Open}
 use Rattle.pocsag_pages.specs.PageFile.{verdict}
 use Rattle.pocsag_pages.specs.declared.page.Page.{Page}
@@ -37,3 +38,8 @@ module _ (file : List ℕ) (search : Search) (tx tx' cert cert' : List ℕ) (bou
       PlannedAndTold file search tx tx' cert cert' out out'
   unfolding planned
   told_planned out out' told = record { planned = planned; told = told }
+
+-- what is shown holds where there is no value too
+pub where_none : {T : Type 0} (o : Option T) (P : Type 0) → P → IfNone o P
+where_none None P p = p
+where_none (Some x) P p = tt

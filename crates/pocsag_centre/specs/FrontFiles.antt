@@ -1,7 +1,10 @@
--- The front of a page file: what is written of its first pages and of the others, and why nothing is.
-use Rattle.std.specs.Prelude.{◌≡◌, ℕ, ◌+◌, ◌<◌, ◌≤◌, false, List, [], ◌++◌, length, drop, take, Option, Some, None, IsOk, Ok}
+-- The front of a page file: what is written of the pages that are sent and of the others, and why nothing is. Where pages may
+-- wait for earlier ones of their address, the round is the first page of each address; else the file has no two for one.
+use Rattle.std.specs.Prelude.{◌≡◌, ◌⊎◌, ℕ, ◌+◌, ◌<◌, ◌≤◌, Bool, false, List, [], ◌++◌, length, take, Option, Some, None, IsOk, Ok, Err}
 use Rattle.pocsag_pages.specs.declared.page.Page.{Page}
-use Rattle.pocsag_pages.specs.PageFile.{verdict}
+use Rattle.pocsag_pages.specs.declared.fault.RoundFault.{RoundFault}
+use Rattle.pocsag_pages.specs.declared.fault.RoundFault.TheVariants as round_fault
+use Rattle.pocsag_pages.specs.Queues.{firsts, held_pages, left_of}
 use Rattle.pocsag_pages.specs.PageList.{unless_empty}
 use Rattle.pocsag_tree.specs.BoundTrees.{BoundTree}
 use Rattle.pocsag_tree.specs.CertificateText.{HasText, IsWrittenText, written_text}
@@ -18,16 +21,25 @@ use Rattle.pocsag_plan.specs.declared.front.FrontPlan.{FrontPlan}
 use Rattle.pocsag_plan.specs.Fronts.{FirstNeeds, IsFrontFor, IsLongestFront, IsWhyNoMore, StopsAtFront}
 use Rattle.pocsag_plan.specs.Headline.{RoundHeadline}
 use Rattle.pocsag_plan.specs.Plans.{IsPlanFor, MayStop}
-use Rattle.pocsag_plan.specs.Streams.{IsOfRound, WritesAllOf}
+use Rattle.pocsag_plan.specs.Streams.{WritesAllOf}
 use Rattle.pocsag_shell.specs.declared.fault.FileFault.TheVariants as file_fault
 use Rattle.pocsag_centre.specs.Lines.{below_text, left_text, plan_text, undecided_text}
-use Rattle.pocsag_plan.specs.Verdicts.{ExplainsRound}
+use Rattle.pocsag_centre.specs.declared.front.FrontAsked.{FrontAsked}
 use Rattle.pocsag_centre.specs.declared.fault.CentreFault.{CentreFault}
 use Rattle.pocsag_centre.specs.declared.fault.CentreFault.TheVariants as fault
 
--- The bytes are a page file of exactly these pages: it reads as their round, or, where there are none, as no pages.
-abbrev pub IsPageFileOf : List Page → List ℕ → Type 0
-IsPageFileOf R rest = verdict rest ≡ unless_empty R
+-- The bytes are a page file of exactly these pages: it holds them, or, where there are none, no pages.
+abbrev pub IsPageFileOf : (may_wait : Bool) → List Page → List ℕ → Type 0
+IsPageFileOf may_wait ps rest = held_pages may_wait rest ≡ unless_empty ps
+
+-- The page file holds pages, and this is so of them; and why it holds none: memory refused, or its fault.
+pub record IsOfHeld (may_wait : Bool) (file : List ℕ) (Holds : List Page → Type 0) : Type 0 where
+  pub queue : List Page
+  pub read : held_pages may_wait file ≡ Ok queue
+  pub holds : Holds queue
+
+abbrev pub ExplainsHeld : (may_wait : Bool) → (file : List ℕ) → RoundFault → Type 0
+ExplainsHeld may_wait file f = (f ≡ round_fault.OutOfMemory) ⊎ (held_pages may_wait file ≡ Err f)
 
 -- The last line on a front of at most so many batches: what the certificate for one page more shows, where there is one.
 abbrev pub why_text : (batches : ℕ) → (beyond : Option ℕ) → List ℕ
@@ -63,64 +75,67 @@ certificate_text None = []
 certificate_text (Some c) = written_text c.end c.batches (bound_tree_of c.tree)
 
 -- The front of a page file that so many batches carry, and the pages that are left.
-pub record IsFrontRead (file : List ℕ) (search : Search) (batches : ℕ) (front : FrontPlan) : Type 0 where
-  pub round : List Page
-  pub read : verdict file ≡ Ok round
-  pub parts : front.round ++ front.rest.items ≡ round
-  pub front_for : IsFrontFor search round batches (length front.round)
-  pub longest : search.effort ≡ Fewest → IsLongestFront search.end round batches (length front.round)
-  pub plan_of : IsPlanFor search front.round front.bounded
-  pub within : front.bounded.plan.batches ≤ batches
-  pub no_more : IsWhyNoMore search round batches (length front.round) front.why
-  -- The page file of the pages that are left reads as them.
-  pub others_of : IsPageFileOf front.rest.items (page_file front.rest.items)
+pub record IsFrontRead (file : List ℕ) (asked : FrontAsked) (front : FrontPlan) : Type 0 where
+  pub queue : List Page
+  pub read : held_pages asked.may_wait file ≡ Ok queue
+  pub first : front.round ≡ take (length front.round) (firsts queue)
+  pub left : front.rest.items ≡ left_of front.round queue
+  pub front_for : IsFrontFor asked.search (firsts queue) asked.batches (length front.round)
+  pub longest : asked.search.effort ≡ Fewest → IsLongestFront asked.search.end (firsts queue) asked.batches (length front.round)
+  pub plan_of : IsPlanFor asked.search front.round front.bounded
+  pub within : front.bounded.plan.batches ≤ asked.batches
+  pub no_more : IsWhyNoMore asked.search (firsts queue) asked.batches (length front.round) front.why
+  -- The page file of the pages that are left holds them.
+  pub others_of : IsPageFileOf asked.may_wait front.rest.items (page_file front.rest.items)
 
 -- What is written of the front of a page file that so many batches carry.
-pub record IsFrontWritten (file : List ℕ) (search : Search) (batches count : ℕ) (tx_before tx_after cert_before cert_after rest_before rest_after why_before why_after : List ℕ) : Type 0 where
+pub record IsFrontWritten (file : List ℕ) (asked : FrontAsked) (count : ℕ) (tx_before tx_after cert_before cert_after rest_before rest_after why_before why_after : List ℕ) : Type 0 where
   -- The front: the first pages of the round, as many as so many batches carry; and their plan.
-  pub round : List Page
-  pub read : verdict file ≡ Ok round
-  pub front : IsFrontFor search round batches count
-  pub longest : search.effort ≡ Fewest → IsLongestFront search.end round batches count
+  pub queue : List Page
+  pub read : held_pages asked.may_wait file ≡ Ok queue
+  pub front : IsFrontFor asked.search (firsts queue) asked.batches count
+  pub longest : asked.search.effort ≡ Fewest → IsLongestFront asked.search.end (firsts queue) asked.batches count
   pub bounded : Bounded
   pub pages : bounded.plan.pages ≡ count
-  pub plan_of : IsPlanFor search (take count round) bounded
-  pub within : bounded.plan.batches ≤ batches
+  pub plan_of : IsPlanFor asked.search (take count (firsts queue)) bounded
+  pub within : bounded.plan.batches ≤ asked.batches
   -- The headline of these pages, with a bound;
-  pub writes : WritesAllOf (RoundHeadline (take count round) search.end bounded.plan.batches bounded.bound (bound_tree_of bounded.plan.tree))
+  pub writes : WritesAllOf (RoundHeadline (take count (firsts queue)) asked.search.end bounded.plan.batches bounded.bound (bound_tree_of bounded.plan.tree))
       tx_before tx_after cert_before cert_after
-  -- the page file of the others;
+  -- the page file of the others, in the order of the file;
   pub others : List ℕ
-  pub others_of : IsPageFileOf (drop count round) others
+  pub others_of : IsPageFileOf asked.may_wait (left_of (take count (firsts queue)) queue) others
   pub rest : rest_after ≡ rest_before ++ others
-  -- and why they are not in the front.
+  -- and why the next page of the round is not in the front.
   pub beyond : Option ℕ
   pub written : List ℕ
-  pub written_of : IsWhyWritten search round batches count beyond written
+  pub written_of : IsWhyWritten asked.search (firsts queue) asked.batches count beyond written
   pub why : why_after ≡ why_before ++ written
 
 -- The same; and the counts of the plan were told, the bound where it is below the batches, how many pages are left, and what is
 -- shown of one page more.
-pub record IsFrontTold (file : List ℕ) (search : Search) (batches count : ℕ) (tx_before tx_after cert_before cert_after rest_before rest_after why_before why_after out_before out_after : List ℕ) : Type 0 where
-  pub front : IsFrontWritten file search batches count tx_before tx_after cert_before cert_after rest_before rest_after why_before why_after
+pub record IsFrontTold (file : List ℕ) (asked : FrontAsked) (count : ℕ) (tx_before tx_after cert_before cert_after rest_before rest_after why_before why_after out_before out_after : List ℕ) : Type 0 where
+  pub front : IsFrontWritten file asked count tx_before tx_after cert_before cert_after rest_before rest_after why_before why_after
   pub told : out_after ≡ out_before ++ plan_text count front.bounded.plan.batches
-      ++ below_text front.bounded.plan.batches front.bounded.bound ++ left_text (length (drop count front.round))
-      ++ why_text batches front.beyond
+      ++ below_text front.bounded.plan.batches front.bounded.bound ++ left_text (length (left_of (take count (firsts front.queue)) front.queue))
+      ++ why_text asked.batches front.beyond
 
 -- Why no front of a page file is written. The limit is judged before the file.
-abbrev pub ExplainsNoFront : (file : List ℕ) → Search → (batches : ℕ) → CentreFault → Type 0
-ExplainsNoFront file search batches fault.BadLimit = ¬ IsNodeLimit search.limit
-ExplainsNoFront file search batches (fault.Round f) = IsNodeLimit search.limit × ExplainsRound file f
-ExplainsNoFront file search batches (fault.FirstPage needed) =
-    IsNodeLimit search.limit × IsOfRound file (λ round. FirstNeeds search round batches needed)
-ExplainsNoFront file search batches (fault.SearchLimit least found) =
-    MayStop search.effort × IsNodeLimit search.limit
-    × IsOfRound file (λ round. (tree : BoundTree) × StopsAtFront search round least found tree)
-ExplainsNoFront file search batches (fault.File file_fault.OutOfMemory) = IsNodeLimit search.limit × IsOk (verdict file)
-ExplainsNoFront file search batches _ = ⊥
+abbrev pub ExplainsNoFront : (file : List ℕ) → FrontAsked → CentreFault → Type 0
+ExplainsNoFront file asked fault.BadLimit = ¬ IsNodeLimit asked.search.limit
+ExplainsNoFront file asked (fault.Round f) = IsNodeLimit asked.search.limit × ExplainsHeld asked.may_wait file f
+ExplainsNoFront file asked (fault.FirstPage needed) =
+    IsNodeLimit asked.search.limit
+    × IsOfHeld asked.may_wait file (λ queue. FirstNeeds asked.search (firsts queue) asked.batches needed)
+ExplainsNoFront file asked (fault.SearchLimit least found) =
+    MayStop asked.search.effort × IsNodeLimit asked.search.limit
+    × IsOfHeld asked.may_wait file (λ queue. (tree : BoundTree) × StopsAtFront asked.search (firsts queue) least found tree)
+ExplainsNoFront file asked (fault.File file_fault.OutOfMemory) =
+    IsNodeLimit asked.search.limit × IsOk (held_pages asked.may_wait file)
+ExplainsNoFront file asked _ = ⊥
 
 -- Why there is no page file of the first pages of one.
-abbrev pub ExplainsFirst : (file : List ℕ) → CentreFault → Type 0
-ExplainsFirst file (fault.Round f) = ExplainsRound file f
-ExplainsFirst file (fault.File file_fault.OutOfMemory) = IsOk (verdict file)
-ExplainsFirst file _ = ⊥
+abbrev pub ExplainsFirst : (may_wait : Bool) → (file : List ℕ) → CentreFault → Type 0
+ExplainsFirst may_wait file (fault.Round f) = ExplainsHeld may_wait file f
+ExplainsFirst may_wait file (fault.File file_fault.OutOfMemory) = IsOk (held_pages may_wait file)
+ExplainsFirst may_wait file _ = ⊥

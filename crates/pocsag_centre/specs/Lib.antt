@@ -6,6 +6,7 @@ pub mod FramesTold
 pub mod FrontFiles
 pub mod Judgements
 pub mod Lines
+pub mod Oversized
 pub mod Refusals
 pub mod Reports
 pub mod Verification

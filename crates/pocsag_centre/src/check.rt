@@ -48,42 +48,19 @@ pub fn run_check<P: Source, C: Source, O: Sink, E: Sink + Drop>(
     ensures write_failed { told_by err.new ≡ Some (CentreFault.File file_fault.Write) →
         HasFailed (O.failures out.old) (O.failures out.new) }
 {
-    err.end(judged(alloc, pages, cert, out))
-}
-
-// The same, whose fault is still to be told.
-fn judged<P: Source, C: Source, O: Sink>(
-    alloc: Global,
-    pages: &mut P,
-    cert: &mut C,
-    out: &mut O,
-) -> Result<u8, CentreFault>
-    ensures judged { P.tells → C.tells → O.tells → IfOk result (λ status.
-        IsVerdictTold status (P.held pages.old) (C.held cert.old) (O.taken out.old) (O.taken out.new)) }
-    ensures done { IfOk result (λ status. (status ≡ 0) ⊎ (status ≡ 1)) }
-    ensures explained { P.tells → C.tells →
-        IfErr result (OrDevice (ExplainsJudging (P.held pages.old) (C.held cert.old))) }
-    ensures refused { IfErr result (λ e. e ≢ CentreFault.File file_fault.Write → out.new ≡ out.old) }
-    ensures read_failed { IsErrOf result (CentreFault.Round round_fault.ReadFault) →
-        HasFailed (P.failures pages.old) (P.failures pages.new) }
-    ensures certificate_failed { IsErrOf result (CentreFault.Certificate tree_fault.ReadFault) →
-        HasFailed (C.failures cert.old) (C.failures cert.new) }
-    ensures write_failed { IsErrOf result (CentreFault.File file_fault.Write) →
-        HasFailed (O.failures out.old) (O.failures out.new) }
-{
     let round = match read_round(alloc, pages) {
         Ok(round) => round,
-        Err(fault) => return Err(CentreFault::Round(fault)),
+        Err(fault) => return err.end(Err(CentreFault::Round(fault))),
     };
     let certificate = match read_certificate(alloc, cert) {
         Ok(certificate) => certificate,
-        Err(fault) => return Err(CentreFault::Certificate(fault)),
+        Err(fault) => return err.end(Err(CentreFault::Certificate(fault))),
     };
     let verdict = verdict_on(&round, &certificate);
     match tell_verdict(verdict, out) {
-        Ok(()) if verdict.is_shown => Ok(0),
-        Ok(()) => Ok(1),
-        Err(fault) => Err(CentreFault::File(fault)),
+        Ok(()) if verdict.is_shown => err.end(Ok(0)),
+        Ok(()) => err.end(Ok(1)),
+        Err(fault) => err.end(Err(CentreFault::File(fault))),
     }
 }
 

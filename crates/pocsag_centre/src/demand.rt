@@ -4,7 +4,7 @@ ghost use Rattle.pocsag_pages.specs.Quotes.{first_misplaced};
 ghost use Rattle.pocsag_centre.specs.Demands.{ExplainsExpecting, ExplainsStrict, HoldsPages};
 
 use crate::fault::CentreFault;
-use pocsag_pages::{quote_fault, round_of};
+use pocsag_pages::{held_pages, quote_fault};
 use pocsag_plan::{Search, is_node_limit};
 use std::alloc::Global;
 
@@ -30,14 +30,19 @@ pub fn strict_file(pages: &[u8]) -> Result<(), CentreFault>
     }
 }
 
-/// `--expect N`: refuses the bytes of a page file whose round has another number of pages, with both numbers. They also have
-/// to give a round.
-pub fn expected_file(alloc: Global, pages: &[u8], expected: u32) -> Result<(), CentreFault>
-    ensures expected { OnOk result (HoldsPages pages.now expected) }
-    ensures explained { IfErr result (ExplainsExpecting pages.now expected) }
+/// `--expect N`: refuses the bytes of a page file that holds another number of pages, with both numbers. They also have to
+/// give a round, or a queue where pages may wait for earlier ones of their address.
+pub fn expected_file(
+    alloc: Global,
+    may_wait: bool,
+    pages: &[u8],
+    expected: u32,
+) -> Result<(), CentreFault>
+    ensures expected { OnOk result (HoldsPages may_wait pages.now expected) }
+    ensures explained { IfErr result (ExplainsExpecting may_wait pages.now expected) }
 {
-    let round = round_of(alloc, pages)?;
-    let found = round.pages().len() as u32;
+    let queue = held_pages(alloc, may_wait, pages)?;
+    let found = queue.len() as u32;
     if found != expected {
         return Err(CentreFault::Unexpected(found, expected));
     }

@@ -2,21 +2,24 @@ ghost use Rattle.std.specs.Prelude.{IsErrOf, map};
 ghost use Rattle.pocsag_shell.specs.declared.fault.FileFault.TheVariants as file_fault;
 ghost use Rattle.pocsag_shell.specs.Paths.{HasEqual, paths_of};
 
-use crate::demand::{expected_file, strict_file};
+use crate::demand::{expected_file, refuse_bad_limit, strict_file};
 use crate::fault::CentreFault;
 use crate::front::{FrontAsked, FrontFiles, first_file, run_front};
 use crate::note::{note_file, quote_asked};
 use crate::order::{FrontLimit, PlanOrder, SearchOrder};
+use crate::oversized::part_file;
 use crate::plan::{PlanFiles, run_plan};
 use crate::readback::run_verify;
 use pocsag_pages::FILE_LIMIT;
 use pocsag_plan::most_batches;
 use pocsag_shell::{
-    Beside, CERT_READ, Desk, FileFault, Loaded, MemoryStreams, Outputs, PAGES_READ, Role, STANDARD,
-    is_regular, is_regular_or_none, load, make_outputs, open_source, path_of, put_files, put_whole,
-    refuse_equal, refuse_one_file, refuse_shared, tell, write_file,
+    Beside, CERT_READ, Desk, FileFault, Loaded, MemoryStreams, Output, Outputs, PAGES_READ, Role,
+    STANDARD, is_regular, is_regular_or_none, load, make_outputs, open_output, open_outputs,
+    open_source, path_of, put_files, put_whole, refuse_equal, refuse_input, refuse_one_file,
+    refuse_shared, tell, tell_numbers, write_over,
 };
 use pocsag_words::{GrowingSink, MemorySink, Sink, Source};
+use std::fs::File;
 
 /// Standard output and standard error of a command of the centre.
 pub(crate) type Streams = MemoryStreams<CentreFault>;
@@ -33,6 +36,8 @@ const BAD_KEEP: &str =
 
 // What refuses `--rest` and `--why` where no front is asked for, and where they name no file.
 const BAD_REST: &str = "--rest and --why name files, and go with --at-most or --airtime";
+
+const BAD_OVERSIZED: &str = "--oversized names a file, and goes with --at-most or --airtime";
 
 /// What a file holds, or standard input if there is no path.
 pub(crate) fn loaded(
@@ -64,7 +69,7 @@ pub(crate) fn refuse_unmet(
     let Some(expected) = asked.expect else {
         return Ok(());
     };
-    let met = expected_file(desk.alloc, file, expected);
+    let met = expected_file(desk.alloc, asked.may_wait, file, expected);
     if let Err(fault) = met {
         note_file(desk, path, pages, None, Some(fault));
     }
@@ -95,9 +100,10 @@ pub(crate) fn obey_plan(
 // The files that a plan writes, in the order in which `--keep` puts them at their places. The page file of the rest goes
 // first, so that no page is both in it and in a transmission that is not there; and no transmission ever stands without
 // its certificate.
-fn places<'a>(order: PlanOrder<'a>) -> [(Role, Option<&'a str>); 4] {
+fn places<'a>(order: PlanOrder<'a>) -> [(Role, Option<&'a str>); 5] {
     [
         (Role::Rest, order.rest),
+        (Role::Oversized, order.oversized),
         (Role::Why, order.why),
         (Role::Certificate, Some(order.cert)),
         (Role::Transmission, Some(order.tx)),
@@ -111,6 +117,11 @@ fn misuse(desk: Desk<'_>, order: PlanOrder<'_>) -> Option<&'static str> {
     for word in [order.rest, order.why] {
         if word == Some(STANDARD) || (word.is_some() && order.front.is_none()) {
             return Some(BAD_REST);
+        }
+    }
+    if let Some(word) = order.oversized {
+        if word == STANDARD || matches!(order.front, None | Some(FrontLimit::All)) {
+            return Some(BAD_OVERSIZED);
         }
     }
     if order.verify
@@ -181,7 +192,7 @@ fn write_plan<O: Sink>(
         tx: GrowingSink::new(desk.alloc),
         cert: GrowingSink::new(desk.alloc),
     };
-    let mut lines = kept_lines();
+    let mut lines: MemorySink<LINES> = MemorySink::new(LINES, LINES as u64);
     let search = order.search.search;
     let status = run_plan(desk.alloc, search, &mut files, &mut lines, &mut streams.err);
     note_file(desk, order.pages, &files.pages, quote, streams.err.fault());
@@ -190,11 +201,6 @@ fn write_plan<O: Sink>(
         put_whole(out, lines.bytes())?;
     }
     Ok(status)
-}
-
-// What takes the lines of a command until its files are written.
-fn kept_lines() -> MemorySink<LINES> {
-    MemorySink::new(LINES, LINES as u64)
 }
 
 // Puts the transmission and then the certificate.
@@ -216,49 +222,120 @@ fn write_front<O: Sink>(
     streams: &mut Streams,
     out: &mut O,
 ) -> Result<(u8, Option<u32>), CentreFault> {
-    let batches = match limit {
-        FrontLimit::Batches(batches) => batches,
-        FrontLimit::Airtime { ms, rate } => most_batches(ms, rate)?,
-    };
+    let asked = front_asked(order, limit)?;
     refuse_rest(desk, order)?;
     let mut source = open_source(desk, Role::PageFile, order.pages)?;
-    let outputs = make_outputs(desk, order.pages, order.tx, order.cert)?;
-    // A new file may have a second spelling among the words.
-    refuse_rest(desk, order)?;
+    let opened = open_outputs(desk, order.pages, order.tx, order.cert)?;
+    let others = open_others(desk, order)?;
+    let outputs = opened.emptied(desk)?;
     let pages = load(desk, &mut source, PAGES_READ)?;
     refuse_unmet(desk, order.pages, &pages, order.search)?;
     let quote = quote_asked(desk, &pages);
-    let search = order.search.search;
-    let mut files = front_files(desk, pages);
-    let mut lines = kept_lines();
-    let asked = FrontAsked { batches, search };
-    let status = run_front(desk.alloc, asked, &mut files, &mut lines, &mut streams.err);
-    note_file(desk, order.pages, &files.pages, quote, streams.err.fault());
-    let count = files.count;
-    if status == 0 {
-        put_front_files(desk, order, outputs, files)?;
-        put_whole(out, lines.bytes())?;
-    }
-    Ok((status, Some(count)))
-}
-
-// The files of a front in memory.
-fn front_files(desk: Desk<'_>, pages: Loaded) -> FrontFiles<Loaded, GrowingSink> {
-    FrontFiles {
+    let Aside { pages, file, count } = set_aside(desk, order, asked, pages)?;
+    let mut files = FrontFiles {
         pages,
         tx: GrowingSink::new(desk.alloc),
         cert: GrowingSink::new(desk.alloc),
         rest: GrowingSink::new(desk.alloc),
         why: GrowingSink::new(desk.alloc),
         count: 0,
+    };
+    let mut lines: MemorySink<LINES> = MemorySink::new(LINES, LINES as u64);
+    let status = run_front(desk.alloc, asked, &mut files, &mut lines, &mut streams.err);
+    note_file(desk, order.pages, &files.pages, quote, streams.err.fault());
+    let first = files.count;
+    if status == 0 {
+        if order.oversized.is_some() {
+            tell_numbers(&mut lines, &[("oversized ", count as u64)], "\n")?;
+        }
+        put_front_files(desk, others, outputs, file, files)?;
+        put_whole(out, lines.bytes())?;
     }
+    Ok((status, Some(first)))
+}
+
+// What is asked of a front.
+fn front_asked(order: PlanOrder<'_>, limit: FrontLimit) -> Result<FrontAsked, CentreFault> {
+    let batches = match limit {
+        FrontLimit::All => u32::MAX,
+        FrontLimit::Batches(batches) => batches,
+        FrontLimit::Airtime { ms, rate } => most_batches(ms, rate)?,
+    };
+    Ok(FrontAsked {
+        batches,
+        may_wait: order.search.may_wait,
+        search: order.search.search,
+    })
+}
+
+// The page file that is planned, the page file of the pages that are set aside, and how many these are.
+#[derive(Drop)]
+struct Aside {
+    pages: Loaded,
+    file: Vec<u8>,
+    count: usize,
+}
+
+// Sets the pages aside that alone need too many batches, where that is asked for. What cannot be read is for the command to
+// refuse.
+fn set_aside(
+    desk: Desk<'_>,
+    order: PlanOrder<'_>,
+    asked: FrontAsked,
+    pages: Loaded,
+) -> Result<Aside, CentreFault> {
+    let (Some(_), Some(bytes)) = (order.oversized, pages.lent()) else {
+        return Ok(Aside {
+            pages,
+            file: Vec::new(desk.alloc),
+            count: 0,
+        });
+    };
+    refuse_bad_limit(asked.search)?;
+    match part_file(desk.alloc, asked, bytes) {
+        Ok(parted) => Ok(Aside {
+            pages: Loaded::new(desk.alloc, parted.planned, false),
+            file: parted.aside,
+            count: parted.count,
+        }),
+        Err(fault) => {
+            note_file(desk, order.pages, &pages, None, Some(fault));
+            Err(fault)
+        }
+    }
+}
+
+// Opens the files of a front beside its transmission and certificate, behind these and before any file is emptied.
+fn open_others(
+    desk: Desk<'_>,
+    order: PlanOrder<'_>,
+) -> Result<Vec<(Role, Output<File>)>, FileFault> {
+    let words = [
+        (Role::Rest, order.rest),
+        (Role::Oversized, order.oversized),
+        (Role::Why, order.why),
+    ];
+    let mut others = Vec::new(desk.alloc);
+    for (role, word) in words {
+        let Some(word) = word else {
+            continue;
+        };
+        let output = open_output(desk, role, word)?;
+        if others.push((role, output)).is_err() {
+            return Err(FileFault::OutOfMemory);
+        }
+    }
+    // A new file may have a second spelling among the words.
+    refuse_rest(desk, order)?;
+    Ok(others)
 }
 
 // Writes the files of a front, the rest first.
 fn put_front_files<S: Sink + Drop>(
     desk: Desk<'_>,
-    order: PlanOrder<'_>,
+    others: Vec<(Role, Output<File>)>,
     outputs: Outputs<S>,
+    aside: Vec<u8>,
     files: FrontFiles<Loaded, GrowingSink>,
 ) -> Result<(), FileFault> {
     let FrontFiles {
@@ -268,31 +345,33 @@ fn put_front_files<S: Sink + Drop>(
         why,
         ..
     } = files;
-    if let Some(path) = order.rest {
-        write_file(desk, Role::Rest, path, rest.into_bytes().as_slice())?;
+    let rest = rest.into_bytes();
+    let why = why.into_bytes();
+    for (role, output) in others {
+        let bytes = match role {
+            Role::Rest => rest.as_slice(),
+            Role::Oversized => aside.as_slice(),
+            _ => why.as_slice(),
+        };
+        write_over(desk, role, output, bytes)?;
     }
-    if let Some(path) = order.why {
-        write_file(desk, Role::Why, path, why.into_bytes().as_slice())?;
-    }
-    // A new file may have a second spelling among the words.
-    refuse_rest(desk, order)?;
     put_outputs(outputs, tx, cert)
 }
 
-// Refuses a word for the rest, or for the certificate of one page more, that names another file of the plan.
+// Refuses a word for the rest, for the pages that are set aside, or for the certificate of one page more, that names another
+// file of the plan.
 fn refuse_rest(desk: Desk<'_>, order: PlanOrder<'_>) -> Result<(), FileFault> {
-    for word in [order.rest, order.why] {
-        refuse_equal(word, order.tx, order.cert)?;
-        refuse_shared(desk, word, order.tx, order.cert)?;
-    }
-    for (pages, word) in [
-        (order.pages, order.rest),
-        (order.rest, order.why),
-        (order.pages, order.why),
-    ] {
-        if let Some(word) = word {
-            refuse_equal(pages, word, STANDARD)?;
-            refuse_one_file(desk.rt, pages, word, STANDARD)?;
+    let words = [order.pages, order.rest, order.oversized, order.why];
+    for (place, word) in words.iter().enumerate().skip(1) {
+        refuse_equal(*word, order.tx, order.cert)?;
+        refuse_shared(desk, *word, order.tx, order.cert)?;
+        let Some(word) = *word else {
+            continue;
+        };
+        refuse_input(desk, word)?;
+        for other in &words[..place] {
+            refuse_equal(*other, word, STANDARD)?;
+            refuse_one_file(desk.rt, *other, word, STANDARD)?;
         }
     }
     Ok(())
@@ -307,14 +386,15 @@ fn read_files_back<O: Sink>(
     out: &mut O,
 ) -> Result<u8, CentreFault> {
     let mut pages = loaded(desk, Role::PageFile, order.pages, PAGES_READ)?;
-    if let Some(first) = first {
-        pages = first_pages(desk, order.pages, pages, first)?;
+    if let (Some(first), Some(limit)) = (first, order.front) {
+        pages = set_aside(desk, order, front_asked(order, limit)?, pages)?.pages;
+        pages = load_first(desk, order, pages, first)?;
     }
     let quote = quote_asked(desk, &pages);
     let tx = loaded(desk, Role::Transmission, Some(order.tx), PAGES_READ)?;
     let cert = loaded(desk, Role::Certificate, Some(order.cert), CERT_READ)?;
     let mut files = PlanFiles { pages, tx, cert };
-    let mut lines = kept_lines();
+    let mut lines: MemorySink<LINES> = MemorySink::new(LINES, LINES as u64);
     let search = order.search.search;
     let status = run_verify(desk.alloc, search, &mut files, &mut lines, &mut streams.err);
     note_file(desk, order.pages, &files.pages, quote, streams.err.fault());
@@ -324,20 +404,20 @@ fn read_files_back<O: Sink>(
     Ok(status)
 }
 
-// A page file of so many first pages. What cannot be read is for the command to refuse.
-fn first_pages(
+// A page file of so many first pages of the round. What cannot be read is for the command to refuse.
+fn load_first(
     desk: Desk<'_>,
-    path: Option<&str>,
+    order: PlanOrder<'_>,
     pages: Loaded,
     first: u32,
 ) -> Result<Loaded, CentreFault> {
     let Some(file) = pages.lent() else {
         return Ok(pages);
     };
-    match first_file(desk.alloc, file, first as usize) {
+    match first_file(desk.alloc, order.search.may_wait, file, first as usize) {
         Ok(file) => Ok(Loaded::new(desk.alloc, file, false)),
         Err(fault) => {
-            note_file(desk, path, &pages, None, Some(fault));
+            note_file(desk, order.pages, &pages, None, Some(fault));
             Err(fault)
         }
     }
@@ -352,7 +432,7 @@ fn plan_beside(
     refuse_shared(desk, order.pages, order.tx, order.cert)?;
     refuse_rest(desk, order)?;
     let mut files = Vec::new(desk.alloc);
-    let mut lines = kept_lines();
+    let mut lines: MemorySink<LINES> = MemorySink::new(LINES, LINES as u64);
     let done = plan_among(desk, order, &mut files, streams, &mut lines);
     for file in &files {
         file.remove(desk);
@@ -394,6 +474,7 @@ fn beside<'a>(order: PlanOrder<'a>, files: &'a [Beside<'_>]) -> PlanOrder<'a> {
     for file in files {
         match file.role {
             Role::Rest => beside.rest = Some(file.path()),
+            Role::Oversized => beside.oversized = Some(file.path()),
             Role::Why => beside.why = Some(file.path()),
             Role::Certificate => beside.cert = file.path(),
             _ => beside.tx = file.path(),

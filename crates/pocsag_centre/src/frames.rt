@@ -8,7 +8,7 @@ use pocsag_words::OutOfMemory;
 use std::alloc::Global;
 
 // How many frames a batch has.
-const FRAME_COUNT: u32 = 8;
+pub(crate) const FRAME_COUNT: u32 = 8;
 
 // How many slots a batch has, as a number that slots are.
 const BATCH_SLOTS: u8 = SLOTS as u8;

@@ -1,12 +1,13 @@
-ghost use Rattle.std.specs.Prelude.{◌≡◌, ◌≢◌, ◌⊎◌, ◌++◌, length, take, All, Err, IfErr, IfNone, IfOk, IfSome, IsErrOf, OnOk, Some};
+ghost use Rattle.std.specs.Prelude.{◌≡◌, ◌≢◌, ◌⊎◌, ◌++◌, false, length, take, All, Err, IfErr, IfNone, IfOk, IfSome, IsErrOf, OnOk, Some};
 ghost use Rattle.pocsag_words.specs.Devices.{CountsFailures, HasFailed};
 ghost use Rattle.pocsag_pages.specs.Listable.{IsListable};
+ghost use Rattle.pocsag_pages.specs.Queues.{firsts};
 ghost use Rattle.pocsag_pages.specs.declared.fault.RoundFault.TheVariants as round_fault;
 ghost use Rattle.pocsag_decode.specs.PageFiles.{page_file};
+ghost use Rattle.pocsag_branch.specs.Found.{IsNodeLimit};
 ghost use Rattle.pocsag_plan.specs.Plans.{IsBounded};
-ghost use Rattle.pocsag_plan.specs.Streams.{IsOfRound};
 ghost use Rattle.pocsag_centre.specs.Faults.{centre_status};
-ghost use Rattle.pocsag_centre.specs.FrontFiles.{beyond_of, certificate_text, ExplainsFirst, ExplainsNoFront, HasCertificateText, IsFrontRead, IsFrontTold, IsFrontWritten, IsPageFileOf, why_text};
+ghost use Rattle.pocsag_centre.specs.FrontFiles.{beyond_of, certificate_text, ExplainsFirst, ExplainsNoFront, HasCertificateText, IsOfHeld, IsFrontRead, IsFrontTold, IsFrontWritten, IsPageFileOf, why_text};
 ghost use Rattle.pocsag_centre.specs.Lines.{below_text, left_text, plan_text};
 ghost use Rattle.pocsag_centre.specs.Refusals.{OrDevice};
 ghost use Rattle.pocsag_shell.specs.ErrorStreams.{stream_of, told_by};
@@ -18,11 +19,11 @@ use crate::plan::tell_bounded;
 use pocsag_decode::{
     ListFault, page_files_are_read_back, pages_of_files_are_spellable, write_page_file,
 };
-use pocsag_pages::{Page, read_round, round_of};
+use pocsag_pages::{Page, first_pages, held_pages, left_pages, read_pages, read_round};
 use pocsag_plan::{FrontPlan, Search, longest_front, send};
 use pocsag_shell::{ErrorStream, FileFault, tell_numbers};
 use pocsag_tree::{Certificate, write_text};
-use pocsag_words::{GrowingSink, Sink, Source};
+use pocsag_words::{GrowingSink, OutOfMemory, Sink, Source};
 use std::alloc::Global;
 
 /// What a front is asked for.
@@ -30,6 +31,8 @@ use std::alloc::Global;
 pub struct FrontAsked {
     /// The most batches that it may have.
     pub batches: u32,
+    /// Whether a page may wait for an earlier one of its address: the round is the first page of each address.
+    pub may_wait: bool,
     pub search: Search,
 }
 
@@ -42,7 +45,7 @@ pub struct FrontFiles<P: Drop, S: Drop> {
     pub tx: S,
     /// The certificate of their bound.
     pub cert: S,
-    /// The page file of the pages that are left, in order; without a page it is the header alone.
+    /// The page file of the pages that are left, in the order of the page file; without a page it is the header alone.
     pub rest: S,
     /// Where pages are left, the certificate of the first pages and one more.
     pub why: S,
@@ -50,7 +53,7 @@ pub struct FrontFiles<P: Drop, S: Drop> {
     pub count: u32,
 }
 
-/// `plan PAGES TX CERT --at-most B`: plans the longest front of a page file that so many batches carry, as is asked: its
+/// `plan PAGES TX CERT --at-most B`: plans the longest front of a page file's round that so many batches carry, as is asked: its
 /// transmission, the certificate of its bound, the page file of the others, and why there is not one page more; and tells the
 /// counts. Faults in order: `BadLimit`, before the file is read; `Round`; `FirstPage`, where not even the first page fits;
 /// `SearchLimit`; want of memory. Returns the exit status.
@@ -62,11 +65,11 @@ pub fn run_front<P: Source + Drop, S: Sink + Drop, O: Sink, E: Sink + Drop>(
     err: &mut ErrorStream<CentreFault, E>,
 ) -> u8
     ensures written { P.tells → S.tells → IfNone (told_by err.new)
-        (IsFrontWritten (P.held files.old.pages) asked.search asked.batches files.new.count
+        (IsFrontWritten (P.held files.old.pages) asked files.new.count
         (S.taken files.old.tx) (S.taken files.new.tx) (S.taken files.old.cert) (S.taken files.new.cert)
         (S.taken files.old.rest) (S.taken files.new.rest) (S.taken files.old.why) (S.taken files.new.why)) }
     ensures told { P.tells → S.tells → O.tells → IfNone (told_by err.new)
-        (IsFrontTold (P.held files.old.pages) asked.search asked.batches files.new.count
+        (IsFrontTold (P.held files.old.pages) asked files.new.count
         (S.taken files.old.tx) (S.taken files.new.tx) (S.taken files.old.cert) (S.taken files.new.cert)
         (S.taken files.old.rest) (S.taken files.new.rest) (S.taken files.old.why) (S.taken files.new.why)
         (O.taken out.old) (O.taken out.new)) }
@@ -75,7 +78,7 @@ pub fn run_front<P: Source + Drop, S: Sink + Drop, O: Sink, E: Sink + Drop>(
     // When each fault comes, and what it leaves.
     ensures status { IfSome (told_by err.new) (λ e. result ≡ centre_status e) }
     ensures explained { P.tells → IfSome (told_by err.new)
-        (OrDevice (ExplainsNoFront (P.held files.old.pages) asked.search asked.batches)) }
+        (OrDevice (ExplainsNoFront (P.held files.old.pages) asked)) }
     ensures refused { IfSome (told_by err.new) (λ e. e ≢ CentreFault.File file_fault.Write →
         (files.new.tx ≡ files.old.tx) × (files.new.cert ≡ files.old.cert)
         × (files.new.rest ≡ files.old.rest) × (files.new.why ≡ files.old.why) × (out.new ≡ out.old)) }
@@ -101,17 +104,17 @@ fn fronted<P: Source + Drop, S: Sink + Drop, O: Sink>(
     out: &mut O,
 ) -> Result<u8, CentreFault>
     ensures written { P.tells → S.tells → OnOk result
-        (IsFrontWritten (P.held files.old.pages) asked.search asked.batches files.new.count
+        (IsFrontWritten (P.held files.old.pages) asked files.new.count
         (S.taken files.old.tx) (S.taken files.new.tx) (S.taken files.old.cert) (S.taken files.new.cert)
         (S.taken files.old.rest) (S.taken files.new.rest) (S.taken files.old.why) (S.taken files.new.why)) }
     ensures told { P.tells → S.tells → O.tells → OnOk result
-        (IsFrontTold (P.held files.old.pages) asked.search asked.batches files.new.count
+        (IsFrontTold (P.held files.old.pages) asked files.new.count
         (S.taken files.old.tx) (S.taken files.new.tx) (S.taken files.old.cert) (S.taken files.new.cert)
         (S.taken files.old.rest) (S.taken files.new.rest) (S.taken files.old.why) (S.taken files.new.why)
         (O.taken out.old) (O.taken out.new)) }
     ensures done { IfOk result (λ status. status ≡ 0) }
     ensures explained { P.tells → IfErr result
-        (OrDevice (ExplainsNoFront (P.held files.old.pages) asked.search asked.batches)) }
+        (OrDevice (ExplainsNoFront (P.held files.old.pages) asked)) }
     ensures refused { IfErr result (λ e. e ≢ CentreFault.File file_fault.Write →
         (files.new.tx ≡ files.old.tx) × (files.new.cert ≡ files.old.cert)
         × (files.new.rest ≡ files.old.rest) × (files.new.why ≡ files.old.why) × (out.new ≡ out.old)) }
@@ -148,15 +151,15 @@ fn read_front<P: Source>(
     asked: FrontAsked,
     pages: &mut P,
 ) -> Result<FrontPlan, CentreFault>
-    ensures front { P.tells → IfOk result (IsFrontRead (P.held pages.old) asked.search asked.batches) }
+    ensures front { P.tells → IfOk result (IsFrontRead (P.held pages.old) asked) }
     ensures planned { IfOk result (λ front.
         IsBounded front.bounded.plan.end front.round front.bounded.plan front.bounded.bound) }
     ensures listable { IfOk result (λ front. All IsListable front.rest.items) }
     ensures texts { IfOk result (λ front. HasCertificateText front.why) }
     ensures limited { P.tells → OnOk result
-        (ExplainsNoFront (P.held pages.old) asked.search asked.batches (CentreFault.File file_fault.OutOfMemory)) }
+        (ExplainsNoFront (P.held pages.old) asked (CentreFault.File file_fault.OutOfMemory)) }
     ensures explained { P.tells → IfErr result
-        (OrDevice (ExplainsNoFront (P.held pages.old) asked.search asked.batches)) }
+        (OrDevice (ExplainsNoFront (P.held pages.old) asked)) }
     ensures read_failed { IsErrOf result (CentreFault.Round round_fault.ReadFault) →
         HasFailed (P.failures pages.old) (P.failures pages.new) }
     ensures unwritten { ¬ IsErrOf result (CentreFault.File file_fault.Write) }
@@ -166,6 +169,9 @@ fn read_front<P: Source>(
     if let Err(fault) = refuse_bad_limit(asked.search) {
         return Err(fault);
     }
+    if asked.may_wait {
+        return queue_front(alloc, asked, pages);
+    }
     let round = match read_round(alloc, pages) {
         Ok(round) => round,
         Err(fault) => return Err(CentreFault::Round(fault)),
@@ -174,6 +180,55 @@ fn read_front<P: Source>(
     match longest_front(alloc, round, asked.batches, asked.search) {
         Ok(front) => Ok(front),
         Err(fault) => Err(CentreFault::from(fault)),
+    }
+}
+
+// The same of a page file whose pages are not all in the round.
+fn queue_front<P: Source>(
+    alloc: Global,
+    asked: FrontAsked,
+    pages: &mut P,
+) -> Result<FrontPlan, CentreFault>
+    requires { IsNodeLimit asked.search.limit }
+    ensures front { P.tells → IfOk result (IsFrontRead (P.held pages.old) asked) }
+    ensures planned { IfOk result (λ front.
+        IsBounded front.bounded.plan.end front.round front.bounded.plan front.bounded.bound) }
+    ensures listable { IfOk result (λ front. All IsListable front.rest.items) }
+    ensures texts { IfOk result (λ front. HasCertificateText front.why) }
+    ensures limited { P.tells → OnOk result
+        (ExplainsNoFront (P.held pages.old) asked (CentreFault.File file_fault.OutOfMemory)) }
+    ensures explained { P.tells → IfErr result (OrDevice (ExplainsNoFront (P.held pages.old) asked)) }
+    ensures read_failed { IsErrOf result (CentreFault.Round round_fault.ReadFault) →
+        HasFailed (P.failures pages.old) (P.failures pages.new) }
+    ensures unwritten { ¬ IsErrOf result (CentreFault.File file_fault.Write) }
+{
+    page_files_are_read_back();
+    pages_of_files_are_spellable();
+    let queue = match read_pages(alloc, asked.may_wait, pages) {
+        Ok(queue) => queue,
+        Err(fault) => return Err(CentreFault::Round(fault)),
+    };
+    let Ok(firsts) = first_pages(alloc, queue.as_slice()) else {
+        return Err(CentreFault::File(FileFault::OutOfMemory));
+    };
+    let front = match longest_front(alloc, firsts, asked.batches, asked.search) {
+        Ok(front) => front,
+        Err(fault) => return Err(CentreFault::from(fault)),
+    };
+    let FrontPlan {
+        round,
+        bounded,
+        rest: _,
+        why,
+    } = front;
+    match left_pages(alloc, queue, round.pages()) {
+        Ok(rest) => Ok(FrontPlan {
+            round,
+            bounded,
+            rest,
+            why,
+        }),
+        Err(OutOfMemory) => Err(CentreFault::File(FileFault::OutOfMemory)),
     }
 }
 
@@ -222,16 +277,25 @@ fn put_why<S: Sink>(why: &Option<Certificate>, sink: &mut S) -> Result<(), FileF
     }
 }
 
-/// A page file of the first pages of the bytes of a page file, so many, or all where it has fewer.
-pub fn first_file(alloc: Global, pages: &[u8], count: usize) -> Result<Vec<u8>, CentreFault>
-    ensures first { IfOk result (λ file. IsOfRound pages.now (λ round. IsPageFileOf (take count round) file.items)) }
-    ensures explained { IfErr result (ExplainsFirst pages.now) }
+/// A page file of the first pages of the round of the bytes of a page file, so many, or all where it has fewer.
+pub fn first_file(
+    alloc: Global,
+    may_wait: bool,
+    pages: &[u8],
+    count: usize,
+) -> Result<Vec<u8>, CentreFault>
+    ensures first { IfOk result (λ file.
+        IsOfHeld may_wait pages.now (λ queue. IsPageFileOf false (take count (firsts queue)) file.items)) }
+    ensures explained { IfErr result (ExplainsFirst may_wait pages.now) }
 {
     page_files_are_read_back();
     pages_of_files_are_spellable();
-    let round = match round_of(alloc, pages) {
-        Ok(round) => round,
+    let queue = match held_pages(alloc, may_wait, pages) {
+        Ok(queue) => queue,
         Err(fault) => return Err(CentreFault::Round(fault)),
+    };
+    let Ok(round) = first_pages(alloc, queue.as_slice()) else {
+        return Err(CentreFault::File(FileFault::OutOfMemory));
     };
     let count = count.min(round.pages().len());
     let first = &round.pages()[..count];
@@ -239,7 +303,7 @@ pub fn first_file(alloc: Global, pages: &[u8], count: usize) -> Result<Vec<u8>, 
 }
 
 // The page file of the pages.
-fn written_pages(alloc: Global, pages: &[Page]) -> Result<Vec<u8>, CentreFault>
+pub(crate) fn written_pages(alloc: Global, pages: &[Page]) -> Result<Vec<u8>, CentreFault>
     requires { All IsListable pages.now }
     ensures file { IfOk result (λ file. file.items ≡ page_file pages.now) }
     ensures memory { IfErr result (λ e. e ≡ CentreFault.File file_fault.OutOfMemory) }

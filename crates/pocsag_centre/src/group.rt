@@ -7,8 +7,8 @@ use crate::plan::{DEFAULT_SEARCH, run_input};
 use crate::report::{ReportAsked, run_report};
 use crate::texts::EARLY_STRICT;
 use crate::words::{
-    CHECK, CHECK_COMMAND, PLAN, PLAN_COMMAND, REPORT, REPORT_COMMAND, REST, STRICT, STRICT_FLAG,
-    WHY,
+    CHECK, CHECK_COMMAND, OVERSIZED, PLAN, PLAN_COMMAND, REPORT, REPORT_COMMAND, REST, STRICT,
+    STRICT_FLAG, WHY,
 };
 use clap::{ArgMatches, Error};
 use pocsag_shell::{
@@ -70,6 +70,7 @@ fn names_of<'a>(call: Call<'a, '_>) -> Names<'a> {
         tx: found.get_str(TX),
         cert: found.get_str(CERT),
         rest: found.get_str(REST),
+        oversized: found.get_str(OVERSIZED),
         why: found.get_str(WHY),
         ..Names::NONE
     }
@@ -83,6 +84,7 @@ fn plan_input(desk: Desk<'_>, strict: bool, streams: &mut Streams) -> Result<u8,
     let asked = SearchOrder {
         expect: None,
         strict,
+        may_wait: false,
         search: DEFAULT_SEARCH,
     };
     let mut pages = loaded(desk, Role::PageFile, None, PAGES_READ)?;

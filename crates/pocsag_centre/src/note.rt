@@ -1,5 +1,5 @@
 use crate::fault::CentreFault;
-use csv::{ByteRecord, Position, ReaderBuilder};
+use csv::{ByteRecord, ReaderBuilder};
 use pocsag_pages::{QuoteFault, RoundFault, quote_fault};
 use pocsag_shell::{Desk, Loaded, NamedFile, Role, STANDARD};
 use pocsag_words::Source;
@@ -31,24 +31,20 @@ fn ends_line(byte: &u8) -> bool {
     matches!(byte, b'\r' | b'\n')
 }
 
-// Where a reader stands that has read so many records. Each of them has three fields, so reading them takes little memory.
-fn position_behind(alloc: Global, file: &[u8], count: u32) -> Option<Position> {
+// The line on which the record of this number begins, and the record up to the end of that line. Each record before it has
+// three fields, so reading them takes little memory.
+fn record_at(alloc: Global, file: &[u8], number: u32) -> Option<(usize, &[u8])> {
     let mut reader = ReaderBuilder::new()
         .has_headers(false)
         .flexible(true)
         .from_reader(alloc, file);
     let mut row = ByteRecord::new(alloc);
-    for _ in 0..count {
+    for _ in 0..number {
         if !reader.read_byte_record(&mut row).unwrap_or(false) {
             return None;
         }
     }
-    Some(reader.position())
-}
-
-// The line on which the record of this number begins, and the record up to the end of that line.
-fn record_at(alloc: Global, file: &[u8], number: u32) -> Option<(usize, &[u8])> {
-    let position = position_behind(alloc, file, number)?;
+    let position = reader.position();
     let rest = file.get(position.byte() as usize..)?;
     let begins = rest.iter().position(|byte| !ends_line(byte))?;
     let (passed, record) = rest.split_at(begins);

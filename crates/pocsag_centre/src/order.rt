@@ -1,8 +1,8 @@
 //! What the words of a command ask for.
 
 use crate::words::{
-    AIRTIME, AT_MOST, CLOSED_END, EACH_FRAME, END, EXPECT, IDLE_END, IDLE_LAST, LIMIT, OPEN_END,
-    RATE, REST, STRICT, VERIFY, WHY,
+    AIRTIME, AT_MOST, CLOSED_END, EACH_FRAME, END, EXPECT, IDLE_END, IDLE_LAST, LATER, LIMIT,
+    OPEN_END, OVERSIZED, RATE, REST, STRICT, VERIFY, WHY,
 };
 use clap::ArgMatches;
 use pocsag_plan::{Effort, Search};
@@ -16,12 +16,16 @@ pub(crate) struct SearchOrder {
     pub(crate) expect: Option<u32>,
     /// Whether a misplaced quote refuses the page file.
     pub(crate) strict: bool,
+    /// Whether a page may wait for an earlier one of its address.
+    pub(crate) may_wait: bool,
     pub(crate) search: Search,
 }
 
 /// What bounds the front of a page file, where one is planned.
 #[derive(Clone, Copy)]
 pub(crate) enum FrontLimit {
+    /// Nothing: all pages of the round are planned.
+    All,
     /// So many batches.
     Batches(u32),
     /// So many milliseconds at a rate.
@@ -43,8 +47,10 @@ pub(crate) struct PlanOrder<'a> {
     pub(crate) keep: bool,
     /// What bounds the front, where not all pages need to be planned.
     pub(crate) front: Option<FrontLimit>,
-    /// The words for the page file of the pages that are left, and for the certificate of one page more.
+    /// The words for the page file of the pages that are left, for that of the pages that are set aside, and for the certificate
+    /// of one page more.
     pub(crate) rest: Option<&'a str>,
+    pub(crate) oversized: Option<&'a str>,
     pub(crate) why: Option<&'a str>,
 }
 
@@ -80,6 +86,7 @@ fn search_in(found: &ArgMatches<'_>) -> Option<SearchOrder> {
     Some(SearchOrder {
         expect: found.get_one::<u32>(EXPECT),
         strict: found.get_flag(STRICT),
+        may_wait: found.get_flag(LATER),
         search: Search {
             limit: found.get_one::<u32>(LIMIT)?,
             end: end_in(found)?,
@@ -92,9 +99,11 @@ fn front_in(found: &ArgMatches<'_>) -> Option<FrontLimit> {
     if let Some(batches) = found.get_one::<u32>(AT_MOST) {
         return Some(FrontLimit::Batches(batches));
     }
-    let ms = found.get_one::<u32>(AIRTIME)?;
-    let rate = found.get_one::<u32>(RATE)?;
-    Some(FrontLimit::Airtime { ms, rate })
+    if let Some(ms) = found.get_one::<u32>(AIRTIME) {
+        let rate = found.get_one::<u32>(RATE)?;
+        return Some(FrontLimit::Airtime { ms, rate });
+    }
+    found.get_flag(LATER).then_some(FrontLimit::All)
 }
 
 /// The order of the words of `plan`; none where a word is not there, which clap has seen to.
@@ -108,6 +117,7 @@ pub(crate) fn plan_order<'a>(found: &ArgMatches<'a>) -> Option<PlanOrder<'a>> {
         keep: found.get_flag(KEEP),
         front: front_in(found),
         rest: found.get_str(REST),
+        oversized: found.get_str(OVERSIZED),
         why: found.get_str(WHY),
     })
 }

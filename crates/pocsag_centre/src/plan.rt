@@ -101,33 +101,14 @@ pub fn run_input<I: Source, O: Sink, E: Sink + Drop>(
     ensures write_failed { told_by err.new ≡ Some (CentreFault.File file_fault.Write) →
         HasFailed (O.failures out.old) (O.failures out.new) }
 {
-    err.end(input_told(alloc, input, out))
-}
-
-// The same, whose fault is still to be told.
-fn input_told<I: Source, O: Sink>(
-    alloc: Global,
-    input: &mut I,
-    out: &mut O,
-) -> Result<u8, CentreFault>
-    ensures told { I.tells → O.tells → OnOk result
-        (ToldPlan (I.held input.old) open_end (O.taken out.old) (O.taken out.new)) }
-    ensures done { IfOk result (λ status. status ≡ 0) }
-    ensures explained { I.tells → IfErr result (OrDevice (ExplainsNoPlan (I.held input.old) default_search)) }
-    ensures refused { IfErr result (λ e. e ≢ CentreFault.File file_fault.Write → out.new ≡ out.old) }
-    ensures read_failed { IsErrOf result (CentreFault.Round round_fault.ReadFault) →
-        HasFailed (I.failures input.old) (I.failures input.new) }
-    ensures write_failed { IsErrOf result (CentreFault.File file_fault.Write) →
-        HasFailed (O.failures out.old) (O.failures out.new) }
-{
     let found = match read_plan(alloc, input, DEFAULT_SEARCH) {
         Ok(found) => found,
-        Err(fault) => return Err(fault),
+        Err(fault) => return err.end(Err(fault)),
     };
     let plan = &found.bounded.plan;
     match tell_plan(plan.pages, plan.batches, out) {
-        Ok(()) => Ok(0),
-        Err(fault) => Err(CentreFault::File(fault)),
+        Ok(()) => err.end(Ok(0)),
+        Err(fault) => err.end(Err(CentreFault::File(fault))),
     }
 }
 
@@ -168,44 +149,14 @@ pub fn run_plan<P: Source + Drop, T: Sink + Drop, C: Sink + Drop, O: Sink, E: Si
         ⊎ HasFailed (C.failures files.old.cert) (C.failures files.new.cert)
         ⊎ HasFailed (O.failures out.old) (O.failures out.new) }
 {
-    err.end(planned(alloc, search, files, out))
-}
-
-// The same, whose fault is still to be told.
-fn planned<P: Source + Drop, T: Sink + Drop, C: Sink + Drop, O: Sink>(
-    alloc: Global,
-    search: Search,
-    files: &mut PlanFiles<P, T, C>,
-    out: &mut O,
-) -> Result<u8, CentreFault>
-    ensures planned { P.tells → T.tells → C.tells → OnOk result
-        (Planned (P.held files.old.pages) search (T.taken files.old.tx) (T.taken files.new.tx)
-        (C.taken files.old.cert) (C.taken files.new.cert)) }
-    ensures told { P.tells → T.tells → C.tells → O.tells → OnOk result
-        (PlannedAndTold (P.held files.old.pages) search (T.taken files.old.tx) (T.taken files.new.tx)
-        (C.taken files.old.cert) (C.taken files.new.cert) (O.taken out.old) (O.taken out.new)) }
-    ensures done { IfOk result (λ status. status ≡ 0) }
-    ensures explained { P.tells → IfErr result (OrDevice (ExplainsUnwritten (P.held files.old.pages) search)) }
-    ensures refused { IfErr result (λ e. e ≢ CentreFault.File file_fault.Write →
-        (files.new.tx ≡ files.old.tx) × (files.new.cert ≡ files.old.cert) × (out.new ≡ out.old)) }
-    ensures leaves { P.tells → T.tells → C.tells →
-        LeavesOutputs (P.held files.old.pages) search (T.taken files.old.tx) (T.taken files.new.tx)
-        (C.taken files.old.cert) (C.taken files.new.cert) }
-    ensures read_failed { IsErrOf result (CentreFault.Round round_fault.ReadFault) →
-        HasFailed (P.failures files.old.pages) (P.failures files.new.pages) }
-    ensures write_failed { IsErrOf result (CentreFault.File file_fault.Write) →
-        HasFailed (T.failures files.old.tx) (T.failures files.new.tx)
-        ⊎ HasFailed (C.failures files.old.cert) (C.failures files.new.cert)
-        ⊎ HasFailed (O.failures out.old) (O.failures out.new) }
-{
     let PlanFiles { pages, tx, cert } = files;
     let bounded = match stream_asked(alloc, pages, tx, cert, search) {
         Ok(bounded) => bounded,
-        Err(fault) => return Err(CentreFault::from(fault)),
+        Err(fault) => return err.end(Err(CentreFault::from(fault))),
     };
     match tell_bounded(&bounded, out) {
-        Ok(()) => Ok(0),
-        Err(fault) => Err(CentreFault::File(fault)),
+        Ok(()) => err.end(Ok(0)),
+        Err(fault) => err.end(Err(CentreFault::File(fault))),
     }
 }
 

@@ -61,51 +61,25 @@ pub fn run_verify<P: Source + Drop, T: Source + Drop, C: Source + Drop, O: Sink,
     ensures write_failed { told_by err.new ≡ Some (CentreFault.File file_fault.Write) →
         HasFailed (O.failures out.old) (O.failures out.new) }
 {
-    err.end(verified(alloc, search, files, out))
-}
-
-// The same, whose fault is still to be told.
-fn verified<P: Source + Drop, T: Source + Drop, C: Source + Drop, O: Sink>(
-    alloc: Global,
-    search: Search,
-    files: &mut PlanFiles<P, T, C>,
-    out: &mut O,
-) -> Result<u8, CentreFault>
-    ensures verified { P.tells → T.tells → C.tells → OnOk result
-        (Verified (P.held files.old.pages) search (T.held files.old.tx) (C.held files.old.cert)) }
-    ensures told { O.tells → OnOk result (O.taken out.new ≡ O.taken out.old ++ codes "verified" ++ 10 ∷ []) }
-    ensures done { IfOk result (λ status. status ≡ 0) }
-    ensures explained { P.tells → T.tells → C.tells → IfErr result (OrDevice
-        (ExplainsVerifying (P.held files.old.pages) search (T.held files.old.tx) (C.held files.old.cert))) }
-    ensures refused { IfErr result (λ e. e ≢ CentreFault.File file_fault.Write → out.new ≡ out.old) }
-    ensures read_failed { IsErrOf result (CentreFault.Round round_fault.ReadFault) →
-        HasFailed (P.failures files.old.pages) (P.failures files.new.pages) }
-    ensures device_failed { IsErrOf result (CentreFault.File file_fault.Device) →
-        HasFailed (T.failures files.old.tx) (T.failures files.new.tx) }
-    ensures certificate_failed { IsErrOf result (CentreFault.Certificate tree_fault.ReadFault) →
-        HasFailed (C.failures files.old.cert) (C.failures files.new.cert) }
-    ensures write_failed { IsErrOf result (CentreFault.File file_fault.Write) →
-        HasFailed (O.failures out.old) (O.failures out.new) }
-{
     let PlanFiles { pages, tx, cert } = files;
     let round = match read_round(alloc, pages) {
         Ok(round) => round,
-        Err(fault) => return Err(CentreFault::Round(fault)),
+        Err(fault) => return err.end(Err(CentreFault::Round(fault))),
     };
     let batches = match read_batches(alloc, tx, &round, search.end) {
         Ok(batches) => batches,
-        Err(fault) => return Err(fault),
+        Err(fault) => return err.end(Err(fault)),
     };
     let certificate = match read_certificate(alloc, cert) {
         Ok(certificate) => certificate,
-        Err(fault) => return Err(CentreFault::Certificate(fault)),
+        Err(fault) => return err.end(Err(CentreFault::Certificate(fault))),
     };
     if !shows_due(&round, &certificate, batches, search) {
-        return Err(CentreFault::NotTheBound);
+        return err.end(Err(CentreFault::NotTheBound));
     }
     match put_whole(out, b"verified\n") {
-        Ok(()) => Ok(0),
-        Err(fault) => Err(CentreFault::File(fault)),
+        Ok(()) => err.end(Ok(0)),
+        Err(fault) => err.end(Err(CentreFault::File(fault))),
     }
 }
 

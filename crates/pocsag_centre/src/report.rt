@@ -59,44 +59,21 @@ pub fn run_report<P: Source, O: Sink, E: Sink + Drop>(
     ensures write_failed { told_by err.new ≡ Some (CentreFault.File file_fault.Write) →
         HasFailed (O.failures out.old) (O.failures out.new) }
 {
-    err.end(reported(alloc, asked, pages, out))
-}
-
-// The same, whose fault is still to be told.
-fn reported<P: Source, O: Sink>(
-    alloc: Global,
-    asked: ReportAsked,
-    pages: &mut P,
-    out: &mut O,
-) -> Result<u8, CentreFault>
-    ensures told { P.tells → O.tells → IsFalse asked.frames → OnOk result
-        (Reported (P.held pages.old) asked.search asked.rate (O.taken out.old) (O.taken out.new)) }
-    ensures told_frames { P.tells → O.tells → IsTrue asked.frames → OnOk result
-        (ReportedFrames (P.held pages.old) asked.search asked.rate (O.taken out.old) (O.taken out.new)) }
-    ensures done { IfOk result (λ status. status ≡ 0) }
-    ensures explained { P.tells →
-        IfErr result (OrDevice (ExplainsReporting (P.held pages.old) asked.search asked.rate)) }
-    ensures refused { IfErr result (λ e. e ≢ CentreFault.File file_fault.Write → out.new ≡ out.old) }
-    ensures read_failed { IsErrOf result (CentreFault.Round round_fault.ReadFault) →
-        HasFailed (P.failures pages.old) (P.failures pages.new) }
-    ensures write_failed { IsErrOf result (CentreFault.File file_fault.Write) →
-        HasFailed (O.failures out.old) (O.failures out.new) }
-{
     let found = match read_plan(alloc, pages, asked.search) {
         Ok(found) => found,
-        Err(fault) => return Err(fault),
+        Err(fault) => return err.end(Err(fault)),
     };
     let report = match report(&found.bounded.plan, asked.rate) {
         Ok(report) => report,
-        Err(_) => return Err(CentreFault::BadRate),
+        Err(_) => return err.end(Err(CentreFault::BadRate)),
     };
     let rooms = match rooms_asked(alloc, &found, asked.frames) {
         Ok(rooms) => rooms,
-        Err(_) => return Err(CentreFault::File(FileFault::OutOfMemory)),
+        Err(_) => return err.end(Err(CentreFault::File(FileFault::OutOfMemory))),
     };
     match tell_frames(report, found.bounded.bound, rooms.as_slice(), out) {
-        Ok(()) => Ok(0),
-        Err(fault) => Err(CentreFault::File(fault)),
+        Ok(()) => err.end(Ok(0)),
+        Err(fault) => err.end(Err(CentreFault::File(fault))),
     }
 }
 

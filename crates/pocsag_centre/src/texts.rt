@@ -14,7 +14,9 @@ that bound.
 With --at-most or --airtime the command plans the longest front of the file:
 its first pages, as many as so many batches carry, in the order of the file. It
 adds the line 'left L', the number of the other pages. If not even the first
-page fits, REST and the FILE of --why stay as they are.
+page fits, REST and the FILE of --why stay as they are. With --later the file
+may have several pages for one address: the round is the first page of each,
+and REST is every other page, in the order of the file.
 
 Example:
   pocsag plan pages.csv tx.bin cert.bin --strict --always --verify --keep
@@ -35,6 +37,14 @@ Writes the pages that are left to the page file REST";
 pub(crate) const WHY_HELP: &str = "\
 Writes a certificate that the first pages and one more
 need more batches, if pages are left";
+
+pub(crate) const LATER_HELP: &str = "\
+Leaves each page to REST whose address an earlier page
+of the file has: no such page is a fault then";
+
+pub(crate) const OVERSIZED_HELP: &str = "\
+Writes the pages that alone need more batches to F
+and plans the others; adds the line 'oversized N'";
 
 pub(crate) const LIMIT_HELP: &str = "\
 How many nodes the search may examine, 1 to 1000000.

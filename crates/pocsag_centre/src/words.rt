@@ -2,8 +2,8 @@
 
 use crate::texts::{
     AIRTIME_HELP, AT_MOST_HELP, CHECK_ABOUT, END_HELP, EXPECT_HELP, FRAMES_HELP, IDLE_LAST_HELP,
-    LIMIT_HELP, PLAN_ABOUT, PLAN_MANUAL, PLAN_RATE_HELP, RATE_HELP, REPORT_ABOUT, REST_HELP,
-    STRICT_HELP, VERIFY_HELP, WHY_HELP,
+    LATER_HELP, LIMIT_HELP, OVERSIZED_HELP, PLAN_ABOUT, PLAN_MANUAL, PLAN_RATE_HELP, RATE_HELP,
+    REPORT_ABOUT, REST_HELP, STRICT_HELP, VERIFY_HELP, WHY_HELP,
 };
 use pocsag_shell::{
     ALWAYS_FLAG, CERT_PLACE, Content, FLAG, Given, KEEP_FLAG, LineWord, PAGES_PLACE, PLACE, Shape,
@@ -41,6 +41,10 @@ pub(crate) const AIRTIME: &str = "airtime";
 pub(crate) const REST: &str = "rest";
 
 pub(crate) const WHY: &str = "why";
+
+pub(crate) const LATER: &str = "later";
+
+pub(crate) const OVERSIZED: &str = "oversized";
 
 // The names of the ends.
 pub(crate) const OPEN_END: &str = "open";
@@ -148,6 +152,20 @@ const WHY_OPTION: LineWord = LineWord {
     ..FLAG
 };
 
+const LATER_FLAG: LineWord = LineWord {
+    id: LATER,
+    help: LATER_HELP,
+    needs: &[REST],
+    ..FLAG
+};
+
+const OVERSIZED_OPTION: LineWord = LineWord {
+    id: OVERSIZED,
+    help: OVERSIZED_HELP,
+    given: Given::Option("F", &[]),
+    ..FLAG
+};
+
 pub(crate) const PLAN_COMMAND: Shape = Shape {
     name: PLAN,
     about: PLAN_ABOUT,
@@ -169,6 +187,8 @@ pub(crate) const PLAN_COMMAND: Shape = Shape {
         PLAN_RATE_OPTION,
         REST_OPTION,
         WHY_OPTION,
+        LATER_FLAG,
+        OVERSIZED_OPTION,
     ],
 };
 

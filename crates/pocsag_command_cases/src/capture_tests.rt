@@ -1,4 +1,5 @@
-//! `decode`, `hear` and `show` of a capture that is worked out by hand: a tone, inverted and one bit late.
+//! `decode`, `hear` and `show` of captures that are worked out by hand: a tone, inverted and one bit late, and one behind a
+//! synchronisation codeword that cannot be recognised.
 
 use pocsag_capture::{CaptureFault, Heard, Polarity, Reception};
 use pocsag_receiver::{
@@ -31,9 +32,11 @@ fn a_late_tone_is_caught(rt: HostRuntime) {
             bit: 1,
             polarity: Polarity::Inverted,
             batches: 1,
+            words: 17,
         },
         corrected: 0,
         lost: 0,
+        cut: 0,
     };
     let alloc = rt.alloc();
     let mut err = ErrorStream::new(MemorySink::<100>::new(1, 1000));
@@ -78,4 +81,48 @@ fn a_late_tone_is_caught(rt: HostRuntime) {
         Some(ReceiverFault::Capture(CaptureFault::NoSuchTransmission { nth: 2, found: 1 }))
     );
     assert!(rt; is_none);
+}
+
+// Three batches with a tone of address 8 in the first codeword of the third; the second begins with zeros.
+fn bridged_tone() -> [u8; 204] {
+    let mut capture = [0; 204];
+    for place in 0..204 {
+        capture[place] = match (place / 68, place % 68) {
+            (1, 0..=3) => 0,
+            (_, 0..=3) => [0x7c, 0xd2, 0x15, 0xd8][place % 4],
+            (2, 4..=7) => [0x00, 0x00, 0x26, 0xec][place % 4],
+            _ => [0x7a, 0x89, 0xc1, 0x97][place % 4],
+        };
+    }
+    capture
+}
+
+#[test]
+fn a_bridged_tone_is_caught(rt: HostRuntime) {
+    let capture = bridged_tone();
+    let due = Heard {
+        reception: Reception {
+            bit: 0,
+            polarity: Polarity::Upright,
+            batches: 3,
+            words: 51,
+        },
+        corrected: 0,
+        lost: 1,
+        cut: 0,
+    };
+    let alloc = rt.alloc();
+    let mut err = ErrorStream::new(MemorySink::<100>::new(1, 1000));
+    let mut listing = MemorySink::<4000>::new(1000, 4000);
+    let mut told = Vec::new(alloc);
+    let tx = &mut SliceSource::new(&capture);
+    assert_eq!(rt;
+        run_decode_capture(alloc, &mut told, tx, &mut listing, &mut err),
+        0
+    );
+    assert_eq!(rt; told.as_slice(), [due].as_slice());
+    assert_eq!(rt;
+        listing.bytes(),
+        b"address,kind,message\n8,tone0,\n".as_slice()
+    );
 }

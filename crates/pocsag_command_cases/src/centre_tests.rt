@@ -2,7 +2,8 @@
 
 use pocsag_centre::{
     CentreFault, DEFAULT_LIMIT, FrontAsked, FrontFiles, PlanFiles, ReportAsked, expected_file,
-    run_check, run_front, run_input, run_plan, run_report, run_verify, strict_file,
+    first_file, part_file, run_check, run_front, run_input, run_plan, run_report, run_verify,
+    strict_file,
 };
 use pocsag_pages::{FieldFault, QuoteFault, RecordFault, RoundFault};
 use pocsag_plan::{Effort, Search};
@@ -642,6 +643,7 @@ fn front_files(alloc: Global) -> FrontFiles<SliceSource<'static>, GrowingSink> {
 const fn front_of(batches: u32) -> FrontAsked {
     FrontAsked {
         batches,
+        may_wait: false,
         search: OPEN,
     }
 }
@@ -696,6 +698,60 @@ fn a_front_without_room_is_refused(rt: HostRuntime) -> Result<(), Fail> {
     Ok(())
 }
 
+// Two pages for one address: the first is sent, and the second waits.
+const QUEUE: &[u8] = b"address,kind,message\n8,tone0,\n8,tone1,\n16,tone2,\n";
+
+#[test]
+fn later_pages_wait(rt: HostRuntime) -> Result<(), Fail> {
+    let alloc = rt.alloc();
+    let mut files = FrontFiles {
+        pages: Loaded::new(alloc, QUEUE.to_vec(alloc)?, false),
+        tx: GrowingSink::new(alloc),
+        cert: GrowingSink::new(alloc),
+        rest: GrowingSink::new(alloc),
+        why: GrowingSink::new(alloc),
+        count: 0,
+    };
+    let asked = FrontAsked {
+        may_wait: true,
+        ..front_of(9)
+    };
+    let (mut out, mut err) = (MemorySink::<500>::new(1, 1000), errors());
+    let done = run_front(alloc, asked, &mut files, &mut out, &mut err);
+    assert_eq!(rt; done, 0);
+    assert_eq!(rt; out.bytes(), b"pages 2\nbatches 1\nleft 1\n".as_slice());
+    assert_eq!(rt;
+        files.rest.into_bytes().as_slice(),
+        b"address,kind,message\n8,tone1,\n".as_slice()
+    );
+    let again = CentreFault::Round(RoundFault::Record(2, RecordFault::DuplicateAddress));
+    assert_eq!(rt; expected_file(alloc, true, QUEUE, 3), Ok(()));
+    assert_eq!(rt; expected_file(alloc, false, QUEUE, 3), Err(again));
+    let first = first_file(alloc, true, QUEUE, 1).expect(&rt, "a first page");
+    assert_eq!(rt; first.as_slice(), LONE_TONE);
+    Ok(())
+}
+
+// A page that starts in the last frame and has three codewords does not end in its batch.
+#[test]
+fn oversized_pages_are_set_aside(rt: HostRuntime) -> Result<(), Fail> {
+    let alloc = rt.alloc();
+    let file = b"address,kind,message\n15,numeric,1234567890\n8,tone0,\n".as_slice();
+    let parted = part_file(alloc, front_of(1), file).expect(&rt, "a page that fits");
+    assert_eq!(rt; parted.count, 1);
+    assert_eq!(rt; parted.planned.as_slice(), LONE_TONE);
+    assert_eq!(rt;
+        parted.aside.as_slice(),
+        b"address,kind,message\n15,numeric,1234567890\n".as_slice()
+    );
+    for (batches, asked) in [(0, front_of(0)), (2, front_of(2))] {
+        let parted = part_file(alloc, asked, file).expect(&rt, "no page is set aside");
+        assert_eq!(rt; parted.count, 0, "{batches} batches");
+        assert_eq!(rt; parted.planned.as_slice(), file);
+    }
+    Ok(())
+}
+
 // What `--strict` and `--expect` refuse.
 #[test]
 fn page_files_are_refused(rt: HostRuntime) -> Result<(), Fail> {
@@ -715,7 +771,7 @@ fn page_files_are_refused(rt: HostRuntime) -> Result<(), Fail> {
         (BAD_FILE, 1, Err(bad_character)),
     ];
     for (file, expected, due) in cases {
-        assert_eq!(rt; expected_file(alloc, file, expected), due);
+        assert_eq!(rt; expected_file(alloc, false, file, expected), due);
     }
     Ok(())
 }

@@ -4,7 +4,7 @@ use pocsag_capture::CaptureFault;
 use pocsag_centre::CentreFault;
 use pocsag_decode::DecodeFault;
 use pocsag_journal::JournalFault;
-use pocsag_open::{OpenFault, Refusal, UndoneFault};
+use pocsag_open::{OpenFault, Refusal, UndoneFault, refuse};
 use pocsag_pager::PagerFault;
 use pocsag_pages::{FieldFault, PageFault, QuoteFault, RecordFault, RoundFault};
 use pocsag_plan::{AddFault, NotThere};
@@ -13,6 +13,7 @@ use pocsag_shell::{Failure, FileFault};
 use pocsag_show::Rows;
 use pocsag_sound::SoundFault;
 use pocsag_tree::CertificateFault;
+use pocsag_words::MemorySink;
 use std::alloc::Global;
 use std::fmt::Display;
 use std::process::Abort;
@@ -21,6 +22,16 @@ fn expect_texts<D: Display>(rt: &impl Abort, alloc: Global, rows: &[(D, &str)]) 
     for (fault, text) in rows {
         let told = format!(in alloc; "{fault}").expect(rt, "memory");
         assert_eq!(rt; told.as_str(), *text);
+    }
+}
+
+// The line that tells each refusal.
+fn expect_lines(rt: &impl Abort, alloc: Global, rows: &[(Refusal, &str)]) {
+    for (why, text) in rows {
+        let line = format!(in alloc; "refused: {text}\n").expect(rt, "memory");
+        let mut told = MemorySink::<200>::new(200, u64::MAX);
+        assert!(rt; refuse(*why, &mut told).is_ok());
+        assert_eq!(rt; told.bytes(), line.as_bytes());
     }
 }
 
@@ -337,7 +348,14 @@ fn open_rounds(rt: HostRuntime) {
 fn refusals(rt: HostRuntime) {
     let alloc = rt.alloc();
     let undone = [
+        (UndoneFault::File(FileFault::EqualPaths), TWICE),
+        (UndoneFault::File(FileFault::Device), NO_READ),
         (UndoneFault::File(FileFault::Write), NO_WRITE),
+        (
+            UndoneFault::File(FileFault::Owner),
+            "the new file cannot be given the owner, group and mode of the old one",
+        ),
+        (UndoneFault::File(FileFault::TooLarge), TOO_LARGE),
         (UndoneFault::File(FileFault::OutOfMemory), NO_MEMORY),
         (UndoneFault::NoPages, NO_PAGES),
         (
@@ -349,9 +367,9 @@ fn refusals(rt: HostRuntime) {
     ];
     expect_texts(&rt, alloc, &undone);
     for (fault, text) in undone {
-        expect_texts(&rt, alloc, &[(Refusal::Undone(fault), text)]);
+        expect_lines(&rt, alloc, &[(Refusal::Undone(fault), text)]);
     }
-    expect_texts(
+    expect_lines(
         &rt,
         alloc,
         &[

@@ -1,19 +1,20 @@
 //! Journals on disks in memory: what they hold once an edit is answered, whichever call fails, and what reading them
 //! gives.
 
-ghost use Rattle.std.specs.Prelude.{◌≡◌, [], ◌∷◌, ◌++◌, None, OnErr, OnOk, Some};
+ghost use Rattle.std.specs.Prelude.{◌≡◌, ◌≤◌, [], ◌∷◌, ◌++◌, length, None, IfErr, IfOk, OnErr, OnOk, Some};
+ghost use Rattle.pocsag_words.specs.Devices.{CountsFailures};
 ghost use Rattle.pocsag_words.specs.MemorySink.{taken_of};
-ghost use Rattle.pocsag_open.specs.Plans.{no_names, no_plans, placed_plan};
+ghost use Rattle.pocsag_open.specs.Plans.{no_fault, no_names, no_plans, placed_plan};
 
+use crate::crash_disk::CrashDisk;
 use pocsag_core_cases::given::{Records, round_of_file};
-use pocsag_journal::{
-    Disk, Journal, JournalFault, MemoryDisk, Replayed, first_line, read_journal, text_of_pages,
-};
-use pocsag_open::{OpenRound, Places, Planner, run_open_kept};
+use pocsag_journal::{Journal, JournalFault, Replayed, first_line, read_journal, text_of_pages};
+use pocsag_open::{KeptStreams, OpenFault, OpenRound, Places, Planner, open_kept};
 use pocsag_plan::{Book, Effort};
 use pocsag_shell::{FileFault, Outputs};
-use pocsag_words::{DeviceFault, MemorySink, MemorySource};
+use pocsag_words::{MemorySink, MemorySource};
 use std::alloc::Global;
+use std::process::Abort;
 use std::test::Fail;
 
 // A folder in which no file can be made.
@@ -29,6 +30,10 @@ impl Places for NoFolder {
 
     ghost made_for = { λ _. no_names };
 
+    ghost failures = { λ _. 0 };
+
+    ghost last_fault = { λ _. no_fault };
+
     fn make(&mut self, _tx: &str, _cert: &str) -> Result<Outputs<MemorySink<1>>, FileFault> {
         Err(FileFault::Device)
     }
@@ -43,6 +48,8 @@ impl Places for NoFolder {
             no_plans ++ placed_plan tx.now cert.now (taken_of outputs.tx, taken_of outputs.cert) ∷ []) }
         ensures same { ⊥ → OnErr result (no_plans ≡ no_plans) }
         ensures none_left { ⊥ → no_names ≡ Some (tx.now, cert.now) → no_names ≡ None }
+        ensures fault { ⊥ → IfErr result (λ fault. no_fault ≡ Some ((tx.now, cert.now), fault)) }
+        ensures failures { ⊥ → CountsFailures result 0 0 }
     {
         Ok(())
     }
@@ -50,89 +57,36 @@ impl Places for NoFolder {
     fn leave<'n>(&mut self, _tx: &'n str, _cert: &'n str) {}
 }
 
-// A disk in memory that forgets what it held before, for long journals.
-#[derive(Drop)]
-struct ForgetfulDisk {
-    alloc: Global,
-    bytes: Vec<u8>,
-    settlings_left: u64,
-    syncs: u64,
-}
-
-impl Disk for ForgetfulDisk {
-    ghost tells = { ⊥ };
-
-    ghost held = { λ _. [] };
-
-    ghost may_leave = { λ _ _. ⊥ };
-
-    ghost moment = { λ _. 0 };
-
-    ghost left_since = { λ _ _ _. ⊥ };
-
-    ghost failures = { λ _. 0 };
-
-    ghost counts_now = { λ disk t left tells le now. absurd tells };
-
-    ghost only_now = { λ disk left tells since. absurd tells };
-
-    fn append(&mut self, line: &[u8]) -> Result<(), DeviceFault> {
-        match self.bytes.extend_from_slice(line) {
-            Ok(()) => Ok(()),
-            Err(_) => Err(DeviceFault),
-        }
-    }
-
-    fn sync(&mut self) -> Result<(), DeviceFault> {
-        self.syncs = self.syncs.saturating_add(1);
-        if self.settlings_left == 0 {
-            return Err(DeviceFault);
-        }
-        self.settlings_left -= 1;
-        Ok(())
-    }
-
-    fn replace(&mut self, text: &[u8]) -> Result<(), DeviceFault> {
-        if self.settlings_left == 0 {
-            return Err(DeviceFault);
-        }
-        let Ok(bytes) = text.to_vec(self.alloc) else {
-            return Err(DeviceFault);
-        };
-        self.settlings_left -= 1;
-        self.bytes = bytes;
-        Ok(())
-    }
-}
-
 // What a round leaves: its answers, its disk, and how it ended.
 #[derive(Drop)]
-struct Left<D: Disk + Drop> {
+struct Left {
     answers: MemorySink<8000>,
-    disk: D,
-    done: Result<(), FileFault>,
+    disk: CrashDisk,
+    done: Result<(), OpenFault>,
 }
 
-// Keeps a round of no pages on the disk.
-fn keep<D: Disk + Drop>(alloc: Global, disk: D, lines: &[u8]) -> Result<Left<D>, JournalFault> {
+// Keeps a round on the disk, from what it holds on.
+fn keep(alloc: Global, disk: CrashDisk, lines: &[u8]) -> Left {
     let planner = &mut Planner {
         places: NoFolder,
         effort: Effort::Fewest,
     };
-    let book = Book::new(alloc);
-    let keeper = match Journal::write_anew(alloc, disk, &book) {
-        Ok(keeper) => keeper,
-        Err((fault, _disk)) => return Err(fault),
+    let mut round = OpenRound {
+        book: Book::new(alloc),
+        keeper: Journal::on(disk),
     };
-    let mut round = OpenRound { book, keeper };
-    let mut input = MemorySource::new(lines, 7, u64::MAX);
-    let mut answers = MemorySink::new(5, u64::MAX);
-    let done = run_open_kept(alloc, planner, &mut round, &mut input, &mut answers);
-    Ok(Left {
-        answers,
-        disk: round.keeper.into_disk(),
+    let mut streams = KeptStreams {
+        pages: None::<MemorySource<'_>>,
+        input: MemorySource::new(lines, 7, u64::MAX),
+        out: MemorySink::<8000>::new(5, u64::MAX),
+        err: MemorySink::<200>::new(5, u64::MAX),
+    };
+    let done = open_kept(alloc, planner, &mut round, &mut streams);
+    Left {
+        answers: streams.out,
+        disk: round.keeper.disk,
         done,
-    })
+    }
 }
 
 // A line, its answer, and whether it is an edit that is accepted.
@@ -211,6 +165,14 @@ fn due_of(alloc: Global, takes: usize, settles: u64) -> Result<Due, Fail> {
     Ok(due)
 }
 
+// Whether the round ended with its input; otherwise the disk failed.
+fn is_ended(left: &Left) -> bool {
+    match left.done {
+        Ok(()) => true,
+        Err(fault) => !matches!(fault, OpenFault::File(FileFault::Write)),
+    }
+}
+
 // Each edit that is answered `ok` was written whole and synchronised once, and a refused line never; where the disk
 // takes no more bytes, or serves no further call, the round ends without an answer.
 #[test]
@@ -226,20 +188,17 @@ fn edits_are_kept_before_they_are_answered(rt: HostRuntime) -> Result<(), Fail> 
     }
     for (takes, settles) in limits.as_slice() {
         let due = due_of(alloc, *takes, *settles)?;
-        let disk = MemoryDisk::new(alloc, *takes, settles.saturating_add(1));
-        let left = keep(alloc, disk, lines.as_slice())?;
-        let done = if due.is_all {
-            Ok(())
-        } else {
-            Err(FileFault::Write)
-        };
-        assert_eq!(rt; left.done, done);
+        let disk = CrashDisk::of(alloc, b"", *takes, settles.saturating_add(1))?;
+        let left = keep(alloc, disk, lines.as_slice());
+        assert_eq!(rt; is_ended(&left), due.is_all);
         assert_eq!(rt; left.answers.bytes(), due.answers.as_slice());
-        assert_eq!(rt; left.disk.synced(), due.safe.as_slice());
-        assert_eq!(rt; left.disk.syncs(), due.syncs);
+        let safe = left.disk.left(0)?;
+        assert_eq!(rt; safe.as_slice(), due.safe.as_slice());
+        assert_eq!(rt; left.disk.syncs, due.syncs);
     }
-    let none = keep(alloc, MemoryDisk::new(alloc, 1000, 0), lines.as_slice());
-    assert_eq!(rt; none.err(), Some(JournalFault::WriteFault));
+    let none = keep(alloc, CrashDisk::of(alloc, b"", 1000, 0)?, lines.as_slice());
+    assert_eq!(rt; is_ended(&none), false);
+    assert_eq!(rt; none.answers.bytes().len(), 0);
     Ok(())
 }
 
@@ -355,22 +314,165 @@ fn long_journals_are_written_anew(rt: HostRuntime) -> Result<(), Fail> {
         lines.extend_from_slice(b"\ncancel,8\n")?;
     }
     let cases = [
-        (u64::MAX, Ok(()), 600, 160_897, (80, 0, 0)),
-        (522, Err(FileFault::Write), 521, 1_049_750, (521, 1, 0)),
+        (u64::MAX, true, 600, 160_897, (80, 0, 0)),
+        (522, false, 521, 1_049_750, (521, 1, 0)),
     ];
     for (settles, done, syncs, bytes, read) in cases {
-        let disk = ForgetfulDisk {
-            alloc,
-            bytes: Vec::new(alloc),
-            settlings_left: settles,
-            syncs: 0,
-        };
-        let left = keep(alloc, disk, lines.as_slice())?;
-        assert_eq!(rt; left.done, done);
+        let disk = CrashDisk::of(alloc, b"", usize::MAX, settles)?;
+        let left = keep(alloc, disk, lines.as_slice());
+        assert_eq!(rt; is_ended(&left), done);
         assert_eq!(rt; left.disk.syncs, syncs);
-        assert_eq!(rt; left.disk.bytes.len(), bytes);
-        let mut source = MemorySource::new(left.disk.bytes.as_slice(), 4096, u64::MAX);
+        let held = left.disk.left(usize::MAX)?;
+        assert_eq!(rt; held.len(), bytes);
+        let mut source = MemorySource::new(held.as_slice(), 4096, u64::MAX);
         assert_eq!(rt; told(read_journal(alloc, &mut source)), Ok(read));
     }
     Ok(())
+}
+
+// A crash leaves whole sectors of so many bytes.
+const SECTOR: usize = 8;
+
+const EDITS: [&str; 4] = [
+    "add,8,tone0,\n",
+    "add,16,tone0,\n",
+    "cancel,8\n",
+    "sent,1\n",
+];
+
+// The pages after one of the edits, each by its address, or none where it is refused.
+fn after(alloc: Global, pages: &[u32], edit: usize) -> Result<Option<Vec<u32>>, Fail> {
+    let mut later = Vec::new(alloc);
+    let added = match edit {
+        0 => Some(8),
+        1 => Some(16),
+        _ => None,
+    };
+    let taken = match edit {
+        2 => Some(8),
+        3 => pages.first().copied(),
+        _ => None,
+    };
+    for page in pages {
+        if added == Some(*page) {
+            return Ok(None);
+        }
+        if taken != Some(*page) {
+            later.push(*page)?;
+        }
+    }
+    if let Some(page) = added {
+        later.push(page)?;
+        return Ok(Some(later));
+    }
+    if later.len() == pages.len() {
+        return Ok(None);
+    }
+    Ok(Some(later))
+}
+
+// What `list` answers.
+fn listing(alloc: Global, pages: &[u32]) -> Result<String, Fail> {
+    let mut text = String::new(alloc);
+    text.push_str("address,kind,message\n")?;
+    for page in pages {
+        text.push_str(format!(in alloc; "{page},tone0,\n")?.as_str())?;
+    }
+    let count = pages.len();
+    text.push_str(format!(in alloc; "ok {count}\n")?.as_str())?;
+    Ok(text)
+}
+
+// Edits that are accepted, their pages, and how many bytes and calls of the disk they take.
+#[derive(Drop)]
+struct Edited {
+    lines: String,
+    pages: Vec<u32>,
+    edits: u64,
+}
+
+// Cuts the last of these edits at each write, and compares what each crash leaves.
+fn cut_last<R: Abort>(
+    rt: &R,
+    alloc: Global,
+    before: &Edited,
+    line: &str,
+    later: &[u32],
+) -> Result<(), Fail> {
+    let mut lines = before.lines.clone()?;
+    lines.push_str(line)?;
+    let first = listing(alloc, before.pages.as_slice())?;
+    let second = listing(alloc, later)?;
+    let written = before.lines.len();
+    let cuts = [
+        (written, u64::MAX),
+        (written.saturating_add(line.len() / 2), u64::MAX),
+        (usize::MAX, before.edits.saturating_add(1)),
+    ];
+    for (takes, settles) in cuts {
+        let cut = keep(
+            alloc,
+            CrashDisk::of(alloc, b"", takes, settles)?,
+            lines.as_bytes(),
+        );
+        assert_eq!(rt; is_ended(&cut), false);
+        for more in (0..line.len().saturating_add(SECTOR)).step_by(SECTOR) {
+            let bytes = cut.disk.left(more)?;
+            let disk = CrashDisk::of(alloc, bytes.as_slice(), usize::MAX, u64::MAX)?;
+            let next = keep(alloc, disk, b"list\n");
+            let told = next.answers.bytes();
+            assert!(rt; told == first.as_bytes() || told == second.as_bytes());
+            assert!(rt; more > 0 || told == first.as_bytes());
+        }
+    }
+    Ok(())
+}
+
+// Every run of up to six of the edits that begins with this line, by which one page is there. The last edit of each is cut at each
+// write: the next start reads the pages after the edits that were answered, or after that one more, whatever a crash left.
+fn cut_runs<R: Abort>(rt: &R, alloc: Global, line: &str, address: u32) -> Result<(), Fail> {
+    let none = Edited {
+        lines: String::new(alloc),
+        pages: Vec::new(alloc),
+        edits: 0,
+    };
+    let mut first = Edited {
+        lines: String::new(alloc),
+        pages: Vec::new(alloc),
+        edits: 1,
+    };
+    first.lines.push_str(line)?;
+    first.pages.push(address)?;
+    cut_last(rt, alloc, &none, line, first.pages.as_slice())?;
+    let mut runs = Vec::new(alloc);
+    runs.push(first)?;
+    for _ in 0..5 {
+        let mut longer = Vec::new(alloc);
+        for before in &runs {
+            for (edit, line) in EDITS.iter().enumerate() {
+                if let Some(pages) = after(alloc, before.pages.as_slice(), edit)? {
+                    cut_last(rt, alloc, before, line, pages.as_slice())?;
+                    let mut lines = before.lines.clone()?;
+                    lines.push_str(line)?;
+                    longer.push(Edited {
+                        lines,
+                        pages,
+                        edits: before.edits.saturating_add(1),
+                    })?;
+                }
+            }
+        }
+        runs = longer;
+    }
+    Ok(())
+}
+
+#[test]
+fn cut_edits_survive(rt: HostRuntime) -> Result<(), Fail> {
+    cut_runs(&rt, rt.alloc(), "add,8,tone0,\n", 8)
+}
+
+#[test]
+fn cut_edits_of_another_page_survive(rt: HostRuntime) -> Result<(), Fail> {
+    cut_runs(&rt, rt.alloc(), "add,16,tone0,\n", 16)
 }

@@ -5,6 +5,7 @@
 #[cfg(test)]
 mod capture_tests;
 mod centre_tests;
+mod crash_disk;
 #[cfg(test)]
 mod fault_texts;
 #[cfg(test)]

@@ -4,7 +4,9 @@ use pocsag_decode::Repaired;
 use pocsag_explain::{ExplainFiles, run_explain};
 use pocsag_findings::Telling;
 use pocsag_plan::plan_stream;
-use pocsag_receiver::{Repairing, Showing, run_decode, run_hear, run_show};
+use pocsag_receiver::{
+    Decoding, Hearing, ListForm, Repairing, Showing, run_decode, run_hear, run_show,
+};
 use pocsag_shell::{ErrorStream, Failure};
 use pocsag_show::{Rows, View};
 use pocsag_words::{End, GrowingSink, MemorySink, MemorySource, SliceSource};
@@ -15,6 +17,8 @@ use std::test::Fail;
 const LONE_TONE: &[u8] = b"address,kind,message\n8,tone0,\n";
 
 const LISTED: &str = "address,kind,message\n8,tone0,\n";
+
+const LINE: &str = "{\"address\":8,\"function\":0,\"kind\":\"tone0\",\"message\":\"\"}\n";
 
 const NONE_HEARD: &str = "address,kind,message\n";
 
@@ -35,8 +39,8 @@ so 0 batches do not suffice
 // A command, and what its words ask for.
 #[derive(Clone, Copy)]
 enum Command {
-    Decode { repair: bool },
-    Hear(u32),
+    Decode { form: ListForm, repair: bool },
+    Hear(Hearing),
     Show { view: View, repair: bool },
     Explain,
 }
@@ -125,24 +129,47 @@ fn run(rt: &impl Abort, alloc: Global, command: Command, faults: Faults) -> Resu
     }
     let mut err = errors();
     let status = match command {
-        Command::Decode { repair } => {
-            let mut repairing = Repairing::new(repair);
-            run_decode(alloc, &mut repairing, &mut tx, &mut out, &mut err)
+        Command::Decode { form, repair } => {
+            let repairing = Repairing::new(repair);
+            let mut decoding = Decoding { form, repairing };
+            run_decode(alloc, &mut decoding, &mut tx, &mut out, &mut err)
         }
         Command::Show { view, repair } => {
             let repairing = Repairing::new(repair);
             let mut showing = Showing { view, repairing };
             run_show(alloc, &mut showing, &mut tx, &mut out, &mut err)
         }
-        Command::Hear(address) => run_hear(alloc, address, &mut tx, &mut out, &mut err),
+        Command::Hear(hearing) => run_hear(alloc, hearing, &mut tx, &mut out, &mut err),
         Command::Explain => 255,
     };
     Ok(outcome(status, out, &err))
 }
 
-const DECODE: Command = Command::Decode { repair: false };
+const DECODE: Command = Command::Decode {
+    form: ListForm::Listing,
+    repair: false,
+};
 
-const DECODE_REPAIRED: Command = Command::Decode { repair: true };
+const DECODE_REPAIRED: Command = Command::Decode {
+    form: ListForm::Listing,
+    repair: true,
+};
+
+const DECODE_JSON: Command = Command::Decode {
+    form: ListForm::Json([true, false, false]),
+    repair: true,
+};
+
+const DECODE_TEXTS: Command = Command::Decode {
+    form: ListForm::Texts([true, true, true]),
+    repair: false,
+};
+
+// `hear` of an address, with the listing.
+fn heard_of(address: u32) -> Command {
+    let form = ListForm::Listing;
+    Command::Hear(Hearing { form, address })
+}
 
 const SHOW_REPAIRED: Command = Command::Show {
     view: View::Places,
@@ -162,6 +189,10 @@ fn transmissions_are_read(rt: HostRuntime) -> Result<(), Fail> {
         view: View::Grid(Rows::new(3, 7).expect(&rt, "rows")),
         repair: false,
     };
+    let heard_json = Command::Hear(Hearing {
+        form: ListForm::Json([false; 3]),
+        address: 8,
+    });
     let flipped = Faults {
         flipped: [1, 0, 3],
         ..SOUND
@@ -170,7 +201,7 @@ fn transmissions_are_read(rt: HostRuntime) -> Result<(), Fail> {
     let unread = Faults { tx: 20, ..SOUND };
     let unwritten = Faults { out: 5, ..SOUND };
     let no_sync = "pocsag: batch 0: no synchronisation codeword\n";
-    let cases: [Case; 15] = [
+    let cases: [Case; 21] = [
         (DECODE, SOUND, 0, LISTED, ""),
         (DECODE, flipped, 1, "", no_sync),
         (
@@ -189,15 +220,33 @@ fn transmissions_are_read(rt: HostRuntime) -> Result<(), Fail> {
         ),
         (DECODE, unwritten, 3, "addre", "pocsag: cannot write\n"),
         (DECODE_REPAIRED, flipped, 0, LISTED, ""),
-        (Command::Hear(8), flipped, 0, LISTED, ""),
-        (Command::Hear(9), SOUND, 0, NONE_HEARD, ""),
+        (heard_of(8), flipped, 0, LISTED, ""),
+        (heard_of(9), SOUND, 0, NONE_HEARD, ""),
+        (heard_of(2_097_152), SOUND, 1, "", "pocsag: bad address\n"),
+        (DECODE_JSON, flipped, 0, LINE, ""),
         (
-            Command::Hear(2_097_152),
-            SOUND,
+            DECODE_JSON,
+            cut,
             1,
             "",
-            "pocsag: bad address\n",
+            "pocsag: the transmission is cut short\n",
         ),
+        (
+            DECODE_JSON,
+            unwritten,
+            3,
+            "{\"add",
+            "pocsag: cannot write\n",
+        ),
+        (DECODE_TEXTS, SOUND, 0, LISTED, ""),
+        (
+            DECODE_TEXTS,
+            unwritten,
+            3,
+            "addre",
+            "pocsag: cannot write\n",
+        ),
+        (heard_json, flipped, 0, LINE, ""),
         (grid, SOUND, 0, GRID, ""),
         (grid, flipped, 1, "", no_sync),
         (SHOW_REPAIRED, flipped, 0, PLACES, ""),
@@ -235,10 +284,11 @@ fn repairs_are_counted(rt: HostRuntime) -> Result<(), Fail> {
         let bytes = spoiled(rt.alloc(), sent.as_slice(), faults)?;
         let mut tx = SliceSource::new(bytes.as_slice());
         let mut out = MemorySink::<400>::new(7, 1000);
-        let (mut repairing, mut err) = (Repairing::new(true), errors());
-        let status = run_decode(rt.alloc(), &mut repairing, &mut tx, &mut out, &mut err);
+        let (form, repairing, mut err) = (ListForm::Listing, Repairing::new(true), errors());
+        let mut decoding = Decoding { form, repairing };
+        let status = run_decode(rt.alloc(), &mut decoding, &mut tx, &mut out, &mut err);
         assert_eq!(rt; status, 0);
-        assert_eq!(rt; repairing.corrected, Repaired { words, bits });
+        assert_eq!(rt; decoding.repairing.corrected, Repaired { words, bits });
     }
     Ok(())
 }

@@ -49,7 +49,9 @@ fn keyed(
     let sent = lone_tone();
     let mut tx = MemorySource::new(&sent, 50, 1000);
     let mut out = MemorySink::<4000>::new(1000, most);
-    let keying = Keying::new(2400, 2400, None, is_inverted).expect(rt, "a keying");
+    let keying = Keying::new(2400, 2400, None, is_inverted)
+        .ok()
+        .expect(rt, "a keying");
     let mut err = ErrorStream::new(MemorySink::<100>::new(1, 1000));
     run_wav(alloc, keying, &mut tx, &mut out, &mut err);
     (err.fault(), out)

@@ -21,8 +21,10 @@ use Rattle.pocsag_pages.specs.declared.page.Page.{Page}
 use Rattle.pocsag_pages.specs.Pages.{AreGood, IsRound, addresses_of, has_address, is_reserved, last_address, page_fault_of}
 use Rattle.pocsag_pages.specs.PageFile.{fault_after, is_header, page_of, page_of_fields, pages_of, rows_of, verdict}
 use Rattle.pocsag_pages.specs.PageList.{unless_empty}
+use Rattle.pocsag_pages.specs.Queues.{queue_verdict}
 use Rattle.pocsag_pages.proofs.GoodPages.{good_page}
 use Rattle.pocsag_pages.proofs.Judgements.{after_header, grown, grown_end, grown_on, judged, small_file}
+use Rattle.pocsag_pages.proofs.QueueRows.{after_queue_header, queue_judged, queue_room, queued, queued_end, queued_on, small_queue, some_queue}
 use Rattle.pocsag_pages.proofs.Spelled.{characters_spelled, digits_spelled, tone_spelled}
 use Rattle.pocsag_decode.specs.Listing.{header, kind_field, message_field}
 use Rattle.pocsag_decode.specs.PageFiles.{IsSpellable, IsOfText, page_file, page_record, whole_message}
@@ -200,10 +202,6 @@ file_short ps back few =
     let head = row_short (codes "address") (codes "kind") (codes "message") in
     omega (arith, whole, head, rows_short ps back)
 
-some_pages : (ps : List Page) → 0 < length ps → unless_empty ps ≡ Ok ps
-some_pages [] h = absurd (omega arith)
-some_pages (p ∷ ps) h = refl
-
 all_back : (ps : List Page) → All (λ p. page_fault_of p ≡ None) ps → All IsSpellable ps → All IsBack ps
 all_back ps fine texts = λ k d h. record_back _ (fine k d h) (texts k d h)
 
@@ -217,4 +215,26 @@ good_back ps good few texts =
     ∙ all_grown [] ps good few back
 
 pub read_back : (R : List Page) → IsRound R → All IsSpellable R → verdict (page_file R) ≡ Ok R
-read_back R round texts = good_back R round.good round.few texts ∙ some_pages R round.some
+read_back R round texts = good_back R round.good round.few texts ∙ some_queue R round.some
+
+-- the same of queues
+queue_grown : (before qs : List Page) → length (before ++ qs) ≤ 20000 → All IsBack qs →
+    queued before (length before) (map page_record qs) ≡ unless_empty (before ++ qs)
+queue_grown before [] few back = queued_end before (length before) ∙ ap unless_empty (sym (append-nil before))
+queue_grown before (p ∷ qs) few back =
+    let this = All-head IsBack p qs back in
+    let long = length-append before (p ∷ qs) in
+    let snoc : (before ++ p ∷ []) ++ qs ≡ before ++ p ∷ qs = append_assoc before (p ∷ []) qs in
+    let more : length (before ++ p ∷ []) ≡ length before + 1 = length-append before (p ∷ []) in
+    let rest = queue_grown (before ++ p ∷ []) qs (rw (sym snoc) at few) (All-tail IsBack p qs back) in
+    queued_on before (length before) (page_record p) (map page_record qs) p this.spells (queue_room (length before) p (omega arith))
+    ∙ ((rw more at rest) ∙ ap unless_empty snoc)
+
+pub queue_back : (ps : List Page) → All (λ p. page_fault_of p ≡ None) ps → length ps ≤ 20000 → All IsSpellable ps →
+    queue_verdict (page_file ps) ≡ unless_empty ps
+queue_back ps fine few texts =
+    let back = all_back ps fine texts in
+    small_queue (page_file ps) (file_short ps back few)
+    ∙ (rw (file_rows ps) (after_queue_header header (map page_record ps) headed))
+    ∙ queue_judged (map page_record ps)
+    ∙ queue_grown [] ps few back

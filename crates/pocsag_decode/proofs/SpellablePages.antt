@@ -11,6 +11,7 @@ use Rattle.pocsag_pages.specs.declared.fault.FieldFault.TheVariants as field
 use Rattle.pocsag_pages.specs.declared.fault.RoundFault.{RoundFault}
 use Rattle.pocsag_pages.specs.declared.fault.RoundFault.TheVariants as fault
 use Rattle.pocsag_pages.specs.PageFile.{◌>>=◌, Row, address_of, fault_if, first_fault, function_of, is_header, kind_of_field, of_record, of_text, or_fault, page_of, page_of_fields, pages_of, pages_unless, payload_of, round_of_rows, verdict, verdict_of_rows, with_page}
+use Rattle.pocsag_pages.specs.Queues.{first_queue_fault, queue_of_all_rows, queue_of_rows, queue_verdict}
 use Rattle.pocsag_pages.specs.PageList.{unless_empty}
 use Rattle.pocsag_pages.specs.Pages.{is_reserved}
 use Rattle.pocsag_decode.specs.PageFiles.{IsSpellable}
@@ -122,3 +123,25 @@ page_spellable address name message p e = value_of IsSpellable _ p (fields_spell
 
 pub round_spellable : (file : List ℕ) (R : List Page) → verdict file ≡ Ok R → All IsSpellable R
 round_spellable file R e = value_of AreSpellable _ R (of_files AreSpellable round_spelled file) e
+
+-- the same of queues
+queue_spelled : (rows : List Row) → IfOk (queue_of_rows rows) AreSpellable
+unfolding queue_of_rows
+queue_spelled rows = unless_spelled (first_queue_fault 0 rows) rows
+
+behind_queue_header : (t : Bool) (rows : List Row) → IfOk (cond t (queue_of_rows rows) (Err fault.BadHeader)) AreSpellable
+behind_queue_header true rows = queue_spelled rows
+behind_queue_header false rows = tt
+
+of_queue_rows : (t : Bool) (rows : List Row) → IfOk (cond t (Err fault.TooLarge) (queue_of_all_rows rows)) AreSpellable
+unfolding queue_of_all_rows
+of_queue_rows true rows = tt
+of_queue_rows false [] = tt
+of_queue_rows false (header ∷ rows) = behind_queue_header (is_header header) rows
+
+of_queues : (file : List ℕ) → IfOk (queue_verdict file) AreSpellable
+unfolding queue_verdict
+of_queues file = of_queue_rows _ _
+
+pub queue_spellable : (file : List ℕ) (Q : List Page) → queue_verdict file ≡ Ok Q → All IsSpellable Q
+queue_spellable file Q e = value_of AreSpellable _ Q (of_queues file) e

@@ -5,7 +5,6 @@ pub mod EditRuns
 pub mod EditedPages
 pub mod FieldLines
 pub mod Fields
-mod Kept
 pub mod KeptPages
 pub mod LineFeeds
 pub mod LineLengths
@@ -19,4 +18,5 @@ pub mod Replays
 pub mod RowTexts
 pub mod Strays
 pub mod TextLines
+mod ToldReplays
 pub mod TornLines

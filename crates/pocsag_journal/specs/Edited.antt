@@ -1,18 +1,15 @@
--- What an edit of an open round does to its pages, why it is refused, and in what words (this project's own).
-use Rattle.std.specs.Prelude.{◌≡◌, ◌⊎◌, ℕ, ◌^◌, ◌<◌, ◌≤◌, false, List, [], ◌∷◌, ◌++◌, Contains, drop, length, codes, Option, Some, None, Ok, Err, IsOk}
+-- What an edit of an open round does to its pages, and why it is refused (this project's own).
+use Rattle.std.specs.Prelude.{◌≡◌, ◌⊎◌, ℕ, ◌^◌, ◌<◌, ◌≤◌, false, List, [], ◌∷◌, ◌++◌, Contains, drop, length, Option, Some, None, Ok, Err, IsOk}
 use Rattle.std.specs.Fmt.{decimal}
 use Rattle.pocsag_pages.specs.Pages.{has_address}
 use Rattle.pocsag_pages.specs.PageFile.{address_of, page_of_fields}
 use Rattle.pocsag_pages.specs.declared.fault.FieldFault.TheVariants as field
 use Rattle.pocsag_pages.specs.declared.page.Page.{Page}
-use Rattle.pocsag_plan.specs.declared.refusal.AddFault.TheVariants as adding
-use Rattle.pocsag_shell.specs.declared.fault.FileFault.TheVariants as file
 use Rattle.pocsag_plan.specs.OpenRound.{add_fault, fault_or_memory, without}
 use Rattle.pocsag_journal.specs.declared.edits.Line.{Line}
 use Rattle.pocsag_journal.specs.declared.edits.Line.TheVariants.{Add, Cancel, Clear, Sent}
 use Rattle.pocsag_journal.specs.declared.refusal.Refusal.{Refusal}
 use Rattle.pocsag_journal.specs.declared.refusal.Refusal.TheVariants as refusal
-use Rattle.pocsag_journal.specs.declared.refusal.UndoneFault.TheVariants as undone
 
 -- The page that the fields of an `add` spell, against which nothing stands, goes behind the others.
 pub record IsAdded (address kind message : List ℕ) (before after : List Page) : Type 0 where
@@ -75,15 +72,3 @@ IsEditRefused (Cancel address) pages why = IsCancelRefused address.now pages why
 IsEditRefused (Sent count) pages why = IsSentRefused count.now pages why
 IsEditRefused Clear pages why = ⊥
 IsEditRefused _ pages why = why ≡ refusal.Unknown
-
--- The words of a refusal, but for those of a fault.
-abbrev pub own_words : Refusal → Option (List ℕ)
-own_words refusal.Unknown = Some (codes "unknown edit")
-own_words refusal.InQuotes = Some (codes "the line ends inside quotes")
-own_words refusal.StrayQuote = Some (codes "a quote is out of place")
-own_words (refusal.Cancel absent) = Some (codes "no such page")
-own_words (refusal.Field field.OutOfMemory) = Some (codes "out of memory")
-own_words (refusal.Add adding.OutOfMemory) = Some (codes "out of memory")
-own_words (refusal.Undone undone.OutOfMemory) = Some (codes "out of memory")
-own_words (refusal.Undone (undone.File file.OutOfMemory)) = Some (codes "out of memory")
-own_words _ = None

@@ -1,5 +1,5 @@
 -- What keeps the edits of an open round owes (this project's own).
-use Rattle.std.specs.Prelude.{◌⊎◌, ℕ, ◌+◌, ◌<◌, List, length}
+use Rattle.std.specs.Prelude.{◌≡◌, ◌⊎◌, ℕ, ◌+◌, ◌<◌, List, length}
 use Rattle.pocsag_words.specs.Devices.{HasFailed}
 use Rattle.pocsag_pages.specs.declared.page.Page.{Page}
 use Rattle.pocsag_shell.specs.declared.fault.FileFault.{FileFault}
@@ -11,9 +11,9 @@ abbrev pub ReadsAsEither : (reads_as : List ℕ → List Page → Type 0) → (b
 ReadsAsEither reads_as before after bytes = reads_as bytes before ⊎ reads_as bytes after
 
 -- Why an edit is not kept: memory was wanting; or what keeps it failed, between these two counts of failures; or its text
--- does not fit behind what was taken; or it is no line.
-abbrev pub ExplainsKeeping : (most : ℕ) (taken text : List ℕ) (failures_before failures_after : ℕ) → FileFault → Type 0
-ExplainsKeeping most taken text before after file.OutOfMemory = Unit {0}
-ExplainsKeeping most taken text before after file.Write =
-    HasFailed before after ⊎ (most < length taken + length text) ⊎ (¬ IsWholeLine text)
-ExplainsKeeping most taken text before after _ = ⊥
+-- does not fit behind what was taken, and nothing of it was; or it is no line.
+abbrev pub ExplainsKeeping : (most : ℕ) (taken later text : List ℕ) (failures_before failures_after : ℕ) → FileFault → Type 0
+ExplainsKeeping most taken later text before after file.OutOfMemory = Unit {0}
+ExplainsKeeping most taken later text before after file.Write =
+    HasFailed before after ⊎ ((later ≡ taken) × (most < length taken + length text)) ⊎ (¬ IsWholeLine text)
+ExplainsKeeping most taken later text before after _ = ⊥

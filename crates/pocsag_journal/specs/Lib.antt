@@ -6,10 +6,8 @@ pub mod Growth
 pub mod Journals
 pub mod Keepers
 pub mod LineTexts
-pub mod MemoryDisk
 pub mod Moments
 pub mod PageLines
-pub mod Past
 pub mod Quotes
 pub mod Restarts
 pub mod Runs

@@ -1,9 +1,11 @@
-ghost use Rattle.std.specs.Prelude.{◌≡◌, ◌≤◌, ◌++◌, ℕ, List, OnOk};
-ghost use Rattle.pocsag_words.specs.Devices.{CountsFailures, Delivers};
+ghost use Rattle.std.specs.Prelude.{◌≡◌, ◌≤◌, ◌<◌, ◌++◌, ℕ, List, length, Err, IfOk, OnOk};
+ghost use Rattle.pocsag_words.specs.Devices.{CountsFailures, Delivers, HasFailed};
 ghost use Rattle.pocsag_journal.specs.Moments.{Elapses, IsSafe};
 ghost use Rattle.pocsag_journal.specs.Crashes.{IsTorn, LeavesAfter, LeavesOr};
 
+use pocsag_pages::WholeFault;
 use pocsag_words::DeviceFault;
+use std::alloc::Global;
 
 /// What a journal is on, as a file of a disk is: it holds bytes, and at any moment, during a call or between two, it may
 /// crash, which leaves some of what was written.
@@ -26,6 +28,10 @@ pub trait Disk {
     // How many of its calls failed; it stays at its greatest value.
     ghost failures: { Self → ℕ };
 
+    // No `sync` failed since all that it holds was put there by `replace`. Where one failed, the system may have dropped what
+    // was to be written, and no later `sync` brings that to the disk.
+    ghost is_sound: { Self → Type 0 };
+
     // This moment is one of those since an earlier one, and since this moment there is no other.
     ghost counts_now: { (disk : Self) (t : ℕ) (left : List ℕ) → tells → t ≤ moment disk → may_leave disk left →
         left_since disk t left };
@@ -33,17 +39,32 @@ pub trait Disk {
     ghost only_now: { (disk : Self) (left : List ℕ) → tells → left_since disk (moment disk) left →
         may_leave disk left };
 
+    /// Reads all that it holds, of which so many bytes are allowed.
+    fn read(&mut self, alloc: Global, most: usize) -> Result<Vec<u8>, WholeFault>
+        ensures whole { tells → IfOk result (λ bytes. bytes.items ≡ held self.old) }
+        ensures fits { IfOk result (λ bytes. length bytes.items ≤ most) }
+        ensures too_large { tells → result ≡ Err WholeFault.TooLarge → most < length (held self.old) }
+        ensures same { tells → held self.new ≡ held self.old }
+        ensures crash { tells → (left : List ℕ) → may_leave self.new left → may_leave self.old left }
+        ensures time { tells → Elapses (moment self.old) (moment self.new)
+            (left_since self.old) (left_since self.new) (may_leave self.new) }
+        ensures succeeded { tells → OnOk result (failures self.new ≡ failures self.old) }
+        ensures failed { tells → result ≡ Err WholeFault.ReadFault →
+            HasFailed (failures self.old) (failures self.new) };
+
     /// Writes a line behind what it holds. Before `sync` a crash may leave the line torn.
     fn append(&mut self, line: &[u8]) -> Result<(), DeviceFault>
         ensures delivers { tells → Delivers result (held self.old) (held self.new) line.now }
         ensures crash { tells → LeavesAfter (IsTorn line.now) (may_leave self.old) (may_leave self.new) }
         ensures time { tells → Elapses (moment self.old) (moment self.new)
             (left_since self.old) (left_since self.new) (may_leave self.new) }
+        ensures sound { tells → is_sound self.old → is_sound self.new }
         ensures failures { tells → CountsFailures result (failures self.old) (failures self.new) };
 
-    /// Puts all that it holds where no crash takes it away.
+    /// Puts all that it holds where no crash takes it away, if none of these calls failed before.
     fn sync(&mut self) -> Result<(), DeviceFault>
-        ensures safe { tells → OnOk result (IsSafe (held self.new) (may_leave self.new)) }
+        ensures safe { tells → is_sound self.old → OnOk result (IsSafe (held self.new) (may_leave self.new)) }
+        ensures sound { tells → is_sound self.old → OnOk result (is_sound self.new) }
         ensures same { tells → held self.new ≡ held self.old }
         ensures crash { tells → (left : List ℕ) → may_leave self.new left → may_leave self.old left }
         ensures time { tells → Elapses (moment self.old) (moment self.new)
@@ -54,6 +75,7 @@ pub trait Disk {
     fn replace(&mut self, text: &[u8]) -> Result<(), DeviceFault>
         ensures held { tells → OnOk result (held self.new ≡ text.now) }
         ensures safe { tells → OnOk result (IsSafe text.now (may_leave self.new)) }
+        ensures sound { tells → OnOk result (is_sound self.new) }
         ensures crash { tells → LeavesOr text.now (may_leave self.old) (may_leave self.new) }
         ensures time { tells → Elapses (moment self.old) (moment self.new)
             (left_since self.old) (left_since self.new) (may_leave self.new) }

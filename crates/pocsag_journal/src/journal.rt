@@ -1,8 +1,8 @@
-ghost use Rattle.std.specs.Prelude.{◌≡◌, ◌⊎◌, IfErr, IfOk};
+ghost use Rattle.std.specs.Prelude.{◌≡◌, ◌≤◌, ◌⊎◌, length, IfErr, IfOk, OnOk};
 ghost use Rattle.pocsag_journal.specs.Moments.{IsSafe, LeavesOnly};
 ghost use Rattle.pocsag_journal.specs.Crashes.{RestartsAs};
-ghost use Rattle.pocsag_journal.specs.Faults.{ExplainsAnew};
-ghost use Rattle.pocsag_journal.specs.Journals.{ListsPages};
+ghost use Rattle.pocsag_journal.specs.Faults.{ExplainsAnew, ExplainsReplay};
+ghost use Rattle.pocsag_journal.specs.Journals.{ListsPages, Replays, journal_limit};
 ghost use Rattle.pocsag_journal.specs.Views.{IsMeasured, counted_of, disk_of, journal_length};
 
 use crate::anew::text_of_pages;
@@ -10,10 +10,11 @@ use crate::disk::Disk;
 use crate::fault::JournalFault;
 use crate::keeper::Keeper;
 use crate::lines::is_one_line;
-use crate::replay::JOURNAL_LIMIT;
+use crate::replay::{JOURNAL_LIMIT, Replayed, replay};
 use crate::sizes::Sizes;
 use crate::text::row_line;
 use csv::ByteRecord;
+use pocsag_pages::WholeFault;
 use pocsag_plan::Book;
 use pocsag_shell::FileFault;
 use std::alloc::Global;
@@ -24,57 +25,72 @@ const TIMES_NEEDED: usize = 4;
 /// The journal of an open round, on a disk that holds it.
 #[derive(Drop)]
 pub struct Journal<D: Disk + Drop> {
-    disk: D,
+    pub disk: D,
     sizes: Sizes,
 }
 
 impl<D: Disk + Drop> Journal<D> {
-    /// Writes the journal of a round anew, in the place of all that the disk holds. A fault gives the disk back.
-    pub fn write_anew(
-        alloc: Global,
-        mut disk: D,
-        book: &Book,
-    ) -> Result<Journal<D>, (JournalFault, D)>
-        ensures adds { D.tells → IfOk result (λ journal. ListsPages (D.held (disk_of journal)) book.now) }
-        ensures safe { D.tells → IfOk result
-            (λ journal. IsSafe (D.held (disk_of journal)) (D.may_leave (disk_of journal))) }
-        ensures measured { D.tells → IfOk result (λ journal. IsMeasured journal (D.held (disk_of journal))) }
-        ensures counted { IfOk result (λ journal. counted_of journal ≡ journal_length journal) }
-
-        // A crash at any moment of it leaves what one before might have left, or what is read as the pages of the round.
-        ensures any_moment { D.tells → IfOk result (λ journal. LeavesOnly D.moment D.left_since disk (disk_of journal)
-            (λ left. D.may_leave disk left ⊎ RestartsAs left book.now)) }
-        ensures any_moment_err { D.tells → IfErr result (λ e. LeavesOnly D.moment D.left_since disk e.1
-            (λ left. D.may_leave disk left ⊎ RestartsAs left book.now)) }
-        ensures explained { D.tells → IfErr result
-            (λ e. ExplainsAnew book.now (D.failures disk) (D.failures e.1) e.0) }
+    /// A journal on a disk, of which nothing is read yet.
+    pub fn on(disk: D) -> Journal<D>
+        ensures { disk_of result ≡ disk }
     {
-        let text = match text_of_pages(alloc, book.pages()) {
-            Ok(text) => text,
-            Err(fault) => return Err((fault, disk)),
-        };
-        let Ok(()) = disk.replace(text.as_slice()) else {
-            return Err((JournalFault::WriteFault, disk));
-        };
-        let len = text.len();
-        let sizes = Sizes { len, counted: len };
-        Ok(Journal { disk, sizes })
+        Journal {
+            disk,
+            sizes: Sizes { len: 0, counted: 0 },
+        }
     }
 
-    /// The disk, with what it holds.
-    pub fn into_disk(self) -> D
-        ensures { result ≡ disk_of self }
+    /// Reads what the disk holds, as `read_journal` reads a source. Nothing is changed.
+    pub fn read(&mut self, alloc: Global) -> Result<Replayed, JournalFault>
+        ensures read { D.tells → IfOk result
+            (λ replayed. Replays (D.held (disk_of self.old)) replayed.edits replayed.torn replayed.book) }
+        ensures few { D.tells → OnOk result (length (D.held (disk_of self.old)) ≤ journal_limit) }
+        ensures told { D.tells → IfErr result (ExplainsReplay (D.held (disk_of self.old))
+            (D.failures (disk_of self.old)) (D.failures (disk_of self.new))) }
+        ensures succeeded { D.tells → OnOk result (D.failures (disk_of self.new) ≡ D.failures (disk_of self.old)) }
+        ensures same { D.tells → D.held (disk_of self.new) ≡ D.held (disk_of self.old) }
+
+        // A crash at any moment of it leaves what one before might have left.
+        ensures any_moment { D.tells → LeavesOnly D.moment D.left_since (disk_of self.old) (disk_of self.new)
+            (D.may_leave (disk_of self.old)) }
     {
-        self.disk
+        match self.disk.read(alloc, JOURNAL_LIMIT) {
+            Ok(bytes) => replay(alloc, bytes.as_slice()),
+            Err(WholeFault::ReadFault) => Err(JournalFault::ReadFault),
+            Err(WholeFault::TooLarge) => Err(JournalFault::TooLarge),
+            Err(WholeFault::OutOfMemory) => Err(JournalFault::OutOfMemory),
+        }
+    }
+
+    /// Writes the journal of a round anew, in the place of all that the disk holds.
+    pub fn write_anew(&mut self, alloc: Global, book: &Book) -> Result<(), JournalFault>
+        ensures adds { D.tells → OnOk result (ListsPages (D.held (disk_of self.new)) book.now) }
+        ensures safe { D.tells → OnOk result (IsSafe (D.held (disk_of self.new)) (D.may_leave (disk_of self.new))) }
+        ensures sound { D.tells → OnOk result (D.is_sound (disk_of self.new)) }
+        ensures measured { D.tells → OnOk result (IsMeasured self.new (D.held (disk_of self.new))) }
+        ensures counted { OnOk result (counted_of self.new ≡ journal_length self.new) }
+
+        // A crash at any moment of it leaves what one before might have left, or what is read as the pages of the round.
+        ensures any_moment { D.tells → LeavesOnly D.moment D.left_since (disk_of self.old) (disk_of self.new)
+            (λ left. D.may_leave (disk_of self.old) left ⊎ RestartsAs left book.now) }
+        ensures explained { D.tells → IfErr result
+            (ExplainsAnew book.now (D.failures (disk_of self.old)) (D.failures (disk_of self.new))) }
+        ensures succeeded { D.tells → OnOk result (D.failures (disk_of self.new) ≡ D.failures (disk_of self.old)) }
+    {
+        let text = text_of_pages(alloc, book.pages())?;
+        let Ok(()) = self.disk.replace(text.as_slice()) else {
+            return Err(JournalFault::WriteFault);
+        };
+        let len = text.len();
+        self.sizes = Sizes { len, counted: len };
+        Ok(())
     }
 }
 
 impl<D: Disk + Drop> Keeper for Journal<D> {
     ghost use Rattle.std.specs.Prelude.{ℕ, List};
-    ghost use Rattle.pocsag_journal.specs.Crashes.{RestartsAs};
     ghost use Rattle.pocsag_journal.specs.Growth.{SettlesAs};
-    ghost use Rattle.pocsag_journal.specs.Journals.{journal_limit};
-    ghost use Rattle.pocsag_journal.specs.Views.{IsHeld, counted_of, disk_of};
+    ghost use Rattle.pocsag_journal.specs.Views.{IsHeld};
     ghost use Rattle.pocsag_journal.specs.Restarts.{held_restarts};
 
     ghost tells = { D.tells };
@@ -82,6 +98,8 @@ impl<D: Disk + Drop> Keeper for Journal<D> {
     ghost taken = { λ journal. D.held (disk_of journal) };
 
     ghost most = { journal_limit };
+
+    ghost counts = { D.tells };
 
     ghost failures = { λ journal. D.failures (disk_of journal) };
 
@@ -94,7 +112,7 @@ impl<D: Disk + Drop> Keeper for Journal<D> {
     ghost reads_as = { RestartsAs };
 
     ghost stands_for = { λ journal pages. D.tells →
-        IsHeld journal (D.held (disk_of journal)) (D.may_leave (disk_of journal)) pages };
+        IsHeld journal (D.held (disk_of journal)) (D.may_leave (disk_of journal)) pages × D.is_sound (disk_of journal) };
 
     ghost settles = { λ done pages old new. SettlesAs done pages (counted_of old) (counted_of new)
         (D.held (disk_of old)) (D.held (disk_of new)) };
@@ -102,7 +120,7 @@ impl<D: Disk + Drop> Keeper for Journal<D> {
     ghost settled_at = { counted_of };
 
     ghost restarts = { λ journal pages left tells stands now.
-        held_restarts journal (D.held (disk_of journal)) (D.may_leave (disk_of journal)) pages left (stands tells) now };
+        held_restarts journal (D.held (disk_of journal)) (D.may_leave (disk_of journal)) pages left (stands tells).0 now };
 
     ghost counts_now = { λ journal t left tells le now. D.counts_now (disk_of journal) t left tells le now };
 

@@ -2,7 +2,7 @@ ghost use Rattle.std.specs.Prelude.{◌≡◌, ◌≤◌, ◌++◌, ℕ, Bool, L
 ghost use Rattle.csv.specs.Records.{fields_of};
 ghost use Rattle.csv.specs.Writing.{default_writer, row_text};
 ghost use Rattle.pocsag_pages.specs.declared.page.Page.{Page};
-ghost use Rattle.pocsag_words.specs.Devices.{HasFailed, TookPrefix};
+ghost use Rattle.pocsag_words.specs.Devices.{CountsFailures, TookPrefix};
 ghost use Rattle.pocsag_shell.specs.Faults.{file_status};
 ghost use Rattle.pocsag_journal.specs.Keepers.{ExplainsKeeping, ReadsAsEither};
 ghost use Rattle.pocsag_journal.specs.Moments.{IsSafe, LeavesOnly};
@@ -23,7 +23,9 @@ pub trait Keeper {
 
     ghost most: { ℕ };
 
-    // How often it failed.
+    // Whether its failures are counted, and how often it failed.
+    ghost counts: { Type 0 };
+
     ghost failures: { Self → ℕ };
 
     // What a crash at this moment may leave.
@@ -60,7 +62,8 @@ pub trait Keeper {
     fn keep(&mut self, alloc: Global, row: &ByteRecord) -> Result<(), FileFault>
         ensures taken { tells → OnOk result
             (taken self.new ≡ taken self.old ++ row_text default_writer (fields_of row.now)) }
-        ensures safe { tells → OnOk result (IsSafe (taken self.new) (may_leave self.new)) }
+        ensures safe { tells → (before : List Page) → stands_for self.old before →
+            OnOk result (IsSafe (taken self.new) (may_leave self.new)) }
         ensures part { tells → OnErr result
             (TookPrefix (taken self.old) (taken self.new) (row_text default_writer (fields_of row.now))) }
         ensures stands { (before after : List Page) → stands_for self.old before →
@@ -71,9 +74,10 @@ pub trait Keeper {
             IsEdit (fields_of row.now) before after →
             LeavesOnly moment left_since self.old self.new (ReadsAsEither reads_as before after) }
         ensures same { settled_at self.new ≡ settled_at self.old }
-        ensures explained { tells → (before : List Page) → stands_for self.old before → IfErr result
-            (ExplainsKeeping most (taken self.old) (row_text default_writer (fields_of row.now))
+        ensures explained { counts → (before : List Page) → stands_for self.old before → IfErr result
+            (ExplainsKeeping most (taken self.old) (taken self.new) (row_text default_writer (fields_of row.now))
             (failures self.old) (failures self.new)) }
+        ensures succeeded { counts → OnOk result (failures self.new ≡ failures self.old) }
         ensures lost { IfErr result (λ e. file_status e ≡ 3) };
 
     /// Is called between two lines. What it took is put shorter where that is due, and stands for the same pages; where
@@ -86,8 +90,8 @@ pub trait Keeper {
         // A crash at any moment of it leaves what is read as these pages.
         ensures any_moment { tells → stands_for self.old book.now →
             LeavesOnly moment left_since self.old self.new (λ left. reads_as left book.now) }
-        ensures failed { tells → OnErr result (HasFailed (failures self.old) (failures self.new)) }
-        ensures lost { IfErr result (λ e. file_status e ≡ 3) };
+        ensures failures { counts → CountsFailures result (failures self.old) (failures self.new) }
+        ensures lost { IfErr result (λ e. e ≡ FileFault.Write) };
 }
 
 /// Keeps nothing.
@@ -96,12 +100,15 @@ pub struct NoKeeper;
 
 impl Keeper for NoKeeper {
     ghost use Rattle.std.specs.Prelude.{[]};
+    ghost use Rattle.pocsag_journal.specs.Growth.{kept_line_limit};
 
     ghost tells = { ⊥ };
 
     ghost taken = { λ _. [] };
 
-    ghost most = { 0 };
+    ghost most = { kept_line_limit };
+
+    ghost counts = { Unit {0} };
 
     ghost failures = { λ _. 0 };
 

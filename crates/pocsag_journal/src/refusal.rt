@@ -3,7 +3,6 @@ ghost use Rattle.std.specs.Prelude.{◌≡◌};
 use pocsag_pages::FieldFault;
 use pocsag_plan::{AddFault, NotThere};
 use pocsag_shell::FileFault;
-use std::fmt::{self, Display, Formatter};
 use thiserror::Error;
 
 /// Why what a line asks for beside an edit was not done.
@@ -25,7 +24,7 @@ pub enum UndoneFault {
 }
 
 /// Why an edit is refused. The round is as it was.
-#[derive(Clone, Copy, Debug, Error)]
+#[derive(Clone, Copy, Debug)]
 pub enum Refusal {
     Unknown,
     /// A quote of the line's last field is not closed.
@@ -39,29 +38,6 @@ pub enum Refusal {
     Cancel(NotThere),
     /// What was asked could not be done.
     Undone(UndoneFault),
-}
-
-impl Display for Refusal {
-    ghost use Rattle.pocsag_journal.specs.Edited.{own_words};
-
-    ghost output = { own_words };
-
-    fn fmt<W: fmt::Write>(&self, f: &mut Formatter<W>) -> fmt::Result {
-        match self {
-            Refusal::Unknown => f.write_str("unknown edit"),
-            Refusal::InQuotes => f.write_str("the line ends inside quotes"),
-            Refusal::StrayQuote => f.write_str("a quote is out of place"),
-            Refusal::Cancel(NotThere) => f.write_str("no such page"),
-            Refusal::Field(FieldFault::OutOfMemory)
-            | Refusal::Add(AddFault::OutOfMemory)
-            | Refusal::Undone(
-                UndoneFault::OutOfMemory | UndoneFault::File(FileFault::OutOfMemory),
-            ) => f.write_str("out of memory"),
-            Refusal::Field(fault) => fault.fmt(f),
-            Refusal::Add(fault) => fault.fmt(f),
-            Refusal::Undone(fault) => fault.fmt(f),
-        }
-    }
 }
 
 impl Refusal {

@@ -54,7 +54,7 @@ pub fn read_journal<S: Source>(alloc: Global, source: &mut S) -> Result<Replayed
 }
 
 // Makes the edits of the lines behind the first, one after another. Bytes that are only a part of the first line have none.
-fn replay(alloc: Global, bytes: &[u8]) -> Result<Replayed, JournalFault>
+pub(crate) fn replay(alloc: Global, bytes: &[u8]) -> Result<Replayed, JournalFault>
     requires { length bytes.now ≤ journal_limit }
     ensures read { IfOk result (λ replayed. Replays bytes.now replayed.edits replayed.torn replayed.book) }
     ensures told { IfErr result (λ e. IsTold bytes.now e) }

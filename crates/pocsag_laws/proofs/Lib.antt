@@ -5,8 +5,10 @@ pub mod Airtimes
 pub mod FileRounds
 pub mod Fronts
 pub mod TestedPages
+pub mod OnlySent
 pub mod OpenRounds
 pub mod OrderExists
+pub mod Preambles
 pub mod Accepted
 pub mod AllHold
 pub mod Ordered

@@ -1,6 +1,6 @@
 -- What a session over the text of a journal leaves.
 use Rattle.std.proofs.Common.{◌≡◌, ◌≢◌, ◌⊎◌, inl, inr, ℕ, suc, ◌-◌, ◌≤◌, true, List, [], ◌∷◌, ◌++◌, length, arith, refl, sym, ap, ◌∙◌, subst, append_assoc, length-append}
-use Rattle.std.specs.Prelude.{IfSome, Option, Some, None, codes, slice_get}
+use Rattle.std.specs.Prelude.{Option, Some, None, codes, slice_get}
 use Rattle.std.specs.List.{AllByRecursion}
 use Rattle.std.proofs.lemmas.Bool.{eqb-true, false_from_ne_true}
 use Rattle.csv.specs.Machine.{line_feed}
@@ -13,7 +13,6 @@ use Rattle.pocsag_plan.specs.declared.refusal.AddFault.TheVariants as adding
 use Rattle.pocsag_plan.specs.declared.search.Effort.{Effort}
 use Rattle.pocsag_words.specs.declared.ending.End.{End}
 use Rattle.pocsag_journal.specs.Asks.{AsksPlan}
-use Rattle.pocsag_journal.specs.Edited.{own_words}
 use Rattle.pocsag_journal.specs.Quotes.{MayEnd, quoting_after, quoting_from}
 use Rattle.pocsag_journal.specs.Runs.{IsEdit, IsRun, asked_of, first_record, wants_memory}
 use Rattle.pocsag_journal.specs.LineTexts.{IsLostAt, IsRowText, IsUnread, IsWholeLine, is_return, record_text, without_return}
@@ -34,6 +33,7 @@ use Rattle.pocsag_journal.proofs.Replays.{edit_some, is_true, pair_word}
 use Rattle.pocsag_journal.proofs.TextLines.{at_line, first_line, no_whole_line, split_lines}
 use Rattle.pocsag_open.specs.Lines.{AreLines, IsFirstLine}
 use Rattle.pocsag_open.specs.Plans.{PlacedPlan}
+use Rattle.pocsag_open.specs.Words.{refusal_words}
 use Rattle.pocsag_laws.specs.Reopened.{TellsNoMemory}
 use Rattle.pocsag_open.specs.Replies.{AreReplies, IsLineReply, IsRefusalTold, IsReply, IsSession, edited, listed, noted, planned, read, refused, sent_first, too_long, unread}
 use Rattle.pocsag_open.proofs.Sessions.{plan_or_heading}
@@ -142,15 +142,14 @@ one_record row other text some p q =
     ap first_of (sym (rows_are other text q (λ e. some e)) ∙ rows_are row text p (λ e. some e))
 
 -- why it may be refused
-no_memory_words : (why : Refusal) → wants_memory why ≡ true → own_words why ≡ Some (codes "out of memory")
+no_memory_words : (why : Refusal) → wants_memory why ≡ true → refusal_words why ≡ codes "out of memory"
 no_memory_words (refusal.Field field.OutOfMemory) e = refl
 no_memory_words (refusal.Add adding.OutOfMemory) e = refl
 no_memory_words _ e = absurd (cc e)
 
-refused_told : (why : Refusal) (told : List ℕ) → own_words why ≡ Some (codes "out of memory") → IsRefusalTold why told → TellsNoMemory told
+refused_told : (why : Refusal) (told : List ℕ) → refusal_words why ≡ codes "out of memory" → IsRefusalTold why told → TellsNoMemory told
 refused_told why told e is =
-    let own = subst (λ (o : Option (List ℕ)). IfSome o (λ own. is.words ≡ own)) e is.own in
-    record { front = []; rest = []; parts = is.text ∙ ap (λ (w : List ℕ). codes "refused: " ++ (w ++ line_feed ∷ [])) own }
+    record { front = []; rest = []; parts = is ∙ ap (λ (w : List ℕ). codes "refused: " ++ (w ++ line_feed ∷ [])) e }
 
 lost_none : (row : Row) (text front : List ℕ) (byte : ℕ) → IsRowText row text → IsLostAt text front byte → ⊥
 lost_none row text front byte spelled lost = lost.lost lost.rest row (subst (λ (t : List ℕ). IsRowText row t) lost.parts spelled)

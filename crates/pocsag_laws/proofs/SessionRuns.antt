@@ -18,33 +18,12 @@ use Rattle.pocsag_journal.proofs.LinedPages.{decimal_feedless, run_lined}
 use Rattle.pocsag_open.specs.Lines.{AreLines}
 use Rattle.pocsag_open.specs.Plans.{PlacedPlan}
 use Rattle.pocsag_open.specs.Replies.{AreReplies, IsLineReply, IsReply, IsSession, edited, listed, noted, planned, read, refused, sent_first, too_long, unread}
+use Rattle.pocsag_open.proofs.Ends.{sent_line, text_feedless}
 use Rattle.pocsag_open.proofs.Fronts.{front_edit}
-
--- what a line's record is read from has no line feed
-returned_feedless : (line : List ℕ) → HasNoLineFeed line → HasNoLineFeed (without_return line)
-returned_feedless line none = elim (cases_Bool (is_return (slice_get line (length line - 1)))) [
-  | inl t ↦ rw t
-      (feedless_front (take (length line - 1) line) (drop (length line - 1) line)
-      (subst HasNoLineFeed (sym (take-append-drop (length line - 1) line)) none))
-  | inr f ↦ rw f none
-]
-
-marked_feedless : (line : List ℕ) → HasNoLineFeed line → HasNoLineFeed (strip_bom line)
-unfolding strip_bom
-marked_feedless [] none = none
-marked_feedless (a ∷ []) none = none
-marked_feedless (a ∷ b ∷ []) none = none
-marked_feedless (a ∷ b ∷ c ∷ rest) none = elim (cases_Bool (is_bom a b c)) [ inl t ↦ rw t none.1.1.1 | inr f ↦ rw f none ]
-
-text_feedless : (line : List ℕ) → HasNoLineFeed line → HasNoLineFeed (record_text line)
-text_feedless line none = marked_feedless (without_return line) (returned_feedless line none)
 
 -- a run of lines leads from these pages to those
 abbrev LineRun : (before after : List Page) → Type 0
 LineRun before after = (rows : List Row) × AllByRecursion IsLine rows × IsRun rows before after
-
-sent_line : (count : ℕ) → count < 2 ^ 64 → IsLine (sent_record count)
-sent_line count small = row_line (sent_record count) (λ e. cc e) (none_found (codes "sent") refl, (decimal_feedless count small, tt))
 
 reply_run : (Tells : Type 0) (effort : Effort) (row : Row) (before after : List Page) (told : List ℕ) (placed : List PlacedPlan) → IsLine row →
     IsReply Tells effort row before after told placed → LineRun before after

@@ -1,3 +1,5 @@
 pub mod FewestBatches
+pub mod OnlySent
 pub mod OpenRounds
+pub mod Preambles
 pub mod Reopened

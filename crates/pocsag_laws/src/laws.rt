@@ -1,4 +1,5 @@
 ghost use Rattle.std.specs.Prelude.{ℕ, ◌+◌, ◌<◌, ◌≤◌, ◌≡◌, List, [], ◌∷◌, ◌++◌, length, replicate, take, All, Bool, filter, Ok};
+ghost use Rattle.std.specs.List.{AllZip, flat_map};
 ghost use Rattle.pocsag_words.specs.Frame.{airtime, transmission_bits};
 ghost use Rattle.pocsag_words.specs.Kinds.{idle_word};
 ghost use Rattle.pocsag_words.specs.declared.ending.End.{End};
@@ -10,11 +11,14 @@ ghost use Rattle.pocsag_pages.specs.Reading.{AreApart, IsLegalList};
 ghost use Rattle.pocsag_decode.specs.PageFiles.{IsSpellable, page_file};
 ghost use Rattle.pocsag_journal.specs.Runs.{IsEdit, IsRun};
 ghost use Rattle.pocsag_capture.specs.Bits.{capture_bits};
-ghost use Rattle.pocsag_capture.specs.Caught.{HasCaught};
-ghost use Rattle.pocsag_capture.specs.Receptions.{IsQuiet};
+ghost use Rattle.pocsag_capture.specs.Caught.{AreCaught, HasCaught};
+ghost use Rattle.pocsag_capture.specs.Receptions.{AreReceptions, IsQuiet, received};
+ghost use Rattle.pocsag_capture.specs.declared.polarity.Polarity.{Polarity};
 ghost use Rattle.pocsag_capture.specs.declared.reception.Reception.{Reception};
 ghost use Rattle.pocsag_laws.specs.FewestBatches.{AreFewest, AreSendable};
+ghost use Rattle.pocsag_laws.specs.OnlySent.{IsCaptureOf, IsNoise};
 ghost use Rattle.pocsag_laws.specs.OpenRounds.{IsOpenRound};
+ghost use Rattle.pocsag_laws.specs.Preambles.{clean_start};
 
 /// Codewords that are legal with the idle end are legal with the closed end, and those with the open end; and with a
 /// batch of idle codewords behind them, codewords that are legal with one end are legal with each.
@@ -102,7 +106,7 @@ pub fn pages_of_open_rounds_are_spellable()
 /// Nothing is caught of noise alone: there is no reception.
 pub fn noise_shows_nothing()
     ensures { (capture : List ℕ) (receptions : List Reception) (ps : List Page) →
-        IsQuiet (capture_bits capture) 0 (length (capture_bits capture)) → HasCaught capture receptions ps →
+        IsNoise (capture_bits capture) 0 (length (capture_bits capture)) → HasCaught capture receptions ps →
         (receptions ≡ []) × (ps ≡ []) }
 {}
 
@@ -110,4 +114,22 @@ pub fn noise_shows_nothing()
 pub fn captures_say_one_thing()
     ensures { (capture : List ℕ) (rs ss : List Reception) (ps qs : List Page) →
         HasCaught capture rs ps → HasCaught capture ss qs → (rs ≡ ss) × (ps ≡ qs) }
+{}
+
+/// In the last 544 bits of a preamble of 576 bits that was received as it was sent, before a synchronisation codeword, no
+/// synchronisation codeword begins, whatever stands before and after: so `captures_show_what_was_sent` holds of what follows.
+pub fn clean_preambles_are_quiet()
+    ensures { (before rest : List ℕ) (polarity : Polarity) →
+        IsQuiet (before ++ (clean_start polarity ++ rest)) (length before + 32) (length before + 576) }
+{}
+
+/// A capture of sent transmissions and noise alone holds just these transmissions, in order: it has a reception of each
+/// and no others, of which its pages are caught. So it shows their pages *and no others*, whatever the bits and the polarities
+/// are at which they begin, and with up to two wrong bits in each word.
+pub fn captures_of_transmissions_show_no_others()
+    ensures receptions { (capture : List ℕ) (receptions : List Reception) (pss : List (List Page)) →
+        IsCaptureOf (capture_bits capture) pss → AreReceptions (capture_bits capture) receptions →
+        AllZip (λ r ps. AreCaught (received (capture_bits capture) r) ps) receptions pss }
+    ensures pages { (capture : List ℕ) (receptions : List Reception) (pss : List (List Page)) (qs : List Page) →
+        IsCaptureOf (capture_bits capture) pss → HasCaught capture receptions qs → qs ≡ flat_map (λ ps. ps) pss }
 {}

@@ -2,7 +2,8 @@
 //! Laws that no call needs: of codewords and certificates, of the tours and file orders of a round, of what an accepted
 //! tree bounds, of readings and journals; of the fewest batches of a round: how those of the three ends compare, that
 //! they never grow when pages are taken away, and that they take the least airtime; of page files and open rounds, which
-//! hold rounds, whose own page files have the same verdict; and of captures, which say one thing, and noise nothing.
+//! hold rounds, whose own page files have the same verdict; of lines of JSON, which are read back; and of captures, which say
+//! one thing, those of transmissions their pages and no others, noise nothing, and preambles nothing.
 //! Nothing here runs: each function is a theorem.
 
 mod bound;
@@ -10,6 +11,7 @@ mod certificate;
 mod codeword;
 mod journal;
 mod laws;
+mod lines;
 mod order;
 mod readings;
 mod tour;
@@ -25,11 +27,12 @@ pub use journal::{
     pages_of_lines_have_lines, sessions_are_runs, texts_have_one_reason,
 };
 pub use laws::{
-    captures_say_one_thing, ends_cost_one_batch, fewer_pages_need_no_more,
-    fewest_batches_take_least_time, fronts_need_no_more, more_batches_are_enough,
-    noise_shows_nothing, one_number_is_fewest, pages_of_open_rounds_are_spellable,
-    stricter_ends_are_legal, verdicts_are_rounds,
+    captures_of_transmissions_show_no_others, captures_say_one_thing, clean_preambles_are_quiet,
+    ends_cost_one_batch, fewer_pages_need_no_more, fewest_batches_take_least_time,
+    fronts_need_no_more, more_batches_are_enough, noise_shows_nothing, one_number_is_fewest,
+    pages_of_open_rounds_are_spellable, stricter_ends_are_legal, verdicts_are_rounds,
 };
+pub use lines::json_lines_are_read_back;
 pub use order::{
     file_order_exists, file_order_is_legal, file_order_is_one, orders_are_one, orders_give_layouts,
     orders_have_places, tours_have_orders,

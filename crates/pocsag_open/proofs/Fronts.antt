@@ -1,5 +1,5 @@
 -- What is so where the pages of a front are taken out.
-use Rattle.std.proofs.Common.{◌≡◌, ℕ, ◌<◌, ◌^◌, List, [], ◌∷◌, arith, drop, refl, subst, sym}
+use Rattle.std.proofs.Common.{◌≡◌, ℕ, ◌<◌, ◌^◌, List, [], ◌∷◌, ◌++◌, arith, drop, refl, subst, sym}
 use Rattle.std.specs.Prelude.{OnErr, OnOk, Result, Ok, Err}
 use Rattle.pocsag_words.specs.declared.ending.End.{End}
 use Rattle.pocsag_pages.specs.PageFile.{Row}
@@ -9,9 +9,9 @@ use Rattle.pocsag_journal.specs.Keepers.{ReadsAsEither}
 use Rattle.pocsag_journal.specs.Runs.{IsEdit, sent_record}
 use Rattle.pocsag_journal.proofs.Counts.{sent_edit}
 use Rattle.pocsag_open.specs.Answers.{front_answer}
-use Rattle.pocsag_open.specs.Plans.{IsFrontPlanned, PlanBytes, placed_plan}
+use Rattle.pocsag_open.specs.Plans.{IsFrontPlanned, PlacedPlan, PlanBytes, placed_plan}
 use Rattle.pocsag_open.specs.Replies.{front_sent}
-use Rattle.pocsag_open.specs.Survival.{FrontRepliesTo, ReadsOrReplied}
+use Rattle.pocsag_open.specs.Survival.{FrontRepliesAndPlaces, FrontRepliesTo, ReadsOrReplied}
 use Rattle.pocsag_open.proofs.Survival.{either_read}
 
 pub if_ok : {X E : Type 0} (r : Result X E) (P : Type 0) → P → OnOk r P
@@ -40,3 +40,16 @@ module _ (Tells : Type 0) (effort : Effort) (end : End) (most : ℕ) (tx cert : 
       ReadsOrReplied reads_as (FrontRepliesTo Tells effort end most tx cert) pages left
   front_read reads_as left is =
       either_read (FrontRepliesTo Tells effort end most tx cert) pages after (front_answer batches count bound) reads_as left front_replied is
+
+  -- and where its outputs were put
+  pub front_placed : (first later : List PlacedPlan) → (Tells → later ≡ first ++ placed_plan tx cert sent ∷ []) →
+      FrontRepliesAndPlaces Tells effort end most tx cert first later pages after (front_answer batches count bound)
+  front_placed first later placed =
+      (placed_plan tx cert sent ∷ [], front_sent count batches bound sent planned left_is refl refl, placed)
+
+  pub front_read_placed : (first later : List PlacedPlan) → (Tells → later ≡ first ++ placed_plan tx cert sent ∷ []) →
+      (reads_as : List ℕ → List Page → Type 0) (left : List ℕ) → ReadsAsEither reads_as pages after left →
+      ReadsOrReplied reads_as (FrontRepliesAndPlaces Tells effort end most tx cert first later) pages left
+  front_read_placed first later placed reads_as left is =
+      either_read (FrontRepliesAndPlaces Tells effort end most tx cert first later) pages after (front_answer batches count bound) reads_as left
+      (front_placed first later placed) is

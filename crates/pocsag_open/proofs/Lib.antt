@@ -1,4 +1,6 @@
+pub mod Ends
 pub mod Fronts
+pub mod KeptRounds
 pub mod Plans
 pub mod SeenLines
 pub mod Sessions

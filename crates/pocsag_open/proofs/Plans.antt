@@ -1,5 +1,6 @@
 -- What the outputs of a plan hold, and why it is refused.
-use Rattle.std.proofs.Common.{◌≡◌, ℕ, List, [], ◌++◌, sym, ap, ◌∙◌, subst, arith}
+use Rattle.std.proofs.Common.{◌≡◌, inr, ℕ, List, [], ◌++◌, refl, sym, ap, ◌∙◌, subst, arith}
+use Rattle.std.specs.Prelude.{Option, Some}
 use Rattle.pocsag_words.specs.declared.ending.End.{End}
 use Rattle.pocsag_pages.specs.declared.page.Page.{Page}
 use Rattle.pocsag_tree.specs.Views.{bound_tree_of}
@@ -10,8 +11,8 @@ use Rattle.pocsag_plan.specs.declared.fault.StreamFault.TheVariants as streaming
 use Rattle.pocsag_plan.specs.declared.fault.UnsentFront.TheVariants as front
 use Rattle.pocsag_plan.specs.BookPlans.{ExplainsBookFront, ExplainsBookStream}
 use Rattle.pocsag_plan.specs.Plans.{IsStopped}
-use Rattle.pocsag_plan.specs.Streams.{WritesAllOf}
-use Rattle.pocsag_open.specs.Plans.{ExplainsFrontUndone, ExplainsUndone, plan_limit, plan_search, undone_of}
+use Rattle.pocsag_plan.specs.Streams.{WritesAllOf, WritesInTurn}
+use Rattle.pocsag_open.specs.Plans.{ExplainsFiles, ExplainsFrontUndone, ExplainsUndone, HasFailedOutput, PlaceFault, PlaceNames, plan_limit, plan_search, undone_of}
 
 -- outputs that were empty hold what was written
 pub all_held : (Holds : List ℕ → List ℕ → Type 0) (tx tx_after cert cert_after : List ℕ) → tx ≡ [] → cert ≡ [] →
@@ -44,3 +45,16 @@ explains_front effort end most pages (streaming.Plan planning.OutOfMemory) h = h
 explains_front effort end most pages (streaming.Round f) h = h.1
 explains_front effort end most pages (streaming.Transmission f) h = tt
 explains_front effort end most pages (streaming.Certificate f) h = tt
+
+-- the fault of a stream of two outputs is one of its files only where one of these failed
+pub unsent_files : {Output : Type 0} (failures : Output → ℕ) (places : PlaceNames) (before after : ℕ) (last : Option PlaceFault)
+    (tx tx_after cert cert_after : Output) (f : StreamFault) → WritesInTurn failures failures tx tx_after cert cert_after (Some f) →
+    ExplainsFiles places before after last (HasFailedOutput failures) (undone_of f)
+unsent_files failures places before after last tx tx_after cert cert_after (streaming.Plan planning.BadLimit) w = tt
+unsent_files failures places before after last tx tx_after cert cert_after (streaming.Plan (planning.SearchLimit stop)) w = tt
+unsent_files failures places before after last tx tx_after cert cert_after (streaming.Plan planning.OutOfMemory) w = tt
+unsent_files failures places before after last tx tx_after cert cert_after (streaming.Round f) w = tt
+unsent_files failures places before after last tx tx_after cert cert_after (streaming.Transmission f) w =
+    inr (refl, (tx, tx_after, w.write_failed tt))
+unsent_files failures places before after last tx tx_after cert cert_after (streaming.Certificate f) w =
+    inr (refl, (cert, cert_after, w.certificate_failed tt))

@@ -2,14 +2,14 @@
 use Rattle.std.proofs.Common.{◌≡◌, inl, inr, ℕ, ◌+◌, ◌-◌, List, [], ◌∷◌, ◌++◌, length, take, drop, refl, sym, ap, ◌∙◌, subst, arith, append_assoc, append-nil, take-append-drop}
 use Rattle.std.proofs.Math.Seq.{take-append-add}
 use Rattle.std.specs.Prelude.{OnErr, Result, Ok, Err}
-use Rattle.pocsag_words.specs.Devices.{TookPrefix}
+use Rattle.pocsag_words.specs.Devices.{Delivers, TookPrefix}
 use Rattle.pocsag_pages.specs.declared.page.Page.{Page}
 use Rattle.pocsag_plan.specs.declared.search.Effort.{Effort}
 use Rattle.pocsag_journal.specs.Keepers.{ReadsAsEither}
 use Rattle.pocsag_open.specs.Lines.{AreLines, IsFirstLine}
 use Rattle.pocsag_open.specs.Plans.{PlacedPlan}
 use Rattle.pocsag_open.specs.Replies.{AreReplies, IsLineReply, IsSession, TellsAndPlaces}
-use Rattle.pocsag_open.specs.Survival.{AreFirstLines, IsCutShort, ReadsAfterLines, ReadsOrReplied, RepliesTo, Survives, TookPartOf, begun, between, untold, within}
+use Rattle.pocsag_open.specs.Survival.{AreFirstLines, IsCutShort, ReadsAfterLines, ReadsOrReplied, RepliesAndPlaces, RepliesTo, Survives, TookPartOf, begun, between, untold, within}
 
 pub on_err : {X E : Type 0} (r : Result X E) (P Q : Type 0) → (P → Q) → OnErr r P → OnErr r Q
 on_err (Ok x) P Q f h = tt
@@ -23,6 +23,10 @@ took_part before after due is so took =
     let part : after ≡ before ++ take n due =
     sym took.1 ∙ ap (λ (k : ℕ). take k (before ++ due)) (sym all) ∙ take-append-add before due n in
     inr (due, take n due, drop n due, so, sym (take-append-drop n due), part)
+
+pub told_part : {X E : Type 0} (r : Result X E) (before after due : List ℕ) (is : List ℕ → Type 0) → is due → Delivers r before after due →
+    OnErr r (TookPartOf before after is)
+told_part r before after due is so h = on_err r _ _ (took_part before after due is so) h.1
 
 -- what is read as the pages before or after a reply
 pub either_read : (Replies : (before after : List Page) → List ℕ → Type 0) (before after : List Page) (told : List ℕ)
@@ -206,7 +210,7 @@ all_answered Tells effort input pending before now start out first_placed placed
 pub survives_between : (Tells : Type 0) (effort : Effort) (input pending : List ℕ) (before now : List Page) (start out : List ℕ)
     (first_placed placed : List PlacedPlan) (reads_as : List ℕ → List Page → Type 0) (may_leave : List ℕ → Type 0) →
     Answered Tells effort input pending before now start out first_placed placed → ((left : List ℕ) → may_leave left → reads_as left now) →
-    Survives Tells effort input before start out reads_as may_leave
+    Survives Tells effort input before start out first_placed placed reads_as may_leave
 survives_between Tells effort input pending before now start out first_placed placed reads_as may_leave so_far kept = record {
   lines = so_far.lines;
   rest = pending;
@@ -218,13 +222,20 @@ survives_between Tells effort input pending before now start out first_placed pl
   cut = between so_far.answers kept;
 }
 
+-- what was placed more, behind what was placed so far
+placed_on : (Tells : Type 0) (effort : Effort) (line : List ℕ) (first mid more later : List PlacedPlan) (before after : List Page) (told : List ℕ) →
+    (Tells → mid ≡ first ++ more) → RepliesAndPlaces Tells effort line mid later before after told →
+    RepliesAndPlaces Tells effort line (first ++ more) later before after told
+placed_on Tells effort line first mid more later before after told so_far (its, is, placed) =
+    (its, is, λ tells. placed tells ∙ ap (λ (l : List PlacedPlan). l ++ its) (so_far tells))
+
 -- and within one
 pub survives_within : (Tells : Type 0) (effort : Effort) (input pending line behind : List ℕ) (before now : List Page) (start out next : List ℕ)
-    (first_placed placed : List PlacedPlan) (reads_as : List ℕ → List Page → Type 0) (may_leave : List ℕ → Type 0) →
+    (first_placed placed then_placed : List PlacedPlan) (reads_as : List ℕ → List Page → Type 0) (may_leave : List ℕ → Type 0) →
     Answered Tells effort input pending before now start out first_placed placed → IsFirstLine pending line behind →
-    IsCutShort (RepliesTo Tells effort line) now out next reads_as may_leave →
-    Survives Tells effort input before start next reads_as may_leave
-survives_within Tells effort input pending line behind before now start out next first_placed placed reads_as may_leave so_far first cut = record {
+    IsCutShort (RepliesAndPlaces Tells effort line placed then_placed) now out next reads_as may_leave →
+    Survives Tells effort input before start next first_placed then_placed reads_as may_leave
+survives_within Tells effort input pending line behind before now start out next first_placed placed then_placed reads_as may_leave so_far first cut = record {
   lines = so_far.lines;
   rest = pending;
   now = now;
@@ -233,7 +244,11 @@ survives_within Tells effort input pending line behind before now start out next
   firsts = so_far.firsts;
   replies = so_far.replies;
   cut = within line behind first
-      (subst (λ (l : List ℕ). IsCutShort (RepliesTo Tells effort line) now l next reads_as may_leave) so_far.answers cut);
+      (subst (λ (l : List ℕ). IsCutShort (RepliesAndPlaces Tells effort line (first_placed ++ so_far.placed) then_placed) now l next reads_as may_leave)
+      so_far.answers
+      (cut_as (RepliesAndPlaces Tells effort line placed then_placed)
+      (RepliesAndPlaces Tells effort line (first_placed ++ so_far.placed) then_placed) now out next reads_as may_leave
+      (λ after told is. placed_on Tells effort line first_placed placed so_far.placed then_placed now after told so_far.outputs is) cut));
 }
 
 -- what is read as the pages now is read after the lines so far

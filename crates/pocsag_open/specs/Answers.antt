@@ -1,6 +1,8 @@
 -- The lines that answer the lines of an open round (this project's own).
 use Rattle.std.specs.Prelude.{ℕ, if◌then◌else◌, nat_lt, List, [], ◌∷◌, ◌++◌, codes}
 use Rattle.std.specs.Fmt.{decimal}
+use Rattle.pocsag_journal.specs.declared.refusal.Refusal.{Refusal}
+use Rattle.pocsag_open.specs.Words.{refusal_words}
 
 -- `ok N`, after an edit.
 unfoldable pub pages_answer : ℕ → List ℕ
@@ -19,3 +21,7 @@ plan_answer batches bound =
     if nat_lt bound batches
     then codes "batches " ++ (decimal batches ++ (codes ", at least " ++ (decimal bound ++ (10 ∷ []))))
     else codes "batches " ++ (decimal batches ++ (10 ∷ []))
+
+-- `refused: ` and the words of a refusal.
+abbrev pub refusal_answer : Refusal → List ℕ
+refusal_answer why = codes "refused: " ++ (refusal_words why ++ (10 ∷ []))

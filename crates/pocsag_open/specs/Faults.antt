@@ -8,6 +8,7 @@ use Rattle.pocsag_journal.specs.declared.fault.JournalFault.{JournalFault}
 use Rattle.pocsag_journal.specs.declared.fault.JournalFault.TheVariants as journal
 use Rattle.pocsag_open.specs.declared.fault.OpenFault.{OpenFault}
 use Rattle.pocsag_open.specs.declared.fault.OpenFault.TheVariants as fault
+use Rattle.pocsag_shell.specs.declared.fault.FileFault.{FileFault}
 use Rattle.pocsag_shell.specs.declared.fault.FileFault.TheVariants as file
 
 -- The exit status of a fault: 3 for a device or memory, 1 for what was refused.
@@ -29,10 +30,10 @@ fault_of_journal journal.OutOfMemory = fault.File file.OutOfMemory
 fault_of_journal f = fault.Journal f
 
 -- Why a round does not begin with the pages of a page file, or ends: the file has this fault, or a read of it failed, between
--- these two counts of failures; or memory was wanting, or a device failed.
-abbrev pub ExplainsOpening : (file : List ℕ) → (failures_before failures_after : ℕ) → OpenFault → Type 0
-ExplainsOpening file before after (fault.Round round.OutOfMemory) = Unit {0}
-ExplainsOpening file before after (fault.Round round.ReadFault) = HasFailed before after
-ExplainsOpening file before after (fault.Round f) = verdict file ≡ Err f
-ExplainsOpening file before after (fault.File f) = file_status f ≡ 3
-ExplainsOpening file before after _ = ⊥
+-- these two counts of failures; or memory was wanting; or the round ends for this reason.
+abbrev pub ExplainsOpening : (file : List ℕ) → (failures_before failures_after : ℕ) → (Ends : FileFault → Type 0) → OpenFault → Type 0
+ExplainsOpening file before after Ends (fault.Round round.OutOfMemory) = Unit {0}
+ExplainsOpening file before after Ends (fault.Round round.ReadFault) = HasFailed before after
+ExplainsOpening file before after Ends (fault.Round f) = verdict file ≡ Err f
+ExplainsOpening file before after Ends (fault.File f) = Ends f
+ExplainsOpening file before after Ends _ = ⊥

@@ -5,6 +5,8 @@ use Rattle.pocsag_pages.specs.PageFile.{Row}
 use Rattle.pocsag_pages.specs.declared.page.Page.{Page}
 use Rattle.pocsag_journal.specs.Moments.{IsSafe}
 use Rattle.pocsag_journal.specs.Runs.{IsEdit}
+use Rattle.pocsag_shell.specs.declared.fault.FileFault.{FileFault}
+use Rattle.pocsag_shell.specs.declared.fault.FileFault.TheVariants as file
 use Rattle.pocsag_open.specs.Answers.{pages_answer}
 
 -- The edit of the record was accepted, and it is kept: the text of its record was taken, no more, and no crash takes away
@@ -30,3 +32,8 @@ IsAnswered row before after taken_before taken_after may_leave out_before out_af
 abbrev pub IsLost : (row : Row) → (before after : List Page) → (taken_before taken_after : List ℕ) → (may_leave : List ℕ → Type 0) → (out_before out_after : List ℕ) → Type 0
 IsLost row before after taken_before taken_after may_leave out_before out_after =
     (out_after ≡ out_before) ⊎ IsKept row before after taken_before taken_after may_leave ⊎ IsUntouched before after taken_before taken_after
+
+-- Why an edit is not answered: the output failed; or the edit was made, and it is not kept for this reason.
+abbrev pub ExplainsUnanswered : (output_failed edit : Type 0) → (keeping : FileFault → Type 0) → FileFault → Type 0
+ExplainsUnanswered output_failed edit keeping file.Write = output_failed ⊎ (edit × keeping file.Write)
+ExplainsUnanswered output_failed edit keeping f = edit × keeping f

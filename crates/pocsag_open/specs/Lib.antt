@@ -1,8 +1,11 @@
 pub mod Ahead
 pub mod Answers
+pub mod Ends
 pub mod Faults
 pub mod KeptAnswers
+pub mod KeptRounds
 pub mod Lines
 pub mod Plans
 pub mod Replies
 pub mod Survival
+pub mod Words

@@ -1,5 +1,6 @@
 -- What is so where the plan of an open round is written, and where it is refused (this project's own).
-use Rattle.std.specs.Prelude.{◌≡◌, ℕ, ◌≤◌, List, [], ◌∷◌, ◌++◌, take, Option, Some, None}
+use Rattle.std.specs.Prelude.{◌≡◌, ◌⊎◌, ℕ, ◌≤◌, List, [], ◌∷◌, ◌++◌, take, Option, Some, None}
+use Rattle.pocsag_words.specs.Devices.{HasFailed}
 use Rattle.pocsag_words.specs.declared.ending.End.{End}
 use Rattle.pocsag_pages.specs.Pages.{IsRound}
 use Rattle.pocsag_pages.specs.declared.page.Page.{Page}
@@ -10,11 +11,12 @@ use Rattle.pocsag_plan.specs.declared.search.Effort.TheVariants.{Fewest}
 use Rattle.pocsag_plan.specs.declared.fault.PlanFault.TheVariants as planning
 use Rattle.pocsag_plan.specs.declared.fault.StreamFault.{StreamFault}
 use Rattle.pocsag_plan.specs.declared.fault.StreamFault.TheVariants as streaming
-use Rattle.pocsag_plan.specs.declared.answer.Plan.{Plan}
+use Rattle.pocsag_plan.specs.declared.bounded.Bounded.{Bounded}
 use Rattle.pocsag_plan.specs.declared.search.Search.{Search}
 use Rattle.pocsag_plan.specs.Fronts.{FirstNeeds, IsFrontFor, IsLongestFront, StopsAtFront}
 use Rattle.pocsag_plan.specs.Headline.{RoundHeadline}
-use Rattle.pocsag_plan.specs.Plans.{IsBounded, IsStopped, MayStop}
+use Rattle.pocsag_plan.specs.Plans.{IsBounded, IsNoWorse, IsStopped, MayStop}
+use Rattle.pocsag_shell.specs.declared.fault.FileFault.{FileFault}
 use Rattle.pocsag_shell.specs.declared.fault.FileFault.TheVariants as file
 use Rattle.pocsag_journal.specs.declared.refusal.UndoneFault.{UndoneFault}
 use Rattle.pocsag_journal.specs.declared.refusal.UndoneFault.TheVariants as undone
@@ -37,9 +39,16 @@ pub record PlacedPlan : Type 0 where
 abbrev pub PlaceNames : Type 0
 PlaceNames = List ℕ × List ℕ
 
--- No names, no bytes, and no plan.
+-- Why outputs for two places were not made or not put.
+abbrev pub PlaceFault : Type 0
+PlaceFault = PlaceNames × FileFault
+
+-- No names, no fault, no bytes, and no plan.
 abbrev pub no_names : Option PlaceNames
 no_names = None
+
+abbrev pub no_fault : Option PlaceFault
+no_fault = None
 
 abbrev pub no_bytes : PlanBytes
 no_bytes = ([], [])
@@ -51,14 +60,16 @@ abbrev pub placed_plan : (tx cert : List ℕ) → PlanBytes → PlacedPlan
 placed_plan tx cert sent = record { tx = tx; cert = cert; sent = sent }
 
 -- A plan of the pages for the end has so many batches and this bound, which is its batches where only the fewest are an
--- answer; and its two outputs, where it is known what they hold, hold the transmission and the certificate of the headline of
+-- answer, and is below them only where a search stopped at the limit of an open round; and its two outputs, where it is known what they hold, hold the transmission and the certificate of the headline of
 -- these pages, this end, these batches and this bound.
 pub record IsPlanned (Tells : Type 0) (effort : Effort) (end : End) (pages : List Page) (batches bound : ℕ) (sent : PlanBytes) : Type 0 where
-  pub plan : Plan
-  pub plan_of : IsBounded end pages plan bound
-  pub same : batches ≡ plan.batches
+  pub made : Bounded
+  pub plan_of : IsBounded end pages made.plan bound
+  pub same : batches ≡ made.plan.batches
+  pub its_bound : bound ≡ made.bound
+  pub no_worse : IsNoWorse end pages plan_limit made
   pub fewest : effort ≡ Fewest → bound ≡ batches
-  pub headline : Tells → RoundHeadline pages end batches bound (bound_tree_of plan.tree) sent.0 sent.1
+  pub headline : Tells → RoundHeadline pages end batches bound (bound_tree_of made.plan.tree) sent.0 sent.1
 
 -- The search of a plan for the end.
 abbrev pub plan_search : Effort → End → Search
@@ -87,7 +98,7 @@ pub record IsFrontPlaced (Tells : Type 0) (effort : Effort) (end : End) (most : 
 
 -- Why a plan is refused, and what is so of the pages then: there are none; or the search stopped at its limit between these
 -- two numbers of batches, which happens only where the fewest alone are an answer; or memory was wanting for a plan of a
--- round. What is so of its files is not known.
+-- round.
 abbrev pub ExplainsUndone : Effort → End → List Page → UndoneFault → Type 0
 ExplainsUndone effort end pages undone.NoPages = pages ≡ []
 ExplainsUndone effort end pages (undone.SearchLimit least found) =
@@ -95,6 +106,17 @@ ExplainsUndone effort end pages (undone.SearchLimit least found) =
 ExplainsUndone effort end pages (undone.FirstPage needed) = ⊥
 ExplainsUndone effort end pages undone.OutOfMemory = IsRound pages
 ExplainsUndone effort end pages (undone.File f) = Unit {0}
+
+-- Some output failed.
+abbrev pub HasFailedOutput : {Output : Type 0} → (failures : Output → ℕ) → Type 0
+HasFailedOutput {Output} failures = (before after : Output) × HasFailed (failures before) (failures after)
+
+-- Why a plan is refused for its two files: just these could not be made or put in their places, between these two counts of
+-- failures, for this fault; or one of them could not be written.
+abbrev pub ExplainsFiles : (places : PlaceNames) → (failures_before failures_after : ℕ) → (last : Option PlaceFault) → (output_failed : Type 0) → UndoneFault → Type 0
+ExplainsFiles places before after last output_failed (undone.File f) =
+    (HasFailed before after × (last ≡ Some (places, f))) ⊎ ((f ≡ file.Write) × output_failed)
+ExplainsFiles places before after last output_failed _ = Unit {0}
 
 -- Why the plan of a front for so many batches is refused: the first page alone needs more; or the search stopped at some first
 -- pages; or for the same reason as a plan of all pages.

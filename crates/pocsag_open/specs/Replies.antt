@@ -1,30 +1,25 @@
 -- What an open round replies to its lines (this project's own).
-use Rattle.std.specs.Prelude.{◌≡◌, ◌≢◌, ◌⊎◌, ℕ, ◌<◌, ◌≤◌, List, [], ◌∷◌, ◌++◌, drop, length, codes, Option, Some, None, IfSome}
+use Rattle.std.specs.Prelude.{◌≡◌, ◌≢◌, ◌⊎◌, ℕ, ◌<◌, ◌≤◌, List, [], ◌∷◌, ◌++◌, drop, length, Option, Some, None}
 use Rattle.std.specs.Str.{IsUtf8}
-use Rattle.csv.specs.Machine.{line_feed}
 use Rattle.pocsag_words.specs.declared.ending.End.{End}
 use Rattle.pocsag_pages.specs.PageFile.{Row}
 use Rattle.pocsag_pages.specs.declared.page.Page.{Page}
 use Rattle.pocsag_decode.specs.PageFiles.{page_file}
 use Rattle.pocsag_plan.specs.declared.search.Effort.{Effort}
 use Rattle.pocsag_journal.specs.Asks.{AsksPlan, list_record}
-use Rattle.pocsag_journal.specs.Edited.{own_words}
 use Rattle.pocsag_journal.specs.Runs.{IsEdit, IsReasonFor, IsRefusedFor, first_record}
-use Rattle.pocsag_journal.specs.LineTexts.{HasNoLineFeed, IsRowText, IsUnread, record_text}
+use Rattle.pocsag_journal.specs.LineTexts.{IsRowText, IsUnread, record_text}
 use Rattle.pocsag_journal.specs.declared.refusal.Refusal.{Refusal}
 use Rattle.pocsag_journal.specs.declared.refusal.Refusal.TheVariants as refusal
 use Rattle.pocsag_journal.specs.declared.refusal.UndoneFault.{UndoneFault}
 use Rattle.pocsag_journal.specs.declared.refusal.UndoneFault.TheVariants as undone
-use Rattle.pocsag_open.specs.Answers.{front_answer, pages_answer, plan_answer}
+use Rattle.pocsag_open.specs.Answers.{front_answer, pages_answer, plan_answer, refusal_answer}
 use Rattle.pocsag_open.specs.Lines.{AreLines, line_limit}
 use Rattle.pocsag_open.specs.Plans.{ExplainsPlanUndone, IsFrontPlanned, IsPlanned, PlacedPlan, PlanBytes, placed_plan}
 
--- The line that tells a refusal: `refused: ` and its words, which hold no line feed.
-pub record IsRefusalTold (why : Refusal) (told : List ℕ) : Type 0 where
-  pub words : List ℕ
-  pub one : HasNoLineFeed words
-  pub own : IfSome (own_words why) (λ own. words ≡ own)
-  pub text : told ≡ codes "refused: " ++ (words ++ (line_feed ∷ []))
+-- The line that tells a refusal: `refused: ` and its words.
+abbrev pub IsRefusalTold : Refusal → (told : List ℕ) → Type 0
+IsRefusalTold why told = told ≡ refusal_answer why
 
 -- The reason is that of a plan which the record asks for, and it applies to the plan of these pages for that end.
 pub record IsPlanRefused (effort : Effort) (row : Row) (pages : List Page) (why : Refusal) : Type 0 where

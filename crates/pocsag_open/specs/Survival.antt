@@ -22,6 +22,16 @@ abbrev pub FrontRepliesTo : (Tells : Type 0) → Effort → End → (most : ℕ)
 FrontRepliesTo Tells effort end most tx cert before after told =
     (placed : List PlacedPlan) × IsFrontReply Tells effort end most tx cert before after told placed
 
+-- A reply to a line, and what was put in its places more, where that is known, are the outputs of the plan that it tells.
+abbrev pub RepliesAndPlaces : (Tells : Type 0) → Effort → (line : List ℕ) → (placed_before placed_after : List PlacedPlan) → (before after : List Page) → (told : List ℕ) → Type 0
+RepliesAndPlaces Tells effort line placed_before placed_after before after told =
+    (placed : List PlacedPlan) × IsLineReply Tells effort line before after told placed × (Tells → placed_after ≡ placed_before ++ placed)
+
+-- The same of a reply to what asks for a plan of a front.
+abbrev pub FrontRepliesAndPlaces : (Tells : Type 0) → Effort → End → (most : ℕ) → (tx cert : List ℕ) → (placed_before placed_after : List PlacedPlan) → (before after : List Page) → (told : List ℕ) → Type 0
+FrontRepliesAndPlaces Tells effort end most tx cert placed_before placed_after before after told =
+    (placed : List PlacedPlan) × IsFrontReply Tells effort end most tx cert before after told placed × (Tells → placed_after ≡ placed_before ++ placed)
+
 -- The bytes are read as these pages, or as those that a reply leaves.
 abbrev pub ReadsOrReplied : (List ℕ → List Page → Type 0) → (Replies : (before after : List Page) → List ℕ → Type 0) → List Page → List ℕ → Type 0
 ReadsOrReplied reads_as Replies before left =
@@ -40,21 +50,23 @@ pub data IsCutShort (Replies : (before after : List Page) → List ℕ → Type 
       IsCutShort Replies before out_before out_after reads_as may_leave
 
 -- What stands behind the lines that are answered: the answer to the first line of it is cut short; or none is under way, and
--- whatever a crash leaves is read as the pages now.
+-- whatever a crash leaves is read as the pages now. Where it is read as the pages after that line, the outputs of the plan that
+-- its reply tells were put in their places.
 pub data IsCutBehind (Tells : Type 0) (effort : Effort) (rest : List ℕ) (now : List Page) (out_before out_after : List ℕ)
-    (reads_as : List ℕ → List Page → Type 0) (may_leave : List ℕ → Type 0) : Type 0 where
+    (placed_before placed_after : List PlacedPlan) (reads_as : List ℕ → List Page → Type 0) (may_leave : List ℕ → Type 0) : Type 0 where
   between :
       out_after ≡ out_before → ((left : List ℕ) → may_leave left → reads_as left now) →
-      IsCutBehind Tells effort rest now out_before out_after reads_as may_leave
+      IsCutBehind Tells effort rest now out_before out_after placed_before placed_after reads_as may_leave
   within :
       (line behind : List ℕ) → IsFirstLine rest line behind →
-      IsCutShort (RepliesTo Tells effort line) now out_before out_after reads_as may_leave →
-      IsCutBehind Tells effort rest now out_before out_after reads_as may_leave
+      IsCutShort (RepliesAndPlaces Tells effort line placed_before placed_after) now out_before out_after reads_as may_leave →
+      IsCutBehind Tells effort rest now out_before out_after placed_before placed_after reads_as may_leave
 
 -- *Survives*: the first lines of an input were answered whole, from the pages before on, and at most one line more in part.
--- Whatever a crash leaves is read as the pages after the lines that were answered, or as those after one line more.
+-- Whatever a crash leaves is read as the pages after the lines that were answered, or as those after one line more; and the
+-- outputs of the plans that the replies to these lines tell were put in their places.
 pub record Survives (Tells : Type 0) (effort : Effort) (input : List ℕ) (before : List Page) (out_before out_after : List ℕ)
-    (reads_as : List ℕ → List Page → Type 0) (may_leave : List ℕ → Type 0) : Type 0 where
+    (placed_before placed_after : List PlacedPlan) (reads_as : List ℕ → List Page → Type 0) (may_leave : List ℕ → Type 0) : Type 0 where
   pub lines : List (List ℕ)
   pub rest : List ℕ
   pub now : List Page
@@ -62,7 +74,7 @@ pub record Survives (Tells : Type 0) (effort : Effort) (input : List ℕ) (befor
   pub placed : List PlacedPlan
   pub firsts : AreFirstLines lines input rest
   pub replies : AreReplies Tells effort lines before now told placed
-  pub cut : IsCutBehind Tells effort rest now (out_before ++ told) out_after reads_as may_leave
+  pub cut : IsCutBehind Tells effort rest now (out_before ++ told) out_after (placed_before ++ placed) placed_after reads_as may_leave
 
 -- The bytes are read as the pages after some of the first lines of an input, none of them left out.
 pub record ReadsAfterLines (Tells : Type 0) (effort : Effort) (input : List ℕ) (before : List Page) (reads_as : List ℕ → List Page → Type 0) (left : List ℕ) : Type 0 where

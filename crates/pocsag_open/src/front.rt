@@ -1,15 +1,18 @@
 //! Plans of the longest front of an open round, whose pages are taken out.
 ghost use Rattle.std.specs.Prelude.{◌≡◌, None, Some, IfErr, IfOk, OnErr, OnOk};
 ghost use Rattle.csv.specs.Records.{fields_of};
+ghost use Rattle.pocsag_words.specs.Devices.{HasFailed};
 ghost use Rattle.pocsag_shell.specs.Faults.{file_status};
 ghost use Rattle.pocsag_journal.specs.Moments.{LeavesOnly};
 ghost use Rattle.pocsag_journal.specs.Runs.{sent_record};
-ghost use Rattle.pocsag_open.specs.Plans.{ExplainsFrontUndone, IsFrontPlaced, IsFrontPlanned};
+ghost use Rattle.pocsag_open.specs.Ends.{ExplainsEnd, HasGivenUp};
+ghost use Rattle.pocsag_open.specs.Plans.{ExplainsFiles, ExplainsFrontUndone, HasFailedOutput, IsFrontPlaced, IsFrontPlanned};
 ghost use Rattle.pocsag_open.specs.Replies.{IsFrontReply, TellsAndPlaces};
-ghost use Rattle.pocsag_open.specs.Survival.{FrontRepliesTo, IsCutShort, ReadsOrReplied};
+ghost use Rattle.pocsag_open.specs.Survival.{FrontRepliesAndPlaces, FrontRepliesTo, IsCutShort, ReadsOrReplied};
 
-use crate::answer::{OpenRound, refuse, tell_sent};
+use crate::answer::{OpenRound, tell_sent};
 use crate::outputs::Places;
+use crate::refused::refuse;
 use crate::round_plan::{PLAN_LIMIT, undone};
 use crate::session::Planner;
 use csv::ByteRecord;
@@ -55,8 +58,9 @@ pub(crate) fn answer_front<P: Places + Drop, K: Keeper + Drop, O: Sink>(
     ensures stands { K.stands_for round.old.keeper round.old.book →
         OnOk result (K.stands_for round.new.keeper round.new.book) }
     ensures cut { K.tells → O.tells → K.stands_for round.old.keeper round.old.book → OnErr result
-        (IsCutShort (FrontRepliesTo P.tells planner.old.effort asked.entry.end asked.entry.batches
-        asked.entry.tx.now asked.entry.cert.now) round.old.book
+        (IsCutShort (FrontRepliesAndPlaces P.tells planner.old.effort asked.entry.end asked.entry.batches
+        asked.entry.tx.now asked.entry.cert.now (P.placed planner.old.places) (P.placed planner.new.places))
+        round.old.book
         (O.taken out.old) (O.taken out.new) K.reads_as (K.may_leave round.new.keeper)) }
     ensures any_moment { K.tells → K.stands_for round.old.keeper round.old.book →
         LeavesOnly K.moment K.left_since round.old.keeper round.new.keeper
@@ -64,6 +68,11 @@ pub(crate) fn answer_front<P: Places + Drop, K: Keeper + Drop, O: Sink>(
         (FrontRepliesTo P.tells planner.old.effort asked.entry.end asked.entry.batches
         asked.entry.tx.now asked.entry.cert.now)
         round.old.book) }
+    ensures explained { K.counts → K.stands_for round.old.keeper round.old.book → IfErr result
+        (ExplainsEnd ⊥ (HasFailed (O.failures out.old) (O.failures out.new))
+        (HasGivenUp K.most (K.taken round.new.keeper) (K.failures round.old.keeper) (K.failures round.new.keeper))) }
+    ensures output { OnOk result (O.failures out.new ≡ O.failures out.old) }
+    ensures keeper { K.counts → OnOk result (K.failures round.new.keeper ≡ K.failures round.old.keeper) }
     ensures lost { IfErr result (λ e. file_status e ≡ 3) }
 {
     let (front, row) = match place_front(alloc, planner, &round.book, asked) {
@@ -89,6 +98,9 @@ fn place_front<P: Places + Drop>(
     ensures edit { IfOk result (λ both. fields_of both.1 ≡ sent_record both.0.pages) }
     ensures explained { IfErr result
         (ExplainsFrontUndone planner.old.effort asked.entry.end asked.entry.batches book.now) }
+    ensures files { P.tells → IfErr result (ExplainsFiles (asked.entry.tx.now, asked.entry.cert.now)
+        (P.failures planner.old.places) (P.failures planner.new.places) (P.last_fault planner.new.places)
+        (HasFailedOutput P.Output.failures)) }
     ensures same { P.tells → OnErr result (P.placed planner.new.places ≡ P.placed planner.old.places) }
     ensures none_left { P.tells → P.made_for planner.new.places ≡ None }
     ensures effort { planner.new.effort ≡ planner.old.effort }
@@ -121,7 +133,11 @@ fn send_front<P: Places + Drop>(
         (P.Output.taken both.1.tx, P.Output.taken both.1.cert)) }
     ensures explained { IfErr result
         (ExplainsFrontUndone planner.old.effort asked.entry.end asked.entry.batches book.now) }
+    ensures files { P.tells → IfErr result (ExplainsFiles (asked.entry.tx.now, asked.entry.cert.now)
+        (P.failures planner.old.places) (P.failures planner.new.places) (P.last_fault planner.new.places)
+        (HasFailedOutput P.Output.failures)) }
     ensures made { P.tells → P.made_for planner.new.places ≡ Some (asked.entry.tx.now, asked.entry.cert.now) }
+    ensures failures { P.tells → OnOk result (P.failures planner.new.places ≡ P.failures planner.old.places) }
     ensures same { P.tells → P.placed planner.new.places ≡ P.placed planner.old.places }
     ensures effort { planner.new.effort ≡ planner.old.effort }
 {

@@ -1,9 +1,12 @@
-ghost use Rattle.std.specs.Prelude.{[]};
+ghost use Rattle.std.specs.Prelude.{◌≡◌, ◌≤◌, [], length, IfOk};
 
 use crate::fault::OpenFault;
-use pocsag_journal::{Disk, Replayed, read_journal};
-use pocsag_shell::{Beside, Desk, FileFault, Named, ReaderSource, Role, WriterSink};
-use pocsag_words::{DeviceFault, write_all};
+use crate::round_files::open_pages;
+use pocsag_journal::Disk;
+use pocsag_pages::{WholeFault, read_whole};
+use pocsag_shell::{Beside, Desk, FileFault, Input, Named, ReaderSource, Role, WriterSink};
+use pocsag_words::{DeviceFault, Source, write_all};
+use std::alloc::Global;
 use std::cell::Cell;
 use std::fs::{self, File, OpenFile, OpenOptions, TryLockError};
 use std::io::Write;
@@ -45,9 +48,9 @@ pub(crate) struct JournalFile<'a, 'w> {
 }
 
 impl<'a, 'w> JournalFile<'a, 'w> {
-    /// Opens or makes the file, locks it, unless another program holds it, and reads the journal that it holds. The lock
-    /// goes with the file, so what stands at the path must still be the file that is locked.
-    pub fn hold(place: JournalPlace<'a, 'w>) -> Result<(JournalFile<'a, 'w>, Replayed), OpenFault> {
+    /// Opens or makes the file, and locks it, unless another program holds it. The lock goes with the file, so what stands at
+    /// the path must still be the file that is locked.
+    pub fn hold(place: JournalPlace<'a, 'w>) -> Result<JournalFile<'a, 'w>, OpenFault> {
         let JournalPlace { desk, path, .. } = place;
         let is_new = Named::at(desk.rt, path).is_none();
         let mut options = OpenOptions::new();
@@ -59,16 +62,13 @@ impl<'a, 'w> JournalFile<'a, 'w> {
         if Named::at(desk.rt, path) != Some(named) {
             return Err(OpenFault::HeldByAnother);
         }
-        let mut source = ReaderSource::new(&file, ROLE, desk.watch);
-        let replayed = read_journal(desk.alloc, &mut source)?;
-        let held = JournalFile {
+        Ok(JournalFile {
             place,
             is_new,
             file,
             named,
             len: metadata.len(),
-        };
-        Ok((held, replayed))
+        })
     }
 
     /// A handle of the file where it was made, which keeps its lock.
@@ -152,9 +152,16 @@ impl Disk for JournalFile<'_, '_> {
 
     ghost failures = { λ _. 0 };
 
+    ghost is_sound = { λ _. ⊥ };
+
     ghost counts_now = { λ file t left tells le now. absurd tells };
 
     ghost only_now = { λ file left tells since. absurd tells };
+
+    fn read(&mut self, alloc: Global, most: usize) -> Result<Vec<u8>, WholeFault> {
+        let mut source = ReaderSource::new(&self.file, ROLE, self.place.desk.watch);
+        read_whole(alloc, &mut source, most)
+    }
 
     fn append(&mut self, line: &[u8]) -> Result<(), DeviceFault> {
         self.place.by_disk(self.stands())?;
@@ -176,5 +183,68 @@ impl Disk for JournalFile<'_, '_> {
     fn replace(&mut self, text: &[u8]) -> Result<(), DeviceFault> {
         let done = self.put(text);
         self.place.by_disk(done)
+    }
+}
+
+/// The page file that a kept round begins with. It is opened where it is read, once the journal is read.
+#[derive(Drop)]
+pub(crate) struct FirstPages<'a, 'w> {
+    place: JournalPlace<'a, 'w>,
+    path: &'a str,
+    file: Option<ReaderSource<'a, Input<File>>>,
+    calls: u64,
+    failures: u64,
+}
+
+impl<'a, 'w> FirstPages<'a, 'w> {
+    pub fn new(place: JournalPlace<'a, 'w>, path: &'a str) -> FirstPages<'a, 'w> {
+        FirstPages {
+            place,
+            path,
+            file: None,
+            calls: 0,
+            failures: 0,
+        }
+    }
+
+    // Reads the file, which is opened before it is read first.
+    fn read_on(&mut self, buffer: &mut [u8]) -> Result<usize, DeviceFault>
+        ensures within { IfOk result (λ n. n ≤ length buffer.old) }
+        ensures calls { self.new.calls ≡ self.old.calls }
+        ensures failures { self.new.failures ≡ self.old.failures }
+    {
+        if let Some(file) = &mut self.file {
+            return file.read(buffer);
+        }
+        match open_pages(self.place.desk, self.path) {
+            Ok(mut file) => {
+                let count = file.read(buffer);
+                self.file = Some(file);
+                count
+            }
+            Err(fault) => {
+                self.place.why.set(Some(OpenFault::File(fault)));
+                Err(DeviceFault)
+            }
+        }
+    }
+}
+
+impl Source for FirstPages<'_, '_> {
+    ghost tells = { ⊥ };
+
+    ghost held = { λ _. [] };
+
+    ghost calls = { λ pages. pages.calls };
+
+    ghost failures = { λ pages. pages.failures };
+
+    fn read(&mut self, buffer: &mut [u8]) -> Result<usize, DeviceFault> {
+        self.calls = self.calls.saturating_add(1);
+        let done = self.read_on(buffer);
+        if done.is_err() {
+            self.failures = self.failures.saturating_add(1);
+        }
+        done
     }
 }

@@ -1,5 +1,7 @@
-ghost use Rattle.std.specs.Prelude.{◌≡◌, ◌≤◌, [], ◌++◌, length, IfErr, IfOk, OnOk};
+ghost use Rattle.std.specs.Prelude.{◌≡◌, ◌≤◌, ◌⊎◌, [], ◌++◌, length, IfErr, IfOk, OnOk};
+ghost use Rattle.pocsag_words.specs.Devices.{CountsFailures, HasFailed};
 ghost use Rattle.pocsag_shell.specs.Faults.{file_status};
+ghost use Rattle.pocsag_open.specs.Ends.{AreCountless, ExplainsEnd};
 ghost use Rattle.pocsag_open.specs.Lines.{IsByteKept, IsLineFound, IsNextByte, between_places, line_limit};
 
 use pocsag_shell::FileFault;
@@ -49,7 +51,7 @@ impl Lines {
 
     // The next byte, unless the source has ended. It reads the next bytes of the source in place of those that are used up.
     fn next_byte<S: Source>(&mut self, source: &mut S) -> Result<Option<u8>, DeviceFault>
-        ensures read { OnOk result (S.failures source.new ≡ S.failures source.old) }
+        ensures read { CountsFailures result (S.failures source.old) (S.failures source.new) }
         ensures next { S.tells → IfOk result (λ next. IsNextByte next
             (between_places self.old.piece self.old.start self.old.end ++ S.held source.old)
             (between_places self.new.piece self.new.start self.new.end ++ S.held source.new)) }
@@ -76,11 +78,14 @@ impl Lines {
             self.new.line.items (between_places self.new.piece self.new.start self.new.end ++ S.held source.new)) }
         ensures short { length self.new.line.items ≤ line_limit }
         ensures read { OnOk result (S.failures source.new ≡ S.failures source.old) }
+        ensures explained { S.tells →
+            IfErr result (ExplainsEnd (HasFailed (S.failures source.old) (S.failures source.new)
+            ⊎ AreCountless (between_places self.old.piece self.old.start self.old.end ++ S.held source.old)) ⊥ ⊥) }
         ensures lost { IfErr result (λ e. file_status e ≡ 3) }
     {
         self.line.clear();
         let mut found = LineRead::End;
-        for _ in 0..u64::MAX {
+        for _seen in 0..u64::MAX {
             let Ok(next) = self.next_byte(source) else {
                 return Err(FileFault::Device);
             };

@@ -1,5 +1,6 @@
-ghost use Rattle.std.specs.Prelude.{◌≡◌, List, [], ◌∷◌, ◌++◌, Option, None, Some, IfOk, OnErr, OnOk};
-ghost use Rattle.pocsag_open.specs.Plans.{PlaceNames, PlacedPlan, placed_plan};
+ghost use Rattle.std.specs.Prelude.{◌≡◌, ℕ, List, [], ◌∷◌, ◌++◌, Option, None, Some, IfErr, IfOk, OnErr, OnOk};
+ghost use Rattle.pocsag_words.specs.Devices.{CountsFailures};
+ghost use Rattle.pocsag_open.specs.Plans.{PlaceFault, PlaceNames, PlacedPlan, placed_plan};
 
 use pocsag_shell::{FileFault, Outputs};
 use pocsag_words::Sink;
@@ -18,13 +19,20 @@ pub trait Places {
     // that was made is put or left.
     ghost made_for: { Self → Option PlaceNames };
 
+    // How many of its calls failed, and the last of their faults, with the names of the places.
+    ghost failures: { Self → ℕ };
+
+    ghost last_fault: { Self → Option PlaceFault };
+
     /// Makes the two outputs that a line names, which are empty, or answers why there are none.
     fn make(&mut self, tx: &str, cert: &str) -> Result<Outputs<Self::Output>, FileFault>
         ensures known { tells → IfOk result (λ outputs. Self.Output.tells) }
         ensures empty { tells → IfOk result (λ outputs.
             (Self.Output.taken outputs.tx ≡ []) × (Self.Output.taken outputs.cert ≡ [])) }
         ensures made { tells → made_for self.new ≡ Some (tx.now, cert.now) }
-        ensures same { tells → placed self.new ≡ placed self.old };
+        ensures same { tells → placed self.new ≡ placed self.old }
+        ensures fault { tells → IfErr result (λ fault. last_fault self.new ≡ Some ((tx.now, cert.now), fault)) }
+        ensures failures { tells → CountsFailures result (failures self.old) (failures self.new) };
 
     /// Puts both outputs of a plan, which are whole, in the places for which they were made.
     fn put(&mut self, tx: &str, cert: &str, outputs: Outputs<Self::Output>) -> Result<(), FileFault>
@@ -32,10 +40,14 @@ pub trait Places {
             placed self.old ++ placed_plan tx.now cert.now
             (Self.Output.taken outputs.tx, Self.Output.taken outputs.cert) ∷ []) }
         ensures same { tells → OnErr result (placed self.new ≡ placed self.old) }
-        ensures none_left { tells → made_for self.old ≡ Some (tx.now, cert.now) → made_for self.new ≡ None };
+        ensures none_left { tells → made_for self.old ≡ Some (tx.now, cert.now) → made_for self.new ≡ None }
+        ensures fault { tells → IfErr result (λ fault. last_fault self.new ≡ Some ((tx.now, cert.now), fault)) }
+        ensures failures { tells → CountsFailures result (failures self.old) (failures self.new) };
 
     /// Leaves the places as they are, and removes what was made for them, if the outputs were not made or are not whole.
     fn leave<'n>(&mut self, tx: &'n str, cert: &'n str)
         ensures same { tells → placed self.new ≡ placed self.old }
-        ensures none_left { tells → made_for self.old ≡ Some (tx.now, cert.now) → made_for self.new ≡ None };
+        ensures none_left { tells → made_for self.old ≡ Some (tx.now, cert.now) → made_for self.new ≡ None }
+        ensures fault { tells → last_fault self.new ≡ last_fault self.old }
+        ensures failures { tells → failures self.new ≡ failures self.old };
 }

@@ -1,5 +1,6 @@
-ghost use Rattle.std.specs.Prelude.{◌≡◌, [], ◌∷◌, ◌++◌, None, OnErr, OnOk, Some};
-ghost use Rattle.pocsag_open.specs.Plans.{no_bytes, no_names, no_plans, placed_plan};
+ghost use Rattle.std.specs.Prelude.{◌≡◌, [], ◌∷◌, ◌++◌, None, IfErr, OnErr, OnOk, Some};
+ghost use Rattle.pocsag_words.specs.Devices.{CountsFailures};
+ghost use Rattle.pocsag_open.specs.Plans.{no_bytes, no_fault, no_names, no_plans, placed_plan};
 
 use crate::outputs::Places;
 use pocsag_plan::Effort;
@@ -101,6 +102,10 @@ impl<'a> Places for RoundFiles<'a> {
 
     ghost made_for = { λ _. no_names };
 
+    ghost failures = { λ _. 0 };
+
+    ghost last_fault = { λ _. no_fault };
+
     fn make(
         &mut self,
         tx: &str,
@@ -125,6 +130,8 @@ impl<'a> Places for RoundFiles<'a> {
             (no_plans ≡ no_plans ++ placed_plan tx.now cert.now no_bytes ∷ []) }
         ensures same { ⊥ → OnErr result (no_plans ≡ no_plans) }
         ensures none_left { ⊥ → no_names ≡ Some (tx.now, cert.now) → no_names ≡ None }
+        ensures fault { ⊥ → IfErr result (λ fault. no_fault ≡ Some ((tx.now, cert.now), fault)) }
+        ensures failures { ⊥ → CountsFailures result 0 0 }
     {
         drop(outputs);
         let done = if self.order.keep {

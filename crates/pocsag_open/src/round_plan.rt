@@ -1,5 +1,5 @@
-ghost use Rattle.std.specs.Prelude.{◌≡◌, ◌≢◌, None, Some, IfErr, IfOk, OnErr};
-ghost use Rattle.pocsag_open.specs.Plans.{ExplainsUndone, IsPlanned, IsPlanPlaced, undone_of};
+ghost use Rattle.std.specs.Prelude.{◌≡◌, ◌≢◌, None, Some, IfErr, IfOk, OnErr, OnOk};
+ghost use Rattle.pocsag_open.specs.Plans.{ExplainsFiles, ExplainsUndone, HasFailedOutput, IsPlanned, IsPlanPlaced, undone_of};
 
 use crate::outputs::Places;
 use crate::session::Planner;
@@ -29,6 +29,8 @@ pub(crate) fn put_plan<P: Places + Drop>(
     ensures planned { IfOk result (λ planned. IsPlanPlaced P.tells planner.old.effort end tx.now cert.now book.now
         planned.batches planned.bound (P.placed planner.old.places) (P.placed planner.new.places)) }
     ensures explained { IfErr result (ExplainsUndone planner.old.effort end book.now) }
+    ensures files { P.tells → IfErr result (ExplainsFiles (tx.now, cert.now) (P.failures planner.old.places)
+        (P.failures planner.new.places) (P.last_fault planner.new.places) (HasFailedOutput P.Output.failures)) }
     ensures same { P.tells → OnErr result (P.placed planner.new.places ≡ P.placed planner.old.places) }
     ensures none_left { P.tells → P.made_for planner.new.places ≡ None }
     ensures effort { planner.new.effort ≡ planner.old.effort }
@@ -56,7 +58,10 @@ fn send_plan<P: Places + Drop>(
     ensures planned { IfOk result (λ both. IsPlanned P.tells planner.old.effort end book.now
         both.0.batches both.0.bound (P.Output.taken both.1.tx, P.Output.taken both.1.cert)) }
     ensures explained { IfErr result (ExplainsUndone planner.old.effort end book.now) }
+    ensures files { P.tells → IfErr result (ExplainsFiles (tx.now, cert.now) (P.failures planner.old.places)
+        (P.failures planner.new.places) (P.last_fault planner.new.places) (HasFailedOutput P.Output.failures)) }
     ensures made { P.tells → P.made_for planner.new.places ≡ Some (tx.now, cert.now) }
+    ensures failures { P.tells → OnOk result (P.failures planner.new.places ≡ P.failures planner.old.places) }
     ensures same { P.tells → P.placed planner.new.places ≡ P.placed planner.old.places }
     ensures effort { planner.new.effort ≡ planner.old.effort }
 {

@@ -1,18 +1,22 @@
-ghost use Rattle.std.specs.Prelude.{◌≡◌, ◌≤◌, List, [], length, IfErr, IfOk, None, Ok, OnErr, OnOk};
+ghost use Rattle.std.specs.Prelude.{◌≡◌, ◌≤◌, ◌⊎◌, List, [], length, IfErr, IfOk, None, Ok, OnErr, OnOk};
+ghost use Rattle.pocsag_words.specs.Devices.{HasFailed};
 ghost use Rattle.pocsag_pages.specs.PageFile.{verdict};
 ghost use Rattle.pocsag_pages.specs.declared.page.Page.{Page};
 ghost use Rattle.pocsag_shell.specs.Faults.{file_status};
+ghost use Rattle.pocsag_journal.specs.LineTexts.{HasNoLineFeed};
 ghost use Rattle.pocsag_journal.specs.Moments.{LeavesOnly};
+ghost use Rattle.pocsag_open.specs.Ends.{AreCountless, ExplainsEnd, HasGivenUp};
 ghost use Rattle.pocsag_open.specs.Faults.{ExplainsOpening, open_status};
 ghost use Rattle.pocsag_open.specs.Lines.{line_limit};
 ghost use Rattle.pocsag_open.specs.Replies.{IsLineReply, IsSession, TellsAndPlaces};
-ghost use Rattle.pocsag_open.specs.Survival.{IsCutShort, ReadsAfterLines, ReadsOrReplied, RepliesTo, Survives};
+ghost use Rattle.pocsag_open.specs.Survival.{IsCutShort, ReadsAfterLines, ReadsOrReplied, RepliesAndPlaces, RepliesTo, Survives};
 
-use crate::answer::{OpenRound, answer_edit, refuse, tell_pages, tell_planned};
+use crate::answer::{OpenRound, answer_edit, tell_pages, tell_planned};
 use crate::fault::OpenFault;
 use crate::front::{FrontOrder, answer_front};
 use crate::lines::{LineRead, Lines};
 use crate::outputs::Places;
+use crate::refused::refuse;
 use crate::round_plan::put_plan;
 use pocsag_decode::{ListFault, write_page_file};
 use pocsag_journal::{Keeper, Line, NoKeeper, Refusal, UndoneFault, line_of, record_of};
@@ -50,6 +54,11 @@ pub fn run_open<P: Places + Drop, I: Source, O: Sink>(
 
     // It is done only at the end of the input, which did not fail.
     ensures input { OnOk result (I.failures input.new ≡ I.failures input.old) }
+
+    // It ends before its input for want of memory, or where the input or the output failed.
+    ensures explained { I.tells → IfErr result (ExplainsEnd
+        (HasFailed (I.failures input.old) (I.failures input.new) ⊎ AreCountless (I.held input.old))
+        (HasFailed (O.failures out.old) (O.failures out.new)) ⊥) }
     ensures lost { IfErr result (λ e. file_status e ≡ 3) }
 {
     let mut round = OpenRound {
@@ -81,9 +90,12 @@ pub fn run_open_pages<P: Places + Drop, F: Source, I: Source, O: Sink>(
     ensures input { OnOk result (I.failures input.new ≡ I.failures input.old) }
     ensures pages { OnOk result (F.failures pages.new ≡ F.failures pages.old) }
 
-    // Only a fault of the page file is refused, and then no line is read or answered.
-    ensures explained { F.tells → IfErr result
-        (ExplainsOpening (F.held pages.old) (F.failures pages.old) (F.failures pages.new)) }
+    // Only a fault of the page file is refused, and then no line is read or answered; and the round ends before its input for
+    // want of memory, or where the input or the output failed.
+    ensures explained { F.tells → I.tells → IfErr result
+        (ExplainsOpening (F.held pages.old) (F.failures pages.old) (F.failures pages.new) (ExplainsEnd
+        (HasFailed (I.failures input.old) (I.failures input.new) ⊎ AreCountless (I.held input.old))
+        (HasFailed (O.failures out.old) (O.failures out.new)) ⊥)) }
     ensures refused { IfErr result (λ e. open_status e ≡ 1 → (input.new ≡ input.old) × (out.new ≡ out.old)) }
 {
     let mut round = OpenRound {
@@ -101,7 +113,7 @@ pub(crate) fn book_of<F: Source>(alloc: Global, pages: &mut F) -> Result<Book, O
     ensures pages { F.tells → IfOk result (λ book. verdict (F.held pages.old) ≡ Ok book) }
     ensures read { OnOk result (F.failures pages.new ≡ F.failures pages.old) }
     ensures explained { F.tells → IfErr result
-        (ExplainsOpening (F.held pages.old) (F.failures pages.old) (F.failures pages.new)) }
+        (ExplainsOpening (F.held pages.old) (F.failures pages.old) (F.failures pages.new) (ExplainsEnd ⊥ ⊥ ⊥)) }
 {
     let round = match read_round(alloc, pages) {
         Ok(round) => round,
@@ -140,14 +152,20 @@ pub fn run_open_kept<P: Places + Drop, K: Keeper + Drop, I: Source, O: Sink>(
     // after one line more; and after a crash at any moment before, as the pages after some of the first lines.
     ensures survives { K.tells → I.tells → O.tells → K.stands_for round.old.keeper round.old.book →
         Survives P.tells planner.old.effort (I.held input.old) round.old.book (O.taken out.old) (O.taken out.new)
-        K.reads_as (K.may_leave round.new.keeper) }
+        (P.placed planner.old.places) (P.placed planner.new.places) K.reads_as (K.may_leave round.new.keeper) }
     ensures any_moment { K.tells → I.tells → O.tells → K.stands_for round.old.keeper round.old.book →
         LeavesOnly K.moment K.left_since round.old.keeper round.new.keeper
         (ReadsAfterLines P.tells planner.old.effort (I.held input.old) round.old.book K.reads_as) }
+
+    // It ends before its input for want of memory, or where the input, the output or what keeps the edits failed.
+    ensures explained { I.tells → K.counts → K.stands_for round.old.keeper round.old.book → IfErr result (ExplainsEnd
+        (HasFailed (I.failures input.old) (I.failures input.new) ⊎ AreCountless (I.held input.old))
+        (HasFailed (O.failures out.old) (O.failures out.new))
+        (HasGivenUp K.most (K.taken round.new.keeper) (K.failures round.old.keeper) (K.failures round.new.keeper))) }
     ensures lost { IfErr result (λ e. file_status e ≡ 3) }
 {
     let mut lines = Lines::new(alloc)?;
-    for _ in 0..u64::MAX {
+    for _answered in 0..u64::MAX {
         match lines.read_line(input)? {
             LineRead::End => return Ok(()),
             LineRead::TooLong => refuse(Refusal::Unknown, out)?,
@@ -176,11 +194,17 @@ fn answer_line<P: Places + Drop, K: Keeper + Drop, O: Sink>(
     ensures stands { K.stands_for round.old.keeper round.old.book →
         OnOk result (K.stands_for round.new.keeper round.new.book) }
     ensures cut { K.tells → O.tells → K.stands_for round.old.keeper round.old.book → OnErr result
-        (IsCutShort (RepliesTo P.tells planner.old.effort line.now) round.old.book
+        (IsCutShort (RepliesAndPlaces P.tells planner.old.effort line.now
+        (P.placed planner.old.places) (P.placed planner.new.places)) round.old.book
         (O.taken out.old) (O.taken out.new) K.reads_as (K.may_leave round.new.keeper)) }
     ensures any_moment { K.tells → K.stands_for round.old.keeper round.old.book →
         LeavesOnly K.moment K.left_since round.old.keeper round.new.keeper
         (ReadsOrReplied K.reads_as (RepliesTo P.tells planner.old.effort line.now) round.old.book) }
+    ensures explained { K.counts → K.stands_for round.old.keeper round.old.book → HasNoLineFeed line.now → IfErr result
+        (ExplainsEnd ⊥ (HasFailed (O.failures out.old) (O.failures out.new))
+        (HasGivenUp K.most (K.taken round.new.keeper) (K.failures round.old.keeper) (K.failures round.new.keeper))) }
+    ensures output { OnOk result (O.failures out.new ≡ O.failures out.old) }
+    ensures keeper { K.counts → OnOk result (K.failures round.new.keeper ≡ K.failures round.old.keeper) }
     ensures lost { IfErr result (λ e. file_status e ≡ 3) }
 {
     let row = match record_of(alloc, line) {

@@ -17,7 +17,7 @@ use Rattle.std.specs.Prelude.{None}
 use Rattle.std.proofs.lemmas.Bool.{not-false, not-true}
 use Rattle.pocsag_words.proofs.TruthValues.{or_false}
 
-either : (b c : Bool) → cond b true c ≡ (c || b)
+pub either : (b c : Bool) → cond b true c ≡ (c || b)
 either true true = refl
 either true false = refl
 either false true = refl
@@ -41,7 +41,7 @@ good_push ps p good fine another = record {
   apart = rw addresses_push (IsDistinct-push nat_eq_equiv (addresses_of ps) p.address good.apart another);
 }
 
-same_test : (a b : ℕ) → is_at (nat_cmp a) b ≡ nat_eq b a
+pub same_test : (a b : ℕ) → is_at (nat_cmp a) b ≡ nat_eq b a
 same_test a b = grind (arith, nat_tests)
 
 -- what the answer of `insert` says of the pages so far

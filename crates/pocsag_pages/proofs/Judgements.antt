@@ -31,7 +31,7 @@ with_append : (p : Result Page RecordFault) (ps qs : List Page) → with_page p 
 with_append (Ok p) ps qs = refl
 with_append (Err e) ps qs = refl
 
-pages_append : (rows more : List Row) → pages_of (rows ++ more) ≡ pages_of rows ++ pages_of more
+pub pages_append : (rows more : List Row) → pages_of (rows ++ more) ≡ pages_of rows ++ pages_of more
 unfolding pages_of
 pages_append [] more = refl
 pages_append (r ∷ rows) more = ap (with_page (page_of r)) (pages_append rows more) ∙ with_append (page_of r) (pages_of rows) (pages_of more)
@@ -97,7 +97,7 @@ said_err x (Ok v) e = tt
 said_err x (Err f) e = inr e
 
 -- no record is answered by a failed read
-not_numbered : (n : ℕ) (e : RecordFault) → numbered n e ≡ fault.ReadFault → ⊥
+pub not_numbered : (n : ℕ) (e : RecordFault) → numbered n e ≡ fault.ReadFault → ⊥
 not_numbered n wrong.FieldCount h = cc
 not_numbered n (wrong.Field field.BadAddress) h = cc
 not_numbered n (wrong.Field field.ReservedAddress) h = cc
@@ -111,11 +111,11 @@ not_numbered n (wrong.Page e) h = cc
 not_numbered n wrong.DuplicateAddress h = cc
 not_numbered n wrong.TooManyPages h = cc
 
-not_empty : (ps : List Page) → unless_empty ps ≡ Err fault.ReadFault → ⊥
+pub not_empty : (ps : List Page) → unless_empty ps ≡ Err fault.ReadFault → ⊥
 not_empty [] h = cc
 not_empty (p ∷ ps) h = cc
 
-not_later : (o : Option RecordFault) (n : ℕ) (later : Result (List Page) RoundFault) → (later ≡ Err fault.ReadFault → ⊥) →
+pub not_later : (o : Option RecordFault) (n : ℕ) (later : Result (List Page) RoundFault) → (later ≡ Err fault.ReadFault → ⊥) →
     or_later o n later ≡ Err fault.ReadFault → ⊥
 not_later None n later not h = not h
 not_later (Some e) n later not h = not_numbered (n + 1) e cc

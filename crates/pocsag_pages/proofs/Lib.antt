@@ -8,6 +8,8 @@ pub mod Judgements
 pub mod Lengths
 pub mod PageLists
 pub mod QuoteSteps
+pub mod QueueParts
+pub mod QueueRows
 pub mod Readings
 pub mod RecordPages
 pub mod Spelled

@@ -99,7 +99,7 @@ unfolding up_to_wide
 no_row rows e = rw e refl
 
 -- records up to a wide one have the verdict of all
-wide_page : (r : Row) → 3 < length r → page_of r ≡ Err wrong.FieldCount
+pub wide_page : (r : Row) → 3 < length r → page_of r ≡ Err wrong.FieldCount
 unfolding page_of
 wide_page [] h = absurd (omega arith)
 wide_page (a ∷ []) h = absurd (omega arith)
@@ -107,7 +107,7 @@ wide_page (a ∷ b ∷ []) h = absurd (omega arith)
 wide_page (a ∷ b ∷ c ∷ []) h = absurd (omega arith)
 wide_page (a ∷ b ∷ c ∷ d ∷ r) h = refl
 
-wide_header : (r : Row) → 3 < length r → is_header r ≡ false
+pub wide_header : (r : Row) → 3 < length r → is_header r ≡ false
 unfolding is_header
 wide_header [] h = absurd (omega arith)
 wide_header (a ∷ []) h = absurd (omega arith)
@@ -115,7 +115,7 @@ wide_header (a ∷ b ∷ []) h = absurd (omega arith)
 wide_header (a ∷ b ∷ c ∷ []) h = absurd (omega arith)
 wide_header (a ∷ b ∷ c ∷ d ∷ r) h = refl
 
-cut_length : (r : Row) → 3 < length r → length (take 3 r ++ [] ∷ []) ≡ 4
+pub cut_length : (r : Row) → 3 < length r → length (take 3 r ++ [] ∷ []) ≡ 4
 cut_length r h = omega (arith, length-append (take 3 r) ([] ∷ []), length-take-le 3 r (omega arith))
 
 grown_by : (b : Bool) (ps : List Page) (n : ℕ) (r : Row) (rows : List Row) → nat_lt 3 (length r) ≡ b →

@@ -6,6 +6,7 @@ pub mod PageList
 pub mod Pages
 pub mod Plain
 pub mod Quotes
+pub mod Queues
 pub mod Reading
 pub mod Rows
 pub mod WideRecords

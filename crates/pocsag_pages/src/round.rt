@@ -55,6 +55,15 @@ impl Round {
         Ok((Round { pages }, rest))
     }
 
+    /// The list of the pages in order, which takes no memory.
+    pub fn into_pages(self) -> Vec<Page>
+        ensures pages { result.items ≡ self }
+        ensures round { IsRound self }
+    {
+        let Round { pages } = self;
+        pages
+    }
+
     /// The pages in order.
     pub fn pages(&self) -> &[Page]
         ensures pages { result.now ≡ self.now }

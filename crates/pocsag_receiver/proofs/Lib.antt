@@ -1,2 +1,3 @@
 pub mod Captured
 pub mod Received
+pub mod Read

@@ -5,7 +5,6 @@ use Rattle.pocsag_pages.specs.declared.page.Page.{Page}
 use Rattle.pocsag_pages.specs.Bytes.{Sent, after_preamble, body_bytes, synced, words_of}
 use Rattle.pocsag_pages.proofs.Lengths.{body_length, synced_count}
 use Rattle.pocsag_decode.specs.Faults.{IsFaultless, ReadsAs}
-use Rattle.pocsag_decode.specs.Listing.{listing}
 use Rattle.pocsag_decode.specs.Repairs.{Counts}
 use Rattle.pocsag_decode.proofs.Preambles.{after_is}
 use Rattle.pocsag_decode.proofs.Repairs.{nothing_differs}
@@ -16,16 +15,18 @@ use Rattle.pocsag_pager.specs.declared.fault.PagerFault.{PagerFault}
 use Rattle.pocsag_pager.specs.declared.fault.PagerFault.TheVariants as hearing
 use Rattle.pocsag_shell.specs.declared.fault.FileFault.TheVariants as file
 use Rattle.pocsag_receiver.specs.Faults.{receiver_status}
-use Rattle.pocsag_receiver.specs.Listings.{Decoded, ExplainsDecoding, ExplainsHearing}
+use Rattle.pocsag_receiver.specs.Forms.{listed_in}
+use Rattle.pocsag_receiver.specs.Listings.{DecodedIn, ExplainsDecoding, ExplainsHearing}
 use Rattle.pocsag_receiver.specs.Repair.{IsSoOfRead}
 use Rattle.pocsag_receiver.specs.declared.fault.ReceiverFault.{ReceiverFault}
 use Rattle.pocsag_receiver.specs.declared.fault.ReceiverFault.TheVariants as fault
+use Rattle.pocsag_receiver.specs.declared.form.ListForm.{ListForm}
 
 -- what is listed of the bytes that were sent are their pages
-pub listed_as_sent : (X bytes : List ℕ) (ps : List Page) (out out' : List ℕ) → ((qs : List Page) → ReadsAs X qs → qs ≡ ps) → bytes ≡ X →
-    Decoded bytes out out' → out' ≡ out ++ listing ps
-listed_as_sent X bytes ps out out' one same d =
-    d.listed ∙ ap (λ (qs : List Page). out ++ listing qs) (one d.pages (subst (λ (l : List ℕ). ReadsAs l d.pages) same d.reads))
+pub listed_as_sent : {form : ListForm} (X bytes : List ℕ) (ps : List Page) (out out' : List ℕ)
+    → ((qs : List Page) → ReadsAs X qs → qs ≡ ps) → bytes ≡ X → DecodedIn form bytes out out' → out' ≡ out ++ listed_in form ps
+listed_as_sent {form = form} X bytes ps out out' one same d =
+    d.listed ∙ ap (λ (qs : List Page). out ++ listed_in form qs) (one d.pages (subst (λ (l : List ℕ). ReadsAs l d.pages) same d.reads))
 
 -- bytes of a reading are not refused
 pub never_refused : (X : List ℕ) (e : ReceiverFault) → IsFaultless X → ExplainsDecoding X e → receiver_status e ≡ 3

@@ -6,6 +6,7 @@ use Rattle.pocsag_pages.specs.declared.page.Page.{Page}
 use Rattle.pocsag_capture.specs.Bits.{capture_bits}
 use Rattle.pocsag_capture.specs.Caught.{HasCaught}
 use Rattle.pocsag_capture.specs.LiftedBytes.{ExplainsNone, ExplainsUnlifted, TellsHeard, LiftsOne}
+use Rattle.pocsag_capture.specs.Sent.{StandAmong}
 use Rattle.pocsag_capture.specs.declared.reception.Heard.{Heard}
 use Rattle.pocsag_capture.specs.declared.reception.Reception.{Reception}
 use Rattle.pocsag_decode.specs.Listing.{listing}
@@ -28,7 +29,13 @@ pub record ListsCaught (capture : List ℕ) (kept : List Page → List Page) (he
   pub told : All (TellsHeard (capture_bits capture)) heard
   pub listed : out_after ≡ out_before ++ listing (kept pages)
 
--- A prefix of that listing was taken.
+-- Pages were listed among which these stand, one behind the other: of all of them those that are kept.
+pub record ListsAmong (kept : List Page → List Page) (ps : List Page) (out_before out_after : List ℕ) : Type 0 where
+  pub pages : List Page
+  pub among : StandAmong ps pages
+  pub listed : out_after ≡ out_before ++ listing (kept pages)
+
+-- A prefix of what is listed was taken.
 pub record ListsCaughtPart (capture : List ℕ) (kept : List Page → List Page) (out_before out_after : List ℕ) : Type 0 where
   pub receptions : List Reception
   pub pages : List Page

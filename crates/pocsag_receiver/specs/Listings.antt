@@ -4,25 +4,34 @@ use Rattle.pocsag_words.specs.Devices.{TookPrefix}
 use Rattle.pocsag_pages.specs.declared.page.Page.{Page}
 use Rattle.pocsag_pages.specs.Bytes.{after_preamble, words_of}
 use Rattle.pocsag_decode.specs.Faults.{HasFault, ReadsAs}
-use Rattle.pocsag_decode.specs.Listing.{listing}
 use Rattle.pocsag_pager.specs.Faults.{hearing_fault}
 use Rattle.pocsag_pager.specs.Shown.{AreShown, ShowsSome}
 use Rattle.pocsag_pager.specs.declared.fault.PagerFault.TheVariants as hearing
 use Rattle.pocsag_shell.specs.declared.fault.FileFault.TheVariants as file
+use Rattle.pocsag_receiver.specs.Forms.{listed_in}
 use Rattle.pocsag_receiver.specs.declared.fault.ReceiverFault.{ReceiverFault}
 use Rattle.pocsag_receiver.specs.declared.fault.ReceiverFault.TheVariants as fault
+use Rattle.pocsag_receiver.specs.declared.form.ListForm.{ListForm}
+use Rattle.pocsag_receiver.specs.declared.form.ListForm.TheVariants as forms
 
--- `decode`: the pages that the bytes read as were listed.
-pub record Decoded (bytes out_before out_after : List ℕ) : Type 0 where
+-- `decode`: the pages that the bytes read as were listed in a form.
+pub record DecodedIn (form : ListForm) (bytes out_before out_after : List ℕ) : Type 0 where
   pub pages : List Page
   pub reads : ReadsAs bytes pages
-  pub listed : out_after ≡ out_before ++ listing pages
+  pub listed : out_after ≡ out_before ++ listed_in form pages
 
--- A prefix of that listing was taken.
-pub record DecodedPart (bytes out_before out_after : List ℕ) : Type 0 where
+-- A prefix of what that lists was taken.
+pub record DecodedPartIn (form : ListForm) (bytes out_before out_after : List ℕ) : Type 0 where
   pub pages : List Page
   pub reads : ReadsAs bytes pages
-  pub part : TookPrefix out_before out_after (listing pages)
+  pub part : TookPrefix out_before out_after (listed_in form pages)
+
+-- The same with the listing itself.
+abbrev pub Decoded : (bytes out_before out_after : List ℕ) → Type 0
+Decoded bytes out_before out_after = DecodedIn forms.Listing bytes out_before out_after
+
+abbrev pub DecodedPart : (bytes out_before out_after : List ℕ) → Type 0
+DecodedPart bytes out_before out_after = DecodedPartIn forms.Listing bytes out_before out_after
 
 -- The bytes have this fault, of which they have one at most; or they read as pages, and memory or the writer refused.
 abbrev pub ExplainsDecoding : (bytes : List ℕ) → ReceiverFault → Type 0
@@ -31,19 +40,26 @@ ExplainsDecoding bytes (fault.File file.OutOfMemory) = (pages : List Page) × Re
 ExplainsDecoding bytes (fault.File file.Write) = (pages : List Page) × ReadsAs bytes pages
 ExplainsDecoding bytes _ = ⊥
 
--- `hear`: the pages that a pager of the address shows of the bytes were listed.
-pub record HeardAndListed (address : ℕ) (bytes out_before out_after : List ℕ) : Type 0 where
+-- `hear`: the pages that a pager of the address shows of the bytes were listed in a form.
+pub record HeardIn (form : ListForm) (address : ℕ) (bytes out_before out_after : List ℕ) : Type 0 where
   pub taken : hearing_fault address bytes ≡ None
   pub pages : List Page
   pub shown : AreShown (words_of (after_preamble bytes)) address pages
-  pub listed : out_after ≡ out_before ++ listing pages
+  pub listed : out_after ≡ out_before ++ listed_in form pages
 
--- A prefix of that listing was taken.
-pub record HeardPart (address : ℕ) (bytes out_before out_after : List ℕ) : Type 0 where
+-- A prefix of what that lists was taken.
+pub record HeardPartIn (form : ListForm) (address : ℕ) (bytes out_before out_after : List ℕ) : Type 0 where
   pub taken : hearing_fault address bytes ≡ None
   pub pages : List Page
   pub shown : AreShown (words_of (after_preamble bytes)) address pages
-  pub part : TookPrefix out_before out_after (listing pages)
+  pub part : TookPrefix out_before out_after (listed_in form pages)
+
+-- The same with the listing itself.
+abbrev pub HeardAndListed : (address : ℕ) → (bytes out_before out_after : List ℕ) → Type 0
+HeardAndListed address bytes out_before out_after = HeardIn forms.Listing address bytes out_before out_after
+
+abbrev pub HeardPart : (address : ℕ) → (bytes out_before out_after : List ℕ) → Type 0
+HeardPart address bytes out_before out_after = HeardPartIn forms.Listing address bytes out_before out_after
 
 -- Memory refused a page that the pager shows.
 pub record IsUnheard (address : ℕ) (bytes : List ℕ) : Type 0 where

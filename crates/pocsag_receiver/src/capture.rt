@@ -1,13 +1,12 @@
 //! `decode`, `hear` and `show` of a capture: of each transmission that it holds, or of one of them.
-ghost use Rattle.std.specs.Prelude.{◌≡◌, ◌≢◌, ◌⊎◌, List, ◌++◌, None, Some, IfErr, IfNone, IfOk, IfSome, IsErrOf, OnOk};
+ghost use Rattle.std.specs.Prelude.{◌≡◌, ◌≢◌, ◌⊎◌, List, None, Some, IfErr, IfNone, IfOk, IfSome, IsErrOf, OnOk};
 ghost use Rattle.pocsag_words.specs.Devices.{HasFailed};
 ghost use Rattle.pocsag_pages.specs.declared.page.Page.{Page};
 ghost use Rattle.pocsag_capture.specs.Bits.{capture_bits};
-ghost use Rattle.pocsag_capture.specs.Sent.{IsCaptureOf};
-ghost use Rattle.pocsag_decode.specs.Listing.{listing};
+ghost use Rattle.pocsag_capture.specs.Sent.{HoldsSent};
 ghost use Rattle.pocsag_shell.specs.ErrorStreams.{stream_of, told_by};
 ghost use Rattle.pocsag_shell.specs.declared.fault.FileFault.TheVariants as file;
-ghost use Rattle.pocsag_receiver.specs.Captures.{ExplainsCapture, ExplainsCaptureFor, ExplainsOne, ListsCaught, ListsCaughtPart, ViewsOne, ViewsOnePart, of_address};
+ghost use Rattle.pocsag_receiver.specs.Captures.{ExplainsCapture, ExplainsCaptureFor, ExplainsOne, ListsAmong, ListsCaught, ListsCaughtPart, ViewsOne, ViewsOnePart, of_address};
 ghost use Rattle.pocsag_receiver.specs.Faults.{receiver_status};
 ghost use Rattle.pocsag_receiver.specs.Files.{ExplainsUnread};
 ghost use Rattle.pocsag_receiver.specs.declared.fault.ReceiverFault.TheVariants as fault;
@@ -49,8 +48,8 @@ fn list_caught<O: Sink>(
     ensures status { IfOk result (λ status. status ≡ 0) }
     ensures listed { O.tells → OnOk result
         (ListsCaught capture.now (λ pages. pages) heard.new.items (O.taken out.old) (O.taken out.new)) }
-    ensures sent { O.tells → (pages : List Page) → IsCaptureOf (capture_bits capture.now) pages →
-        OnOk result (O.taken out.new ≡ O.taken out.old ++ listing pages) }
+    ensures sent { O.tells → (pages : List Page) → HoldsSent (capture_bits capture.now) pages →
+        OnOk result (ListsAmong (λ ps. ps) pages (O.taken out.old) (O.taken out.new)) }
     ensures part { O.tells → IsErrOf result (fault.File file.Write) →
         ListsCaughtPart capture.now (λ pages. pages) (O.taken out.old) (O.taken out.new) }
     ensures explained { IfErr result (ExplainsCapture capture.now) }
@@ -68,38 +67,6 @@ fn list_caught<O: Sink>(
     }
 }
 
-// Lists the pages of the capture that a device holds. What it lends is read where it stands.
-fn list_caught_held<T: Source, O: Sink>(
-    alloc: Global,
-    heard: &mut Vec<Heard>,
-    tx: &mut T,
-    out: &mut O,
-) -> Result<u8, ReceiverFault>
-    ensures status { IfOk result (λ status. status ≡ 0) }
-    ensures listed { T.tells → O.tells → OnOk result
-        (ListsCaught (T.held tx.old) (λ pages. pages) heard.new.items (O.taken out.old) (O.taken out.new)) }
-    ensures sent { T.tells → O.tells → (pages : List Page) → IsCaptureOf (capture_bits (T.held tx.old)) pages →
-        OnOk result (O.taken out.new ≡ O.taken out.old ++ listing pages) }
-    ensures part { T.tells → O.tells → IsErrOf result (fault.File file.Write) →
-        ListsCaughtPart (T.held tx.old) (λ pages. pages) (O.taken out.old) (O.taken out.new) }
-    ensures explained { T.tells → IfErr result (λ e. ExplainsUnread (T.held tx.old) e
-        ⊎ ExplainsCapture (T.held tx.old) e) }
-    ensures refused { IfErr result (λ e. receiver_status e ≡ 1 → out.new ≡ out.old) }
-    ensures read_failed { IsErrOf result (fault.File file.Device) →
-        HasFailed (T.failures tx.old) (T.failures tx.new) }
-    ensures write_failed { IsErrOf result (fault.File file.Write) →
-        HasFailed (O.failures out.old) (O.failures out.new) }
-{
-    let Some(capture) = tx.lent() else {
-        let capture = read_transmission(alloc, tx)?;
-        return list_caught(alloc, heard, capture.as_slice(), out);
-    };
-    refuse_long(capture)?;
-    let done = list_caught(alloc, heard, capture, out);
-    tx.release();
-    done
-}
-
 /// `decode TX --capture`: lists the pages of all transmissions of a capture, one behind the other, and says how each was
 /// received. Returns the exit status.
 pub fn run_decode_capture<T: Source, O: Sink, E: Sink + Drop>(
@@ -114,9 +81,9 @@ pub fn run_decode_capture<T: Source, O: Sink, E: Sink + Drop>(
     ensures listed { T.tells → O.tells → IfNone (told_by err.new)
         (ListsCaught (T.held tx.old) (λ pages. pages) heard.new.items (O.taken out.old) (O.taken out.new)) }
 
-    // *A capture that holds sent transmissions shows their pages*, and no others; so nothing is listed of noise alone.
-    ensures sent { T.tells → O.tells → (pages : List Page) → IsCaptureOf (capture_bits (T.held tx.old)) pages →
-        IfNone (told_by err.new) (O.taken out.new ≡ O.taken out.old ++ listing pages) }
+    // *A capture that holds a sent transmission shows its pages*, one behind the other, whatever else it holds.
+    ensures sent { T.tells → O.tells → (pages : List Page) → HoldsSent (capture_bits (T.held tx.old)) pages →
+        IfNone (told_by err.new) (ListsAmong (λ ps. ps) pages (O.taken out.old) (O.taken out.new)) }
     ensures part { T.tells → O.tells → told_by err.new ≡ Some (fault.File file.Write) →
         ListsCaughtPart (T.held tx.old) (λ pages. pages) (O.taken out.old) (O.taken out.new) }
     ensures explained { T.tells → IfSome (told_by err.new) (λ e. ExplainsUnread (T.held tx.old) e
@@ -129,7 +96,22 @@ pub fn run_decode_capture<T: Source, O: Sink, E: Sink + Drop>(
     ensures write_failed { told_by err.new ≡ Some (fault.File file.Write) →
         HasFailed (O.failures out.old) (O.failures out.new) }
 {
-    err.end(list_caught_held(alloc, heard, tx, out))
+    // What the device lends is read where it stands; otherwise it is read whole.
+    let done = 'listed: {
+        let Some(capture) = tx.lent() else {
+            break 'listed match read_transmission(alloc, tx) {
+                Ok(capture) => list_caught(alloc, heard, capture.as_slice(), out),
+                Err(refused) => Err(ReceiverFault::File(refused)),
+            };
+        };
+        if let Err(refused) = refuse_long(capture) {
+            break 'listed Err(ReceiverFault::File(refused));
+        }
+        let listed = list_caught(alloc, heard, capture, out);
+        tx.release();
+        listed
+    };
+    err.end(done)
 }
 
 // Lists the pages of the address among those of all transmissions of the bytes of a capture.
@@ -143,8 +125,8 @@ fn hear_caught<O: Sink>(
     ensures listed { O.tells → OnOk result
         (ListsCaught capture.now (of_address listening.old.address) listening.new.heard.items (O.taken out.old)
         (O.taken out.new)) }
-    ensures sent { O.tells → (pages : List Page) → IsCaptureOf (capture_bits capture.now) pages →
-        OnOk result (O.taken out.new ≡ O.taken out.old ++ listing (of_address listening.old.address pages)) }
+    ensures sent { O.tells → (pages : List Page) → HoldsSent (capture_bits capture.now) pages →
+        OnOk result (ListsAmong (of_address listening.old.address) pages (O.taken out.old) (O.taken out.new)) }
     ensures part { O.tells → IsErrOf result (fault.File file.Write) →
         ListsCaughtPart capture.now (of_address listening.old.address) (O.taken out.old) (O.taken out.new) }
     ensures explained { IfErr result (ExplainsCaptureFor listening.old.address capture.now) }
@@ -159,39 +141,6 @@ fn hear_caught<O: Sink>(
         Ok(status) => Ok(status),
         Err(fault) => Err(fault),
     }
-}
-
-// Lists the pages of the address among those of the capture that a device holds. What it lends is read where it stands.
-fn hear_caught_held<T: Source, O: Sink>(
-    alloc: Global,
-    listening: &mut Listening,
-    tx: &mut T,
-    out: &mut O,
-) -> Result<u8, ReceiverFault>
-    ensures status { IfOk result (λ status. status ≡ 0) }
-    ensures listed { T.tells → O.tells → OnOk result
-        (ListsCaught (T.held tx.old) (of_address listening.old.address) listening.new.heard.items (O.taken out.old)
-        (O.taken out.new)) }
-    ensures sent { T.tells → O.tells → (pages : List Page) → IsCaptureOf (capture_bits (T.held tx.old)) pages →
-        OnOk result (O.taken out.new ≡ O.taken out.old ++ listing (of_address listening.old.address pages)) }
-    ensures part { T.tells → O.tells → IsErrOf result (fault.File file.Write) →
-        ListsCaughtPart (T.held tx.old) (of_address listening.old.address) (O.taken out.old) (O.taken out.new) }
-    ensures explained { T.tells → IfErr result (λ e. ExplainsUnread (T.held tx.old) e
-        ⊎ ExplainsCaptureFor listening.old.address (T.held tx.old) e) }
-    ensures refused { IfErr result (λ e. receiver_status e ≡ 1 → out.new ≡ out.old) }
-    ensures read_failed { IsErrOf result (fault.File file.Device) →
-        HasFailed (T.failures tx.old) (T.failures tx.new) }
-    ensures write_failed { IsErrOf result (fault.File file.Write) →
-        HasFailed (O.failures out.old) (O.failures out.new) }
-{
-    let Some(capture) = tx.lent() else {
-        let capture = read_transmission(alloc, tx)?;
-        return hear_caught(alloc, listening, capture.as_slice(), out);
-    };
-    refuse_long(capture)?;
-    let done = hear_caught(alloc, listening, capture, out);
-    tx.release();
-    done
 }
 
 /// `hear ADDRESS TX --capture`: lists the pages of the address among those of all transmissions of a capture, and says how each
@@ -209,10 +158,10 @@ pub fn run_hear_capture<T: Source, O: Sink, E: Sink + Drop>(
         (ListsCaught (T.held tx.old) (of_address listening.old.address) listening.new.heard.items (O.taken out.old)
         (O.taken out.new)) }
 
-    // *A capture that holds sent transmissions shows their pages*, here those of the address.
-    ensures sent { T.tells → O.tells → (pages : List Page) → IsCaptureOf (capture_bits (T.held tx.old)) pages →
-        IfNone (told_by err.new) (O.taken out.new ≡ O.taken out.old
-        ++ listing (of_address listening.old.address pages)) }
+    // *A capture that holds a sent transmission shows its pages*, here those of the address.
+    ensures sent { T.tells → O.tells → (pages : List Page) → HoldsSent (capture_bits (T.held tx.old)) pages →
+        IfNone (told_by err.new) (ListsAmong (of_address listening.old.address) pages
+        (O.taken out.old) (O.taken out.new)) }
     ensures part { T.tells → O.tells → told_by err.new ≡ Some (fault.File file.Write) →
         ListsCaughtPart (T.held tx.old) (of_address listening.old.address) (O.taken out.old) (O.taken out.new) }
     ensures explained { T.tells → IfSome (told_by err.new) (λ e. ExplainsUnread (T.held tx.old) e
@@ -225,7 +174,22 @@ pub fn run_hear_capture<T: Source, O: Sink, E: Sink + Drop>(
     ensures write_failed { told_by err.new ≡ Some (fault.File file.Write) →
         HasFailed (O.failures out.old) (O.failures out.new) }
 {
-    err.end(hear_caught_held(alloc, listening, tx, out))
+    // What the device lends is read where it stands; otherwise it is read whole.
+    let done = 'heard: {
+        let Some(capture) = tx.lent() else {
+            break 'heard match read_transmission(alloc, tx) {
+                Ok(capture) => hear_caught(alloc, listening, capture.as_slice(), out),
+                Err(refused) => Err(ReceiverFault::File(refused)),
+            };
+        };
+        if let Err(refused) = refuse_long(capture) {
+            break 'heard Err(ReceiverFault::File(refused));
+        }
+        let heard = hear_caught(alloc, listening, capture, out);
+        tx.release();
+        heard
+    };
+    err.end(done)
 }
 
 // Shows one of the transmissions of the bytes of a capture.
@@ -255,37 +219,6 @@ fn show_caught<O: Sink>(
     }
 }
 
-// Shows one of the transmissions of the capture that a device holds. What it lends is read where it stands.
-fn show_caught_held<T: Source, O: Sink>(
-    alloc: Global,
-    viewing: &mut Viewing,
-    tx: &mut T,
-    out: &mut O,
-) -> Result<u8, ReceiverFault>
-    ensures status { IfOk result (λ status. status ≡ 0) }
-    ensures shown { T.tells → O.tells → OnOk result
-        (ViewsOne viewing.old.view (T.held tx.old) viewing.old.nth viewing.new.heard.items (O.taken out.old)
-        (O.taken out.new)) }
-    ensures part { T.tells → O.tells → IsErrOf result (fault.File file.Write) →
-        ViewsOnePart viewing.old.view (T.held tx.old) viewing.old.nth (O.taken out.old) (O.taken out.new) }
-    ensures explained { T.tells → IfErr result (λ e. ExplainsUnread (T.held tx.old) e
-        ⊎ ExplainsOne viewing.old.view (T.held tx.old) viewing.old.nth e) }
-    ensures untouched { IfErr result (λ e. e ≢ fault.File file.Write → out.new ≡ out.old) }
-    ensures read_failed { IsErrOf result (fault.File file.Device) →
-        HasFailed (T.failures tx.old) (T.failures tx.new) }
-    ensures write_failed { IsErrOf result (fault.File file.Write) →
-        HasFailed (O.failures out.old) (O.failures out.new) }
-{
-    let Some(capture) = tx.lent() else {
-        let capture = read_transmission(alloc, tx)?;
-        return show_caught(alloc, viewing, capture.as_slice(), out);
-    };
-    refuse_long(capture)?;
-    let done = show_caught(alloc, viewing, capture, out);
-    tx.release();
-    done
-}
-
 /// `show TX --capture`: shows one of the transmissions of a capture, and says how it was received. Returns the exit status.
 pub fn run_show_capture<T: Source, O: Sink, E: Sink + Drop>(
     alloc: Global,
@@ -311,5 +244,20 @@ pub fn run_show_capture<T: Source, O: Sink, E: Sink + Drop>(
     ensures write_failed { told_by err.new ≡ Some (fault.File file.Write) →
         HasFailed (O.failures out.old) (O.failures out.new) }
 {
-    err.end(show_caught_held(alloc, viewing, tx, out))
+    // What the device lends is read where it stands; otherwise it is read whole.
+    let done = 'shown: {
+        let Some(capture) = tx.lent() else {
+            break 'shown match read_transmission(alloc, tx) {
+                Ok(capture) => show_caught(alloc, viewing, capture.as_slice(), out),
+                Err(refused) => Err(ReceiverFault::File(refused)),
+            };
+        };
+        if let Err(refused) = refuse_long(capture) {
+            break 'shown Err(ReceiverFault::File(refused));
+        }
+        let shown = show_caught(alloc, viewing, capture, out);
+        tx.release();
+        shown
+    };
+    err.end(done)
 }

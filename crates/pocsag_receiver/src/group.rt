@@ -1,20 +1,21 @@
 use crate::capture::{Listening, Viewing, run_decode_capture, run_hear_capture, run_show_capture};
-use crate::decode::run_decode;
+use crate::decode::{Decoding, run_decode};
 use crate::fault::ReceiverFault;
-use crate::hear::run_hear;
+use crate::hear::{Hearing, run_hear};
 use crate::repair::Repairing;
 use crate::show::{Showing, run_show};
 use crate::words::{
-    ADDRESS, BAD_ROWS, CAPTURE, DECODE, HEAR, NTH, RECEIVER_COMMANDS, REPAIR, SHOW, SHOW_SHAPE,
-    wanted_view,
+    ADDRESS, BAD_ROWS, BAD_TEXT, CAPTURE, DECODE, DECODE_SHAPE, HEAR, HEAR_SHAPE, NTH,
+    RECEIVER_COMMANDS, REPAIR, SHOW, SHOW_SHAPE, wanted_form, wanted_view,
 };
 use clap::error::ErrorKind;
 use clap::{ArgMatches, Error};
 use pocsag_capture::{Heard, Polarity, Reception};
-use pocsag_decode::Repaired;
+use pocsag_decode::{DecodeFault, Repaired};
+use pocsag_pager::PagerFault;
 use pocsag_shell::{
-    Call, Desk, ErrorStream, FileFault, Group, Loaded, MemoryStreams, Names, PAGES_READ, Role, TX,
-    Tables, command, load, open_source, path_of, tell,
+    Call, Desk, ErrorStream, FileFault, Group, Loaded, MemoryStreams, Names, PAGES_READ, Role,
+    Shape, TX, Tables, command, load, open_source, path_of, tell,
 };
 use pocsag_words::{Sink, Source};
 use std::alloc::{AllocError, Global};
@@ -29,8 +30,8 @@ pub struct Receiver;
 // What is asked of a transmission, and what is told of it with `--verbose`.
 #[derive(Drop)]
 enum Receiving {
-    Decode(Repairing),
-    Hear(u32),
+    Decode(Decoding),
+    Hear(Hearing),
     Show(Showing),
     DecodeCapture(Vec<Heard>),
     HearCapture(Listening),
@@ -49,11 +50,7 @@ impl Group for Receiver {
     fn obey(&self, desk: Desk<'_>, call: Call<'_, '_>) -> Option<Result<u8, Error>> {
         let (name, found) = (call.name?, call.found);
         let Some(asked) = asked_of(desk.alloc, name, found) else {
-            return if name == SHOW {
-                Some(Err(bad_rows(desk.alloc)))
-            } else {
-                None
-            };
+            return refused_words(desk.alloc, name);
         };
         let tx = found.get_str(TX)?;
         let names = Names {
@@ -67,14 +64,20 @@ impl Group for Receiver {
     }
 }
 
-// What the words ask of a transmission; nothing where they are those of no command, or of `show` with rows that are none.
+// What the words ask of a transmission; nothing where they are those of no command, or name no rows or no functions.
 fn asked_of(alloc: Global, name: &str, found: &ArgMatches<'_>) -> Option<Receiving> {
     let repairing = Repairing::new(found.get_flag(REPAIR));
     let heard = Vec::new(alloc);
     match (name, found.get_flag(CAPTURE)) {
-        (DECODE, false) => Some(Receiving::Decode(repairing)),
+        (DECODE, false) => Some(Receiving::Decode(Decoding {
+            form: wanted_form(found)?,
+            repairing,
+        })),
         (DECODE, true) => Some(Receiving::DecodeCapture(heard)),
-        (HEAR, false) => Some(Receiving::Hear(found.get_one::<u32>(ADDRESS)?)),
+        (HEAR, false) => Some(Receiving::Hear(Hearing {
+            form: wanted_form(found)?,
+            address: found.get_one::<u32>(ADDRESS)?,
+        })),
         (HEAR, true) => Some(Receiving::HearCapture(Listening {
             address: found.get_one::<u32>(ADDRESS)?,
             heard,
@@ -92,17 +95,28 @@ fn asked_of(alloc: Global, name: &str, found: &ArgMatches<'_>) -> Option<Receivi
     }
 }
 
-// Why the rows are none.
-fn bad_rows(alloc: Global) -> Error {
-    match rows_error(alloc) {
+// Why the words of a command name no rows or no functions; nothing where they are those of no command.
+fn refused_words(alloc: Global, name: &str) -> Option<Result<u8, Error>> {
+    let refused = match name {
+        DECODE => words_error(alloc, &DECODE_SHAPE, "pocsag decode", BAD_TEXT),
+        HEAR => words_error(alloc, &HEAR_SHAPE, "pocsag hear", BAD_TEXT),
+        SHOW => words_error(alloc, &SHOW_SHAPE, "pocsag show", BAD_ROWS),
+        _ => return None,
+    };
+    Some(Err(match refused {
         Ok(error) => error,
         Err(refused) => Error::from(refused),
-    }
+    }))
 }
 
-fn rows_error(alloc: Global) -> Result<Error, AllocError> {
-    let mut show = command(alloc, &SHOW_SHAPE)?.bin_name("pocsag show")?;
-    show.error(ErrorKind::ValueValidation, BAD_ROWS)
+fn words_error(
+    alloc: Global,
+    shape: &Shape,
+    name: &str,
+    text: &'static str,
+) -> Result<Error, AllocError> {
+    let mut command = command(alloc, shape)?.bin_name(name)?;
+    command.error(ErrorKind::ValueValidation, text)
 }
 
 // Opens a transmission and reads it.
@@ -117,6 +131,7 @@ fn receive(desk: Desk<'_>, mut asked: Receiving, mut tx: Loaded, names: Names<'_
         let mut streams = MemoryStreams::new(desk.alloc);
         let out = &mut streams.out;
         let status = carry_out(desk.alloc, &mut asked, &mut tx, out, &mut streams.err);
+        note_capture(desk, names, &asked, streams.err.fault());
         streams.end(desk, names, Ok(status))
     } else {
         let mut err = ErrorStream::new(desk.err());
@@ -124,6 +139,7 @@ fn receive(desk: Desk<'_>, mut asked: Receiving, mut tx: Loaded, names: Names<'_
         if err.fault().is_none() {
             desk.forget_trouble();
         }
+        note_capture(desk, names, &asked, err.fault());
         desk.tell_more(names);
         status
     };
@@ -150,8 +166,8 @@ fn carry_out<O: Sink, E: Sink + Drop>(
     err: &mut ErrorStream<ReceiverFault, E>,
 ) -> u8 {
     match asked {
-        Receiving::Decode(repairing) => run_decode(alloc, repairing, tx, out, err),
-        Receiving::Hear(address) => run_hear(alloc, *address, tx, out, err),
+        Receiving::Decode(decoding) => run_decode(alloc, decoding, tx, out, err),
+        Receiving::Hear(hearing) => run_hear(alloc, *hearing, tx, out, err),
         Receiving::Show(showing) => run_show(alloc, showing, tx, out, err),
         Receiving::DecodeCapture(heard) => run_decode_capture(alloc, heard, tx, out, err),
         Receiving::HearCapture(listening) => run_hear_capture(alloc, listening, tx, out, err),
@@ -163,13 +179,33 @@ fn carry_out<O: Sink, E: Sink + Drop>(
 fn tell_received(desk: Desk<'_>, asked: &Receiving, names: Names<'_>) {
     match asked {
         Receiving::Hear(_) => {}
-        Receiving::Decode(repairing) => note_repair(desk, names, *repairing),
+        Receiving::Decode(decoding) => note_repair(desk, names, decoding.repairing),
         Receiving::Show(showing) => note_repair(desk, names, showing.repairing),
         Receiving::DecodeCapture(heard) => tell_heard(desk, 1, heard.as_slice()),
         Receiving::HearCapture(listening) => tell_heard(desk, 1, listening.heard.as_slice()),
         Receiving::ShowCapture(viewing) => {
             tell_heard(desk, viewing.nth, viewing.heard.as_slice());
         }
+    }
+}
+
+// Where the preamble is too short for what reads damaged bytes, keeps the note that names `--capture`.
+fn note_capture(desk: Desk<'_>, names: Names<'_>, asked: &Receiving, fault: Option<ReceiverFault>) {
+    let is_short = match fault {
+        Some(ReceiverFault::Transmission(DecodeFault::ShortPreamble)) => true,
+        Some(ReceiverFault::Pager(PagerFault::ShortPreamble)) => true,
+        _ => false,
+    };
+    let reads_damage = match asked {
+        Receiving::Decode(decoding) => decoding.repairing.is_asked,
+        Receiving::Hear(_) => true,
+        _ => false,
+    };
+    if is_short && reads_damage {
+        let place = names.place(Role::Transmission);
+        desk.note(format_args!(
+            "{place}: for bits off the air that begin anywhere, give --capture"
+        ));
     }
 }
 
@@ -194,18 +230,20 @@ fn tell_heard(desk: Desk<'_>, first: u64, heard: &[Heard]) {
             reception,
             corrected,
             lost,
+            cut,
         } = *told;
         let Reception {
             bit,
             polarity,
             batches,
+            words: _,
         } = reception;
         let polarity = match polarity {
             Polarity::Upright => "upright",
             Polarity::Inverted => "inverted",
         };
         let line = format_args!(
-            "pocsag: transmission {number}: bit {bit}, {polarity}, batches {batches}, corrected bits {corrected}, lost words {lost}\n"
+            "pocsag: transmission {number}: bit {bit}, {polarity}, batches {batches}, corrected bits {corrected}, lost words {lost}, cut pages {cut}\n"
         );
         let _ = tell(&mut desk.err(), line);
         number = number.saturating_add(1);

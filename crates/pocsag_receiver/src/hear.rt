@@ -4,16 +4,24 @@ ghost use Rattle.pocsag_shell.specs.ErrorStreams.{stream_of, told_by};
 ghost use Rattle.pocsag_shell.specs.declared.fault.FileFault.TheVariants as file;
 ghost use Rattle.pocsag_receiver.specs.Faults.{receiver_status};
 ghost use Rattle.pocsag_receiver.specs.Files.{ExplainsUnread};
-ghost use Rattle.pocsag_receiver.specs.Listings.{ExplainsHearing, HeardAndListed, HeardPart};
+ghost use Rattle.pocsag_receiver.specs.Listings.{ExplainsHearing, HeardAndListed, HeardIn, HeardPart, HeardPartIn};
 ghost use Rattle.pocsag_receiver.specs.declared.fault.ReceiverFault.TheVariants as fault;
 
 use crate::fault::ReceiverFault;
+use crate::form::{ListForm, list_in};
 use crate::transmission::{read_transmission, refuse_long};
 use pocsag_decode::list_spent;
 use pocsag_pager::hear_all;
 use pocsag_shell::ErrorStream;
 use pocsag_words::{Sink, Source};
 use std::alloc::Global;
+
+/// The address of a pager, and the form in which the pages that it shows are listed.
+#[derive(Clone, Copy)]
+pub struct Hearing {
+    pub form: ListForm,
+    pub address: u32,
+}
 
 /// Lists what the pager of the address shows of the bytes of a transmission.
 pub(crate) fn list_heard<O: Sink>(
@@ -37,40 +45,32 @@ pub(crate) fn list_heard<O: Sink>(
     Ok(0)
 }
 
-// Lists what the pager of the address shows of the transmission that a device holds. What it lends is heard where it stands.
-fn hear_held<T: Source, O: Sink>(
+// The same in a form.
+fn list_heard_in<O: Sink>(
     alloc: Global,
-    address: u32,
-    tx: &mut T,
+    hearing: Hearing,
+    bytes: &[u8],
     out: &mut O,
 ) -> Result<u8, ReceiverFault>
     ensures status { IfOk result (λ status. status ≡ 0) }
-    ensures listed { T.tells → O.tells → OnOk result
-        (HeardAndListed address (T.held tx.old) (O.taken out.old) (O.taken out.new)) }
-    ensures part { T.tells → O.tells → IsErrOf result (fault.File file.Write) →
-        HeardPart address (T.held tx.old) (O.taken out.old) (O.taken out.new) }
-    ensures explained { T.tells → IfErr result (λ e. ExplainsUnread (T.held tx.old) e
-        ⊎ ExplainsHearing address (T.held tx.old) e) }
+    ensures listed { O.tells → OnOk result
+        (HeardIn hearing.form hearing.address bytes.now (O.taken out.old) (O.taken out.new)) }
+    ensures part { O.tells → IsErrOf result (fault.File file.Write) →
+        HeardPartIn hearing.form hearing.address bytes.now (O.taken out.old) (O.taken out.new) }
+    ensures explained { IfErr result (ExplainsHearing hearing.address bytes.now) }
     ensures refused { IfErr result (λ e. receiver_status e ≡ 1 → out.new ≡ out.old) }
-    ensures read_failed { IsErrOf result (fault.File file.Device) →
-        HasFailed (T.failures tx.old) (T.failures tx.new) }
     ensures write_failed { IsErrOf result (fault.File file.Write) →
         HasFailed (O.failures out.old) (O.failures out.new) }
 {
-    let Some(bytes) = tx.lent() else {
-        let bytes = read_transmission(alloc, tx)?;
-        return list_heard(alloc, address, bytes.as_slice(), out);
-    };
-    refuse_long(bytes)?;
-    let done = list_heard(alloc, address, bytes, out);
-    tx.release();
-    done
+    let pages = hear_all(alloc, bytes, hearing.address)?;
+    list_in(alloc, hearing.form, pages, out)?;
+    Ok(0)
 }
 
 /// `hear ADDRESS TX`: lists what the pager of the address shows of a transmission. Returns the exit status.
 pub fn run_hear<T: Source, O: Sink, E: Sink + Drop>(
     alloc: Global,
-    address: u32,
+    hearing: Hearing,
     tx: &mut T,
     out: &mut O,
     err: &mut ErrorStream<ReceiverFault, E>,
@@ -78,11 +78,11 @@ pub fn run_hear<T: Source, O: Sink, E: Sink + Drop>(
     ensures done { IfNone (told_by err.new) ((result ≡ 0) × (stream_of err.new ≡ stream_of err.old)) }
     ensures status { IfSome (told_by err.new) (λ e. result ≡ receiver_status e) }
     ensures listed { T.tells → O.tells → IfNone (told_by err.new)
-        (HeardAndListed address (T.held tx.old) (O.taken out.old) (O.taken out.new)) }
+        (HeardIn hearing.form hearing.address (T.held tx.old) (O.taken out.old) (O.taken out.new)) }
     ensures part { T.tells → O.tells → told_by err.new ≡ Some (fault.File file.Write) →
-        HeardPart address (T.held tx.old) (O.taken out.old) (O.taken out.new) }
+        HeardPartIn hearing.form hearing.address (T.held tx.old) (O.taken out.old) (O.taken out.new) }
     ensures explained { T.tells → IfSome (told_by err.new) (λ e. ExplainsUnread (T.held tx.old) e
-        ⊎ ExplainsHearing address (T.held tx.old) e) }
+        ⊎ ExplainsHearing hearing.address (T.held tx.old) e) }
     ensures refused { IfSome (told_by err.new) (λ e. receiver_status e ≡ 1 → out.new ≡ out.old) }
 
     // A device's fault is told only where that device failed.
@@ -91,5 +91,20 @@ pub fn run_hear<T: Source, O: Sink, E: Sink + Drop>(
     ensures write_failed { told_by err.new ≡ Some (fault.File file.Write) →
         HasFailed (O.failures out.old) (O.failures out.new) }
 {
-    err.end(hear_held(alloc, address, tx, out))
+    // What the device lends is read where it stands; otherwise it is read whole.
+    let done = 'heard: {
+        let Some(bytes) = tx.lent() else {
+            break 'heard match read_transmission(alloc, tx) {
+                Ok(bytes) => list_heard_in(alloc, hearing, bytes.as_slice(), out),
+                Err(refused) => Err(ReceiverFault::File(refused)),
+            };
+        };
+        if let Err(refused) = refuse_long(bytes) {
+            break 'heard Err(ReceiverFault::File(refused));
+        }
+        let heard = list_heard_in(alloc, hearing, bytes, out);
+        tx.release();
+        heard
+    };
+    err.end(done)
 }

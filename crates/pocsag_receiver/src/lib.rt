@@ -4,6 +4,7 @@
 mod capture;
 mod decode;
 mod fault;
+mod form;
 mod group;
 mod hear;
 mod repair;
@@ -12,9 +13,10 @@ mod transmission;
 mod words;
 
 pub use capture::{Listening, Viewing, run_decode_capture, run_hear_capture, run_show_capture};
-pub use decode::run_decode;
+pub use decode::{Decoding, run_decode};
 pub use fault::ReceiverFault;
+pub use form::ListForm;
 pub use group::Receiver;
-pub use hear::run_hear;
+pub use hear::{Hearing, run_hear};
 pub use repair::Repairing;
 pub use show::{Showing, run_show};

@@ -93,48 +93,6 @@ fn show_read<O: Sink>(
     show_bytes(alloc, showing.view, bytes, out)
 }
 
-// Shows the transmission that a device holds. Without repair what it lends is shown where it stands.
-fn show_held<T: Source, O: Sink>(
-    alloc: Global,
-    showing: &mut Showing,
-    tx: &mut T,
-    out: &mut O,
-) -> Result<u8, ReceiverFault>
-    ensures status { IfOk result (λ status. status ≡ 0) }
-    ensures counted { T.tells → OnOk result (IsSoOfRead (T.held tx.old) showing.old.repairing.is_asked
-        (Counts showing.new.repairing.corrected (T.held tx.old))) }
-    ensures shown { T.tells → O.tells → OnOk result (IsSoOfRead (T.held tx.old) showing.old.repairing.is_asked
-        (λ bytes. Viewed showing.old.view bytes (O.taken out.old) (O.taken out.new))) }
-    ensures rows { T.tells → OnOk result
-        (IsSoOfRead (T.held tx.old) showing.old.repairing.is_asked (HasRows showing.old.view)) }
-    ensures restored { T.tells → O.tells → showing.old.repairing.is_asked ≡ true → (X codewords : List ℕ) →
-        Sent X codewords → IsDamaged X (T.held tx.old) →
-        OnOk result (Viewed showing.old.view X (O.taken out.old) (O.taken out.new)) }
-    ensures explained { T.tells → IfErr result (λ e. ExplainsUnread (T.held tx.old) e
-        ⊎ IsSoOfRead (T.held tx.old) showing.old.repairing.is_asked
-        (λ bytes. ExplainsShowing showing.old.view bytes e)) }
-    ensures part { T.tells → O.tells → IsErrOf result (fault.File file.Write) →
-        IsSoOfRead (T.held tx.old) showing.old.repairing.is_asked
-        (λ bytes. ViewedPart showing.old.view bytes (O.taken out.old) (O.taken out.new)) }
-    ensures untouched { IfErr result (λ e. e ≢ fault.File file.Write → out.new ≡ out.old) }
-    ensures read_failed { IsErrOf result (fault.File file.Device) →
-        HasFailed (T.failures tx.old) (T.failures tx.new) }
-    ensures write_failed { IsErrOf result (fault.File file.Write) →
-        HasFailed (O.failures out.old) (O.failures out.new) }
-{
-    if !showing.repairing.is_asked
-        && let Some(bytes) = tx.lent()
-    {
-        refuse_long(bytes)?;
-        showing.repairing.corrected = NOTHING;
-        let done = show_bytes(alloc, showing.view, bytes, out);
-        tx.release();
-        return done;
-    }
-    let mut bytes = read_transmission(alloc, tx)?;
-    show_read(alloc, showing, bytes.as_mut_slice(), out)
-}
-
 /// `show TX`: shows a transmission, with repair as it is once each of its words is repaired, and says how much was corrected.
 /// Rows of which it has none are refused. Returns the exit status.
 pub fn run_show<T: Source, O: Sink, E: Sink + Drop>(
@@ -173,5 +131,23 @@ pub fn run_show<T: Source, O: Sink, E: Sink + Drop>(
     ensures write_failed { told_by err.new ≡ Some (fault.File file.Write) →
         HasFailed (O.failures out.old) (O.failures out.new) }
 {
-    err.end(show_held(alloc, showing, tx, out))
+    // Without repair what the device lends is read where it stands; otherwise it is read whole.
+    let done = 'shown: {
+        if !showing.repairing.is_asked
+            && let Some(bytes) = tx.lent()
+        {
+            if let Err(refused) = refuse_long(bytes) {
+                break 'shown Err(ReceiverFault::File(refused));
+            }
+            showing.repairing.corrected = NOTHING;
+            let shown = show_bytes(alloc, showing.view, bytes, out);
+            tx.release();
+            break 'shown shown;
+        }
+        match read_transmission(alloc, tx) {
+            Ok(mut bytes) => show_read(alloc, showing, bytes.as_mut_slice(), out),
+            Err(refused) => Err(ReceiverFault::File(refused)),
+        }
+    };
+    err.end(done)
 }

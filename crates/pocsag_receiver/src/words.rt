@@ -1,5 +1,6 @@
 //! The words of `decode`, `hear` and `show`, and what help says of them.
 
+use crate::form::ListForm;
 use clap::ArgMatches;
 use pocsag_shell::{Content, FLAG, Given, LineWord, PLACE, SVG, Shape, TX_PLACE};
 use pocsag_show::{Rows, View};
@@ -17,6 +18,10 @@ pub(crate) const REPAIR: &str = "repair";
 pub(crate) const CAPTURE: &str = "capture";
 
 pub(crate) const NTH: &str = "nth";
+
+const AS_JSON: &str = "json";
+
+const TEXT: &str = "text";
 
 const LIST: &str = "list";
 
@@ -45,15 +50,22 @@ Example:
 const CAPTURE_MANUAL: &str = "\
 A capture holds bits off the air, eight to a byte, from any point on. A
 transmission begins at each synchronisation codeword within two wrong bits, at
-any bit and in either polarity, and goes on while its batches follow one
-another. Each word is repaired; a word past repair ends the open page. The
-pages of all transmissions are listed in order. --verbose tells the bit, the
-polarity, the batches and the damage of each transmission.";
+any bit and in either polarity. It goes on past one that cannot be recognised
+where the next is in step, and counts where it has a second one or at most five
+of its sixteen words are lost. Each word is repaired; a word past repair ends
+the open page. The pages of all transmissions are listed in order. --verbose
+tells the bit, the polarity and the batches of each transmission, and how many
+bits were corrected, words lost and pages cut.";
 
 // What refuses a range of rows that is none.
 pub(crate) const BAD_ROWS: &str = "\
 invalid value for '--rows A-B': batches are counted from 1, as in 3-7, 3- or 5,
 and the last is not before the first";
+
+// What refuses functions that are none.
+pub(crate) const BAD_TEXT: &str = "\
+invalid value for '--text LIST': the functions are 0, 1 and 2, with commas
+between them, as in 0,1,2 or 1";
 
 const ADDRESS_PLACE: LineWord = LineWord {
     id: ADDRESS,
@@ -76,6 +88,23 @@ const CAPTURE_FLAG: LineWord = LineWord {
     help: "\
 Reads a capture: bits off the air, at any offset and in
 either polarity, with noise; each word is repaired",
+    ..FLAG
+};
+
+const AS_JSON_FLAG: LineWord = LineWord {
+    id: AS_JSON,
+    help: "Prints each page as one line of JSON",
+    excludes: &[CAPTURE],
+    ..FLAG
+};
+
+const TEXT_OPTION: LineWord = LineWord {
+    id: TEXT,
+    help: "\
+Reads the messages of these functions, of 0, 1 and 2
+with commas between, as alphanumeric text",
+    given: Given::Option("LIST", &[]),
+    excludes: &[CAPTURE],
     ..FLAG
 };
 
@@ -126,22 +155,34 @@ pub(crate) const SHOW_SHAPE: Shape = Shape {
     ],
 };
 
+pub(crate) const DECODE_SHAPE: Shape = Shape {
+    name: DECODE,
+    about: "Lists the pages of a transmission",
+    manual: Some(CAPTURE_MANUAL),
+    words: &[
+        TX_PLACE,
+        REPAIR_FLAG,
+        CAPTURE_FLAG,
+        AS_JSON_FLAG,
+        TEXT_OPTION,
+    ],
+};
+
+pub(crate) const HEAR_SHAPE: Shape = Shape {
+    name: HEAR,
+    about: "Lists what one pager shows, past two wrong bits in each codeword",
+    manual: Some(CAPTURE_MANUAL),
+    words: &[
+        ADDRESS_PLACE,
+        TX_PLACE,
+        AS_JSON_FLAG,
+        TEXT_OPTION,
+        CAPTURE_FLAG,
+    ],
+};
+
 // The commands in the order of help.
-pub(crate) const RECEIVER_COMMANDS: &[Shape] = &[
-    Shape {
-        name: DECODE,
-        about: "Lists the pages of a transmission",
-        manual: Some(CAPTURE_MANUAL),
-        words: &[TX_PLACE, REPAIR_FLAG, CAPTURE_FLAG],
-    },
-    Shape {
-        name: HEAR,
-        about: "Lists what one pager shows, past two wrong bits in each codeword",
-        manual: Some(CAPTURE_MANUAL),
-        words: &[ADDRESS_PLACE, TX_PLACE, CAPTURE_FLAG],
-    },
-    SHOW_SHAPE,
-];
+pub(crate) const RECEIVER_COMMANDS: &[Shape] = &[DECODE_SHAPE, HEAR_SHAPE, SHOW_SHAPE];
 
 // The number of decimal digits alone.
 fn number_of(word: &str) -> Option<u64> {
@@ -172,5 +213,29 @@ pub(crate) fn wanted_view(found: &ArgMatches<'_>) -> Option<View> {
         View::Places
     } else {
         View::Grid(rows)
+    })
+}
+
+/// The form in which `decode` and `hear` are asked to list pages. Nothing where the word for functions names another than 0, 1
+/// and 2.
+pub(crate) fn wanted_form(found: &ArgMatches<'_>) -> Option<ListForm> {
+    let mut texts = [false; 3];
+    let word = found.get_str(TEXT);
+    if let Some(word) = word {
+        for name in word.split(',') {
+            match name {
+                "0" => texts[0] = true,
+                "1" => texts[1] = true,
+                "2" => texts[2] = true,
+                _ => return None,
+            }
+        }
+    }
+    Some(if found.get_flag(AS_JSON) {
+        ListForm::Json(texts)
+    } else if word.is_some() {
+        ListForm::Texts(texts)
+    } else {
+        ListForm::Listing
     })
 }

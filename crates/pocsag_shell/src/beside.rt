@@ -136,23 +136,28 @@ fn keep_as(desk: Desk<'_>, place: &str, name: &str) -> io::Result<()> {
     }
 }
 
-/// Renames the files to their places, in this order, once all are on the disk. If one cannot be renamed, the older files
-/// come back to the places before it. So a file never stands without those before it.
+/// Renames the files to their places, in this order, once all are on the disk; each new name is on the disk before the next file
+/// is renamed. If one cannot be renamed, the older files come back to the places before it. So a file never stands without
+/// those before it, whenever the power fails.
 pub fn put_files(desk: Desk<'_>, files: &[Beside<'_>]) -> Result<(), FileFault> {
     let mut folders = Vec::new(desk.alloc);
     for file in files {
         file.sync(desk)?;
         folders.push(file.open_folder(desk)?)?;
     }
-    rename_all(desk, files)?;
-    for (file, folder) in files.iter().zip(&folders) {
-        desk.written(file.role, folder.sync_all())?;
+    rename_all(desk, files, folders.as_slice())?;
+    match (files.last(), folders.last()) {
+        (Some(file), Some(folder)) => desk.written(file.role, folder.sync_all()),
+        _ => Ok(()),
     }
-    Ok(())
 }
 
-fn rename_all(desk: Desk<'_>, files: &[Beside<'_>]) -> Result<(), FileFault> {
+// Renames the files, and brings each new name but the last to the disk.
+fn rename_all(desk: Desk<'_>, files: &[Beside<'_>], folders: &[File]) -> Result<(), FileFault> {
     let [first, others @ ..] = files else {
+        return Ok(());
+    };
+    let [folder, behind @ ..] = folders else {
         return Ok(());
     };
     if others.is_empty() {
@@ -161,7 +166,10 @@ fn rename_all(desk: Desk<'_>, files: &[Beside<'_>]) -> Result<(), FileFault> {
     let old = first.keep_old(desk)?;
     let renamed = first.rename(desk);
     if renamed.is_ok() {
-        let renamed = rename_all(desk, others);
+        let renamed = match desk.written(first.role, folder.sync_all()) {
+            Ok(()) => rename_all(desk, others, behind),
+            Err(fault) => Err(fault),
+        };
         if renamed.is_err() {
             first.put_back(desk, old);
             return renamed;

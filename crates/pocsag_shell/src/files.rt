@@ -1,5 +1,3 @@
-ghost use Rattle.std.specs.Prelude.{◌≤◌, length, IfOk};
-
 use crate::desk::Desk;
 use crate::devices::{ReaderSource, WriterSink};
 use crate::fault::FileFault;
@@ -9,7 +7,7 @@ use crate::paths::{Named, are_one, name_one_file};
 use crate::role::Role;
 use crate::streams::{Input, Output};
 use crate::words::{STANDARD, path_of};
-use pocsag_pages::{FILE_LIMIT, read_whole};
+use pocsag_pages::FILE_LIMIT;
 use pocsag_words::{OutOfMemory, Sink, Source};
 use std::fs::{self, File, Metadata, OpenFile, OpenOptions};
 use std::io::{self, Read};
@@ -37,7 +35,9 @@ pub struct Outputs<S: Sink + Drop> {
     pub cert: S,
 }
 
-// The files behind standard output and standard error.
+// The files behind the standard streams.
+const INPUT_STREAM: &str = "/proc/self/fd/0";
+
 const OUTPUT_STREAM: &str = "/proc/self/fd/1";
 
 const ERROR_STREAM: &str = "/proc/self/fd/2";
@@ -45,6 +45,8 @@ const ERROR_STREAM: &str = "/proc/self/fd/2";
 // What --verbose adds where a word names such a file.
 const BEHIND_STREAM: &str =
     "a file is the one behind standard output or standard error; to write to standard output, give '-' in place of TX or CERT";
+
+const BEHIND_INPUT: &str = "a file to write is the one behind standard input";
 
 /// Opens a file for reading, or standard input if there is no path. It refuses a folder.
 pub fn open_source<'a>(
@@ -64,19 +66,6 @@ pub fn open_source<'a>(
         None => Input::Standard(desk.rt.stdin()),
     };
     Ok(ReaderSource::new(input, role, desk.watch))
-}
-
-/// Reads a whole file, or standard input if there is no path. More than `limit` bytes are a fault.
-pub fn read_file(
-    desk: Desk<'_>,
-    role: Role,
-    path: Option<&str>,
-    limit: usize,
-) -> Result<Vec<u8>, FileFault>
-    ensures fits { IfOk result (λ file. length file.items ≤ limit) }
-{
-    let mut source = open_source(desk, role, path)?;
-    Ok(read_whole(desk.alloc, &mut source, limit)?)
 }
 
 /// Reads what a source holds up to its end, or up to where the system refuses to read on, and at most `limit` bytes.
@@ -110,8 +99,31 @@ pub fn load_both(desk: Desk<'_>, pages: &str, cert: &str) -> Result<(Loaded, Loa
     Ok((pages, load(desk, &mut cert, CERT_READ)?))
 }
 
-// Opens or makes a file for writing and keeps its bytes, or opens standard output.
-fn open_output(desk: Desk<'_>, role: Role, word: &str) -> Result<Output<File>, FileFault> {
+/// The two files of a plan, opened with the bytes that they have.
+#[derive(Drop)]
+pub struct Opened {
+    tx: Output<File>,
+    cert: Output<File>,
+}
+
+impl Opened {
+    /// Empties both.
+    pub fn emptied<'a>(
+        self,
+        desk: Desk<'a>,
+    ) -> Result<Outputs<WriterSink<'a, Output<File>>>, FileFault> {
+        let Opened { tx, cert } = self;
+        empty(desk, Role::Transmission, &tx)?;
+        empty(desk, Role::Certificate, &cert)?;
+        Ok(Outputs {
+            tx: WriterSink::new(tx, Role::Transmission, desk.watch),
+            cert: WriterSink::new(cert, Role::Certificate, desk.watch),
+        })
+    }
+}
+
+/// Opens or makes a file for writing and keeps its bytes, or opens standard output.
+pub fn open_output(desk: Desk<'_>, role: Role, word: &str) -> Result<Output<File>, FileFault> {
     let Some(path) = path_of(word) else {
         return Ok(Output::Standard(desk.rt.stdout()));
     };
@@ -133,37 +145,48 @@ fn empty(desk: Desk<'_>, role: Role, output: &Output<File>) -> Result<(), FileFa
     Ok(())
 }
 
-/// Opens or makes the two files of a plan, and empties them once both are open. If two of the three words name one file it
-/// refuses them and empties none.
-pub fn make_outputs<'a>(
-    desk: Desk<'a>,
+/// Opens or makes the two files of a plan. If two of the three words name one file it refuses them.
+pub fn open_outputs(
+    desk: Desk<'_>,
     pages: Option<&str>,
     tx: &str,
     cert: &str,
-) -> Result<Outputs<WriterSink<'a, Output<File>>>, FileFault> {
+) -> Result<Opened, FileFault> {
     refuse_shared(desk, pages, tx, cert)?;
     let opened_tx = open_output(desk, Role::Transmission, tx)?;
     // A new file may have a second spelling among the paths. It may also stand behind a standard stream that was closed.
     refuse_shared(desk, pages, tx, cert)?;
     let opened_cert = open_output(desk, Role::Certificate, cert)?;
     refuse_shared(desk, pages, tx, cert)?;
-    empty(desk, Role::Transmission, &opened_tx)?;
-    empty(desk, Role::Certificate, &opened_cert)?;
-    Ok(Outputs {
-        tx: WriterSink::new(opened_tx, Role::Transmission, desk.watch),
-        cert: WriterSink::new(opened_cert, Role::Certificate, desk.watch),
+    Ok(Opened {
+        tx: opened_tx,
+        cert: opened_cert,
     })
 }
 
-/// Opens or makes a file, and writes the bytes in place of those that it has.
-pub fn write_file(desk: Desk<'_>, role: Role, path: &str, bytes: &[u8]) -> Result<(), FileFault> {
-    let output = open_output(desk, role, path)?;
+/// Opens or makes the two files of a plan, and empties them once both are open.
+pub fn make_outputs<'a>(
+    desk: Desk<'a>,
+    pages: Option<&str>,
+    tx: &str,
+    cert: &str,
+) -> Result<Outputs<WriterSink<'a, Output<File>>>, FileFault> {
+    open_outputs(desk, pages, tx, cert)?.emptied(desk)
+}
+
+/// Writes the bytes in place of those that an open file has.
+pub fn write_over(
+    desk: Desk<'_>,
+    role: Role,
+    output: Output<File>,
+    bytes: &[u8],
+) -> Result<(), FileFault> {
     empty(desk, role, &output)?;
     put_whole(&mut WriterSink::new(output, role, desk.watch), bytes)
 }
 
-/// Refuses two words that name one file, whatever their spelling, and a word that names the file behind standard output or
-/// standard error.
+/// Refuses two words that name one file, whatever their spelling, a word that names the file behind standard output or standard
+/// error, and a word of an output that names the one behind standard input.
 pub fn refuse_shared(
     desk: Desk<'_>,
     pages: Option<&str>,
@@ -181,8 +204,21 @@ pub fn refuse_shared(
             return Err(FileFault::EqualPaths);
         }
     }
+    for word in [tx, cert] {
+        refuse_input(desk, word)?;
+    }
     // If standard output takes a file, standard error takes the lines.
     if (tx == STANDARD || cert == STANDARD) && are_one(output, errors) {
+        return Err(FileFault::EqualPaths);
+    }
+    Ok(())
+}
+
+/// Refuses the word of an output that names the file behind standard input.
+pub fn refuse_input(desk: Desk<'_>, word: &str) -> Result<(), FileFault> {
+    let rt = desk.rt;
+    if are_one(named_at(rt, path_of(word)), Named::behind(rt, INPUT_STREAM)) {
+        desk.note(BEHIND_INPUT);
         return Err(FileFault::EqualPaths);
     }
     Ok(())

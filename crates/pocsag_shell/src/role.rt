@@ -8,7 +8,9 @@ pub enum Role {
     Certificate,
     /// The page file of the pages that are left.
     Rest,
-    /// The certificate that says why they are.
+    /// The page file of the pages that are set aside, since they alone need too many batches.
+    Oversized,
+    /// The certificate that says why pages are left.
     Why,
     /// The journal of an open round.
     Journal,
@@ -25,6 +27,7 @@ impl Display for Role {
             Role::Transmission => "transmission",
             Role::Certificate => "certificate",
             Role::Rest => "page file of the rest",
+            Role::Oversized => "page file of the oversized",
             Role::Why => "certificate of one page more",
             Role::Journal => "journal",
             Role::Output => "standard output",
@@ -40,6 +43,7 @@ pub struct Names<'a> {
     pub tx: Option<&'a str>,
     pub cert: Option<&'a str>,
     pub rest: Option<&'a str>,
+    pub oversized: Option<&'a str>,
     pub why: Option<&'a str>,
     pub journal: Option<&'a str>,
 }
@@ -58,6 +62,7 @@ impl<'a> Names<'a> {
         tx: None,
         cert: None,
         rest: None,
+        oversized: None,
         why: None,
         journal: None,
     };
@@ -69,6 +74,7 @@ impl<'a> Names<'a> {
             Role::Transmission => self.tx,
             Role::Certificate => self.cert,
             Role::Rest => self.rest,
+            Role::Oversized => self.oversized,
             Role::Why => self.why,
             Role::Journal => self.journal,
             Role::Output | Role::Lines => None,

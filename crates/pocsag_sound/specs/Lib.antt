@@ -1,5 +1,1 @@
 pub mod Faults
-pub mod Keys
-pub mod Levels
-pub mod Samples
-pub mod Wav

@@ -4,6 +4,7 @@ ghost use Rattle.pocsag_sound.specs.declared.fault.SoundFault.TheVariants as fau
 use pocsag_decode::DecodeFault;
 use pocsag_pages::WholeFault;
 use pocsag_shell::{Failure, FileFault};
+use pocsag_wav::NoSound;
 use thiserror::Error;
 
 /// Why `wav` writes no sound.
@@ -57,10 +58,19 @@ impl From<WholeFault> for SoundFault {
     }
 }
 
-impl From<DecodeFault> for SoundFault {
-    ghost from_gives = { λ refused e. e ≡ fault.Transmission refused };
+impl From<NoSound> for SoundFault {
+    ghost use Rattle.pocsag_sound.specs.Faults.{fault_of_wav};
 
-    fn from(refused: DecodeFault) -> SoundFault {
-        SoundFault::Transmission(refused)
+    ghost from_gives = { λ refused e. e ≡ fault_of_wav refused };
+
+    fn from(refused: NoSound) -> SoundFault {
+        match refused {
+            NoSound::BadRate => SoundFault::BadRate,
+            NoSound::BadSamples => SoundFault::BadSamples,
+            NoSound::BadPreamble => SoundFault::BadPreamble,
+            NoSound::Transmission(fault) => SoundFault::Transmission(fault),
+            NoSound::TooLong => SoundFault::TooLong,
+            NoSound::WriteFault => SoundFault::File(FileFault::Write),
+        }
     }
 }

@@ -1,5 +1,4 @@
 use crate::fault::SoundFault;
-use crate::keying::Keying;
 use crate::wav::run_wav;
 use crate::words::{BIT_RATE, INVERT, LEAD, SAMPLES, SOUND_COMMANDS, WAV};
 use clap::{ArgMatches, Error};
@@ -7,6 +6,7 @@ use pocsag_shell::{
     Call, Desk, ErrorStream, Group, Loaded, MemoryStreams, Names, PAGES_READ, Role, TX, Tables,
     load, open_source, path_of,
 };
+use pocsag_wav::{Keying, NoSound};
 use pocsag_words::Source;
 use std::alloc::AllocError;
 
@@ -50,7 +50,7 @@ impl Group for Sound {
 // The transmission that is to be keyed. A bad number is refused before the file is opened.
 fn load_keyed(
     desk: Desk<'_>,
-    keying: Result<Keying, SoundFault>,
+    keying: Result<Keying, NoSound>,
     tx: &str,
 ) -> Result<(Keying, Loaded), SoundFault> {
     let keying = keying?;

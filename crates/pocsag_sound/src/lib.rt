@@ -3,12 +3,10 @@
 
 mod fault;
 mod group;
-mod keyed;
-mod keying;
 mod wav;
 mod words;
 
 pub use fault::SoundFault;
 pub use group::Sound;
-pub use keying::Keying;
+pub use pocsag_wav::Keying;
 pub use wav::run_wav;

@@ -1,110 +1,19 @@
-ghost use Rattle.std.specs.Prelude.{◌≡◌, ◌+◌, ◌*◌, ◌/◌, ◌^◌, ◌<◌, ◌≤◌, ◌++◌, length, None, Some, IfErr, IfNone, IfOk, IfSome, IsErrOf, OnErr, OnOk};
-ghost use Rattle.std.specs.List.{flat_map};
-ghost use Rattle.arrayvec.specs.ArrayVec.{array_vec_len};
-ghost use Rattle.pocsag_words.specs.Devices.{CountsFailures, Delivers, HasFailed, TookPrefix};
+ghost use Rattle.std.specs.Prelude.{◌≡◌, None, Some, IfErr, IfNone, IfOk, IfSome, IsErrOf, OnOk};
+ghost use Rattle.pocsag_words.specs.Devices.{HasFailed};
 ghost use Rattle.pocsag_shell.specs.ErrorStreams.{stream_of, told_by};
 ghost use Rattle.pocsag_shell.specs.declared.fault.FileFault.TheVariants as file;
-ghost use Rattle.pocsag_sound.specs.Faults.{ExplainsSound, ExplainsUnsounded, Sounded, SoundedPart, sound_status};
-ghost use Rattle.pocsag_sound.specs.Wav.{sample_bytes, wav_header};
-ghost use Rattle.pocsag_sound.specs.Samples.{IsCount, samples_of};
+ghost use Rattle.pocsag_sound.specs.Faults.{ExplainsSound, ExplainsUnsounded, sound_status};
 ghost use Rattle.pocsag_sound.specs.declared.fault.SoundFault.TheVariants as fault;
+ghost use Rattle.pocsag_wav.specs.Sounds.{Sounded, SoundedPart};
 
 use crate::fault::SoundFault;
-use crate::keyed::Keyed;
-use crate::keying::Keying;
-use arrayvec::ArrayVec;
-use pocsag_decode::judge_bytes;
 use pocsag_pages::read_whole;
-use pocsag_shell::{ErrorStream, FileFault, put_whole};
-use pocsag_words::{BATCH_BITS, INPUT_LIMIT, Sink, Source};
+use pocsag_shell::{ErrorStream, FileFault};
+use pocsag_wav::{Keying, write_wav};
+use pocsag_words::{INPUT_LIMIT, Sink, Source};
 use std::alloc::Global;
 
-// The bytes of one write.
-const PIECE: usize = 8192;
-
-// The most samples of a WAV file: with two bytes each and 36 other bytes, its length stays below 2^32.
-const FILE_SAMPLES: u128 = 2_147_483_629;
-
-// How many samples so many bits last, if a WAV file can hold them.
-fn sample_count(keying: Keying, bits: u128) -> Result<u32, SoundFault>
-    requires { bits < 2 ^ 100 }
-    ensures count { IfOk result (λ count. IsCount keying bits count) }
-    ensures fits { IfOk result (λ count. 36 + 2 * count < 2 ^ 32) }
-    ensures fault { IfErr result (λ e. e ≡ fault.TooLong) }
-    ensures long { OnErr result (2147483629 * keying.rate / keying.samples < bits) }
-{
-    let count = (bits * u128::from(keying.samples)).div_ceil(u128::from(keying.rate));
-    if count > FILE_SAMPLES {
-        return Err(SoundFault::TooLong);
-    }
-    Ok(count as u32)
-}
-
-// The header of a WAV file, four bytes at a time.
-fn header(a_second: u32, count: u32) -> [[u8; 4]; 11]
-    requires a_second { a_second ≤ 192000 }
-    requires count { 36 + 2 * count < 2 ^ 32 }
-    ensures { flat_map (λ part. part) result ≡ wav_header a_second count }
-{
-    let len = 2 * count;
-    [
-        *b"RIFF",
-        (36 + len).to_le_bytes(),
-        *b"WAVE",
-        *b"fmt ",
-        16u32.to_le_bytes(),
-        // PCM, one channel
-        [1, 0, 1, 0],
-        a_second.to_le_bytes(),
-        (2 * a_second).to_le_bytes(),
-        // 2 bytes and 16 bits for each sample
-        [2, 0, 16, 0],
-        *b"data",
-        len.to_le_bytes(),
-    ]
-}
-
-// Writes the piece if it has no room for another sample.
-fn spill<O: Sink>(piece: &mut ArrayVec<u8, PIECE>, out: &mut O) -> Result<(), FileFault>
-    ensures room { OnOk result (array_vec_len piece.new ≤ 8190) }
-    ensures same { O.tells → OnOk result (O.taken out.new ++ piece.new.items ≡ O.taken out.old ++ piece.old.items) }
-    ensures grown { O.tells → OnOk result (length (O.taken out.old) ≤ length (O.taken out.new)) }
-    ensures part { O.tells → OnErr result (TookPrefix (O.taken out.old) (O.taken out.new) piece.old.items) }
-    ensures lost { IfErr result (λ e. e ≡ FileFault.Write) }
-    ensures failures { CountsFailures result (O.failures out.old) (O.failures out.new) }
-{
-    if piece.len() > PIECE - 2 {
-        put_whole(out, piece.as_slice())?;
-        piece.clear();
-    }
-    Ok(())
-}
-
-// Writes so many samples, a piece at a time.
-fn put_samples<O: Sink>(
-    keying: Keying,
-    keyed: &Keyed<'_>,
-    count: u32,
-    out: &mut O,
-) -> Result<(), FileFault>
-    ensures delivers { O.tells → Delivers result (O.taken out.old) (O.taken out.new)
-        (flat_map sample_bytes (samples_of keying keyed.now count)) }
-    ensures lost { IfErr result (λ e. e ≡ FileFault.Write) }
-    ensures failures { CountsFailures result (O.failures out.old) (O.failures out.new) }
-{
-    let mut piece = ArrayVec::new();
-    for index in 0..count {
-        spill(&mut piece, out)?;
-        let place = u64::from(index) * u64::from(keying.rate) / u64::from(keying.samples);
-        let [low, high] = keyed.level(keying.is_inverted, place).to_le_bytes();
-        piece.push(low);
-        piece.push(high);
-    }
-    put_whole(out, piece.as_slice())
-}
-
-// Writes the sound of the bytes of a transmission as a WAV file. Its length is known before the first byte is written, and no
-// more than a piece of it is held.
+// Writes the sound of the bytes of a transmission.
 fn put_sound<O: Sink>(keying: Keying, bytes: &[u8], out: &mut O) -> Result<u8, SoundFault>
     ensures status { IfOk result (λ status. status ≡ 0) }
     ensures sounded { O.tells → OnOk result (Sounded keying bytes.now (O.taken out.old) (O.taken out.new)) }
@@ -115,43 +24,10 @@ fn put_sound<O: Sink>(keying: Keying, bytes: &[u8], out: &mut O) -> Result<u8, S
     ensures write_failed { IsErrOf result (fault.File file.Write) →
         HasFailed (O.failures out.old) (O.failures out.new) }
 {
-    judge_bytes(bytes)?;
-    let keyed = Keyed::new(keying.preamble, bytes);
-    let count = sample_count(keying, keyed.bits() + u128::from(BATCH_BITS))?;
-    put_whole(out, header(keying.samples, count).as_flattened())?;
-    put_samples(keying, &keyed, count, out)?;
-    Ok(0)
-}
-
-// Writes the sound of the transmission that a device holds. What it lends is keyed where it stands; otherwise it is read whole.
-fn key_held<T: Source, O: Sink>(
-    alloc: Global,
-    keying: Keying,
-    tx: &mut T,
-    out: &mut O,
-) -> Result<u8, SoundFault>
-    ensures status { IfOk result (λ status. status ≡ 0) }
-    ensures sounded { T.tells → O.tells → OnOk result
-        (Sounded keying (T.held tx.old) (O.taken out.old) (O.taken out.new)) }
-    ensures part { T.tells → O.tells → IsErrOf result (fault.File file.Write) →
-        SoundedPart keying (T.held tx.old) (O.taken out.old) (O.taken out.new) }
-    ensures explained { T.tells → IfErr result (ExplainsUnsounded keying (T.held tx.old)) }
-    ensures refused { IfErr result (λ e. sound_status e ≡ 1 → out.new ≡ out.old) }
-    ensures read_failed { IsErrOf result (fault.File file.Device) →
-        HasFailed (T.failures tx.old) (T.failures tx.new) }
-    ensures write_failed { IsErrOf result (fault.File file.Write) →
-        HasFailed (O.failures out.old) (O.failures out.new) }
-{
-    let Some(bytes) = tx.lent() else {
-        let bytes = read_whole(alloc, tx, INPUT_LIMIT)?;
-        return put_sound(keying, bytes.as_slice(), out);
-    };
-    if bytes.len() > INPUT_LIMIT {
-        return Err(SoundFault::File(FileFault::TooLarge));
+    match write_wav(keying, bytes, out) {
+        Ok(()) => Ok(0),
+        Err(refused) => Err(SoundFault::from(refused)),
     }
-    let done = put_sound(keying, bytes, out);
-    tx.release();
-    done
 }
 
 /// `wav TX`: writes the sound of a transmission as a WAV file. Returns the exit status.
@@ -177,5 +53,20 @@ pub fn run_wav<T: Source, O: Sink, E: Sink + Drop>(
     ensures write_failed { told_by err.new ≡ Some (fault.File file.Write) →
         HasFailed (O.failures out.old) (O.failures out.new) }
 {
-    err.end(key_held(alloc, keying, tx, out))
+    // What the device lends is keyed where it stands; otherwise it is read whole.
+    let done = 'written: {
+        let Some(bytes) = tx.lent() else {
+            break 'written match read_whole(alloc, tx, INPUT_LIMIT) {
+                Ok(bytes) => put_sound(keying, bytes.as_slice(), out),
+                Err(refused) => Err(SoundFault::from(refused)),
+            };
+        };
+        if bytes.len() > INPUT_LIMIT {
+            break 'written Err(SoundFault::File(FileFault::TooLarge));
+        }
+        let sounded = put_sound(keying, bytes, out);
+        tx.release();
+        sounded
+    };
+    err.end(done)
 }

@@ -1,7 +1,6 @@
 use Rattle.std.proofs.Common.{◌≡◌, ℕ, ◌%◌, List, [], ◌∷◌, ◌++◌, length, refl, sym, ap, subst, ◌∙◌, arith}
 use Rattle.pocsag_capture.specs.Bits.{capture_bits}
 use Rattle.pocsag_capture.proofs.Lifts.{first_long, first_more, first_words, lift_all_words}
-use Rattle.pocsag_capture.proofs.Polarities.{few_wrong}
 use Rattle.pocsag_capture.proofs.Settled.{IsSettling, settling_more}
 use Rattle.pocsag_capture.proofs.lift.put_lift.Goals as goal
 
@@ -12,6 +11,10 @@ take-word-requires-clause-corrected c =
 pub take-word-requires-clause-lost : goal.take-word-requires-clause-lost
 take-word-requires-clause-lost c =
     omega (arith, c.loop-place.invariant.few_lost, first_long (capture_bits c.args.capture.now) c.args.reception c.loop-place.place)
+
+pub take-word-requires-clause-cut : goal.take-word-requires-clause-cut
+take-word-requires-clause-cut c =
+    omega (arith, c.loop-place.invariant.few_cuts, first_long (capture_bits c.args.capture.now) c.args.reception c.loop-place.place)
 
 pub loop-place-preserved : goal.loop-place-preserved
 loop-place-preserved c =
@@ -26,13 +29,22 @@ loop-place-preserved c =
     c.extend_from_slice.new.self.items c.received_word.result c.loop-place.invariant c.take-word.result
     (λ e. c.take-word.ensures.sync (sym here ∙ e))
     (λ e. c.take-word.ensures.sync_bits (sym here ∙ e))
-    (few_wrong c.received_word.result c.received_word.type_inv)
     (λ e. c.take-word.ensures.sync_open (sym here ∙ e))
     (λ e. c.take-word.ensures.sync_lost (sym here ∙ e))
+    (λ e. c.take-word.ensures.sync_cut (sym here ∙ e))
     (λ n. c.take-word.ensures.codeword (λ e. n (here ∙ e)))
     (c.in_ok-extend_from_slice.ensures.items ∙ ap (λ (l : List ℕ). c.loop-place.bytes.items ++ l) c.to_be_bytes.ensures))
 
-pub returns-clause-lifted : goal.returns-clause-lifted
-returns-clause-lifted c =
+pub overflow_add-cut : goal.overflow_add-cut
+overflow_add-cut c =
+    omega (arith, c.loop-place.invariant.few_cuts, first_long (capture_bits c.args.capture.now) c.args.reception c.loop-place.place)
+
+pub returns-then-settler-clause-lifted : goal.returns-then-settler-clause-lifted
+returns-then-settler-clause-lifted c =
     lift_all_words (capture_bits c.args.capture.now) _ c.loop-place.settler c.args.bytes.now.items c.loop-place.bytes.items c.loop-place.place
-    (omega arith) refl refl c.loop-place.invariant
+    (omega arith) refl refl (rw c.if-settler.true refl) c.loop-place.invariant
+
+pub returns-else-settler-clause-lifted : goal.returns-else-settler-clause-lifted
+returns-else-settler-clause-lifted c =
+    lift_all_words (capture_bits c.args.capture.now) _ c.loop-place.settler c.args.bytes.now.items c.loop-place.bytes.items c.loop-place.place
+    (omega arith) refl refl (rw c.if-settler.false (omega arith)) c.loop-place.invariant

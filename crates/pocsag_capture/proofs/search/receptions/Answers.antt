@@ -1,23 +1,31 @@
-use Rattle.std.proofs.Common.{refl}
+use Rattle.std.proofs.Common.{arith}
 use Rattle.pocsag_capture.specs.Bits.{capture_bits}
-use Rattle.pocsag_capture.proofs.SearchLemmas.{reception_more, receptions_all}
+use Rattle.pocsag_capture.proofs.SearchLemmas.{found_all, found_more, found_same, run_begins}
 use Rattle.pocsag_capture.proofs.search.receptions.Goals as goal
 
+pub loop-place-preserved-then-counts : goal.loop-place-preserved-then-counts
+loop-place-preserved-then-counts c =
+    let bits = capture_bits c.args.capture.now in
+    let run = run_begins bits c.loop-place.first c.in-Some.place.bit c.in-Some.place.polarity c.run_of-run.result c.in-Some.ensures.later
+    c.in-Some.ensures.quiet c.in-Some.ensures.there c.run_of-run.ensures.run in
+    record {
+      small = omega (arith, c.run_of-run.ensures.end);
+      so_far = found_more bits c.loop-place.first c.loop-place.held c.loop-place.found.items c.push.new.self.items c.run_of-run.result
+          c.reception_of.result c.loop-place.invariant.so_far run (c.counts.ensures.0 c.if-counts.true) c.reception_of.ensures c.in_ok-push.ensures.items;
+    }
+
 pub loop-place-preserved : goal.loop-place-preserved
-loop-place-preserved c = record {
-  small = c.batches_on-batches.ensures.few;
-  so_far = reception_more (capture_bits c.args.capture.now) c.loop-place.first _ c.loop-place.found.items c.push.new.self.items
-      (record { bit = c.in-Some.place.bit; polarity = c.in-Some.place.polarity; batches = c.batches_on-batches.result })
-      c.loop-place.invariant.so_far
-      (record {
-        later = c.in-Some.ensures.later;
-        quiet = c.in-Some.ensures.quiet;
-        some = c.batches_on-batches.ensures.some;
-        batches = c.batches_on-batches.ensures.each;
-        last = c.batches_on-batches.ensures.last;
-      })
-      refl c.in_ok-push.ensures.items;
-}
+loop-place-preserved c =
+    let bits = capture_bits c.args.capture.now in
+    let run = run_begins bits c.loop-place.first c.in-Some.place.bit c.in-Some.place.polarity c.run_of-run.result c.in-Some.ensures.later
+    c.in-Some.ensures.quiet c.in-Some.ensures.there c.run_of-run.ensures.run in
+    record {
+      small = omega (arith, c.run_of-run.ensures.end);
+      so_far = found_same bits c.loop-place.first c.loop-place.held c.loop-place.found.items c.run_of-run.result c.loop-place.invariant.so_far run
+          (λ is. let counts = c.counts.ensures.1 is in absurd (cc));
+    }
 
 pub returns : goal.returns
-returns c = receptions_all (capture_bits c.args.capture.now) c.loop-place.first c.loop-place.found.items c.loop-place.invariant.so_far c.in_default.ensures.none
+returns c =
+    found_all (capture_bits c.args.capture.now) c.loop-place.first c.loop-place.held c.loop-place.found.items c.loop-place.invariant.so_far
+    c.in_default.ensures.none

@@ -6,7 +6,7 @@ returns-in-Ok-tell_front-clause-written g c = λ t u.
     let same = c.in_default.ensures.others in
     let sends = c.in-Ok-send.ensures.whole u u in
     rw same.1
-    (front_written _ c.args.asked.search c.args.asked.batches c.in-Ok.front (c.in-Ok.ensures.front t) _ _ _ _ _ _ _ _
+    (front_written _ c.args.asked c.in-Ok.front (c.in-Ok.ensures.front t) _ _ _ _ _ _ _ _
     (rw (same.2, same.3) at sends) (c.in_default.ensures.rest u) (c.in_default.ensures.why u))
 
 pub returns-in-Ok-tell_front-clause-told : goal.returns-in-Ok-tell_front-clause-told
@@ -14,5 +14,5 @@ returns-in-Ok-tell_front-clause-told g c = λ t u v.
     let same = c.in_default.ensures.others in
     let sends = c.in-Ok-send.ensures.whole u u in
     rw same.1
-    (front_told _ c.args.asked.search c.args.asked.batches c.in-Ok.front (c.in-Ok.ensures.front t) _ _ _ _ _ _ _ _
+    (front_told _ c.args.asked c.in-Ok.front (c.in-Ok.ensures.front t) _ _ _ _ _ _ _ _
     (rw (same.2, same.3) at sends) (c.in_default.ensures.rest u) (c.in_default.ensures.why u) _ _ (c.in-Ok-tell_front.ensures.told v))

@@ -1,5 +1,13 @@
-use Rattle.std.proofs.Common.{length, refl}
-use Rattle.pocsag_centre.proofs.FirstPart.{front_unwritten, left_held, rest_listable}
+use Rattle.std.proofs.Common.{◌≡◌, List, ◌++◌, false, take, length, refl, sym, ap, subst, ◌∙◌}
+use Rattle.std.specs.Prelude.{Ok}
+use Rattle.pocsag_pages.specs.declared.page.Page.{Page}
+use Rattle.pocsag_pages.specs.Pages.{AreGood}
+use Rattle.pocsag_pages.specs.Queues.{firsts, held_pages, left_of}
+use Rattle.pocsag_plan.specs.Fronts.{ExplainsFront}
+use Rattle.pocsag_centre.specs.FrontFiles.{IsPageFileOf}
+use Rattle.pocsag_decode.specs.PageFiles.{page_file}
+use Rattle.pocsag_centre.proofs.FirstPart.{first_is, front_read, front_unwritten, left_held, rest_listable}
+use Rattle.pocsag_centre.proofs.QueueRounds.{round_firsts, round_held, round_left}
 use Rattle.pocsag_centre.proofs.front.read_front.Goals as goal
 
 pub returns-in-Ok-longest_front-clause-front : goal.returns-in-Ok-longest_front-clause-front
@@ -8,18 +16,18 @@ returns-in-Ok-longest_front-clause-front g c = λ t.
     let read = c.in-Ok.ensures.ok t in
     let front = c.in-Ok-longest_front.front in
     let found = c.in-Ok-longest_front.ensures in
-    record {
-      round = R;
-      read = read;
-      parts = found.parts;
-      front_for = found.front;
-      longest = found.longest;
-      plan_of = found.plan;
-      within = found.within;
-      no_more = found.why;
-      others_of = left_held _ R front.round front.rest.items read c.keeps_rules.ensures
-          (c.pages_of_files_are_spellable.ensures.files _ R read) c.page_files_are_read_back.ensures.pages found.parts;
-    }
+    let off : c.args.asked.may_wait ≡ false = c.if-asked.false in
+    let held = round_held c.args.asked.may_wait _ R off read in
+    let good : AreGood R = c.keeps_rules.ensures.good in
+    let behind : left_of front.round R ≡ front.rest.items =
+    subst (λ (v : List Page). left_of front.round v ≡ front.rest.items) found.parts
+    (round_left front.round front.rest.items (subst AreGood (sym found.parts) good)) in
+    let others : IsPageFileOf false front.rest.items (page_file front.rest.items) =
+    left_held _ R front.round front.rest.items read c.keeps_rules.ensures
+    (c.pages_of_files_are_spellable.ensures.files _ R read) c.page_files_are_read_back.ensures.pages found.parts in
+    front_read _ c.args.asked R R front held (sym (round_firsts R good)) (first_is R front.round front.rest.items _ found.parts refl)
+    (sym behind) found.front found.longest found.plan found.within found.why
+    (subst (λ b. IsPageFileOf b front.rest.items (page_file front.rest.items)) (sym off) others)
 
 pub returns-in-Ok-longest_front-clause-listable : goal.returns-in-Ok-longest_front-clause-listable
 returns-in-Ok-longest_front-clause-listable g c =
@@ -28,6 +36,11 @@ returns-in-Ok-longest_front-clause-listable g c =
 
 pub returns-in-Err-longest_front-clause-explained : goal.returns-in-Err-longest_front-clause-explained
 returns-in-Err-longest_front-clause-explained g c = λ t.
+    let R = c.in-Ok.round in
+    let off : c.args.asked.may_wait ≡ false = c.if-asked.false in
+    let held = round_held c.args.asked.may_wait _ R off (c.in-Ok.ensures.ok t) in
+    let same = round_firsts R c.keeps_rules.ensures.good in
     rw c.from.ensures
-    (front_unwritten _ c.args.asked.search c.args.asked.batches c.in-Ok.round (c.in-Ok.ensures.ok t) c.in-Err-longest_front.fault
-    c.in-Err-longest_front.ensures.fault)
+    (front_unwritten _ c.args.asked R held c.in-Err-longest_front.fault
+    (subst (λ (v : List Page). ExplainsFront c.args.asked.search v c.args.asked.batches c.in-Err-longest_front.fault) (sym same)
+    c.in-Err-longest_front.ensures.fault))

@@ -3,13 +3,14 @@ use Rattle.std.specs.Prelude.{IfErr, IfOk, MatchResult, Result, Ok, Err}
 use Rattle.pocsag_pages.specs.PageFile.{Row}
 use Rattle.pocsag_pages.specs.declared.page.Page.{Page}
 use Rattle.pocsag_journal.specs.Runs.{IsRun}
-use Rattle.pocsag_journal.specs.Faults.{ExplainsReplay, IsTold, IsToldOf}
+use Rattle.pocsag_journal.specs.Faults.{IsTold, IsToldOf}
 use Rattle.pocsag_journal.specs.Journals.{IsRead, Replays, ReplaysAs}
 use Rattle.pocsag_journal.specs.declared.fault.JournalFault.{JournalFault}
 use Rattle.pocsag_journal.specs.declared.fault.JournalFault.TheVariants as fault
 use Rattle.pocsag_journal.specs.declared.replay.Replayed.{Replayed}
 use Rattle.pocsag_journal.proofs.EditRuns.{run_once}
 use Rattle.pocsag_journal.proofs.Readings.{begun, no_bad_line, one_reading}
+use Rattle.pocsag_journal.proofs.ToldReplays.{told_of}
 use Rattle.pocsag_journal.proofs.replay.read_journal.Goals as goal
 
 -- whatever edits the bytes are the text of: these were read
@@ -34,23 +35,6 @@ these bytes held e (Err fault.WriteFault) read told rows torn pages is run = tol
 these bytes held e (Err fault.ReadFault) read told rows torn pages is run = tt
 these bytes held e (Err fault.TooLarge) read told rows torn pages is run = tt
 these bytes held e (Err fault.OutOfMemory) read told rows torn pages is run = tt
-
--- what is told of bytes explains why they are not read
-told_replay : (bytes : List ℕ) (before after : ℕ) (f : JournalFault) → IsTold bytes f → ExplainsReplay bytes before after f
-told_replay bytes before after fault.ReadFault h = absurd h
-told_replay bytes before after fault.WriteFault h = h
-told_replay bytes before after fault.TooLarge h = absurd h
-told_replay bytes before after fault.NotJournal h = h
-told_replay bytes before after fault.OtherVersion h = h
-told_replay bytes before after (fault.BadLine n) h = h
-told_replay bytes before after (fault.NoLine n) h = h
-told_replay bytes before after fault.OutOfMemory h = h
-
--- what is told of the bytes that were read is told of those that were held
-told_of : (bytes held : List ℕ) (before after : ℕ) → bytes ≡ held → (r : Result Replayed JournalFault) → IfErr r (IsTold bytes) →
-    IfErr r (ExplainsReplay held before after)
-told_of bytes held before after e (Ok x) told = tt
-told_of bytes held before after e (Err f) told = told_replay held before after f (subst (λ (b : List ℕ). IsTold b f) e told)
 
 pub returns-in-Ok-clause-told : goal.returns-in-Ok-clause-told
 returns-in-Ok-clause-told g c = λ tells.

@@ -5,7 +5,8 @@ use Rattle.pocsag_open.specs.Answers.{pages_answer}
 use Rattle.pocsag_open.specs.Replies.{IsEditReply, IsRefusalTold}
 use Rattle.pocsag_open.specs.Survival.{untold}
 use Rattle.pocsag_open.proofs.Fronts.{if_err}
-use Rattle.pocsag_open.proofs.Survival.{cut_part, cut_told, either_read, on_err, took_part}
+use Rattle.pocsag_open.proofs.Survival.{cut_part, cut_told, either_read, on_err, told_part, took_part}
+use Rattle.pocsag_open.proofs.Told.{told_more}
 use Rattle.pocsag_open.proofs.answer.answer_edit.Goals as goal
 
 pub returns-in-Err-clause-cut : goal.returns-in-Err-clause-cut
@@ -14,7 +15,8 @@ returns-in-Err-clause-cut g c = λ keeps tells stands.
     (g.O.Sink.taken c.args.out.now) (g.O.Sink.taken c.refuse.new.out) g.K.Keeper.reads_as (g.K.Keeper.may_leave c.args.round.now.keeper)
     (IsRefusalTold c.in-Err.refusal)
     (λ told is. inr (refl, (c.in-Err.refusal, c.in-Err.ensures.refused, c.in-Err.ensures.reason, is)))
-    (λ left now. g.K.Keeper.restarts c.args.round.now.keeper c.args.round.now.book left keeps stands now) (c.refuse.ensures.part tells)
+    (λ left now. g.K.Keeper.restarts c.args.round.now.keeper c.args.round.now.book left keeps stands now)
+    (told_part c.refuse.result _ _ _ (IsRefusalTold c.in-Err.refusal) refl (c.refuse.ensures.told tells))
 
 pub returns-clause-cut : goal.returns-clause-cut
 returns-clause-cut g c = λ keeps tells stands.
@@ -29,7 +31,7 @@ returns-clause-cut g c = λ keeps tells stands.
     (λ (told : List ℕ). told ≡ pages_answer (length book)) (λ told is. inl (edit, is)) (λ left now. inr (book, (pages_answer (length book), inl (edit, refl), kept left now))) kept
     (took_part (g.O.Sink.taken c.args.out.now) (g.O.Sink.taken c.tell_pages.new.out) (pages_answer (length book))
     (λ (told : List ℕ). told ≡ pages_answer (length book)) refl took))
-    (c.tell_pages.ensures.part tells)
+    ((c.tell_pages.ensures.told tells).1)
 
 pub returns-in_err-keep-clause-cut : goal.returns-in_err-keep-clause-cut
 returns-in_err-keep-clause-cut g c = λ keeps tells stands.
@@ -59,3 +61,13 @@ returns-clause-any_moment g c = λ keeps stands.
     (λ left is.
     either_read (IsEditReply (fields_of c.args.row.now)) c.args.round.now.book book (pages_answer (length book)) g.K.Keeper.reads_as left
     (inl (c.in-Ok.ensures.made, refl)) is)
+
+pub returns-in-Err-clause-replied : goal.returns-in-Err-clause-replied
+returns-in-Err-clause-replied g c = λ tells.
+    told_more c.refuse.result _ _ _ (IsEditReply (fields_of c.args.row.now) c.args.round.now.book c.edit_row.new.book)
+    (inr (c.in-Err.ensures.unchanged, (c.in-Err.refusal, c.in-Err.ensures.refused, c.in-Err.ensures.reason, refl))) (c.refuse.ensures.told tells)
+
+pub returns-clause-replied : goal.returns-clause-replied
+returns-clause-replied g c = λ tells.
+    told_more c.tell_pages.result _ _ _ (IsEditReply (fields_of c.args.row.now) c.args.round.now.book c.edit_row.new.book)
+    (inl (c.in-Ok.ensures.made, refl)) (c.tell_pages.ensures.told tells)

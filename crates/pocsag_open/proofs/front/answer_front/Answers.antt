@@ -1,28 +1,36 @@
-use Rattle.std.proofs.Common.{◌≡◌, inr, List, ℕ, [], ◌∷◌, ◌++◌, refl, subst, sym}
+use Rattle.std.proofs.Common.{◌≡◌, inr, List, ℕ, ◌<◌, ◌^◌, [], ◌∷◌, ◌++◌, arith, rules, refl, subst, sym, ◌∙◌, append-nil}
+use Rattle.csv.specs.Records.{fields_of}
+use Rattle.pocsag_journal.specs.Journals.{IsLine}
+use Rattle.pocsag_words.specs.Devices.{HasFailed}
+use Rattle.pocsag_journal.proofs.LineLengths.{line_length}
+use Rattle.pocsag_open.proofs.Ends.{not_kept, not_told, sent_line}
 use Rattle.pocsag_journal.proofs.Moments.{named}
 use Rattle.pocsag_journal.specs.declared.refusal.Refusal.TheVariants as refusal
 use Rattle.pocsag_open.specs.Answers.{front_answer}
 use Rattle.pocsag_open.specs.Plans.{placed_plan}
 use Rattle.pocsag_open.specs.Replies.{IsRefusalTold, front_refused, front_sent}
-use Rattle.pocsag_open.specs.Survival.{FrontRepliesTo, untold}
-use Rattle.pocsag_open.proofs.Fronts.{front_edit, front_read, front_replied, if_err, if_ok}
-use Rattle.pocsag_open.proofs.Survival.{cut_part, cut_told, on_err, took_part}
-use Rattle.pocsag_open.proofs.Told.{on_ok, told_as}
+use Rattle.pocsag_open.specs.Survival.{FrontRepliesAndPlaces, untold}
+use Rattle.pocsag_open.proofs.Fronts.{front_edit, front_placed, front_read, front_read_placed, if_err, if_ok}
+use Rattle.pocsag_open.proofs.Survival.{cut_part, cut_told, on_err, told_part, took_part}
+use Rattle.pocsag_open.proofs.Told.{on_ok, told_as, told_more}
 use Rattle.pocsag_open.proofs.front.answer_front.Goals as goal
 
 pub returns-in-Err-clause-replied : goal.returns-in-Err-clause-replied
 returns-in-Err-clause-replied g c = λ tells.
     told_as c.refuse.result _ _ _ _ _ _ _ c.in-Err.ensures.same
-    (λ told is. front_refused c.in-Err.fault c.in-Err.ensures.explained refl is refl) (c.refuse.ensures.told tells)
+    (λ told is. front_refused c.in-Err.fault c.in-Err.ensures.explained refl is refl)
+    (told_more c.refuse.result _ _ _ (IsRefusalTold (refusal.Undone c.in-Err.fault)) refl (c.refuse.ensures.told tells))
 
 pub returns-in-Err-clause-cut : goal.returns-in-Err-clause-cut
 returns-in-Err-clause-cut g c = λ keeps tells stands.
     cut_told c.refuse.result
-    (FrontRepliesTo g.P.Places.tells c.args.planner.now.effort c.args.asked.end c.args.asked.batches c.args.asked.tx.now c.args.asked.cert.now)
+    (FrontRepliesAndPlaces g.P.Places.tells c.args.planner.now.effort c.args.asked.end c.args.asked.batches c.args.asked.tx.now c.args.asked.cert.now
+    (g.P.Places.placed c.args.planner.now.places) (g.P.Places.placed c.place_front.new.planner.places))
     c.args.round.now.book (g.O.Sink.taken c.args.out.now) (g.O.Sink.taken c.refuse.new.out) g.K.Keeper.reads_as
     (g.K.Keeper.may_leave c.args.round.now.keeper) (IsRefusalTold (refusal.Undone c.in-Err.fault))
-    (λ told is. ([], front_refused c.in-Err.fault c.in-Err.ensures.explained refl is refl))
-    (λ left now. g.K.Keeper.restarts c.args.round.now.keeper c.args.round.now.book left keeps stands now) (c.refuse.ensures.part tells)
+    (λ told is. ([], front_refused c.in-Err.fault c.in-Err.ensures.explained refl is refl, λ known. c.in-Err.ensures.same known ∙ sym (append-nil _)))
+    (λ left now. g.K.Keeper.restarts c.args.round.now.keeper c.args.round.now.book left keeps stands now)
+    (told_part c.refuse.result _ _ _ (IsRefusalTold (refusal.Undone c.in-Err.fault)) refl (c.refuse.ensures.told tells))
 
 pub returns-in_err-keep-clause-cut : goal.returns-in_err-keep-clause-cut
 returns-in_err-keep-clause-cut g c = λ keeps tells stands.
@@ -32,7 +40,8 @@ returns-in_err-keep-clause-cut g c = λ keeps tells stands.
     if_err c.from_residual.result _
     (untold refl
     (λ left now.
-    front_read _ _ _ _ c.args.asked.tx.now c.args.asked.cert.now _ _ _ _ _ _ done.planned c.drop_first.ensures g.K.Keeper.reads_as left
+    front_read_placed _ _ _ _ c.args.asked.tx.now c.args.asked.cert.now _ _ _ _ _ _ done.planned c.drop_first.ensures
+    (g.P.Places.placed c.args.planner.now.places) (g.P.Places.placed c.place_front.new.planner.places) done.placed g.K.Keeper.reads_as left
     (only.each left (g.K.Keeper.counts_now c.keep.new.self (g.K.Keeper.moment c.args.round.now.keeper) left keeps only.later now))))
 
 pub returns-in_err-keep-clause-any_moment : goal.returns-in_err-keep-clause-any_moment
@@ -56,7 +65,7 @@ returns-clause-replied g c = λ tells.
       outputs = done.placed;
       holds = front_sent front.pages front.batches front.bound done.sent done.planned c.drop_first.ensures refl refl;
     })
-    (c.tell_sent.ensures.told tells)
+    ((c.tell_sent.ensures.told tells).0)
 
 pub returns-clause-stands : goal.returns-clause-stands
 returns-clause-stands g c = λ stands.
@@ -70,22 +79,25 @@ returns-clause-cut g c = λ keeps tells stands.
     let front = c.in-Ok.sent.0 in
     let due : List ℕ = front_answer front.batches front.pages front.bound in
     let edit = front_edit _ _ _ _ c.args.asked.tx.now c.args.asked.cert.now _ _ _ _ _ _ done.planned c.drop_first.ensures _ c.in-Ok.ensures.edit in
-    let reply = front_replied _ _ _ _ c.args.asked.tx.now c.args.asked.cert.now _ _ _ _ _ _ done.planned c.drop_first.ensures in
+    let reply = front_placed _ _ _ _ c.args.asked.tx.now c.args.asked.cert.now _ _ _ _ _ _ done.planned c.drop_first.ensures
+    (g.P.Places.placed c.args.planner.now.places) (g.P.Places.placed c.place_front.new.planner.places) done.placed in
     let kept : (left : List ℕ) → g.K.Keeper.may_leave c.keep.new.self left → g.K.Keeper.reads_as left c.drop_first.new.self = λ left now.
     g.K.Keeper.restarts c.keep.new.self c.drop_first.new.self left keeps
     (c.in_ok-keep.ensures.stands c.args.round.now.book c.drop_first.new.self stands edit) now in
     on_err c.tell_sent.result _ _
     (λ took.
     cut_part
-    (FrontRepliesTo g.P.Places.tells c.args.planner.now.effort c.args.asked.end c.args.asked.batches c.args.asked.tx.now c.args.asked.cert.now)
+    (FrontRepliesAndPlaces g.P.Places.tells c.args.planner.now.effort c.args.asked.end c.args.asked.batches c.args.asked.tx.now c.args.asked.cert.now
+    (g.P.Places.placed c.args.planner.now.places) (g.P.Places.placed c.place_front.new.planner.places))
     c.args.round.now.book c.drop_first.new.self (g.O.Sink.taken c.args.out.now) (g.O.Sink.taken c.tell_sent.new.out) g.K.Keeper.reads_as
     (g.K.Keeper.may_leave c.keep.new.self) (λ (told : List ℕ). told ≡ due)
     (λ told is.
-    subst (λ (t : List ℕ). FrontRepliesTo g.P.Places.tells c.args.planner.now.effort c.args.asked.end c.args.asked.batches
-    c.args.asked.tx.now c.args.asked.cert.now c.args.round.now.book c.drop_first.new.self t) (sym is) reply)
+    subst (λ (t : List ℕ). FrontRepliesAndPlaces g.P.Places.tells c.args.planner.now.effort c.args.asked.end c.args.asked.batches
+    c.args.asked.tx.now c.args.asked.cert.now (g.P.Places.placed c.args.planner.now.places) (g.P.Places.placed c.place_front.new.planner.places)
+    c.args.round.now.book c.drop_first.new.self t) (sym is) reply)
     (λ left now. inr (c.drop_first.new.self, (due, reply, kept left now))) kept
     (took_part (g.O.Sink.taken c.args.out.now) (g.O.Sink.taken c.tell_sent.new.out) due (λ (told : List ℕ). told ≡ due) refl took))
-    (c.tell_sent.ensures.part tells)
+    ((c.tell_sent.ensures.told tells).1)
 
 pub returns-clause-any_moment : goal.returns-clause-any_moment
 returns-clause-any_moment g c = λ keeps stands.
@@ -95,3 +107,21 @@ returns-clause-any_moment g c = λ keeps stands.
     (c.keep.ensures.any_moment keeps c.args.round.now.book c.drop_first.new.self stands edit)
     (λ left is.
     front_read _ _ _ _ c.args.asked.tx.now c.args.asked.cert.now _ _ _ _ _ _ done.planned c.drop_first.ensures g.K.Keeper.reads_as left is)
+
+pub returns-in-Err-clause-explained : goal.returns-in-Err-clause-explained
+returns-in-Err-clause-explained g c = λ counts stands.
+    not_told c.refuse.result _ _ c.refuse.ensures.lost c.refuse.ensures.failures.1
+
+pub returns-in_err-keep-clause-explained : goal.returns-in_err-keep-clause-explained
+returns-in_err-keep-clause-explained g c = λ counts stands.
+    let done = c.in-Ok.ensures.planned in
+    let small : c.in-Ok.sent.0.pages < 2 ^ 64 = omega (arith, done.planned.front.among, done.planned.round.few) in
+    let edit = front_edit _ _ _ _ c.args.asked.tx.now c.args.asked.cert.now _ _ _ _ _ _ done.planned c.drop_first.ensures _ c.in-Ok.ensures.edit in
+    let line : IsLine (fields_of c.in-Ok.sent.1) = subst IsLine (sym c.in-Ok.ensures.edit) (sent_line c.in-Ok.sent.0.pages small) in
+    let cause = not_kept (HasFailed (g.O.Sink.failures c.args.out.now) (g.O.Sink.failures c.args.out.now)) _ _ _ _ _ _ c.in_err-keep.field-0.0
+    line.line (line_length _ _ _ edit) (c.in_err-keep.ensures.explained counts c.args.round.now.book stands) in
+    search (rules, cause)
+
+pub returns-clause-explained : goal.returns-clause-explained
+returns-clause-explained g c = λ counts stands.
+    not_told c.tell_sent.result _ _ c.tell_sent.ensures.lost c.tell_sent.ensures.failures.1

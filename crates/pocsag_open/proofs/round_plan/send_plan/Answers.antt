@@ -1,14 +1,16 @@
 use Rattle.std.proofs.Common.{refl, subst, sym}
-use Rattle.pocsag_open.specs.Plans.{ExplainsUndone}
+use Rattle.pocsag_open.specs.Plans.{ExplainsFiles, ExplainsUndone, HasFailedOutput}
 use Rattle.pocsag_journal.specs.declared.refusal.UndoneFault.{UndoneFault}
-use Rattle.pocsag_open.proofs.Plans.{all_held, explains}
+use Rattle.pocsag_open.proofs.Plans.{all_held, explains, unsent_files}
 use Rattle.pocsag_open.proofs.round_plan.send_plan.Goals as goal
 
 pub returns-in-Ok-bounded_stream-clause-planned : goal.returns-in-Ok-bounded_stream-clause-planned
 returns-in-Ok-bounded_stream-clause-planned g c = record {
-  plan = c.in-Ok-bounded_stream.bounded.plan;
+  made = c.in-Ok-bounded_stream.bounded;
   plan_of = c.in-Ok-bounded_stream.ensures.plan.plan_of;
   same = refl;
+  its_bound = refl;
+  no_worse = c.in-Ok-bounded_stream.ensures.plan.no_worse;
   fewest = λ never. c.in-Ok-bounded_stream.ensures.plan.fewest never;
   headline = λ tells.
       let known = c.in-Ok.ensures.known tells in
@@ -20,3 +22,10 @@ pub returns-in-Err-bounded_stream-clause-explained : goal.returns-in-Err-bounded
 returns-in-Err-bounded_stream-clause-explained g c =
     subst (λ (f : UndoneFault). ExplainsUndone c.args.planner.now.effort c.args.end c.args.book.now f) (sym c.undone.ensures)
     (explains _ _ _ _ c.in-Err-bounded_stream.fault refl c.in-Err-bounded_stream.ensures.explained)
+
+pub returns-in-Err-bounded_stream-clause-files : goal.returns-in-Err-bounded_stream-clause-files
+returns-in-Err-bounded_stream-clause-files g c = λ tells.
+    subst (λ (f : UndoneFault). ExplainsFiles (c.args.tx.now, c.args.cert.now) (g.P.Places.failures c.args.planner.now.places)
+    (g.P.Places.failures c.make.new.self) (g.P.Places.last_fault c.make.new.self) (HasFailedOutput g.P.Output.Sink.failures) f)
+    (sym c.undone.ensures)
+    (unsent_files g.P.Output.Sink.failures _ _ _ _ _ _ _ _ c.in-Err-bounded_stream.fault c.in-Err-bounded_stream.ensures.writers)

@@ -1,4 +1,4 @@
-use Rattle.std.proofs.Common.{inl, ◌≡◌, List, ℕ, [], ◌∷◌, ◌++◌, length, Err, refl, ap, subst, ◌∙◌, append_assoc}
+use Rattle.std.proofs.Common.{inl, ◌≡◌, List, ℕ, [], ◌∷◌, ◌++◌, length, Err, refl, ap, subst, ◌∙◌, append_assoc, append-nil, sym}
 use Rattle.std.specs.Prelude.{Option, None}
 use Rattle.csv.specs.Records.{fields_of}
 use Rattle.pocsag_journal.proofs.Moments.{named, started}
@@ -9,16 +9,19 @@ use Rattle.pocsag_journal.specs.declared.refusal.UndoneFault.TheVariants as undo
 use Rattle.pocsag_open.specs.Answers.{pages_answer, plan_answer}
 use Rattle.pocsag_open.specs.Plans.{placed_plan}
 use Rattle.pocsag_open.specs.Replies.{IsEditReply, IsRefusalTold, listed, noted, planned, read, refused, unread}
-use Rattle.pocsag_open.specs.Survival.{FrontRepliesTo, RepliesTo}
+use Rattle.pocsag_open.specs.Survival.{FrontRepliesAndPlaces, FrontRepliesTo, RepliesAndPlaces, RepliesTo}
 use Rattle.pocsag_open.proofs.Sessions.{edit_reply, front_reply, list_due, other_none, plan_due}
-use Rattle.pocsag_open.proofs.Survival.{cut_as, cut_due, cut_front, cut_last, cut_told, on_err, read_as}
-use Rattle.pocsag_open.proofs.Told.{on_ok, told_as, told_like, told_once, told_this}
+use Rattle.pocsag_open.proofs.Survival.{cut_as, cut_due, cut_front, cut_last, cut_told, on_err, read_as, told_part}
+use Rattle.pocsag_open.proofs.Told.{on_ok, told_as, told_like, told_more, told_once, told_this}
+use Rattle.pocsag_journal.specs.Journals.{IsLine}
+use Rattle.pocsag_journal.proofs.FieldLines.{read_line}
+use Rattle.pocsag_open.proofs.Ends.{for_fault, not_answered, text_feedless}
 use Rattle.pocsag_open.proofs.session.answer_line.Goals as goal
 
 pub returns-in-Err-clause-replied : goal.returns-in-Err-clause-replied
 returns-in-Err-clause-replied g c = λ tells.
     told_as c.refuse.result _ _ _ _ _ _ _ (λ known. refl) (λ told is. unread c.in-Err.refusal c.requires c.in-Err.ensures.refused refl is refl)
-    (c.refuse.ensures.told tells)
+    (told_more c.refuse.result _ _ _ (IsRefusalTold c.in-Err.refusal) refl (c.refuse.ensures.told tells))
 
 pub returns-in-Ok-put_plan-clause-replied : goal.returns-in-Ok-put_plan-clause-replied
 returns-in-Ok-put_plan-clause-replied g c = λ tells.
@@ -33,7 +36,7 @@ returns-in-Ok-put_plan-clause-replied g c = λ tells.
       outputs = done.placed;
       holds = read _ c.requires c.in-Ok.ensures.spelled (planned _ _ _ _ _ _ asks done.planned refl refl refl);
     })
-    (c.tell_planned.ensures.told tells)
+    ((c.tell_planned.ensures.told tells).0)
 
 pub returns-in-None-clause-replied : goal.returns-in-None-clause-replied
 returns-in-None-clause-replied g c = λ tells.
@@ -41,7 +44,7 @@ returns-in-None-clause-replied g c = λ tells.
     told_as c.refuse-in-Err-put_plan.result _ _ _ _ _ _ _ c.in-Err-put_plan.ensures.same
     (λ told is. read _ c.requires c.in-Ok.ensures.spelled
     (refused _ (plan_due _ _ None _ _ _ _ _ asks c.in-Plan.ensures.edit c.in-Err-put_plan.ensures.explained) refl is refl))
-    (c.refuse-in-Err-put_plan.ensures.told tells)
+    (told_more c.refuse-in-Err-put_plan.result _ _ _ (IsRefusalTold (refusal.Undone c.in-Err-put_plan.fault)) refl (c.refuse-in-Err-put_plan.ensures.told tells))
 
 pub returns-in-Ok-write_page_file-clause-replied : goal.returns-in-Ok-write_page_file-clause-replied
 returns-in-Ok-write_page_file-clause-replied g c = λ tells.
@@ -52,7 +55,7 @@ returns-in-Ok-write_page_file-clause-replied g c = λ tells.
     told_once _ _ _ _ _ _ (read _ c.requires c.in-Ok.ensures.spelled (listed c.in-List.ensures.asks refl refl refl))
     (told ∙ ap (λ (l : List ℕ). l ++ pages_answer (length pages)) whole
     ∙ append_assoc (g.O.Sink.taken c.args.out.now) (page_file pages) (pages_answer (length pages))))
-    (c.tell_pages.ensures.told tells)
+    ((c.tell_pages.ensures.told tells).0)
 
 pub returns-in-Err-OutOfMemory-clause-replied : goal.returns-in-Err-OutOfMemory-clause-replied
 returns-in-Err-OutOfMemory-clause-replied g c = λ tells.
@@ -61,13 +64,13 @@ returns-in-Err-OutOfMemory-clause-replied g c = λ tells.
     told_as c.refuse-in-Err-OutOfMemory.result _ _ _ _ _ _ _ (λ known. refl)
     (λ told is. read _ c.requires c.in-Ok.ensures.spelled
     (refused _ (list_due _ _ _ c.in-List.ensures.asks c.in-List.ensures.edit) refl is refl))
-    (rw same at (c.refuse-in-Err-OutOfMemory.ensures.told tells))
+    (rw same at (told_more c.refuse-in-Err-OutOfMemory.result _ _ _ (IsRefusalTold (refusal.Undone undone.OutOfMemory)) refl (c.refuse-in-Err-OutOfMemory.ensures.told tells)))
 
 pub returns-in-Journal-clause-replied : goal.returns-in-Journal-clause-replied
 returns-in-Journal-clause-replied g c = λ tells.
     told_this c.tell_pages-in-Journal.result _ _ _ _ _ _
     (read _ c.requires c.in-Ok.ensures.spelled (noted c.in-Journal.ensures.asks refl refl refl))
-    (c.tell_pages-in-Journal.ensures.told tells)
+    ((c.tell_pages-in-Journal.ensures.told tells).0)
 
 pub returns-clause-replied : goal.returns-clause-replied
 returns-clause-replied g c = λ tells.
@@ -79,70 +82,73 @@ returns-clause-replied g c = λ tells.
 
 pub returns-in-Err-clause-cut : goal.returns-in-Err-clause-cut
 returns-in-Err-clause-cut g c = λ keeps tells stands.
-    cut_told c.refuse.result (RepliesTo g.P.Places.tells c.args.planner.now.effort c.args.line.now) c.args.round.now.book (g.O.Sink.taken c.args.out.now) (g.O.Sink.taken c.refuse.new.out)
+    cut_told c.refuse.result (RepliesAndPlaces g.P.Places.tells c.args.planner.now.effort c.args.line.now (g.P.Places.placed c.args.planner.now.places) (g.P.Places.placed c.args.planner.now.places)) c.args.round.now.book (g.O.Sink.taken c.args.out.now) (g.O.Sink.taken c.refuse.new.out)
     g.K.Keeper.reads_as (g.K.Keeper.may_leave c.args.round.now.keeper) (IsRefusalTold c.in-Err.refusal)
-    (λ told is. ([], unread c.in-Err.refusal c.requires c.in-Err.ensures.refused refl is refl))
-    (λ left now. g.K.Keeper.restarts c.args.round.now.keeper c.args.round.now.book left keeps stands now) (c.refuse.ensures.part tells)
+    (λ told is. ([], unread c.in-Err.refusal c.requires c.in-Err.ensures.refused refl is refl, λ known. sym (append-nil _)))
+    (λ left now. g.K.Keeper.restarts c.args.round.now.keeper c.args.round.now.book left keeps stands now) (told_part c.refuse.result _ _ _ (IsRefusalTold c.in-Err.refusal) refl (c.refuse.ensures.told tells))
 
 pub returns-in-Ok-put_plan-clause-cut : goal.returns-in-Ok-put_plan-clause-cut
 returns-in-Ok-put_plan-clause-cut g c = λ keeps tells stands.
     let asks = subst (λ (most : Option ℕ). AsksPlan c.in-Plan.end most c.in-Plan.tx.now c.in-Plan.cert.now (fields_of c.in-Ok.row)) c.in-None.is c.in-Plan.ensures.asks in
     let done = c.in-Ok-put_plan.ensures.planned in
-    cut_due c.tell_planned.result (RepliesTo g.P.Places.tells c.args.planner.now.effort c.args.line.now) c.args.round.now.book (g.O.Sink.taken c.args.out.now) (g.O.Sink.taken c.tell_planned.new.out)
+    cut_due c.tell_planned.result (RepliesAndPlaces g.P.Places.tells c.args.planner.now.effort c.args.line.now (g.P.Places.placed c.args.planner.now.places) (g.P.Places.placed c.put_plan.new.planner.places)) c.args.round.now.book (g.O.Sink.taken c.args.out.now) (g.O.Sink.taken c.tell_planned.new.out)
     (plan_answer c.in-Ok-put_plan.planned.batches c.in-Ok-put_plan.planned.bound) g.K.Keeper.reads_as (g.K.Keeper.may_leave c.args.round.now.keeper) (
       placed_plan c.in-Plan.tx.now c.in-Plan.cert.now done.sent ∷ [],
       read _ c.requires c.in-Ok.ensures.spelled (planned _ _ _ _ _ _ asks done.planned refl refl refl),
+      done.placed,
     )
-    (λ left now. g.K.Keeper.restarts c.args.round.now.keeper c.args.round.now.book left keeps stands now) (c.tell_planned.ensures.part tells)
+    (λ left now. g.K.Keeper.restarts c.args.round.now.keeper c.args.round.now.book left keeps stands now) ((c.tell_planned.ensures.told tells).1)
 
 pub returns-in-None-clause-cut : goal.returns-in-None-clause-cut
 returns-in-None-clause-cut g c = λ keeps tells stands.
     let asks = subst (λ (most : Option ℕ). AsksPlan c.in-Plan.end most c.in-Plan.tx.now c.in-Plan.cert.now (fields_of c.in-Ok.row)) c.in-None.is c.in-Plan.ensures.asks in
-    cut_told c.refuse-in-Err-put_plan.result (RepliesTo g.P.Places.tells c.args.planner.now.effort c.args.line.now) c.args.round.now.book (g.O.Sink.taken c.args.out.now)
+    cut_told c.refuse-in-Err-put_plan.result (RepliesAndPlaces g.P.Places.tells c.args.planner.now.effort c.args.line.now (g.P.Places.placed c.args.planner.now.places) (g.P.Places.placed c.put_plan.new.planner.places)) c.args.round.now.book (g.O.Sink.taken c.args.out.now)
     (g.O.Sink.taken c.refuse-in-Err-put_plan.new.out) g.K.Keeper.reads_as (g.K.Keeper.may_leave c.args.round.now.keeper) (IsRefusalTold (refusal.Undone c.in-Err-put_plan.fault))
     (λ told is. (
       [],
       read _ c.requires c.in-Ok.ensures.spelled
           (refused _ (plan_due _ _ None _ _ _ _ _ asks c.in-Plan.ensures.edit c.in-Err-put_plan.ensures.explained) refl is refl),
+      λ known. c.in-Err-put_plan.ensures.same known ∙ sym (append-nil _),
     ))
-    (λ left now. g.K.Keeper.restarts c.args.round.now.keeper c.args.round.now.book left keeps stands now) (c.refuse-in-Err-put_plan.ensures.part tells)
+    (λ left now. g.K.Keeper.restarts c.args.round.now.keeper c.args.round.now.book left keeps stands now) (told_part c.refuse-in-Err-put_plan.result _ _ _ (IsRefusalTold (refusal.Undone c.in-Err-put_plan.fault)) refl (c.refuse-in-Err-put_plan.ensures.told tells))
 
 pub returns-in-Ok-write_page_file-clause-cut : goal.returns-in-Ok-write_page_file-clause-cut
 returns-in-Ok-write_page_file-clause-cut g c = λ keeps tells stands.
     let pages = c.args.round.now.book in
     let whole = rw c.pages.ensures.pages at (c.in-Ok-write_page_file.ensures.whole tells) in
-    cut_last c.tell_pages.result (RepliesTo g.P.Places.tells c.args.planner.now.effort c.args.line.now) pages (g.O.Sink.taken c.args.out.now) (g.O.Sink.taken c.write_page_file.new.sink)
+    cut_last c.tell_pages.result (RepliesAndPlaces g.P.Places.tells c.args.planner.now.effort c.args.line.now (g.P.Places.placed c.args.planner.now.places) (g.P.Places.placed c.args.planner.now.places)) pages (g.O.Sink.taken c.args.out.now) (g.O.Sink.taken c.write_page_file.new.sink)
     (g.O.Sink.taken c.tell_pages.new.out) (page_file pages) (pages_answer (length pages)) g.K.Keeper.reads_as (g.K.Keeper.may_leave c.args.round.now.keeper) whole
-    ([], read _ c.requires c.in-Ok.ensures.spelled (listed c.in-List.ensures.asks refl refl refl))
-    (λ left now. g.K.Keeper.restarts c.args.round.now.keeper c.args.round.now.book left keeps stands now) (c.tell_pages.ensures.part tells)
+    ([], read _ c.requires c.in-Ok.ensures.spelled (listed c.in-List.ensures.asks refl refl refl), λ known. sym (append-nil _))
+    (λ left now. g.K.Keeper.restarts c.args.round.now.keeper c.args.round.now.book left keeps stands now) ((c.tell_pages.ensures.told tells).1)
 
 pub returns-in-Err-OutOfMemory-clause-cut : goal.returns-in-Err-OutOfMemory-clause-cut
 returns-in-Err-OutOfMemory-clause-cut g c = λ keeps tells stands.
     let same : g.O.Sink.taken c.write_page_file.new.sink ≡ g.O.Sink.taken c.args.out.now =
     ap g.O.Sink.taken (c.write_page_file.ensures.untouched (c.in-Err-OutOfMemory.is ∙ ap Err c.in-Err-OutOfMemory.field-0-is)) in
-    cut_told c.refuse-in-Err-OutOfMemory.result (RepliesTo g.P.Places.tells c.args.planner.now.effort c.args.line.now) c.args.round.now.book (g.O.Sink.taken c.args.out.now)
+    cut_told c.refuse-in-Err-OutOfMemory.result (RepliesAndPlaces g.P.Places.tells c.args.planner.now.effort c.args.line.now (g.P.Places.placed c.args.planner.now.places) (g.P.Places.placed c.args.planner.now.places)) c.args.round.now.book (g.O.Sink.taken c.args.out.now)
     (g.O.Sink.taken c.refuse-in-Err-OutOfMemory.new.out) g.K.Keeper.reads_as (g.K.Keeper.may_leave c.args.round.now.keeper) (IsRefusalTold (refusal.Undone undone.OutOfMemory))
     (λ told is. (
       [],
       read _ c.requires c.in-Ok.ensures.spelled (refused _ (list_due _ _ _ c.in-List.ensures.asks c.in-List.ensures.edit) refl is refl),
+      λ known. sym (append-nil _),
     ))
-    (λ left now. g.K.Keeper.restarts c.args.round.now.keeper c.args.round.now.book left keeps stands now) (rw same at (c.refuse-in-Err-OutOfMemory.ensures.part tells))
+    (λ left now. g.K.Keeper.restarts c.args.round.now.keeper c.args.round.now.book left keeps stands now) (rw same at (told_part c.refuse-in-Err-OutOfMemory.result _ _ _ (IsRefusalTold (refusal.Undone undone.OutOfMemory)) refl (c.refuse-in-Err-OutOfMemory.ensures.told tells)))
 
 pub returns-in-List-clause-cut : goal.returns-in-List-clause-cut
 returns-in-List-clause-cut g c = λ keeps tells stands.
     let pages = c.args.round.now.book in
-    cut_front (RepliesTo g.P.Places.tells c.args.planner.now.effort c.args.line.now) pages (g.O.Sink.taken c.args.out.now) (g.O.Sink.taken c.write_page_file.new.sink)
+    cut_front (RepliesAndPlaces g.P.Places.tells c.args.planner.now.effort c.args.line.now (g.P.Places.placed c.args.planner.now.places) (g.P.Places.placed c.args.planner.now.places)) pages (g.O.Sink.taken c.args.out.now) (g.O.Sink.taken c.write_page_file.new.sink)
     (page_file pages) (pages_answer (length pages)) g.K.Keeper.reads_as (g.K.Keeper.may_leave c.args.round.now.keeper)
-    ([], read _ c.requires c.in-Ok.ensures.spelled (listed c.in-List.ensures.asks refl refl refl))
+    ([], read _ c.requires c.in-Ok.ensures.spelled (listed c.in-List.ensures.asks refl refl refl), λ known. sym (append-nil _))
     (λ left now. g.K.Keeper.restarts c.args.round.now.keeper c.args.round.now.book left keeps stands now)
     (rw c.pages.ensures.pages at (c.write_page_file.ensures.part tells (c.in-Err-WriteFault.is ∙ ap Err c.in-Err-WriteFault.field-0-is)))
 
 pub returns-in-Journal-clause-cut : goal.returns-in-Journal-clause-cut
 returns-in-Journal-clause-cut g c = λ keeps tells stands.
-    cut_due c.tell_pages-in-Journal.result (RepliesTo g.P.Places.tells c.args.planner.now.effort c.args.line.now) c.args.round.now.book (g.O.Sink.taken c.args.out.now)
+    cut_due c.tell_pages-in-Journal.result (RepliesAndPlaces g.P.Places.tells c.args.planner.now.effort c.args.line.now (g.P.Places.placed c.args.planner.now.places) (g.P.Places.placed c.args.planner.now.places)) c.args.round.now.book (g.O.Sink.taken c.args.out.now)
     (g.O.Sink.taken c.tell_pages-in-Journal.new.out) (pages_answer (length c.args.round.now.book)) g.K.Keeper.reads_as (g.K.Keeper.may_leave c.args.round.now.keeper)
-    ([], read _ c.requires c.in-Ok.ensures.spelled (noted c.in-Journal.ensures.asks refl refl refl))
-    (λ left now. g.K.Keeper.restarts c.args.round.now.keeper c.args.round.now.book left keeps stands now) (c.tell_pages-in-Journal.ensures.part tells)
+    ([], read _ c.requires c.in-Ok.ensures.spelled (noted c.in-Journal.ensures.asks refl refl refl), λ known. sym (append-nil _))
+    (λ left now. g.K.Keeper.restarts c.args.round.now.keeper c.args.round.now.book left keeps stands now) ((c.tell_pages-in-Journal.ensures.told tells).1)
 
 pub returns-clause-cut : goal.returns-clause-cut
 returns-clause-cut g c = λ keeps tells stands.
@@ -150,9 +156,9 @@ returns-clause-cut g c = λ keeps tells stands.
     other_none c.line_of.result _ c.in_default.not-List c.in_default.not-Plan c.in_default.not-Journal c.line_of.ensures.asks in
     on_err c.answer_edit.result _ _
     (cut_as (IsEditReply (fields_of c.in-Ok.row))
-    (RepliesTo g.P.Places.tells c.args.planner.now.effort c.args.line.now) c.args.round.now.book (g.O.Sink.taken c.args.out.now) (g.O.Sink.taken c.answer_edit.new.out) g.K.Keeper.reads_as
+    (RepliesAndPlaces g.P.Places.tells c.args.planner.now.effort c.args.line.now (g.P.Places.placed c.args.planner.now.places) (g.P.Places.placed c.args.planner.now.places)) c.args.round.now.book (g.O.Sink.taken c.args.out.now) (g.O.Sink.taken c.answer_edit.new.out) g.K.Keeper.reads_as
     (g.K.Keeper.may_leave c.answer_edit.new.round.keeper)
-    (λ after told is. ([], read _ c.requires c.in-Ok.ensures.spelled (edit_reply _ _ _ _ _ _ neither is))))
+    (λ after told is. ([], read _ c.requires c.in-Ok.ensures.spelled (edit_reply _ _ _ _ _ _ neither is), λ known. sym (append-nil _))))
     (c.answer_edit.ensures.cut keeps tells stands)
 
 pub returns-in-Plan-clause-replied : goal.returns-in-Plan-clause-replied
@@ -166,12 +172,14 @@ pub returns-in-Plan-clause-cut : goal.returns-in-Plan-clause-cut
 returns-in-Plan-clause-cut g c = λ keeps tells stands.
     let asks = subst (λ (most : Option ℕ). AsksPlan c.in-Plan.end most c.in-Plan.tx.now c.in-Plan.cert.now (fields_of c.in-Ok.row)) c.in-Some.is c.in-Plan.ensures.asks in
     on_err c.answer_front.result _ _
-    (cut_as (FrontRepliesTo g.P.Places.tells c.args.planner.now.effort c.in-Plan.end c.in-Some.batches c.in-Plan.tx.now c.in-Plan.cert.now)
-    (RepliesTo g.P.Places.tells c.args.planner.now.effort c.args.line.now) c.args.round.now.book (g.O.Sink.taken c.args.out.now) (g.O.Sink.taken c.answer_front.new.out) g.K.Keeper.reads_as
+    (cut_as (FrontRepliesAndPlaces g.P.Places.tells c.args.planner.now.effort c.in-Plan.end c.in-Some.batches c.in-Plan.tx.now c.in-Plan.cert.now
+    (g.P.Places.placed c.args.planner.now.places) (g.P.Places.placed c.answer_front.new.planner.places))
+    (RepliesAndPlaces g.P.Places.tells c.args.planner.now.effort c.args.line.now (g.P.Places.placed c.args.planner.now.places) (g.P.Places.placed c.answer_front.new.planner.places)) c.args.round.now.book (g.O.Sink.taken c.args.out.now) (g.O.Sink.taken c.answer_front.new.out) g.K.Keeper.reads_as
     (g.K.Keeper.may_leave c.answer_front.new.round.keeper)
     (λ after told is. (
       is.0,
       read _ c.requires c.in-Ok.ensures.spelled (front_reply _ _ _ _ _ _ _ _ _ _ _ asks c.in-Plan.ensures.edit is.1),
+      is.2,
     )))
     (c.answer_front.ensures.cut keeps tells stands)
 
@@ -253,3 +261,10 @@ returns-in-Journal-clause-any_moment g c = λ keeps stands.
     inl
     (g.K.Keeper.restarts c.args.round.now.keeper c.args.round.now.book left keeps stands
     (g.K.Keeper.only_now c.args.round.now.keeper left keeps since)))
+
+pub returns-clause-explained : goal.returns-clause-explained
+returns-clause-explained g c = λ counts stands none.
+    let line : IsLine (fields_of c.in-Ok.row) = read_line (fields_of c.in-Ok.row) _ c.in-Ok.ensures.spelled (text_feedless c.args.line.now none) in
+    for_fault c.answer_edit.result _ _
+    (λ e h. not_answered _ _ _ _ (fields_of c.in-Ok.row) _ _ _ _ e line h)
+    (c.answer_edit.ensures.explained counts stands)

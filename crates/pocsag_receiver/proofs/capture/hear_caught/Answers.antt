@@ -16,10 +16,15 @@ returns-in-Ok-clause-listed g c = λ tells.
 pub returns-in-Ok-clause-sent : goal.returns-in-Ok-clause-sent
 returns-in-Ok-clause-sent g c = λ tells pages sent.
     let X = c.in_ok-bytes.field-0.bytes.items in
-    hears_as_sent c.args.listening.now.address X c.as_slice.result.now pages _ _
-    (λ qs shown. c.caught_pages_are_shown.ensures.shown (words_of (after_preamble X)) c.args.listening.now.address pages qs
-    (c.caught_pages_are_shown.ensures.readings X pages (c.in_ok-bytes.ensures.sent pages sent)) shown)
-    c.as_slice.ensures.value (c.in-Ok.ensures.listed tells)
+    let held = c.in_ok-bytes.ensures.sent pages sent in
+    record {
+      pages = held.pages;
+      among = held.among;
+      listed = hears_as_sent c.args.listening.now.address X c.as_slice.result.now held.pages _ _
+          (λ qs shown. c.caught_pages_are_shown.ensures.shown (words_of (after_preamble X)) c.args.listening.now.address held.pages qs
+          (c.caught_pages_are_shown.ensures.readings X held.pages held.reads) shown)
+          c.as_slice.ensures.value (c.in-Ok.ensures.listed tells);
+    }
 
 pub returns-clause-part : goal.returns-clause-part
 returns-clause-part g c = λ tells is.

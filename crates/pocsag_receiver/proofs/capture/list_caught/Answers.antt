@@ -11,9 +11,14 @@ returns-in-Ok-clause-listed g c = λ tells.
 
 pub returns-in-Ok-clause-sent : goal.returns-in-Ok-clause-sent
 returns-in-Ok-clause-sent g c = λ tells pages sent.
-    listed_as_sent c.in_ok-bytes.field-0.bytes.items c.as_slice.result.now pages _ _
-    (λ qs h. c.readings_of_bytes_are_one.ensures c.in_ok-bytes.field-0.bytes.items qs pages h (c.in_ok-bytes.ensures.sent pages sent))
-    c.as_slice.ensures.value (c.in-Ok.ensures.listed tells)
+    let held = c.in_ok-bytes.ensures.sent pages sent in
+    record {
+      pages = held.pages;
+      among = held.among;
+      listed = listed_as_sent c.in_ok-bytes.field-0.bytes.items c.as_slice.result.now held.pages _ _
+          (λ qs h. c.readings_of_bytes_are_one.ensures c.in_ok-bytes.field-0.bytes.items qs held.pages h held.reads)
+          c.as_slice.ensures.value (c.in-Ok.ensures.listed tells);
+    }
 
 pub returns-clause-part : goal.returns-clause-part
 returns-clause-part g c = λ tells is.

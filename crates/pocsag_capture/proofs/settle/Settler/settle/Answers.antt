@@ -1,18 +1,34 @@
 use Rattle.std.proofs.Common.{ℕ, ◌+◌, bit_xor, count_ones, None, Some, refl, sym, ◌∙◌, ap, arith}
 use Rattle.pocsag_words.proofs.KindLemmas.{IsCodeword-idle}
-use Rattle.pocsag_capture.proofs.Settled.{settled_orphan, stays_as}
+use Rattle.pocsag_capture.specs.declared.settle.Settler.{Settler}
+use Rattle.pocsag_capture.proofs.Settled.{cut_closed, cut_open, settled_orphan, stays_as}
 use Rattle.pocsag_capture.proofs.settle.Settler.settle.Goals as goal
+use Rattle.pocsag_capture.proofs.settle.Settler.settle.Goals.{then-self, else-self}
 
 pub returns-in_default : goal.returns-in_default
-returns-in_default c = record {
-  mended = None;
-  is_mended = c.in_default.ensures;
-  is_codeword = IsCodeword-idle;
-  kind = refl;
-  open_after = refl;
-  bits = omega arith;
-  beyond = refl;
-}
+returns-in_default c =
+    elim c.if-self.branch [
+      | then-self w ↦ record {
+        mended = None;
+        is_mended = c.in_default.ensures;
+        is_codeword = IsCodeword-idle;
+        kind = refl;
+        open_after = refl;
+        bits = ap (λ (s : Settler). s.corrected) w.self-is ∙ omega arith;
+        beyond = ap (λ (s : Settler). s.lost) w.self-is;
+        cuts = ap (λ (s : Settler). s.cut) w.self-is ∙ cut_open c.args.self.now.is_open c.args.self.now.cut (cc);
+      }
+      | else-self w ↦ record {
+        mended = None;
+        is_mended = c.in_default.ensures;
+        is_codeword = IsCodeword-idle;
+        kind = refl;
+        open_after = refl;
+        bits = ap (λ (s : Settler). s.corrected) w.self-is ∙ omega arith;
+        beyond = ap (λ (s : Settler). s.lost) w.self-is;
+        cuts = ap (λ (s : Settler). s.cut) w.self-is ∙ cut_closed c.args.self.now.is_open c.args.self.now.cut (cc);
+      }
+    ]
 
 pub returns-then-not-self : goal.returns-then-not-self
 returns-then-not-self c = record {
@@ -24,4 +40,5 @@ returns-then-not-self c = record {
   bits = ap (λ (n : ℕ). c.args.self.now.corrected + n)
       (c.from.ensures ∙ ap (λ (n : ℕ). count_ones (bit_xor n c.args.word)) c.raw-number.ensures.same);
   beyond = omega arith;
+  cuts = omega arith;
 }

@@ -15,7 +15,7 @@ pub returns-then-not-is_one_line-clause-any_moment : goal.returns-then-not-is_on
 returns-then-not-is_one_line-clause-any_moment g c = λ tells before after held edit.
     on_journal g.D.Disk.moment g.D.Disk.left_since g.D.Disk.held g.D.Disk.may_leave _ _ _
     (unwritten g.D.Disk.moment g.D.Disk.left_since g.D.Disk.held g.D.Disk.may_leave c.args.self.now before (ReadsAsEither RestartsAs before after)
-    (λ left since. g.D.Disk.only_now c.args.self.now.disk left tells since) (held tells) (λ left is. inl is))
+    (λ left since. g.D.Disk.only_now c.args.self.now.disk left tells since) ((held tells).0) (λ left is. inl is))
 
 pub returns-in_default-clause-any_moment : goal.returns-in_default-clause-any_moment
 returns-in_default-clause-any_moment g c = λ tells before after held edit.
@@ -24,11 +24,11 @@ returns-in_default-clause-any_moment g c = λ tells before after held edit.
     let whole : IsWholeLine line =
     subst IsWholeLine (c.as_slice.ensures.value ∙ sym c.as_slice-2.ensures.value) (c.is_one_line.ensures.0 c.if-not-is_one_line.false) in
     let fits = fits_behind (g.D.Disk.held c.args.self.now.disk) line c.args.self.now.sizes.len c.len.result c.saturating_add-len.result
-    (held tells).counted.all (c.len.ensures ∙ c.in_ok-line.line.ok.0 ∙ ap length (sym c.as_slice-2.ensures.value)) c.saturating_add-len.ensures
+    ((held tells).0).counted.all (c.len.ensures ∙ c.in_ok-line.line.ok.0 ∙ ap length (sym c.as_slice-2.ensures.value)) c.saturating_add-len.ensures
     c.if-len-gt-JOURNAL_LIMIT.false in
     on_journal g.D.Disk.moment g.D.Disk.left_since g.D.Disk.held g.D.Disk.may_leave _ _ _
     (written g.D.Disk.moment g.D.Disk.left_since g.D.Disk.held g.D.Disk.may_leave c.args.self.now line (fields_of c.args.row.now) before after
-    c.append.new.self (λ left since. g.D.Disk.only_now c.args.self.now.disk left tells since) (held tells) text whole edit fits
+    c.append.new.self (λ left since. g.D.Disk.only_now c.args.self.now.disk left tells since) ((held tells).0) text whole edit fits
     (c.append.ensures.crash tells) (c.append.ensures.time tells))
 
 pub returns-in_default-sync-clause-any_moment : goal.returns-in_default-sync-clause-any_moment
@@ -38,17 +38,17 @@ returns-in_default-sync-clause-any_moment g c = λ tells before after held edit.
     let whole : IsWholeLine line =
     subst IsWholeLine (c.as_slice.ensures.value ∙ sym c.as_slice-2.ensures.value) (c.is_one_line.ensures.0 c.if-not-is_one_line.false) in
     let fits = fits_behind (g.D.Disk.held c.args.self.now.disk) line c.args.self.now.sizes.len c.len.result c.saturating_add-len.result
-    (held tells).counted.all (c.len.ensures ∙ c.in_ok-line.line.ok.0 ∙ ap length (sym c.as_slice-2.ensures.value)) c.saturating_add-len.ensures
+    ((held tells).0).counted.all (c.len.ensures ∙ c.in_ok-line.line.ok.0 ∙ ap length (sym c.as_slice-2.ensures.value)) c.saturating_add-len.ensures
     c.if-len-gt-JOURNAL_LIMIT.false in
     let appended =
     written g.D.Disk.moment g.D.Disk.left_since g.D.Disk.held g.D.Disk.may_leave c.args.self.now line (fields_of c.args.row.now) before after
-    c.append.new.self (λ left since. g.D.Disk.only_now c.args.self.now.disk left tells since) (held tells) text whole edit fits
+    c.append.new.self (λ left since. g.D.Disk.only_now c.args.self.now.disk left tells since) ((held tells).0) text whole edit fits
     (c.append.ensures.crash tells) (c.append.ensures.time tells) in
     on_journal g.D.Disk.moment g.D.Disk.left_since g.D.Disk.held g.D.Disk.may_leave _ _ _
     (goes_on g.D.Disk.moment g.D.Disk.left_since _ _ c.sync.new.self _ (g.D.Disk.may_leave c.sync.new.self) appended (c.sync.ensures.time tells)
     (λ left now.
     torn_left g.D.Disk.moment g.D.Disk.left_since g.D.Disk.held g.D.Disk.may_leave c.args.self.now line (fields_of c.args.row.now) before after
-    c.append.new.self (held tells) text whole edit fits (c.append.ensures.crash tells) left (c.sync.ensures.crash tells left now)))
+    c.append.new.self ((held tells).0) text whole edit fits (c.append.ensures.crash tells) left (c.sync.ensures.crash tells left now)))
 
 pub returns-clause-any_moment : goal.returns-clause-any_moment
 returns-clause-any_moment g c = λ tells before after held edit.
@@ -57,17 +57,17 @@ returns-clause-any_moment g c = λ tells before after held edit.
     let whole : IsWholeLine line =
     subst IsWholeLine (c.as_slice.ensures.value ∙ sym c.as_slice-2.ensures.value) (c.is_one_line.ensures.0 c.if-not-is_one_line.false) in
     let fits = fits_behind (g.D.Disk.held c.args.self.now.disk) line c.args.self.now.sizes.len c.len.result c.saturating_add-len.result
-    (held tells).counted.all (c.len.ensures ∙ c.in_ok-line.line.ok.0 ∙ ap length (sym c.as_slice-2.ensures.value)) c.saturating_add-len.ensures
+    ((held tells).0).counted.all (c.len.ensures ∙ c.in_ok-line.line.ok.0 ∙ ap length (sym c.as_slice-2.ensures.value)) c.saturating_add-len.ensures
     c.if-len-gt-JOURNAL_LIMIT.false in
     let appended =
     written g.D.Disk.moment g.D.Disk.left_since g.D.Disk.held g.D.Disk.may_leave c.args.self.now line (fields_of c.args.row.now) before after
-    c.append.new.self (λ left since. g.D.Disk.only_now c.args.self.now.disk left tells since) (held tells) text whole edit fits
+    c.append.new.self (λ left since. g.D.Disk.only_now c.args.self.now.disk left tells since) ((held tells).0) text whole edit fits
     (c.append.ensures.crash tells) (c.append.ensures.time tells) in
     on_journal g.D.Disk.moment g.D.Disk.left_since g.D.Disk.held g.D.Disk.may_leave _ _ _
     (goes_on g.D.Disk.moment g.D.Disk.left_since _ _ c.sync.new.self _ (g.D.Disk.may_leave c.sync.new.self) appended (c.sync.ensures.time tells)
     (λ left now.
     torn_left g.D.Disk.moment g.D.Disk.left_since g.D.Disk.held g.D.Disk.may_leave c.args.self.now line (fields_of c.args.row.now) before after
-    c.append.new.self (held tells) text whole edit fits (c.append.ensures.crash tells) left (c.sync.ensures.crash tells left now)))
+    c.append.new.self ((held tells).0) text whole edit fits (c.append.ensures.crash tells) left (c.sync.ensures.crash tells left now)))
 
 pub returns-clause-stands : goal.returns-clause-stands
 returns-clause-stands g c = λ before after held edit tells.
@@ -75,15 +75,17 @@ returns-clause-stands g c = λ before after held edit tells.
     let later = g.D.Disk.held c.sync.new.self in
     let grown : later ≡ text ++ c.in_ok-line.line.items =
     c.sync.ensures.same tells ∙ (c.in-Ok.ensures.delivers tells).0 ∙ ap (λ (t : List ℕ). text ++ t) c.as_slice-2.ensures.value in
-    let sum = sum_is text c.in_ok-line.line.items later c.args.self.now.sizes.len c.len.result c.saturating_add-len.result (held tells).counted.all
-    (c.len.ensures ∙ c.in_ok-line.line.ok.0) c.saturating_add-len.ensures c.if-len-gt-JOURNAL_LIMIT.false grown in
-    record {
-      stands = stands_on text later (fields_of c.args.row.now) before after (held tells).stands
-          (subst IsWholeLine (c.as_slice.ensures.value ∙ c.in_ok-line.ensures) (c.is_one_line.ensures.0 c.if-not-is_one_line.false)) edit
-          (grown ∙ ap (λ (t : List ℕ). text ++ t) c.in_ok-line.ensures);
-      counted = record {
-        all = sum;
-        readable = subst (λ (n : ℕ). n ≤ journal_limit) sum c.if-len-gt-JOURNAL_LIMIT.false;
-      };
-      safe = c.in-Ok-sync.ensures.safe tells;
-    }
+    let sum = sum_is text c.in_ok-line.line.items later c.args.self.now.sizes.len c.len.result c.saturating_add-len.result ((held tells).0).counted.all
+    (c.len.ensures ∙ c.in_ok-line.line.ok.0) c.saturating_add-len.ensures c.if-len-gt-JOURNAL_LIMIT.false grown in (
+      record {
+        stands = stands_on text later (fields_of c.args.row.now) before after ((held tells).0).stands
+            (subst IsWholeLine (c.as_slice.ensures.value ∙ c.in_ok-line.ensures) (c.is_one_line.ensures.0 c.if-not-is_one_line.false)) edit
+            (grown ∙ ap (λ (t : List ℕ). text ++ t) c.in_ok-line.ensures);
+        counted = record {
+          all = sum;
+          readable = subst (λ (n : ℕ). n ≤ journal_limit) sum c.if-len-gt-JOURNAL_LIMIT.false;
+        };
+        safe = c.in-Ok-sync.ensures.safe tells (c.append.ensures.sound tells (held tells).1);
+      },
+      c.in-Ok-sync.ensures.sound tells (c.append.ensures.sound tells (held tells).1),
+    )

@@ -8,7 +8,7 @@ use Rattle.pocsag_journal.proofs.journal.JournalKeeper.settle.Goals as goal
 
 pub returns-then-len-saturating_mul-clause-settled : goal.returns-then-len-saturating_mul-clause-settled
 returns-then-len-saturating_mul-clause-settled g c = λ tells held.
-    let all = (held tells).counted.all in
+    let all = (held tells).0.counted.all in
     small c.in-Ok.text.items
     (subst (λ (n : ℕ). IsDue c.args.self.now.sizes.counted n) all (c.is_due.ensures.0 c.if-not-is_due.false))
     (subst (λ (ps : List Page). ListsPages c.in-Ok.text.items ps) c.pages.ensures.pages c.in-Ok.ensures.listed)

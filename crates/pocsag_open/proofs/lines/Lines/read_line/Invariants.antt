@@ -4,10 +4,10 @@ use Rattle.pocsag_open.specs.Lines.{IsSeen, between_places, line_limit}
 use Rattle.pocsag_open.proofs.lines.Lines.read_line.Given as goal
 
 -- the source has not failed, and what was seen of the line and what is left are what was there
-abbrev pub invariant-loop : goal.invariant-loop
-invariant-loop g l = record {
+abbrev pub invariant-loop-seen : goal.invariant-loop-seen
+invariant-loop-seen g l = record {
   unfailed : g.S.Source.failures l.source ≡ g.S.Source.failures l.initial.source;
   short : length l.self.line.items ≤ line_limit;
   seen : g.S.Source.tells → (seen : List ℕ) × HasNoLineFeed seen × IsSeen l.found seen l.self.line.items
-      × (between_places l.fn.self.piece l.fn.self.start l.fn.self.end ++ g.S.Source.held l.fn.source ≡ seen ++ (between_places l.self.piece l.self.start l.self.end ++ g.S.Source.held l.source));
+      × (between_places l.fn.self.piece l.fn.self.start l.fn.self.end ++ g.S.Source.held l.fn.source ≡ seen ++ (between_places l.self.piece l.self.start l.self.end ++ g.S.Source.held l.source)) × (length seen ≡ l._seen);
 }

@@ -1,0 +1,52 @@
+ghost use Rattle.std.specs.Prelude.{◌≡◌, ◌≢◌, ◌↔◌, None, Some, min};
+ghost use Rattle.pocsag_pages.specs.Quotes.{first_misplaced};
+ghost use Rattle.pocsag_c.specs.Answers.{TellsFault};
+ghost use Rattle.pocsag_c.specs.Statuses.{IsOfBytes, nowhere, quote_refusal, at_record_and_line};
+
+use crate::refusal::{NOWHERE, Place, StatusAt};
+use pocsag_pages::{QuoteFault, quote_fault};
+
+// A refusal for a record and a line. A number that is greater than those that are told is told as the greatest of them.
+fn of_line(status: u32, number: usize, line: usize) -> StatusAt
+    ensures { result ≡ at_record_and_line status number line }
+{
+    StatusAt {
+        status,
+        place: Place {
+            record_number: number.min(u32::MAX as usize) as u32,
+            at: line as u64,
+            ..NOWHERE
+        },
+    }
+}
+
+fn refused_quote(fault: QuoteFault) -> StatusAt
+    ensures value { result ≡ quote_refusal fault }
+    ensures refusing { result.status ≢ 0 }
+    ensures of_bytes { IsOfBytes result.status }
+{
+    match fault {
+        QuoteFault::Unclosed { number, line } => of_line(41, number, line),
+        QuoteFault::Inside { number, line } => of_line(42, number, line),
+        QuoteFault::Followed { number, line } => of_line(43, number, line),
+    }
+}
+
+/// Whether each quote of a page file stands as CSV has it: 0, or the fault of the first that does not, with its record and its
+/// line.
+#[unsafe(no_mangle)]
+pub extern "C" fn pocsag_strict(pages: &[u8], place: &mut Place) -> u32
+    ensures strict { result ≡ 0 ↔ first_misplaced pages.now ≡ None }
+    ensures fault { result ≢ 0 →
+        TellsFault quote_refusal (λ quote. first_misplaced pages.now ≡ Some quote) result place.new }
+    ensures placeless { result ≡ 0 → place.new ≡ nowhere }
+    ensures of_bytes { IsOfBytes result }
+{
+    *place = NOWHERE;
+    let Some(quote) = quote_fault(pages) else {
+        return 0;
+    };
+    let refusal = refused_quote(quote);
+    *place = refusal.place;
+    refusal.status
+}

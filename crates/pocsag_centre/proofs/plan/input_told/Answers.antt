@@ -1,6 +1,0 @@
-use Rattle.pocsag_centre.proofs.Plans.{told_plan}
-use Rattle.pocsag_centre.proofs.plan.input_told.Goals as goal
-
-pub returns-in-Ok-tell_plan-clause-told : goal.returns-in-Ok-tell_plan-clause-told
-returns-in-Ok-tell_plan-clause-told g c = λ t u.
-    told_plan _ c.in-Ok.found.round c.in-Ok.found.bounded (c.in-Ok.ensures.read t) c.in-Ok.ensures.plan _ _ (c.in-Ok-tell_plan.ensures.told u)

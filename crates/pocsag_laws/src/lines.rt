@@ -1,0 +1,12 @@
+ghost use Rattle.std.specs.Prelude.{◌≡◌, ◌^◌, ◌<◌, Bool, List, Some};
+ghost use Rattle.json.specs.Json.{document};
+ghost use Rattle.json.specs.Print.{print};
+ghost use Rattle.json.specs.Tree.{json_tokens};
+ghost use Rattle.pocsag_pages.specs.declared.page.Page.{Page};
+ghost use Rattle.pocsag_receiver.specs.Forms.{page_object};
+
+/// What a reader of JSON finds in the line of a page is the page's object, with its address, function, kind and message.
+pub fn json_lines_are_read_back()
+    ensures { (texts : List Bool) (p : Page) → p.address < 2 ^ 32 → p.function < 4 →
+        document (print (json_tokens (page_object texts p))) ≡ Some (page_object texts p) }
+{}

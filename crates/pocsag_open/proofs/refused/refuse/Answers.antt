@@ -1,0 +1,14 @@
+use Rattle.std.proofs.Common.{◌≡◌, rules, sym, subst}
+use Rattle.pocsag_pages.specs.declared.fault.FieldFault.TheVariants as field
+use Rattle.pocsag_journal.specs.declared.refusal.Refusal.{Refusal}
+use Rattle.pocsag_journal.specs.declared.refusal.Refusal.TheVariants as refusal
+use Rattle.pocsag_words.specs.Devices.{Delivers}
+use Rattle.pocsag_open.specs.Answers.{refusal_answer}
+use Rattle.pocsag_open.proofs.refused.refuse.Goals as goal
+
+pub returns-in-Field-BadCharacter-clause-told : goal.returns-in-Field-BadCharacter-clause-told
+returns-in-Field-BadCharacter-clause-told g c = λ tells.
+    let same : c.args.refusal ≡ refusal.Field (field.BadCharacter c.in-Field-BadCharacter.place) =
+    search rules in
+    subst (λ (r : Refusal). Delivers c.tell_numbers.result (g.O.Sink.taken c.args.out.now) (g.O.Sink.taken c.tell_numbers.new.sink) (refusal_answer r))
+    (sym same) (c.tell_numbers.ensures.delivers tells)

@@ -1,0 +1,140 @@
+//! A round that a journal keeps, from its start on.
+ghost use Rattle.std.specs.Prelude.{◌≡◌, ◌≤◌, ◌⊎◌, ℕ, List, length, IfErr, IfOk, None, OnOk, option_map};
+ghost use Rattle.pocsag_words.specs.Devices.{HasFailed};
+ghost use Rattle.pocsag_pages.specs.declared.page.Page.{Page};
+ghost use Rattle.pocsag_journal.specs.Journals.{Replays, journal_limit};
+ghost use Rattle.pocsag_journal.specs.Moments.{LeavesOnly};
+ghost use Rattle.pocsag_journal.specs.Views.{disk_of};
+ghost use Rattle.pocsag_open.specs.Ends.{AreCountless, ExplainsEnd, HasGivenUp};
+ghost use Rattle.pocsag_open.specs.KeptRounds.{ExplainsKept, HasFileFailed, IsBeginning, IsKeptRound, ReadsKept};
+ghost use Rattle.pocsag_open.specs.Replies.{IsSession, TellsAndPlaces};
+
+use crate::answer::OpenRound;
+use crate::fault::OpenFault;
+use crate::outputs::Places;
+use crate::session::{Planner, book_of, run_open_kept};
+use pocsag_journal::{Disk, Journal, Replayed};
+use pocsag_plan::Book;
+use pocsag_shell::tell;
+use pocsag_words::{Sink, Source};
+use std::alloc::Global;
+
+/// What a kept round reads and writes beside its journal.
+#[derive(Drop)]
+pub struct KeptStreams<F: Source + Drop, I: Source + Drop, O: Sink + Drop, E: Sink + Drop> {
+    /// The page file that it begins with, if there is one.
+    pub pages: Option<F>,
+    /// Its lines.
+    pub input: I,
+    /// The answers to these.
+    pub out: O,
+    /// Where it tells what was read of the journal.
+    pub err: E,
+}
+
+/// `open --journal`: reads the journal of a round, or its page file where the journal holds no edit, writes the journal anew,
+/// and answers the lines of the input up to its end, each edit once it is kept. The book of the round is not looked at.
+pub fn open_kept<
+    P: Places + Drop,
+    D: Disk + Drop,
+    F: Source + Drop,
+    I: Source + Drop,
+    O: Sink + Drop,
+    E: Sink + Drop,
+>(
+    alloc: Global,
+    planner: &mut Planner<P>,
+    round: &mut OpenRound<Journal<D>>,
+    streams: &mut KeptStreams<F, I, O, E>,
+) -> Result<(), OpenFault>
+    // What is told are the replies to the lines of the input, one by one, from the beginning on; and what is placed are the
+    // outputs of the plans that they tell.
+    ensures session { D.tells → F.tells → I.tells → O.tells → OnOk result ((before : List Page) ×
+        IsBeginning (D.held (disk_of round.old.keeper)) (option_map F.held streams.old.pages) before ×
+        TellsAndPlaces P.tells (O.taken streams.old.out) (O.taken streams.new.out)
+        (P.placed planner.old.places) (P.placed planner.new.places)
+        (IsSession P.tells planner.old.effort (I.held streams.old.input) before round.new.book)) }
+
+    // However it ends, whatever a crash leaves then is read as the pages after the lines that were answered, or as those after
+    // one line more; or no line was answered, and it might have been left before, or is read as the beginning.
+    ensures survives { D.tells → F.tells → I.tells → O.tells →
+        IsKeptRound P.tells planner.old.effort (I.held streams.old.input)
+        (D.held (disk_of round.old.keeper)) (option_map F.held streams.old.pages)
+        (O.taken streams.old.out) (O.taken streams.new.out) (P.placed planner.old.places) (P.placed planner.new.places)
+        (D.may_leave (disk_of round.old.keeper)) (D.may_leave (disk_of round.new.keeper)) }
+
+    // What a crash leaves at any moment of it, while it starts and while the journal is written anew too, might have been left
+    // before, or is read as the pages after some of the first lines.
+    ensures any_moment { D.tells → F.tells → I.tells → O.tells →
+        LeavesOnly D.moment D.left_since (disk_of round.old.keeper) (disk_of round.new.keeper)
+        (ReadsKept P.tells planner.old.effort (I.held streams.old.input)
+        (D.held (disk_of round.old.keeper)) (option_map F.held streams.old.pages)
+        (D.may_leave (disk_of round.old.keeper))) }
+
+    // Why it does not begin, or ends before its input.
+    ensures explained { D.tells → F.tells → I.tells → IfErr result (ExplainsKept
+        (D.held (disk_of round.old.keeper)) (option_map F.held streams.old.pages)
+        (HasFileFailed (option_map F.failures streams.old.pages) (option_map F.failures streams.new.pages))
+        (ExplainsEnd
+        (HasFailed (D.failures (disk_of round.old.keeper)) (D.failures (disk_of round.new.keeper))
+        ⊎ HasFailed (I.failures streams.old.input) (I.failures streams.new.input)
+        ⊎ AreCountless (I.held streams.old.input))
+        (HasFailed (O.failures streams.old.out) (O.failures streams.new.out))
+        (HasGivenUp journal_limit (D.held (disk_of round.new.keeper))
+        (D.failures (disk_of round.old.keeper)) (D.failures (disk_of round.new.keeper))))) }
+
+    // No output that a plan made is left over, whatever is answered.
+    ensures none_left { P.tells → P.made_for planner.old.places ≡ None → P.made_for planner.new.places ≡ None }
+{
+    let replayed = round.keeper.read(alloc)?;
+    let (edits, torn) = (replayed.edits, replayed.torn);
+    round.book = first_book(alloc, replayed, &mut streams.pages)?;
+    round.keeper.write_anew(alloc, &round.book)?;
+    tell_read(&mut streams.err, torn, "cut off", edits, round.book.len());
+    match run_open_kept(alloc, planner, round, &mut streams.input, &mut streams.out) {
+        Ok(()) => Ok(()),
+        Err(fault) => Err(OpenFault::File(fault)),
+    }
+}
+
+// The pages with which a round begins: those of its journal, or of its page file.
+fn first_book<F: Source>(
+    alloc: Global,
+    replayed: Replayed,
+    pages: &mut Option<F>,
+) -> Result<Book, OpenFault>
+    ensures begins { F.tells → IfOk result (λ book. (bytes : List ℕ) →
+        Replays bytes replayed.edits replayed.torn replayed.book → length bytes ≤ journal_limit →
+        IsBeginning bytes (option_map F.held pages.old) book) }
+    ensures explained { F.tells → IfErr result (λ e. (bytes : List ℕ) →
+        Replays bytes replayed.edits replayed.torn replayed.book →
+        ExplainsKept bytes (option_map F.held pages.old)
+        (HasFileFailed (option_map F.failures pages.old) (option_map F.failures pages.new)) (ExplainsEnd ⊥ ⊥ ⊥) e) }
+{
+    match pages {
+        None => Ok(replayed.book),
+        Some(_) if replayed.edits > 0 => Err(OpenFault::HoldsEdits),
+        Some(pages) => book_of(alloc, pages),
+    }
+}
+
+/// Tells what was read of a journal, and what became of a torn line. That it cannot be told changes nothing.
+pub(crate) fn tell_read<E: Sink>(err: &mut E, torn: usize, fate: &str, edits: usize, pages: usize) {
+    if torn > 0 {
+        let ending = ending(torn);
+        let _ = tell(
+            err,
+            format_args!("pocsag: a torn line of {torn} byte{ending} is {fate}\n"),
+        );
+    }
+    let (of_edits, of_pages) = (ending(edits), ending(pages));
+    let _ = tell(
+        err,
+        format_args!("pocsag: {edits} edit{of_edits} read, {pages} page{of_pages}\n"),
+    );
+}
+
+// The ending of so many: `1 page`, `2 pages`.
+fn ending(count: usize) -> &'static str {
+    if count == 1 { "" } else { "s" }
+}

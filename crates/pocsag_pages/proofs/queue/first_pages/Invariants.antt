@@ -1,0 +1,10 @@
+use Rattle.std.proofs.Common.{◌≡◌, ◌++◌, ◌≤◌, drop, length}
+use Rattle.pocsag_pages.specs.Queues.{firsts, firsts_after}
+use Rattle.pocsag_pages.proofs.queue.first_pages.Given as goal
+
+-- the pages so far, and the first pages of the other addresses
+abbrev pub invariant-loop-page : goal.invariant-loop-page
+invariant-loop-page l = record {
+  few : length l.draft ≤ l.page-index;
+  rest : firsts l.queue ≡ l.draft ++ firsts_after l.draft (drop l.page-index l.queue);
+}

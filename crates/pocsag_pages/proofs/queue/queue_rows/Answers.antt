@@ -1,0 +1,56 @@
+use Rattle.std.proofs.Common.{◌≡◌, ◌∙◌, ◌+◌, ◌∷◌, [], ◌++◌, length, inl, inr, refl, sym, ap, arith, rules}
+use Rattle.std.proofs.lemmas.List.{length-append}
+use Rattle.std.proofs.lemmas.List.Elements.{All-nil, All-push}
+use Rattle.std.specs.Prelude.{Err, None, Ok}
+use Rattle.pocsag_pages.specs.PageFile.{fault_after}
+use Rattle.pocsag_pages.specs.Pages.{page_fault_of}
+use Rattle.pocsag_pages.proofs.QueueRows.{queue_judged, queued, queued_end, queued_fault, queued_on, no_queue, queue_room, some_queue}
+use Rattle.pocsag_pages.proofs.queue.queue_rows.Goals as goal
+
+pub loop-pages-init : goal.loop-pages-init
+loop-pages-init c = rw c.new-pages.ensures.items (record {
+  few = omega arith;
+  each = All-nil _;
+  rest = queue_judged _;
+})
+
+pub returns-then-is_empty-clause-err : goal.returns-then-is_empty-clause-err
+returns-then-is_empty-clause-err c =
+    let over = c.loop-pages.invariant.rest ∙ rw (c.in_ok-found.ensures.none c.if-not-found.true) (queued_end c.loop-pages.pages.items (length c.loop-pages.pages.items)) in
+    let none : length c.loop-pages.pages.items ≡ 0 = search rules in
+    inr (over ∙ no_queue c.loop-pages.pages.items none)
+
+pub returns-then-not-found-clause-ok : goal.returns-then-not-found-clause-ok
+returns-then-not-found-clause-ok c =
+    let over = c.loop-pages.invariant.rest ∙ rw (c.in_ok-found.ensures.none c.if-not-found.true) (queued_end c.loop-pages.pages.items _) in
+    over ∙ some_queue c.loop-pages.pages.items (search rules)
+
+pub returns-in-Err-clause-err : goal.returns-in-Err-clause-err
+returns-in-Err-clause-err c =
+    let long : c.len.result ≡ length c.loop-pages.pages.items = search rules in
+    elim c.in-Err.ensures.err [
+      | inl e ↦ inl e
+      | inr f ↦
+          inr
+          (c.loop-pages.invariant.rest
+          ∙ rw (c.in_ok-found.ensures.found c.if-not-found.false)
+          (queued_fault c.loop-pages.pages.items (length c.loop-pages.pages.items) _ _ f.0 (rw long at f.1) ∙ ap Err (sym (rw long at f.2))))
+    ]
+
+pub loop-pages-preserved : goal.loop-pages-preserved
+loop-pages-preserved c =
+    let ps = c.loop-pages.pages.items in
+    let p = c.in-Ok.page in
+    let fine = c.in-Ok.ensures in
+    let pushed : c.push.new.self.items ≡ ps ++ p ∷ [] = search rules in
+    let long : c.len.result ≡ length ps = search rules in
+    let few = rw long at fine.few in
+    rw pushed (record {
+      few = omega (arith, length-append ps (p ∷ []), few);
+      each = All-push (λ q. page_fault_of q ≡ None) ps p c.loop-pages.invariant.each fine.good;
+      rest =
+          c.loop-pages.invariant.rest
+          ∙ rw (c.in_ok-found.ensures.found c.if-not-found.false)
+          (queued_on ps (length ps) _ _ p fine.page (queue_room (length ps) p few)
+          ∙ ap (λ n. queued (ps ++ p ∷ []) n c.read.new.self) (sym (length-append ps (p ∷ []))));
+    })

@@ -1,0 +1,17 @@
+use Rattle.std.proofs.Common.{◌≡◌, ◌-◌, ◌≤◌, length, All}
+use Rattle.std.specs.Prelude.{None}
+use Rattle.pocsag_pages.specs.Pages.{page_fault_of, page_limit}
+use Rattle.pocsag_pages.specs.Queues.{queue_of_rows}
+use Rattle.pocsag_pages.proofs.QueueRows.{queued}
+use Rattle.pocsag_pages.proofs.queue.queue_rows.Given as goal
+
+-- the queue is that of the pages so far and of the records that are left
+abbrev pub invariant-loop-pages : goal.invariant-loop-pages
+invariant-loop-pages l = record {
+  few : length l.pages.items ≤ page_limit;
+  each : All (λ p. page_fault_of p ≡ None) l.pages.items;
+  rest : queue_of_rows l.fn.reader ≡ queued l.pages.items (length l.pages.items) l.reader;
+}
+
+abbrev pub decreases-loop-pages : goal.decreases-loop-pages
+decreases-loop-pages l = page_limit - length l.pages.items

@@ -1,0 +1,55 @@
+use Rattle.std.proofs.Common.{◌≡◌, ◌*◌, ◌/◌, List, ℕ, ℤ, get_or, ap₂, ◌++◌, ◌∷◌, [], refl, sym, ap, ◌∙◌, rules, arith}
+use Rattle.std.specs.Int.{cast_signed, cast_unsigned, w16}
+use Rattle.std.specs.List.{flat_map}
+use Rattle.pocsag_decode.proofs.Prefixes.{after_fault, took_on}
+use Rattle.pocsag_wav.specs.Levels.{level_at}
+use Rattle.pocsag_wav.specs.Wav.{sample_bytes}
+use Rattle.pocsag_wav.specs.Samples.{samples_of}
+use Rattle.pocsag_wav.proofs.Sounds.{level_fits, none_written, pushed, still_to_write, written_more}
+use Rattle.pocsag_wav.proofs.wav.put_samples.Goals as goal
+
+pub loop-index-init : goal.loop-index-init
+loop-index-init g c = record {
+  told = λ tells. ap (λ (l : List ℕ). g.O.Sink.taken c.args.out.now ++ l) (c.new-piece.ensures ∙ sym (none_written c.args.keying c.args.keyed.now));
+  grown = λ tells. omega arith;
+  failures = refl;
+}
+
+pub returns-in_err-spill-clause-delivers : goal.returns-in_err-spill-clause-delivers
+returns-in_err-spill-clause-delivers g c = λ tells.
+    let loop = c.loop-index in
+    let before = g.O.Sink.taken c.args.out.now in
+    let now = g.O.Sink.taken loop.out in (
+      search rules,
+      after_fault c.from_residual.result
+          (took_on before now (g.O.Sink.taken c.spill.new.out) loop.piece.items _ _ (loop.invariant.grown tells)
+          (still_to_write c.args.keying c.args.keyed.now before now loop.piece.items loop.index c.args.count (omega arith) (loop.invariant.told tells))
+          (c.in_err-spill.ensures.part tells)),
+    )
+
+pub loop-index-preserved : goal.loop-index-preserved
+loop-index-preserved g c =
+    let loop = c.loop-index in
+    record {
+      told = λ tells.
+          let before = g.O.Sink.taken c.args.out.now in
+          let place = loop.index * c.args.keying.rate / c.args.keying.samples in
+          let level = level_at c.args.keying.is_inverted c.args.keyed.now place in
+          let level_is : c.level.result ≡ level =
+          c.level.ensures ∙ ap (level_at c.args.keying.is_inverted c.args.keyed.now)
+          (ap₂ (λ (m n : ℕ). m / n) (ap₂ (λ (m n : ℕ). m * n) c.from.ensures c.from-in-loop-index.ensures) c.from-in-loop-index-2.ensures) in
+          let same : cast_signed w16 (cast_unsigned w16 c.level.result) ≡ level =
+          ap (λ (z : ℤ). cast_signed w16 (cast_unsigned w16 z)) level_is ∙ level_fits c.args.keying.is_inverted _ _ in
+          let written : c.to_le_bytes.result ≡ sample_bytes level = c.to_le_bytes.ensures ∙ ap sample_bytes same in
+          let behind : c.push-in-loop-index.new.self.items
+          ≡ (c.spill.new.piece.items ++ get_or (sample_bytes level) 0 0 ∷ []) ++ get_or (sample_bytes level) 1 0 ∷ [] =
+          c.push-in-loop-index.ensures.items
+          ∙ ap₂ (λ (l bytes : List ℕ). l ++ get_or bytes 1 0 ∷ [])
+          (c.push.ensures.items ∙ ap (λ (bytes : List ℕ). c.spill.new.piece.items ++ get_or bytes 0 0 ∷ []) written) written in
+          pushed before (g.O.Sink.taken loop.out) loop.piece.items (g.O.Sink.taken c.spill.new.out) c.spill.new.piece.items
+          c.push-in-loop-index.new.self.items (flat_map sample_bytes (samples_of c.args.keying c.args.keyed.now loop.index)) _ _
+          (loop.invariant.told tells) (c.in_ok-spill.ensures.same tells) behind
+          ∙ ap (λ (l : List ℕ). before ++ l) (written_more c.args.keying c.args.keyed.now loop.index);
+      grown = λ tells. omega (arith, loop.invariant.grown tells, c.in_ok-spill.ensures.grown tells);
+      failures = c.in_ok-spill.ensures.failures.0 ∙ loop.invariant.failures;
+    }

@@ -1,0 +1,13 @@
+use Rattle.std.proofs.Common.{◌≡◌, ◌≤◌, ◌++◌, length}
+use Rattle.std.specs.List.{flat_map}
+use Rattle.pocsag_wav.specs.Wav.{sample_bytes}
+use Rattle.pocsag_wav.specs.Samples.{samples_of}
+use Rattle.pocsag_wav.proofs.wav.put_samples.Given as goal
+
+abbrev pub invariant-loop-index : goal.invariant-loop-index
+invariant-loop-index g l = record {
+  told : g.O.Sink.tells → g.O.Sink.taken l.out ++ l.piece.items
+      ≡ g.O.Sink.taken l.fn.out ++ flat_map sample_bytes (samples_of l.keying l.keyed l.index);
+  grown : g.O.Sink.tells → length (g.O.Sink.taken l.fn.out) ≤ length (g.O.Sink.taken l.out);
+  failures : g.O.Sink.failures l.out ≡ g.O.Sink.failures l.fn.out;
+}

@@ -1,0 +1,204 @@
+"""`--json` and `--text` of `decode` and `hear` with every other option that they can stand beside, on transmissions that this
+script encodes by itself: Python's `json` and `jq` read what is written, and each line is what Python would write."""
+
+import itertools
+import json
+import random
+import shutil
+import subprocess
+import sys
+
+sys.dont_write_bytecode = True
+import repair
+from tally import PROGRAM
+
+HEADER = "address,kind,message\n"
+GENERATOR = 0b11101101001
+IDLE, SYNC = bytes.fromhex("7A89C197"), bytes.fromhex("7CD215D8")
+MESSAGE = 1 << 20
+NUMERIC = "0123456789*U -]["
+# The words for functions, in any order and number, and the functions that they name.
+TEXTS = {None: "", "0": "0", "1": "1", "2": "2", "0,1": "01", "2,0": "02", "1,1,1": "1", "2,1,0": "012"}
+REFUSED = ("", "3", "0,", ",1", "0,,1", "0 1", "0,4", "a", "+1", "00")
+BAD_TEXT = """\
+error: invalid value for '--text LIST': the functions are 0, 1 and 2, with commas
+between them, as in 0,1,2 or 1
+
+"""
+
+
+def run(words, folder, stdin=b""):
+    return subprocess.run([str(PROGRAM), *words], input=stdin, capture_output=True, cwd=folder, timeout=110)
+
+
+def codeword(data):
+    """The codeword of 21 bits of data: ten check bits behind them and a bit of even parity."""
+    rest = data << 10
+    for place in range(30, 9, -1):
+        if rest >> place & 1:
+            rest ^= GENERATOR << place - 10
+    word = (data << 10 | rest) << 1
+    return (word | bin(word).count("1") & 1).to_bytes(4, "big")
+
+
+def items_of(codes, width, fill):
+    """The items of twenty bits of the codes, each code with its lowest bit first."""
+    bits = [code >> k & 1 for code in codes for k in range(width)]
+    while len(bits) % 20:
+        bits += [fill >> k & 1 for k in range(width)] if fill else [0]
+    return [int("".join(map(str, bits[k : k + 20])), 2) for k in range(0, len(bits), 20)]
+
+
+def codes_of(items, width):
+    bits = [item >> 19 - k & 1 for item in items for k in range(20)]
+    return [sum(bits[k + j] << j for j in range(width)) for k in range(0, len(bits) - width + 1, width)]
+
+
+def characters(items):
+    return "".join(map(chr, codes_of(items, 7))).rstrip("\0")
+
+
+def kind_and_message(function, items, texts):
+    """What is told of a page, where the messages of these functions are text."""
+    if not items:
+        return f"tone{function}", ""
+    if str(function) in texts:
+        return f"text{function}", characters(items)
+    if function == 0:
+        return "numeric", "".join(NUMERIC[code] for code in codes_of(items, 4)).rstrip(" ")
+    if function == 3:
+        return "alpha", characters(items)
+    return f"data{function}", "".join(f"{item:05X}" for item in items)
+
+
+def sent(pages):
+    """The transmission of pages (address, function, items), in this order."""
+    words = []
+    for address, function, items in pages:
+        while len(words) % 16 // 2 != address % 8:
+            words.append(IDLE)
+        words.append(codeword(address // 8 << 2 | function))
+        words += [codeword(MESSAGE | item) for item in items]
+    words += -len(words) % 16 * [IDLE]
+    batches = [SYNC + b"".join(words[k : k + 16]) for k in range(0, len(words), 16)]
+    return b"\xaa" * 72 + b"".join(batches)
+
+
+def random_pages(source):
+    """Pages of all functions: without a message, of texts, of numbers, and of any items."""
+    pages = []
+    for _ in range(source.randint(1, 25)):
+        items = source.choice([
+            [],
+            items_of([source.randint(1, 127) for _ in range(source.randint(1, 40))], 7, 0),
+            items_of([source.randint(0, 15) for _ in range(source.randint(1, 30))], 4, 12),
+            [source.getrandbits(20) for _ in range(source.randint(1, 8))],
+        ])
+        pages.append((source.choice([11, 24, source.randrange(2000000)]), source.randrange(4), items))
+    return pages
+
+
+def field(text):
+    return '"' + text.replace('"', '""') + '"' if any(c in text for c in ',"\r\n') else text
+
+
+def due_of(pages, texts, is_json):
+    """The text of the pages, by Python's `json` or as CSV, and the objects."""
+    objects = []
+    for address, function, items in pages:
+        kind, message = kind_and_message(function, items, texts)
+        objects.append({"address": address, "function": function, "kind": kind, "message": message})
+    if is_json:
+        return "".join(json.dumps(it, ensure_ascii=False, separators=(",", ":")) + "\n" for it in objects), objects
+    return HEADER + "".join(f"{it['address']},{field(it['kind'])},{field(it['message'])}\n" for it in objects), objects
+
+
+def try_codes(tally, _folder):
+    tally.check("codewords", codeword(int.from_bytes(IDLE, "big") >> 11) == IDLE and codeword(0) == bytes(4))
+    every = "".join(map(chr, range(1, 128)))
+    tally.check("texts", characters(items_of(every.encode(), 7, 0)) == every)
+
+
+def try_pages(tally, folder, source, pages, reads):
+    tx = sent(pages)
+    rx, words, bits = repair.damaged(tx, source)
+    (folder / "tx.bin").write_bytes(tx)
+    (folder / "rx.bin").write_bytes(rx)
+    heard = [page for page in pages if page[0] == 11]
+    count = f"pocsag: transmission rx.bin: corrected bits {bits}, words {words}\n"
+    for (word, texts), is_json in itertools.product(TEXTS.items(), (False, True)):
+        asked = (["--text", word] if word else []) + (["--json"] if is_json else [])
+        due, objects = due_of(pages, texts, is_json)
+        for call, stdin, told in (
+            (["decode", "tx.bin", *asked], b"", ""),
+            (["decode", *asked, "-"], tx, ""),
+            (["decode", "rx.bin", "--repair", *asked], b"", ""),
+            (["decode", "--verbose", *asked, "rx.bin", "--repair"], b"", count),
+            (["decode", "tx.bin", "--verbose", *asked], b"", ""),
+        ):
+            done = run(call, folder, stdin)
+            tally.check(f"{call} of {len(pages)} pages", (done.returncode, done.stdout.decode(), done.stderr.decode()) == (0, due, told), (done, due))
+        if is_json:
+            tally.check(f"json reads {asked}", [json.loads(line) for line in done.stdout.decode().splitlines()] == objects)
+            if reads:
+                read = subprocess.run(["jq", "-c", "[.address,.function,.kind,.message]"], input=done.stdout, capture_output=True)
+                tally.check(f"jq reads {asked}", [json.loads(line) for line in read.stdout.splitlines()] == [[*it.values()] for it in objects], read)
+        due, _ = due_of(heard, texts, is_json)
+        for name, more in (("tx.bin", []), ("rx.bin", []), ("rx.bin", ["--verbose"])):
+            done = run(["hear", "11", name, *asked, *more], folder)
+            tally.check(f"hear {asked} {more}", (done.returncode, done.stdout.decode(), done.stderr) == (0, due, b""), (done, due))
+
+
+def try_forms(tally, folder):
+    source, reads = random.Random(8259), shutil.which("jq")
+    if not reads:
+        print("left out: lines of JSON that jq reads, since there is no jq")
+    every = items_of(range(1, 128), 7, 0)
+    for pages in ([(11, function, every) for function in range(4)], [(11, function, [0, 0]) for function in range(4)], []):
+        try_pages(tally, folder, source, pages or [(12, 0, [])], reads)
+    for _ in range(6):
+        try_pages(tally, folder, source, random_pages(source), reads)
+
+
+def try_long(tally, folder):
+    """What is longer than is kept in memory: the same pages many times."""
+    source = random.Random(4)
+    tx = sent(random_pages(source) + [(0, 3, items_of(b'a "b" \\ \x1f', 7, 0))])
+    times = 4_200_000 // (len(tx) - 72) + 1
+    (folder / "once.bin").write_bytes(tx)
+    (folder / "long.bin").write_bytes(tx[:72] + times * tx[72:])
+    for words in (["--json"], ["--text", "0,1,2"], ["--json", "--text", "1"]):
+        once, done = (run(["decode", name, *words], folder) for name in ("once.bin", "long.bin"))
+        head = b"" if "--json" in words else HEADER.encode()
+        tally.check(f"decode {words} of a long one", done.stdout == head + times * once.stdout[len(head) :] and done.returncode == 0, done.stderr)
+        with open("/dev/full", "wb") as full:
+            done = subprocess.run([str(PROGRAM), "decode", "long.bin", *words], stdout=full, stderr=subprocess.PIPE, cwd=folder, timeout=110)
+        tally.check(f"decode {words} on a full disk", (done.returncode, done.stderr) == (3, b"pocsag: cannot write\n"), done)
+
+
+def try_words(tally, folder):
+    """Words that are refused, and bytes that are: nothing is listed."""
+    (folder / "tx.bin").write_bytes(sent([(11, 1, [5])]))
+    (folder / "short.bin").write_bytes(b"\xaa" * 71 + SYNC + 16 * IDLE)
+    for command in (["decode"], ["hear", "11"]):
+        for word in REFUSED:
+            for more in ([], ["--json"]):
+                done = run([*command, "tx.bin", "--text", word, *more], folder)
+                holds = (done.returncode, done.stdout) == (2, b"") and done.stderr.decode().startswith(BAD_TEXT)
+                tally.check(f"{command} --text '{word}'", holds, done)
+        for option in (["--json"], ["--text", "0"]):
+            done = run([*command, "tx.bin", *option, "--capture"], folder)
+            tally.check(f"{command} {option} --capture", (done.returncode, done.stdout) == (2, b""), done)
+            for more in ([], ["--repair"])[: 1 + (command == ["decode"])]:
+                words = [*command, "short.bin", *option, *more]
+                note = b"pocsag: transmission short.bin: for bits off the air that begin anywhere, give --capture\n"
+                for verbose in ([], ["--verbose"]):
+                    told = b"pocsag: the preamble is too short\n" + (note if verbose and (more or command != ["decode"]) else b"")
+                    done = run([*words, *verbose], folder)
+                    tally.check(f"{words} {verbose}", (done.returncode, done.stdout, done.stderr) == (1, b"", told), (done, told))
+    for option in (["--json"], ["--text", "0"]):
+        done = run(["show", "tx.bin", *option], folder)
+        tally.check(f"show {option}", done.returncode == 2, done)
+
+
+PARTS = (try_codes, try_forms, try_long, try_words)
