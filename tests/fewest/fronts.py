@@ -11,6 +11,9 @@ FRONT_ROUNDS = 2_000
 HEADER = "address,kind,message\n"
 # What is written beside a transmission and its certificate.
 FILES = ["--rest", "rest.csv", "--why", "why.bin"]
+WRITTEN = ["tx.bin", "cert.bin", "rest.csv", "why.bin"]
+# What these files hold before each plan. A front that is refused empties the transmission and the certificate alone.
+EARLIER = b"earlier\n"
 
 
 def page_text(rounds, pages):
@@ -25,14 +28,14 @@ def try_front(rounds, tally, folder, pages, end, batches, needs):
     """One front: `needs` has the fewest batches of each number of first pages, from one."""
     count = sum(needed <= batches for needed in needs)
     case = (page_text(rounds, pages), end, batches)
-    for name in ("tx.bin", "cert.bin", "rest.csv", "why.bin"):
-        (folder / name).unlink(missing_ok=True)
+    for name in WRITTEN:
+        (folder / name).write_bytes(EARLIER)
     words = ["plan", "pages.csv", "tx.bin", "cert.bin", "--at-most", str(batches), *FILES, *ENDS[end]]
     done = rounds.run(words, folder)
     if count == 0:
         due = (1, b"", f"pocsag: page 1 needs {needs[0]} batches\n".encode())
-        left = {name: (folder / name).read_bytes() for name in ("tx.bin", "cert.bin", "rest.csv", "why.bin") if (folder / name).exists()}
-        tally.check("no front", (done.returncode, done.stdout, done.stderr) == due and left == {"tx.bin": b"", "cert.bin": b""}, (case, done, left))
+        left = [(folder / name).read_bytes() for name in WRITTEN]
+        tally.check("no front", (done.returncode, done.stdout, done.stderr) == due and left == [b"", b"", EARLIER, EARLIER], (case, done, left))
         return
     told = f"pages {count}\nbatches {needs[count - 1]}\nleft {len(pages) - count}\n".encode()
     tally.check("front", (done.returncode, done.stdout, done.stderr) == (0, told, b""), (case, needs, done))
