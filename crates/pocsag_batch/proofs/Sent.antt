@@ -8,9 +8,9 @@ use Rattle.pocsag_pages.specs.Bytes.{sync_word, synced}
 use Rattle.pocsag_batch.specs.SlotBytes.{slot_bytes}
 
 -- what was taken and the piece are the transmission of the codewords that came
-pub record IsSent (tells : Type 0) (before taken piece came : List ℕ) : Type 0 where
-  pub grown : tells → length before ≤ length taken
-  pub sent : tells → taken ++ piece ≡ before ++ bytes_of came
+pub record IsSent (is_known : Type 0) (before taken piece came : List ℕ) : Type 0 where
+  pub grown : is_known → length before ≤ length taken
+  pub sent : is_known → taken ++ piece ≡ before ++ bytes_of came
 
 -- the bytes of one codeword, behind the synchronisation codeword where a batch begins
 slot_is : (b : Bool) (w : ℕ) (ws left : List ℕ) → left ≡ flat_map (to_be_bytes w32) ws →
@@ -73,18 +73,18 @@ called_more before calls now piece next came slot w at so_far more =
     let m = length-append (bytes_of came) (slot_bytes slot w) in
     omega arith
 
-pub sent_first : (tells : Type 0) (before piece : List ℕ) → piece ≡ replicate 72 0xaa → IsSent tells before before piece []
-sent_first tells before piece e = record {
+pub sent_first : (is_known : Type 0) (before piece : List ℕ) → piece ≡ replicate 72 0xaa → IsSent is_known before before piece []
+sent_first is_known before piece e = record {
   grown = λ t. omega arith;
   sent = λ t. ap (λ v. before ++ v) (e ∙ (sym (append-nil (replicate 72 0xaa)) ∙ sym (bytes_are [])));
 }
 
-pub sent_more : (tells : Type 0) (before taken piece came : List ℕ) (slot w : ℕ) (taken' piece' : List ℕ) → slot ≡ length came % 16 →
-    IsSent tells before taken piece came →
-    (tells → length taken ≤ length taken') →
-    (tells → taken' ++ piece' ≡ (taken ++ piece) ++ slot_bytes slot w) →
-    IsSent tells before taken' piece' (came ++ w ∷ [])
-sent_more tells before taken piece came slot w taken' piece' at so_far more next = record {
+pub sent_more : (is_known : Type 0) (before taken piece came : List ℕ) (slot w : ℕ) (taken' piece' : List ℕ) → slot ≡ length came % 16 →
+    IsSent is_known before taken piece came →
+    (is_known → length taken ≤ length taken') →
+    (is_known → taken' ++ piece' ≡ (taken ++ piece) ++ slot_bytes slot w) →
+    IsSent is_known before taken' piece' (came ++ w ∷ [])
+sent_more is_known before taken piece came slot w taken' piece' at so_far more next = record {
   grown = λ t. let a = so_far.grown t in let b = more t in omega arith;
   sent = λ t.
       next t

@@ -16,9 +16,9 @@ use pocsag_words::{DeviceFault, Sink, Word, WriteFault, write_all};
 fn write_words<S: Sink, I: Iterator<Item = Word>>(words: I, sink: &mut S) -> Result<(), DeviceFault>
     requires can { I.can_next words }
     requires ends { IsFinite (I.remaining words) }
-    ensures whole { S.tells → OnOk result ((ws : List ℕ) × Drains I.next_gives words ws × All IsCodeword ws ×
+    ensures whole { S.is_known → OnOk result ((ws : List ℕ) × Drains I.next_gives words ws × All IsCodeword ws ×
         (S.taken sink.new ≡ S.taken sink.old ++ bytes_of ws)) }
-    ensures part { S.tells →
+    ensures part { S.is_known →
         OnErr result ((ws : List ℕ) × (left : I) × Yields I.next_gives words ws left × All IsCodeword ws ×
         TookPrefix (S.taken sink.old) (S.taken sink.new) (bytes_of ws)) }
 
@@ -39,7 +39,7 @@ fn write_words<S: Sink, I: Iterator<Item = Word>>(words: I, sink: &mut S) -> Res
 /// Writes the transmission of the batches: the preamble of 72 bytes AA, and each batch behind its
 /// synchronisation codeword, high byte first. After `WriteFault` a prefix of it was taken.
 pub fn write<S: Sink>(batches: &Batches, sink: &mut S) -> Result<(), WriteFault>
-    ensures delivers { S.tells → Delivers result (S.taken sink.old) (S.taken sink.new) (bytes_of batches.now) }
+    ensures delivers { S.is_known → Delivers result (S.taken sink.old) (S.taken sink.new) (bytes_of batches.now) }
     ensures calls { CallsPerByte (S.calls sink.old) (S.calls sink.new) (bytes_of batches.now) }
     ensures failures { CountsFailures result (S.failures sink.old) (S.failures sink.new) }
 {
@@ -52,8 +52,8 @@ pub fn write<S: Sink>(batches: &Batches, sink: &mut S) -> Result<(), WriteFault>
 /// Writes the transmission of the codewords as `write` does, and builds no batches. After `WriteFault` a
 /// prefix of it was taken.
 pub fn write_slots<S: Sink>(slots: Slots<'_>, sink: &mut S) -> Result<(), WriteFault>
-    ensures whole { S.tells → OnOk result (Sends slots.entry (S.taken sink.old) (S.taken sink.new)) }
-    ensures part { S.tells → OnErr result (SendsPart slots.entry (S.taken sink.old) (S.taken sink.new)) }
+    ensures whole { S.is_known → OnOk result (Sends slots.entry (S.taken sink.old) (S.taken sink.new)) }
+    ensures part { S.is_known → OnErr result (SendsPart slots.entry (S.taken sink.old) (S.taken sink.new)) }
     ensures calls { (words : List ℕ) × Say slots.entry words
         × CallsPerByte (S.calls sink.old) (S.calls sink.new) (bytes_of words) }
     ensures failures { CountsFailures result (S.failures sink.old) (S.failures sink.new) }

@@ -83,9 +83,9 @@ impl Piece {
 // Writes the piece where there is no room left for a slot.
 fn make_room<S: Sink>(piece: &mut Piece, sink: &mut S) -> Result<(), DeviceFault>
     ensures room { OnOk result (length piece.new ≤ 4344) }
-    ensures same { S.tells → OnOk result (S.taken sink.new ++ piece.new ≡ S.taken sink.old ++ piece.old) }
-    ensures grown { S.tells → OnOk result (length (S.taken sink.old) ≤ length (S.taken sink.new)) }
-    ensures part { S.tells → OnErr result (TookPrefix (S.taken sink.old) (S.taken sink.new) piece.old) }
+    ensures same { S.is_known → OnOk result (S.taken sink.new ++ piece.new ≡ S.taken sink.old ++ piece.old) }
+    ensures grown { S.is_known → OnOk result (length (S.taken sink.old) ≤ length (S.taken sink.new)) }
+    ensures part { S.is_known → OnErr result (TookPrefix (S.taken sink.old) (S.taken sink.new) piece.old) }
     ensures calls { OnOk result (S.calls sink.new + length piece.new ≤ S.calls sink.old + length piece.old) }
     ensures tried { OnErr result (CallsPerByte (S.calls sink.old) (S.calls sink.new) piece.old) }
     ensures failures { CountsFailures result (S.failures sink.old) (S.failures sink.new) }
@@ -104,11 +104,11 @@ pub(crate) fn put_word<S: Sink>(
     slot: usize,
     word: Word,
 ) -> Result<(), DeviceFault>
-    ensures same { S.tells →
+    ensures same { S.is_known →
         OnOk result (S.taken sink.new ++ piece.new ≡ (S.taken sink.old ++ piece.old) ++ slot_bytes slot word) }
     ensures codeword { OnOk result (IsCodeword word) }
-    ensures grown { S.tells → OnOk result (length (S.taken sink.old) ≤ length (S.taken sink.new)) }
-    ensures part { S.tells → OnErr result (TookPrefix (S.taken sink.old) (S.taken sink.new) piece.old) }
+    ensures grown { S.is_known → OnOk result (length (S.taken sink.old) ≤ length (S.taken sink.new)) }
+    ensures part { S.is_known → OnErr result (TookPrefix (S.taken sink.old) (S.taken sink.new) piece.old) }
     ensures calls { OnOk result
         (S.calls sink.new + length piece.new ≤ S.calls sink.old + (length piece.old + length (slot_bytes slot word))) }
     ensures tried { OnErr result (CallsPerByte (S.calls sink.old) (S.calls sink.new) piece.old) }

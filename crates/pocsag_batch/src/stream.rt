@@ -56,13 +56,13 @@ pub fn first_stream<S: Source, T: Sink>(
     source: &mut S,
     tx: &mut T,
 ) -> Result<u32, FirstFault>
-    ensures written { S.tells → T.tells →
+    ensures written { S.is_known → T.is_known →
         IfOk result (λ n. WritesInOrder (verdict (S.held source.old)) (T.taken tx.old) (T.taken tx.new) n) }
 
     // When each fault comes, and what it leaves.
-    ensures explained { S.tells → IfErr result (ExplainsFault (verdict (S.held source.old))) }
+    ensures explained { S.is_known → IfErr result (ExplainsFault (verdict (S.held source.old))) }
     ensures untouched { IfErr result (λ e. IsBeforeTransmission e → tx.new ≡ tx.old) }
-    ensures part { S.tells → T.tells → result ≡ Err fault.WriteFault →
+    ensures part { S.is_known → T.is_known → result ≡ Err fault.WriteFault →
         LeavesPrefix (verdict (S.held source.old)) (T.taken tx.old) (T.taken tx.new) }
 
     // A device's fault is answered exactly where that device failed.

@@ -12,8 +12,8 @@ use Rattle.pocsag_tree.specs.CertificateText.{IsSet}
 use Rattle.pocsag_check.specs.Acceptance.{Accepts, AcceptsEach}
 use Rattle.pocsag_tour.specs.Reached.{IsApart, IsUnclosed}
 use Rattle.pocsag_branch.specs.declared.task.Answer.{Answer}
-use Rattle.pocsag_branch.specs.declared.task.Form.{Form}
-use Rattle.pocsag_branch.specs.declared.task.Form.TheVariants.{Overload, Cut, Split, Close}
+use Rattle.pocsag_branch.specs.declared.task.NodeKind.{NodeKind}
+use Rattle.pocsag_branch.specs.declared.task.NodeKind.TheVariants.{Overload, Cut, Split, Close}
 use Rattle.pocsag_branch.specs.declared.task.Task.{Task}
 use Rattle.pocsag_branch.specs.declared.task.Stop.{Stop}
 use Rattle.pocsag_branch.specs.declared.task.Stop.TheVariants.{Met, OutOfMemory}
@@ -44,19 +44,19 @@ IsNoTour k q l choice Unclosed =
     AsksForLast q.end × IsUnclosed k q.end choice q.batches × All (Falls k q.batches l) (ways_to_close k q.end l)
 
 -- The node may be made there, and each of its children settles a question that is open.
-abbrev pub IsForm : Classes → Task → Limits → Form → Type 0
-IsForm k q l (Overload set) = IsSet set × Overloads k l set
-IsForm k q l (Cut set needed) =
+abbrev pub IsNodeKind : Classes → Task → Limits → NodeKind → Type 0
+IsNodeKind k q l (Overload set) = IsSet set × Overloads k l set
+IsNodeKind k q l (Cut set needed) =
     IsTrue (class_certain k l set.members needed.number) × All (Falls k q.batches l) (ways_across k l set.members)
-IsForm k q l (Split c m) = IsSplitPoint k q.batches l c.number m
-IsForm k q l Close = AsksForLast q.end × All (Falls k q.batches l) (ways_to_close k q.end l)
+IsNodeKind k q l (Split c m) = IsSplitPoint k q.batches l c.number m
+IsNodeKind k q l Close = AsksForLast q.end × All (Falls k q.batches l) (ways_to_close k q.end l)
 
 -- The node stands there as *Shape of the search's trees* says.
-abbrev pub StandsAs : Classes → Task → Limits → Form → Type 0
-StandsAs k q l (Overload set) = Unit {0}
-StandsAs k q l (Cut set needed) = AdmitApart k q.batches l set.members
-StandsAs k q l (Split c m) = AdmitSplit k q.batches l c.number m
-StandsAs k q l Close = AdmitUnclosed k q.end q.batches l
+abbrev pub IsNodeAs : Classes → Task → Limits → NodeKind → Type 0
+IsNodeAs k q l (Overload set) = Unit {0}
+IsNodeAs k q l (Cut set needed) = AdmitApart k q.batches l set.members
+IsNodeAs k q l (Split c m) = AdmitSplit k q.batches l c.number m
+IsNodeAs k q l Close = AdmitUnclosed k q.end q.batches l
 
 -- The tree is accepted for the node, and no deeper than its limits leave questions open.
 pub record IsRefuted (takes_open : Bool) (k : Classes) (end : End) (batches : ℕ) (l : Limits) (t : BoundTree) : Type 0 where

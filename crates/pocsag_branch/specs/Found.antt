@@ -11,8 +11,8 @@ use Rattle.pocsag_tree.specs.BoundTrees.{BoundTree, closed_nodes}
 use Rattle.pocsag_tree.specs.Views.{bound_tree_of}
 use Rattle.pocsag_check.specs.Acceptance.{IsAccepted}
 use Rattle.pocsag_branch.specs.declared.answer.Found.{Found}
-use Rattle.pocsag_branch.specs.declared.stop.SearchFault.{SearchFault}
-use Rattle.pocsag_branch.specs.declared.stop.SearchFault.TheVariants.{SearchLimit, OutOfMemory}
+use Rattle.pocsag_branch.specs.declared.fault.SearchFault.{SearchFault}
+use Rattle.pocsag_branch.specs.declared.fault.SearchFault.TheVariants.{SearchLimit, OutOfMemory}
 use Rattle.pocsag_branch.specs.Marks.{opens}
 use Rattle.pocsag_branch.specs.Shape.{IsSearchTree, IsShaped}
 

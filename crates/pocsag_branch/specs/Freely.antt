@@ -8,7 +8,7 @@ use Rattle.pocsag_tree.specs.BoundTrees.{closed_nodes, overload}
 use Rattle.pocsag_tree.specs.Views.{bound_tree_of}
 use Rattle.pocsag_check.specs.Acceptance.{IsAccepted}
 use Rattle.pocsag_branch.specs.declared.answer.Found.{Found}
-use Rattle.pocsag_branch.specs.declared.within_one.Near.{Near}
+use Rattle.pocsag_branch.specs.declared.within_one.FallbackPlan.{FallbackPlan}
 use Rattle.pocsag_branch.specs.declared.within_one.FreeFault.{FreeFault}
 use Rattle.pocsag_branch.specs.declared.within_one.FreeFault.TheVariants.{SearchLimit, OutOfMemory}
 use Rattle.pocsag_branch.specs.Found.{IsBound, IsLimit}
@@ -30,21 +30,21 @@ pub record IsFoundFreely (k : Classes) (end : End) (limit : ℕ) (found : Found)
   pub few : closed_nodes (bound_tree_of found.tree) ≤ limit
 
 -- *Within one*.
-pub record IsNearlyFewest (k : Classes) (end : End) (near : Near) : Type 0 where
+pub record IsNearlyFewest (k : Classes) (end : End) (fallback : FallbackPlan) : Type 0 where
   -- `least` is the least that some choice of starts needs, and the tree, one node, shows that it bounds
   -- each transmission;
-  pub is_least : IsLeast k near.least
-  pub bound : IsBound k end near.least
-  pub accepted : IsAccepted false k end near.least (bound_tree_of near.tree)
+  pub is_least : IsLeast k fallback.least
+  pub bound : IsBound k end fallback.least
+  pub accepted : IsAccepted false k end fallback.least (bound_tree_of fallback.tree)
   pub set : ℕ
-  pub one_node : bound_tree_of near.tree ≡ overload set
+  pub one_node : bound_tree_of fallback.tree ≡ overload set
   -- the steps are a tour of the choice for the end with one batch more.
-  pub choice : IsChoice k (slice_index near.choice.early)
-  pub tour : IsTour k end (slice_index near.choice.early) (near.least + 1) near.steps.items
+  pub choice : IsChoice k (slice_index fallback.choice.early)
+  pub tour : IsTour k end (slice_index fallback.choice.early) (fallback.least + 1) fallback.steps.items
 
 -- What each fault of `search_freely` says: at its limit, a tour of one batch more than the least, and all that
 -- `search` says at the same limit, so a tree of exactly so many nodes and of the promised shape.
 abbrev pub IsFreeFault : Classes → End → ℕ → FreeFault → Type 0
-IsFreeFault k end limit (SearchLimit near stop) =
-    IsNearlyFewest k end near × (stop.least ≡ near.least) × IsLimit k end limit stop.least stop.found (bound_tree_of stop.tree)
+IsFreeFault k end limit (SearchLimit fallback stop) =
+    IsNearlyFewest k end fallback × (stop.least ≡ fallback.least) × IsLimit k end limit stop.least stop.found (bound_tree_of stop.tree)
 IsFreeFault k end limit OutOfMemory = Unit {0}

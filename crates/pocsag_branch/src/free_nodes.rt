@@ -9,10 +9,10 @@ ghost use Rattle.pocsag_branch.specs.Undecided.{Falls, IsSplitPoint};
 
 use crate::boundaries::BoundarySet;
 use crate::child::{child_by, lower_child, split_tree, upper_child, ways_out, ways_to_end};
-use crate::free_forms::free_form;
+use crate::free_kinds::free_kind;
 use crate::halt::{Children, Halt};
 use crate::node::Node;
-use crate::task::{Form, Task};
+use crate::task::{NodeKind, Task};
 use pocsag_check::accepts;
 use pocsag_slots::{Class, Way};
 use pocsag_tree::Tree;
@@ -40,11 +40,11 @@ pub(crate) fn free_node(alloc: Global, node: &Node<'_>, examined: u32) -> Result
     if examined >= node.task.limit {
         return Err(Halt::Limit);
     }
-    match free_form(alloc, node)? {
-        Form::Overload(set) => Ok((Tree::Overload(set), examined + 1)),
-        Form::Cut { set, needed } => free_cut(alloc, node, set, needed, examined),
-        Form::Split { class, m } => free_split(alloc, node, class, m, examined),
-        Form::Close => free_close(alloc, node, examined),
+    match free_kind(alloc, node)? {
+        NodeKind::Overload(set) => Ok((Tree::Overload(set), examined + 1)),
+        NodeKind::Cut { set, needed } => free_cut(alloc, node, set, needed, examined),
+        NodeKind::Split { class, m } => free_split(alloc, node, class, m, examined),
+        NodeKind::Close => free_close(alloc, node, examined),
     }
 }
 

@@ -7,14 +7,14 @@ ghost use Rattle.pocsag_branch.specs.FreeNode.{IsFreeTree};
 ghost use Rattle.pocsag_branch.specs.Freely.{IsFoundFreely, IsFreeFault, IsNearlyFewest};
 
 use crate::answer::Found;
+use crate::fault::SearchFault;
+use crate::fixed_search::search;
 use crate::free_root::free_tree;
 use crate::halt::Halt;
 use crate::least::least_of;
 use crate::outcome::{found_at_least, tour_of_one_more};
-use crate::promised_search::search;
-use crate::stop::SearchFault;
 use crate::task::Task;
-use crate::within_one::{FreeFault, Near};
+use crate::within_one::{FallbackPlan, FreeFault};
 use pocsag_slots::{Choice, Classes};
 use pocsag_tree::Tree;
 use pocsag_words::End;
@@ -71,8 +71,8 @@ fn found_or_near(
     match search(alloc, classes, node_limit, end) {
         Ok(found) => Ok(found),
         Err(SearchFault::SearchLimit(stop)) => {
-            let near = near(alloc, classes, end)?;
-            Err(FreeFault::SearchLimit { near, stop })
+            let fallback = fallback(alloc, classes, end)?;
+            Err(FreeFault::SearchLimit { fallback, stop })
         }
         Err(SearchFault::OutOfMemory) => Err(FreeFault::OutOfMemory),
     }
@@ -105,13 +105,13 @@ fn found_one_more(
 }
 
 /// A transmission of at most one batch more than the fewest, without a search.
-pub fn near(alloc: Global, classes: &Classes, end: End) -> Result<Near, AllocError>
+pub fn fallback(alloc: Global, classes: &Classes, end: End) -> Result<FallbackPlan, AllocError>
     requires { HasPage classes.now }
     ensures { IfOk result (IsNearlyFewest classes.now end) }
 {
     let least = least_of(classes);
     let steps = tour_of_one_more(alloc, classes, &least.choice, least.batches, end)?;
-    Ok(Near {
+    Ok(FallbackPlan {
         least: least.batches,
         choice: least.choice,
         steps,

@@ -52,7 +52,7 @@ impl From<AllocError> for Stop {
 
 // Which node is to be made.
 #[derive(Clone, Copy)]
-pub(crate) enum Form {
+pub(crate) enum NodeKind {
     Overload(u16),
     Cut { set: BoundarySet, needed: Class },
     Split { class: Class, m: u16 },

@@ -1,14 +1,14 @@
 ghost use Rattle.std.specs.Prelude.{◌≡◌, ◌<◌, ◌↔◌, All, IsTrue, IfSome, length, true};
 ghost use Rattle.pocsag_slots.specs.Sums.{holds};
 ghost use Rattle.pocsag_slots.specs.Ways.{MayTake};
-ghost use Rattle.pocsag_branch.specs.Examined.{IsForm};
+ghost use Rattle.pocsag_branch.specs.Examined.{IsNodeKind};
 ghost use Rattle.pocsag_branch.specs.FreeNode.{IsUndecidedWay};
 ghost use Rattle.pocsag_branch.specs.Undecided.{Falls};
 
 use crate::boundaries::BoundarySet;
 use crate::child::certain_class;
 use crate::node::Node;
-use crate::task::Form;
+use crate::task::NodeKind;
 use pocsag_slots::{CLASSES, SLOTS, Way, finish, holds, start, ways, with_member};
 
 // What stands in the count of ways for one that is decided already, and for a set that no class must
@@ -131,13 +131,13 @@ fn nearest(growing: &GrowingSet) -> Option<u8>
 }
 
 // A cut at the set, where a class is certain for it and all ways across are open.
-fn cut_at(node: &Node<'_>, set: BoundarySet) -> Option<Form>
-    ensures { IfSome result (IsForm node.now.classes.now node.now.task node.now.limits) }
+fn cut_at(node: &Node<'_>, set: BoundarySet) -> Option<NodeKind>
+    ensures { IfSome result (IsNodeKind node.now.classes.now node.now.task node.now.limits) }
 {
     let needed = certain_class(node, set)?;
     let out = ways(node.classes, &node.limits, set.members, node.task.batches);
     if are_undecided(node, &out) {
-        Some(Form::Cut { set, needed })
+        Some(NodeKind::Cut { set, needed })
     } else {
         None
     }
@@ -159,8 +159,8 @@ fn ways_across_reached(node: &Node<'_>, reached: BoundarySet) -> u32 {
 
 // A cut at a set with fewer ways across than the set that is reached, if one is found. Sets grow from
 // boundary 0 by the boundary with the most ways into them.
-pub(crate) fn thin_cut(node: &Node<'_>, reached: BoundarySet) -> Option<Form>
-    ensures { IfSome result (IsForm node.now.classes.now node.now.task node.now.limits) }
+pub(crate) fn thin_cut(node: &Node<'_>, reached: BoundarySet) -> Option<NodeKind>
+    ensures { IfSome result (IsNodeKind node.now.classes.now node.now.task node.now.limits) }
 {
     let between = ways_between(node);
     let mut least = ways_across_reached(node, reached);
@@ -175,8 +175,8 @@ pub(crate) fn thin_cut(node: &Node<'_>, reached: BoundarySet) -> Option<Form>
     let mut growing = set_with(&between, begun, 0);
     for _ in 0..SLOTS {
         if growing.across < least {
-            if let Some(form) = cut_at(node, growing.set) {
-                best = Some(form);
+            if let Some(kind) = cut_at(node, growing.set) {
+                best = Some(kind);
                 least = growing.across;
             }
         }

@@ -1,7 +1,7 @@
 ghost use Rattle.std.specs.Prelude.{◌≡◌};
 ghost use Rattle.pocsag_branch.specs.declared.within_one.FreeFault.TheVariants.{OutOfMemory};
 
-use crate::stop::SearchLimit;
+use crate::fault::SearchLimit;
 use pocsag_slots::{Choice, Step};
 use pocsag_tree::Tree;
 use std::alloc::AllocError;
@@ -10,7 +10,7 @@ use thiserror::Error;
 /// A transmission of at most one batch more than the fewest: a choice of starts with the steps of its tour
 /// of `least + 1` batches, and the tree that refutes fewer than `least`.
 #[derive(Debug, Drop)]
-pub struct Near {
+pub struct FallbackPlan {
     pub least: u32,
     pub choice: Choice,
     pub steps: Vec<Step>,
@@ -23,7 +23,10 @@ pub enum FreeFault {
     /// So many nodes did not decide between `least` batches and one more: a transmission of one batch more,
     /// and what `search` says at the same limit.
     #[error("search limit reached")]
-    SearchLimit { near: Near, stop: SearchLimit },
+    SearchLimit {
+        fallback: FallbackPlan,
+        stop: SearchLimit,
+    },
     #[error("out of memory")]
     OutOfMemory,
 }

@@ -5,7 +5,7 @@ use Rattle.std.specs.Prelude.{IsErrAnd, IsOkAnd}
 use Rattle.pocsag_wav.specs.Sounds.{ExplainsWav, ReadsAsPages}
 use Rattle.pocsag_wav.specs.Wav.{IsWav}
 use Rattle.pocsag_wav.specs.declared.keying.Keying.{Keying}
-use Rattle.pocsag_c.specs.Answers.{IsDelivered, IsTooSmall, TellsFault}
+use Rattle.pocsag_c.specs.Answers.{IsDelivered, IsTooSmall, PrintsFault}
 use Rattle.pocsag_c.specs.Listings.{HasNoRoom, IsListed}
 use Rattle.pocsag_c.specs.Sounds.{ExplainsNoSound, IsKeyingOf, IsSoundOf}
 use Rattle.pocsag_c.specs.Statuses.{wav_refusal}
@@ -33,12 +33,12 @@ module _ (rate samples bits inverted : ℕ) (tx : List ℕ) (keying : Keying) (a
     no_room (Err r) reads wav small = absurd small
 
   pub unsounded : (made : Result (Vec ℕ Global) StatusAt) (status : ℕ) (place : Place) →
-      IfErr made (λ r. TellsFault wav_refusal (ExplainsWav keying tx) r.status r.place) → IsErrAnd made (λ r. (status ≡ r.status) × (place ≡ r.place)) →
-      TellsFault wav_refusal (ExplainsNoSound rate samples bits inverted tx) status place
-  unsounded (Ok file) status place tells same = absurd same
-  unsounded (Err r) status place tells same = record {
-    fault = tells.fault;
-    why = inr (record { keying = keying; asked = asked; why = tells.why });
-    same_status = same.0 ∙ tells.same_status;
-    same_place = same.1 ∙ tells.same_place;
+      IfErr made (λ r. PrintsFault wav_refusal (ExplainsWav keying tx) r.status r.place) → IsErrAnd made (λ r. (status ≡ r.status) × (place ≡ r.place)) →
+      PrintsFault wav_refusal (ExplainsNoSound rate samples bits inverted tx) status place
+  unsounded (Ok file) status place is_known same = absurd same
+  unsounded (Err r) status place is_known same = record {
+    fault = is_known.fault;
+    why = inr (record { keying = keying; asked = asked; why = is_known.why });
+    same_status = same.0 ∙ is_known.same_status;
+    same_place = same.1 ∙ is_known.same_place;
   }

@@ -4,8 +4,8 @@ use Rattle.pocsag_words.specs.declared.ending.End.{End}
 use Rattle.pocsag_words.specs.declared.ending.End.TheVariants as ends
 use Rattle.pocsag_pages.specs.PageFile.{verdict}
 use Rattle.pocsag_plan.specs.Verdicts.{Checked, ExplainsCertificate, ExplainsRound, IsNotShown}
-use Rattle.pocsag_plan.specs.declared.search.Effort.{Effort}
-use Rattle.pocsag_plan.specs.declared.search.Effort.TheVariants.{Fewest, Always}
+use Rattle.pocsag_plan.specs.declared.search.OnLimit.{OnLimit}
+use Rattle.pocsag_plan.specs.declared.search.OnLimit.TheVariants.{Fewest, Always}
 use Rattle.pocsag_c.specs.declared.check.CheckInfo.{CheckInfo}
 use Rattle.pocsag_c.specs.declared.refusal.Place.{Place}
 use Rattle.pocsag_c.specs.declared.refusal.StatusAt.{StatusAt}
@@ -22,11 +22,11 @@ abbrev pub IsNoEnd : ℕ → Type 0
 IsNoEnd number = (number ≢ 0) × (number ≢ 1) × (number ≢ 2)
 
 -- What a number asks for: 0 the fewest batches alone, any other that no round is refused.
-abbrev pub effort_of : (always : ℕ) → Effort
-effort_of always = if always == 0 then Fewest else Always
+abbrev pub on_limit_of : (always : ℕ) → OnLimit
+on_limit_of always = if always == 0 then Fewest else Always
 
 -- The status and the place are those of a fault of which this is said.
-pub record TellsFault {F : Type 0} (refusal : F → StatusAt) (Explains : F → Type 0) (status : ℕ) (place : Place) : Type 0 where
+pub record PrintsFault {F : Type 0} (refusal : F → StatusAt) (Explains : F → Type 0) (status : ℕ) (place : Place) : Type 0 where
   pub fault : F
   pub why : Explains fault
   pub same_status : status ≡ (refusal fault).status
@@ -51,8 +51,8 @@ pub record IsNotAccepted (file text : List ℕ) (info : CheckInfo) : Type 0 wher
 -- The status and the place are those of the page file's fault; or it has none, and they are those of the certificate's.
 abbrev pub IsUnjudged : (file text : List ℕ) (status : ℕ) → Place → Type 0
 IsUnjudged file text status place =
-    TellsFault round_refusal (ExplainsRound file) status place
-    ⊎ (IsOk (verdict file) × TellsFault certificate_refusal (ExplainsCertificate text) status place)
+    PrintsFault round_refusal (ExplainsRound file) status place
+    ⊎ (IsOk (verdict file) × PrintsFault certificate_refusal (ExplainsCertificate text) status place)
 
 -- The buffer begins with these bytes, whose length is told, and is as it was behind them.
 pub record IsDelivered (before after : List ℕ) (told : ℕ) (bytes : List ℕ) : Type 0 where

@@ -1,9 +1,9 @@
 -- What `pocsag_explain` owes.
 use Rattle.std.specs.Prelude.{◌≡◌, ◌≢◌, ◌⊎◌, ℕ, Bool, true, false, List}
 use Rattle.pocsag_words.specs.declared.ending.End.{End}
-use Rattle.pocsag_findings.specs.Beginnings.{TellsVerdict}
-use Rattle.pocsag_findings.specs.declared.form.Telling.{Telling}
-use Rattle.pocsag_findings.specs.declared.form.Telling.TheVariants as tellings
+use Rattle.pocsag_findings.specs.Beginnings.{GivesVerdict}
+use Rattle.pocsag_findings.specs.declared.format.Format.{Format}
+use Rattle.pocsag_findings.specs.declared.format.Format.TheVariants as formats
 use Rattle.pocsag_c.specs.Answers.{IsNotAccepted, IsShown, number_of_end}
 use Rattle.pocsag_c.specs.declared.check.CheckInfo.{CheckInfo}
 
@@ -16,18 +16,18 @@ abbrev pub IsJudgedAs : (file text : List ℕ) → CheckInfo → Type 0
 IsJudgedAs file text info = IsShown file text info ⊎ IsNotAccepted file text info
 
 -- The form of this number, for nodes no deeper than this.
-abbrev pub IsNumberOfForm : (form depth : ℕ) → Telling → Type 0
-IsNumberOfForm form depth (tellings.Lines deepest) = (form ≡ 0) × (deepest ≡ depth)
-IsNumberOfForm form depth (tellings.Facts deepest) = (form ≡ 1) × (deepest ≡ depth)
-IsNumberOfForm form depth tellings.Drawing = ⊥
+abbrev pub IsNumberOfForm : (form depth : ℕ) → Format → Type 0
+IsNumberOfForm form depth (formats.Lines deepest) = (form ≡ 0) × (deepest ≡ depth)
+IsNumberOfForm form depth (formats.Json deepest) = (form ≡ 1) × (deepest ≡ depth)
+IsNumberOfForm form depth formats.Drawing = ⊥
 
 -- A text of the form of this number, which begins with the verdict on the end and the batches that are told.
 pub record IsVerdictText (form depth : ℕ) (info : CheckInfo) (is_shown : Bool) (text : List ℕ) : Type 0 where
-  pub telling : Telling
-  pub same_form : IsNumberOfForm form depth telling
+  pub format : Format
+  pub same_form : IsNumberOfForm form depth format
   pub end : End
   pub same_end : info.end ≡ number_of_end end
-  pub tells : TellsVerdict telling is_shown end info.batches text
+  pub is_known : GivesVerdict format is_shown end info.batches text
 
 -- The same with one verdict or the other.
 abbrev pub IsTextOfVerdict : (form depth : ℕ) → CheckInfo → (text : List ℕ) → Type 0

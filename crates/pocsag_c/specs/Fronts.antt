@@ -23,7 +23,7 @@ use Rattle.pocsag_plan.specs.declared.fault.PlanFault.TheVariants as planning
 use Rattle.pocsag_plan.specs.declared.fault.StreamFault.TheVariants as stream
 use Rattle.pocsag_plan.specs.declared.fault.UnsentFront.{UnsentFront}
 use Rattle.pocsag_plan.specs.declared.fault.UnsentFront.TheVariants as unsent
-use Rattle.pocsag_plan.specs.declared.search.Effort.{Effort}
+use Rattle.pocsag_plan.specs.declared.search.OnLimit.{OnLimit}
 use Rattle.pocsag_plan.specs.declared.search.Search.{Search}
 use Rattle.pocsag_c.specs.Answers.{IsDelivered, IsTooSmall, number_of_end}
 use Rattle.pocsag_c.specs.Listings.{HasNoRoom, IsListed}
@@ -48,11 +48,11 @@ pub record IsLongestTold (file : List ℕ) (number batches : ℕ) (info : FrontI
   pub longest : IsOfRound file (λ round. IsLongestFront end round batches info.pages)
 
 -- They are the front that a planner of this effort owes, with this limit.
-pub record IsOwedFront (effort : Effort) (file : List ℕ) (number limit batches : ℕ) (info : FrontInfo) : Type 0 where
+pub record IsRequiredFront (on_limit : OnLimit) (file : List ℕ) (number limit batches : ℕ) (info : FrontInfo) : Type 0 where
   pub end : End
   pub same_end : number ≡ number_of_end end
   pub front : IsOfRound file (λ round.
-      IsFrontFor (record { limit = limit; end = end; effort = effort }) round batches info.pages)
+      IsFrontFor (record { limit = limit; end = end; on_limit = on_limit }) round batches info.pages)
 
 -- The counts are those of the first pages that are told, and of the others.
 pub record IsCountedFirst (file : List ℕ) (info : FrontInfo) : Type 0 where
@@ -101,10 +101,10 @@ pub record IsTextOfWhy (search : Search) (file : List ℕ) (batches count : ℕ)
   pub same_bound : bound ≡ beyond_bound why
 
 -- The same behind the pages that are told, with the bound that is told.
-pub record IsBeyond (effort : Effort) (file : List ℕ) (number limit batches : ℕ) (info : FrontInfo) (text : List ℕ) : Type 0 where
+pub record IsBeyond (on_limit : OnLimit) (file : List ℕ) (number limit batches : ℕ) (info : FrontInfo) (text : List ℕ) : Type 0 where
   pub end : End
   pub same_end : number ≡ number_of_end end
-  pub of_why : IsTextOfWhy (record { limit = limit; end = end; effort = effort }) file batches info.pages text info.beyond
+  pub of_why : IsTextOfWhy (record { limit = limit; end = end; on_limit = on_limit }) file batches info.pages text info.beyond
 
 -- The buffer begins with the bytes; or it has no byte, and their length alone is told.
 abbrev pub IsPutIfWanted : (before after : List ℕ) → (told : ℕ) → (bytes : List ℕ) → Type 0
@@ -148,7 +148,7 @@ ExplainsUnfronted file search batches (unsent.FirstPage needed) =
     IsOfRound file (λ round. ExplainsFront search round batches (unplanned.FirstPage needed))
 
 -- The same, for the end of this number.
-pub record ExplainsFrontPlanning (effort : Effort) (file : List ℕ) (number limit batches : ℕ) (f : UnsentFront) : Type 0 where
+pub record ExplainsFrontPlanning (on_limit : OnLimit) (file : List ℕ) (number limit batches : ℕ) (f : UnsentFront) : Type 0 where
   pub end : End
   pub same_end : number ≡ number_of_end end
-  pub why : ExplainsUnfronted file (record { limit = limit; end = end; effort = effort }) batches f
+  pub why : ExplainsUnfronted file (record { limit = limit; end = end; on_limit = on_limit }) batches f

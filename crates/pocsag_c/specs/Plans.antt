@@ -13,7 +13,7 @@ use Rattle.pocsag_plan.specs.Plans.{IsNoWorse}
 use Rattle.pocsag_plan.specs.Streams.{ExplainsStream, IsOfRound}
 use Rattle.pocsag_plan.specs.declared.bounded.Bounded.{Bounded}
 use Rattle.pocsag_plan.specs.declared.fault.StreamFault.{StreamFault}
-use Rattle.pocsag_plan.specs.declared.search.Effort.{Effort}
+use Rattle.pocsag_plan.specs.declared.search.OnLimit.{OnLimit}
 use Rattle.pocsag_c.specs.Answers.{IsDelivered, number_of_end}
 use Rattle.pocsag_c.specs.declared.plan.PlanInfo.{PlanInfo}
 use Rattle.pocsag_c.specs.declared.refusal.Place.{Place}
@@ -80,7 +80,7 @@ pub record IsNoWorseTold (file : List ℕ) (number limit : ℕ) (info : PlanInfo
   pub no_worse : IsOfRound file (λ round. IsNoWorse end round limit bounded)
 
 -- Why there is no plan.
-pub record ExplainsPlanning (effort : Effort) (file : List ℕ) (number limit : ℕ) (f : StreamFault) : Type 0 where
+pub record ExplainsPlanning (on_limit : OnLimit) (file : List ℕ) (number limit : ℕ) (f : StreamFault) : Type 0 where
   pub end : End
   pub same_end : number ≡ number_of_end end
-  pub why : ExplainsStream effort file end limit f
+  pub why : ExplainsStream on_limit file end limit f

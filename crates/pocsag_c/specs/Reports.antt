@@ -8,7 +8,7 @@ use Rattle.pocsag_plan.specs.declared.airtime.BoundedReport.{BoundedReport}
 use Rattle.pocsag_plan.specs.declared.fault.StreamFault.{StreamFault}
 use Rattle.pocsag_plan.specs.declared.fault.StreamFault.TheVariants as stream
 use Rattle.pocsag_plan.specs.declared.search.Search.{Search}
-use Rattle.pocsag_c.specs.Answers.{effort_of, number_of_end}
+use Rattle.pocsag_c.specs.Answers.{on_limit_of, number_of_end}
 use Rattle.pocsag_c.specs.declared.refusal.Place.{Place}
 use Rattle.pocsag_c.specs.declared.report.ReportInfo.{ReportInfo}
 
@@ -16,10 +16,10 @@ use Rattle.pocsag_c.specs.declared.report.ReportInfo.{ReportInfo}
 pub record IsAsked (number limit always : ℕ) (search : Search) : Type 0 where
   pub same_end : number ≡ number_of_end search.end
   pub same_limit : search.limit ≡ limit
-  pub same_effort : search.effort ≡ effort_of always
+  pub same_on_limit : search.on_limit ≡ on_limit_of always
 
 -- What is told is the report of a plan of the page file's round for the end of this number, with its bound.
-pub record TellsReport (file : List ℕ) (number limit always rate : ℕ) (info : ReportInfo) : Type 0 where
+pub record PrintsReport (file : List ℕ) (number limit always rate : ℕ) (info : ReportInfo) : Type 0 where
   pub search : Search
   pub asked : IsAsked number limit always search
   pub answered : BoundedReport
@@ -36,7 +36,7 @@ pub record TellsReport (file : List ℕ) (number limit always rate : ℕ) (info 
 -- Why a page file has no plan. The file is judged before the limit.
 abbrev pub ExplainsUnreported : (file : List ℕ) → Search → StreamFault → Type 0
 ExplainsUnreported file search (stream.Round f) = ExplainsRound file f
-ExplainsUnreported file search (stream.Plan f) = IsOfRound file (λ round. ExplainsPlan search.effort search.end round search.limit f)
+ExplainsUnreported file search (stream.Plan f) = IsOfRound file (λ round. ExplainsPlan search.on_limit search.end round search.limit f)
 ExplainsUnreported file search (stream.Transmission f) = ⊥
 ExplainsUnreported file search (stream.Certificate f) = ⊥
 

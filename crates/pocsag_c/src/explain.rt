@@ -6,17 +6,17 @@ ghost use Rattle.pocsag_c.specs.Statuses.{IsOfBytes, nowhere};
 
 use crate::buffer::hand_out;
 use crate::check::{CheckInfo, NOT_JUDGED, verdict_of};
-use pocsag_findings::{Telling, explanation};
+use pocsag_findings::{Format, explanation};
 use std::alloc::Global;
 
 // How the certificate is told, by the number of a form: 0 in words, 1 as JSON.
-fn telling_of(form: u32, depth: u32) -> Option<Telling>
+fn format_of(form: u32, depth: u32) -> Option<Format>
     ensures form { IfSome result (IsNumberOfForm form depth) }
     ensures none { result ≡ None ↔ IsNoForm form }
 {
     match form {
-        0 => Some(Telling::Lines(depth)),
-        1 => Some(Telling::Facts(depth)),
+        0 => Some(Format::Lines(depth)),
+        1 => Some(Format::Json(depth)),
         _ => None,
     }
 }
@@ -58,7 +58,7 @@ pub extern "C" fn pocsag_explain(
 {
     *text_len = 0;
     *info = NOT_JUDGED;
-    let Some(telling) = telling_of(form, depth) else {
+    let Some(format) = format_of(form, depth) else {
         return 11;
     };
     let verdict = match verdict_of(alloc, pages, cert) {
@@ -69,7 +69,7 @@ pub extern "C" fn pocsag_explain(
         }
     };
     let shown = verdict.is_shown;
-    match explanation(alloc, telling, &verdict.round, &verdict.certificate, shown) {
+    match explanation(alloc, format, &verdict.round, &verdict.certificate, shown) {
         Ok(told) => {
             *info = verdict.info;
             if hand_out(told.as_str().as_bytes(), text, text_len) {

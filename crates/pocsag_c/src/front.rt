@@ -13,18 +13,18 @@ ghost use Rattle.pocsag_plan.specs.Headline.{RoundHeadline};
 ghost use Rattle.pocsag_plan.specs.Plans.{IsBounded, IsPlanFor};
 ghost use Rattle.pocsag_plan.specs.Streams.{HeadlineOf, IsOfRound};
 ghost use Rattle.pocsag_plan.specs.declared.fault.StreamFault.TheVariants as stream_fault;
-ghost use Rattle.pocsag_c.specs.Answers.{IsDelivered, IsNoEnd, TellsFault, effort_of};
-ghost use Rattle.pocsag_c.specs.Fronts.{ExplainsFrontPlanning, ExplainsUnfronted, HasLengthOf, IsBeyond, IsCountedFirst, IsFront, IsFrontHeadline, IsGivenIfWanted, IsLongestTold, IsNoWorseFront, IsOwedFront, IsPutIfWanted, IsRestOf, IsTextOfWhy, IsWithoutFront, beyond_bytes, beyond_bound, no_front};
+ghost use Rattle.pocsag_c.specs.Answers.{IsDelivered, IsNoEnd, PrintsFault, on_limit_of};
+ghost use Rattle.pocsag_c.specs.Fronts.{ExplainsFrontPlanning, ExplainsUnfronted, HasLengthOf, IsBeyond, IsCountedFirst, IsFront, IsFrontHeadline, IsGivenIfWanted, IsLongestTold, IsNoWorseFront, IsRequiredFront, IsPutIfWanted, IsRestOf, IsTextOfWhy, IsWithoutFront, beyond_bytes, beyond_bound, no_front};
 ghost use Rattle.pocsag_c.specs.Plans.{HasNoRoomForBoth, IsPlannedInto};
 ghost use Rattle.pocsag_c.specs.Statuses.{IsOfBytes, front_refusal, nowhere};
 
 use crate::buffer::hand_out;
-use crate::plan::{PlanTexts, effort_of, end_of, hand_out_both};
+use crate::plan::{PlanTexts, end_of, hand_out_both, on_limit_of};
 use crate::refusal::{NOWHERE, Place, refused_front};
 use pocsag_decode::{page_files_are_read_back, pages_of_files_are_spellable, write_page_file};
 use pocsag_pages::read_round;
 use pocsag_plan::{
-    Bounded, Effort, FrontPlan, NoFront, PlanFault, Search, StreamFault, UnsentFront,
+    Bounded, FrontPlan, NoFront, OnLimit, PlanFault, Search, StreamFault, UnsentFront,
     is_node_limit, longest_front, send,
 };
 use pocsag_tree::{Certificate, write_text};
@@ -130,7 +130,7 @@ fn front_texts(
 ) -> Result<FrontTexts, UnsentFront>
     ensures front { IfOk result (λ t. IsOfRound pages.now (λ round.
         IsFrontFor search round batches t.first.bounded.plan.pages)) }
-    ensures longest { search.effort ≡ Effort.Fewest → IfOk result (λ t. IsOfRound pages.now (λ round.
+    ensures longest { search.on_limit ≡ OnLimit.Fewest → IfOk result (λ t. IsOfRound pages.now (λ round.
         IsLongestFront search.end round batches t.first.bounded.plan.pages)) }
     ensures headline { IfOk result (λ t. IsOfRound pages.now (λ round.
         RoundHeadline (take t.first.bounded.plan.pages round) search.end t.first.bounded.plan.batches
@@ -241,7 +241,7 @@ pub extern "C" fn pocsag_plan_at_most(
 ) -> u32
     // As many first pages as so many batches carry; where `always` is not 0, as many as the planner found to fit.
     ensures longest { IsFront result → always ≡ 0 → IsLongestTold pages.now end batches info.new }
-    ensures front { IsFront result → IsOwedFront (effort_of always) pages.now end limit batches info.new }
+    ensures front { IsFront result → IsRequiredFront (on_limit_of always) pages.now end limit batches info.new }
     ensures within { IsFront result → info.new.batches ≤ batches }
     ensures fewest { IsFront result → always ≡ 0 → info.new.bound ≡ info.new.batches }
     ensures counted { IsFront result → IsCountedFirst pages.now info.new }
@@ -253,14 +253,14 @@ pub extern "C" fn pocsag_plan_at_most(
         IsPlannedInto (IsFrontHeadline pages.now end info.new) tx.old tx.new tx_len.new cert.old cert.new cert_len.new }
     ensures rest { result ≡ 0 → IsGivenIfWanted (IsRestOf pages.now info.new) rest.old rest.new rest_len.new }
     ensures why { result ≡ 0 →
-        IsGivenIfWanted (IsBeyond (effort_of always) pages.now end limit batches info.new) why.old why.new why_len.new }
+        IsGivenIfWanted (IsBeyond (on_limit_of always) pages.now end limit batches info.new) why.old why.new why_len.new }
 
     // Too small a buffer: the lengths are those of such texts.
     ensures no_room { IsFront result →
         HasNoRoomForBoth (IsFrontHeadline pages.now end info.new) tx_len.new cert_len.new }
     ensures rest_length { IsFront result → HasLengthOf (IsRestOf pages.now info.new) rest_len.new }
     ensures why_length { IsFront result →
-        HasLengthOf (IsBeyond (effort_of always) pages.now end limit batches info.new) why_len.new }
+        HasLengthOf (IsBeyond (on_limit_of always) pages.now end limit batches info.new) why_len.new }
     ensures small { result ≡ 7 → length tx.old < tx_len.new }
     ensures cert_small { result ≡ 8 → length cert.old < cert_len.new }
     ensures rest_small { result ≡ 13 → length rest.old < rest_len.new }
@@ -269,7 +269,7 @@ pub extern "C" fn pocsag_plan_at_most(
     // Any other status says why there is no front, and never that a device failed; all buffers are as they were.
     ensures bad_end { result ≡ 2 ↔ IsNoEnd end }
     ensures fault { IsWithoutFront result →
-        TellsFault front_refusal (ExplainsFrontPlanning (effort_of always) pages.now end limit batches)
+        PrintsFault front_refusal (ExplainsFrontPlanning (on_limit_of always) pages.now end limit batches)
         result info.new.place }
     ensures answered { always ≢ 0 → result ≢ 6 }
     ensures placeless { IsFront result ⊎ (result ≡ 2) → info.new.place ≡ nowhere }
@@ -287,8 +287,17 @@ pub extern "C" fn pocsag_plan_at_most(
     let Some(end) = end_of(end) else {
         return 2;
     };
-    let effort = effort_of(always);
-    match front_texts(alloc, pages, batches, Search { limit, end, effort }) {
+    let on_limit = on_limit_of(always);
+    match front_texts(
+        alloc,
+        pages,
+        batches,
+        Search {
+            limit,
+            end,
+            on_limit,
+        },
+    ) {
         Ok(front) => {
             let Bounded { plan, bound, .. } = &front.first.bounded;
             *info = FrontInfo {

@@ -1,5 +1,5 @@
 ghost use Rattle.std.specs.Prelude.{◌≡◌, ◌≢◌, ◌⊎◌, ◌↔◌, IfErr, IfOk};
-ghost use Rattle.pocsag_c.specs.Answers.{TellsFault};
+ghost use Rattle.pocsag_c.specs.Answers.{PrintsFault};
 ghost use Rattle.pocsag_c.specs.Listings.{ExplainsUnheard, ExplainsUnlisted, HasNoRoom, IsListed, IsListingAs, IsListingOf, IsListingShown, IsListingShownAs};
 ghost use Rattle.pocsag_c.specs.Readings.{IsNoReading, IsUnreadOr, number_of_reading};
 ghost use Rattle.pocsag_c.specs.Statuses.{IsOfBytes, IsRefusing, nowhere, pager_refusal, transmission_refusal};
@@ -7,14 +7,14 @@ ghost use Rattle.pocsag_c.specs.Statuses.{IsOfBytes, IsRefusing, nowhere, pager_
 use crate::buffer::hand_out_text;
 use crate::reading::{Reading, read_as, reading_of};
 use crate::refusal::{NOWHERE, Place, StatusAt, refused_hearing, refused_transmission};
-use pocsag_decode::{DecodeFault, judge_bytes, list_sent, list_spent};
+use pocsag_decode::{DecodeFault, judge_bytes, list_owned, list_sent};
 use pocsag_pager::{PagerFault, hear_all};
 use pocsag_words::GrowingSink;
 use std::alloc::Global;
 
 fn text_decoded(alloc: Global, tx: &[u8]) -> Result<Vec<u8>, StatusAt>
     ensures listed { IfOk result (λ text. IsListingOf tx.now text.items) }
-    ensures fault { IfErr result (λ r. TellsFault transmission_refusal (ExplainsUnlisted tx.now) r.status r.place) }
+    ensures fault { IfErr result (λ r. PrintsFault transmission_refusal (ExplainsUnlisted tx.now) r.status r.place) }
     ensures refusing { IfErr result (λ r. IsRefusing r.status) }
     ensures of_bytes { IfErr result (λ r. IsOfBytes r.status) }
 {
@@ -30,7 +30,7 @@ fn text_decoded(alloc: Global, tx: &[u8]) -> Result<Vec<u8>, StatusAt>
 
 fn text_heard(alloc: Global, address: u32, tx: &[u8]) -> Result<Vec<u8>, StatusAt>
     ensures listed { IfOk result (λ text. IsListingShown address tx.now text.items) }
-    ensures fault { IfErr result (λ r. TellsFault pager_refusal (ExplainsUnheard address tx.now) r.status r.place) }
+    ensures fault { IfErr result (λ r. PrintsFault pager_refusal (ExplainsUnheard address tx.now) r.status r.place) }
     ensures refusing { IfErr result (λ r. IsRefusing r.status) }
     ensures of_bytes { IfErr result (λ r. IsOfBytes r.status) }
 {
@@ -39,7 +39,7 @@ fn text_heard(alloc: Global, address: u32, tx: &[u8]) -> Result<Vec<u8>, StatusA
         Err(fault) => return Err(refused_hearing(fault)),
     };
     let mut text = GrowingSink::new(alloc);
-    match list_spent(alloc, pages, &mut text) {
+    match list_owned(alloc, pages, &mut text) {
         Ok(()) => Ok(text.into_bytes()),
         Err(_) => Err(refused_hearing(PagerFault::OutOfMemory)),
     }
@@ -58,7 +58,7 @@ pub extern "C" fn pocsag_decode(
     ensures listed { result ≡ 0 → IsListed (IsListingOf tx.now) listing.old listing.new listing_len.new }
     ensures no_room { result ≡ 9 → HasNoRoom (IsListingOf tx.now) listing.old listing.new listing_len.new }
     ensures fault { result ≢ 0 → result ≢ 9 →
-        TellsFault transmission_refusal (ExplainsUnlisted tx.now) result place.new }
+        PrintsFault transmission_refusal (ExplainsUnlisted tx.now) result place.new }
     ensures placeless { (result ≡ 0) ⊎ (result ≡ 9) → place.new ≡ nowhere }
     ensures nothing { result ≢ 0 → result ≢ 9 → listing_len.new ≡ 0 }
     ensures of_bytes { IsOfBytes result }
@@ -83,7 +83,7 @@ pub extern "C" fn pocsag_hear(
     ensures no_room { result ≡ 9 →
         HasNoRoom (IsListingShown address tx.now) listing.old listing.new listing_len.new }
     ensures fault { result ≢ 0 → result ≢ 9 →
-        TellsFault pager_refusal (ExplainsUnheard address tx.now) result place.new }
+        PrintsFault pager_refusal (ExplainsUnheard address tx.now) result place.new }
     ensures placeless { (result ≡ 0) ⊎ (result ≡ 9) → place.new ≡ nowhere }
     ensures nothing { result ≢ 0 → result ≢ 9 → listing_len.new ≡ 0 }
     ensures of_bytes { IsOfBytes result }
@@ -96,7 +96,7 @@ pub extern "C" fn pocsag_hear(
 fn text_decoded_as(alloc: Global, reading: Reading, tx: &[u8]) -> Result<Vec<u8>, StatusAt>
     ensures listed { IfOk result (λ text. IsListingAs (number_of_reading reading) tx.now text.items) }
     ensures fault { IfErr result (λ r. IsUnreadOr (number_of_reading reading) tx.now r.status r.place
-        (λ bytes. TellsFault transmission_refusal (ExplainsUnlisted bytes) r.status r.place)) }
+        (λ bytes. PrintsFault transmission_refusal (ExplainsUnlisted bytes) r.status r.place)) }
     ensures refusing { IfErr result (λ r. IsRefusing r.status) }
     ensures of_bytes { IfErr result (λ r. IsOfBytes r.status) }
 {
@@ -114,7 +114,7 @@ fn text_heard_as(
 ) -> Result<Vec<u8>, StatusAt>
     ensures listed { IfOk result (λ text. IsListingShownAs (number_of_reading reading) address tx.now text.items) }
     ensures fault { IfErr result (λ r. IsUnreadOr (number_of_reading reading) tx.now r.status r.place
-        (λ bytes. TellsFault pager_refusal (ExplainsUnheard address bytes) r.status r.place)) }
+        (λ bytes. PrintsFault pager_refusal (ExplainsUnheard address bytes) r.status r.place)) }
     ensures refusing { IfErr result (λ r. IsRefusing r.status) }
     ensures of_bytes { IfErr result (λ r. IsOfBytes r.status) }
 {
@@ -139,7 +139,7 @@ pub extern "C" fn pocsag_decode_as(
     ensures no_room { result ≡ 9 → HasNoRoom (IsListingAs reading tx.now) listing.old listing.new listing_len.new }
     ensures bad_reading { result ≡ 58 ↔ IsNoReading reading }
     ensures fault { result ≢ 0 → result ≢ 9 → result ≢ 58 → IsUnreadOr reading tx.now result place.new
-        (λ bytes. TellsFault transmission_refusal (ExplainsUnlisted bytes) result place.new) }
+        (λ bytes. PrintsFault transmission_refusal (ExplainsUnlisted bytes) result place.new) }
     ensures placeless { (result ≡ 0) ⊎ (result ≡ 9) ⊎ (result ≡ 58) → place.new ≡ nowhere }
     ensures nothing { result ≢ 0 → result ≢ 9 → listing_len.new ≡ 0 }
     ensures of_bytes { IsOfBytes result }
@@ -172,7 +172,7 @@ pub extern "C" fn pocsag_hear_as(
         HasNoRoom (IsListingShownAs reading address tx.now) listing.old listing.new listing_len.new }
     ensures bad_reading { result ≡ 58 ↔ IsNoReading reading }
     ensures fault { result ≢ 0 → result ≢ 9 → result ≢ 58 → IsUnreadOr reading tx.now result place.new
-        (λ bytes. TellsFault pager_refusal (ExplainsUnheard address bytes) result place.new) }
+        (λ bytes. PrintsFault pager_refusal (ExplainsUnheard address bytes) result place.new) }
     ensures placeless { (result ≡ 0) ⊎ (result ≡ 9) ⊎ (result ≡ 58) → place.new ≡ nowhere }
     ensures nothing { result ≢ 0 → result ≢ 9 → listing_len.new ≡ 0 }
     ensures of_bytes { IsOfBytes result }

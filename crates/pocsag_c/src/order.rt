@@ -1,6 +1,6 @@
 ghost use Rattle.std.specs.Prelude.{◌≡◌, ◌≢◌, ◌⊎◌, IfErr, IfOk};
 ghost use Rattle.pocsag_plan.specs.Verdicts.{ExplainsRound};
-ghost use Rattle.pocsag_c.specs.Answers.{TellsFault};
+ghost use Rattle.pocsag_c.specs.Answers.{PrintsFault};
 ghost use Rattle.pocsag_c.specs.Listings.{HasNoRoom, IsListed};
 ghost use Rattle.pocsag_c.specs.Orders.{IsInFileOrder};
 ghost use Rattle.pocsag_c.specs.Statuses.{IsOfBytes, IsRefusing, nowhere, round_refusal};
@@ -15,7 +15,7 @@ use std::alloc::Global;
 // The transmission of a page file's round in file order.
 fn text_in_order(alloc: Global, pages: &[u8]) -> Result<Vec<u8>, StatusAt>
     ensures laid { IfOk result (λ text. IsInFileOrder pages.now text.items) }
-    ensures fault { IfErr result (λ r. TellsFault round_refusal (ExplainsRound pages.now) r.status r.place) }
+    ensures fault { IfErr result (λ r. PrintsFault round_refusal (ExplainsRound pages.now) r.status r.place) }
     ensures refusing { IfErr result (λ r. IsRefusing r.status) }
     ensures of_bytes { IfErr result (λ r. IsOfBytes r.status) }
 {
@@ -46,7 +46,7 @@ pub extern "C" fn pocsag_lay_in_order(
     ensures laid { result ≡ 0 → IsListed (IsInFileOrder pages.now) tx.old tx.new tx_len.new }
     ensures no_room { result ≡ 7 → HasNoRoom (IsInFileOrder pages.now) tx.old tx.new tx_len.new }
     ensures fault { result ≢ 0 → result ≢ 7 →
-        TellsFault round_refusal (ExplainsRound pages.now) result place.new }
+        PrintsFault round_refusal (ExplainsRound pages.now) result place.new }
     ensures placeless { (result ≡ 0) ⊎ (result ≡ 7) → place.new ≡ nowhere }
     ensures nothing { result ≢ 0 → result ≢ 7 → tx_len.new ≡ 0 }
     ensures of_bytes { IsOfBytes result }

@@ -2,7 +2,7 @@ ghost use Rattle.std.specs.Prelude.{◌≡◌, ◌≢◌, ◌⊎◌, IfErr, IfOk
 ghost use Rattle.csv.specs.Writing.{default_writer, row_text};
 ghost use Rattle.pocsag_pages.specs.Listable.{IsListable};
 ghost use Rattle.pocsag_decode.specs.PageFiles.{page_record};
-ghost use Rattle.pocsag_c.specs.Answers.{TellsFault};
+ghost use Rattle.pocsag_c.specs.Answers.{PrintsFault};
 ghost use Rattle.pocsag_c.specs.Listings.{HasNoRoom, IsListed};
 ghost use Rattle.pocsag_c.specs.Records.{ExplainsNoRecord, IsRecordOf, word_of_kind};
 ghost use Rattle.pocsag_c.specs.Statuses.{IsOfBytes, IsRefusing, nowhere, page_refusal};
@@ -92,7 +92,7 @@ pub extern "C" fn pocsag_write_page(
     ensures no_room { result ≡ 10 →
         HasNoRoom (IsRecordOf address kind message.now) row.old row.new row_len.new }
     ensures fault { result ≢ 0 → result ≢ 10 →
-        TellsFault page_refusal (ExplainsNoRecord address kind message.now) result place.new }
+        PrintsFault page_refusal (ExplainsNoRecord address kind message.now) result place.new }
     ensures placeless { (result ≡ 0) ⊎ (result ≡ 10) → place.new ≡ nowhere }
     ensures nothing { result ≢ 0 → result ≢ 10 → row_len.new ≡ 0 }
     ensures of_bytes { IsOfBytes result }

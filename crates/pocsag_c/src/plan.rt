@@ -5,13 +5,13 @@ ghost use Rattle.pocsag_plan.specs.BoundedHeadline.{BoundedHeadline};
 ghost use Rattle.pocsag_plan.specs.Headline.{Headline};
 ghost use Rattle.pocsag_plan.specs.Plans.{IsNoWorse};
 ghost use Rattle.pocsag_plan.specs.Streams.{ExplainsStream, IsBoundedOf, IsOfRound};
-ghost use Rattle.pocsag_c.specs.Answers.{IsDelivered, IsNoEnd, TellsFault, effort_of, number_of_end};
+ghost use Rattle.pocsag_c.specs.Answers.{IsDelivered, IsNoEnd, PrintsFault, on_limit_of, number_of_end};
 ghost use Rattle.pocsag_c.specs.Plans.{ExplainsPlanning, HasNoRoomForBoth, IsCounted, IsHeadline, IsHeadlineWithBound, IsNoWorseTold, IsPlannedInto, IsWithoutPlan, IsWithoutRoom, no_plan};
 ghost use Rattle.pocsag_c.specs.Statuses.{IsOfBytes, nowhere, stream_refusal};
 
 use crate::buffer::hand_out;
 use crate::refusal::{NOWHERE, Place, refused_stream};
-use pocsag_plan::{Bounded, Effort, Search, StreamFault, plan_stream, plan_stream_always};
+use pocsag_plan::{Bounded, OnLimit, Search, StreamFault, plan_stream, plan_stream_always};
 use pocsag_words::{End, GrowingSink, SliceSource};
 use std::alloc::Global;
 
@@ -34,15 +34,15 @@ pub struct PlanInfo {
 }
 
 // What a number asks for: 0 the fewest batches alone, any other that no round is refused.
-pub(crate) fn effort_of(always: u32) -> Effort
-    ensures value { result ≡ effort_of always }
-    ensures fewest { always ≡ 0 → result ≡ Effort.Fewest }
-    ensures always { always ≢ 0 → result ≡ Effort.Always }
+pub(crate) fn on_limit_of(always: u32) -> OnLimit
+    ensures value { result ≡ on_limit_of always }
+    ensures fewest { always ≡ 0 → result ≡ OnLimit.Fewest }
+    ensures always { always ≢ 0 → result ≡ OnLimit.Always }
 {
     if always == 0 {
-        Effort::Fewest
+        OnLimit::Fewest
     } else {
-        Effort::Always
+        OnLimit::Always
     }
 }
 
@@ -83,18 +83,22 @@ fn plan_texts(alloc: Global, pages: &[u8], search: Search) -> Result<PlanTexts, 
         Headline pages.now search.end p.bounded.plan.batches
         (bound_tree_of p.bounded.plan.tree) p.sent.items p.certificate.items) }
     ensures plan { IfOk result (λ p. IsBoundedOf pages.now search.end p.bounded) }
-    ensures fewest { search.effort ≡ Effort.Fewest → IfOk result (λ p. p.bounded.bound ≡ p.bounded.plan.batches) }
+    ensures fewest { search.on_limit ≡ OnLimit.Fewest → IfOk result (λ p. p.bounded.bound ≡ p.bounded.plan.batches) }
     ensures no_worse { IfOk result (λ p. IsOfRound pages.now (λ round.
         IsNoWorse search.end round search.limit p.bounded)) }
-    ensures explained { IfErr result (ExplainsStream search.effort pages.now search.end search.limit) }
+    ensures explained { IfErr result (ExplainsStream search.on_limit pages.now search.end search.limit) }
     ensures unread { IfErr result (λ e. e ≢ StreamFault.Round round_fault.ReadFault) }
 {
-    let Search { limit, end, effort } = search;
+    let Search {
+        limit,
+        end,
+        on_limit,
+    } = search;
     let mut source = SliceSource::new(pages);
     let mut tx = GrowingSink::new(alloc);
     let mut cert = GrowingSink::new(alloc);
-    match effort {
-        Effort::Fewest => match plan_stream(alloc, &mut source, &mut tx, &mut cert, limit, end) {
+    match on_limit {
+        OnLimit::Fewest => match plan_stream(alloc, &mut source, &mut tx, &mut cert, limit, end) {
             Ok(plan) => Ok(PlanTexts {
                 sent: tx.into_bytes(),
                 certificate: cert.into_bytes(),
@@ -106,7 +110,7 @@ fn plan_texts(alloc: Global, pages: &[u8], search: Search) -> Result<PlanTexts, 
             }),
             Err(fault) => Err(fault),
         },
-        Effort::Always => {
+        OnLimit::Always => {
             match plan_stream_always(alloc, &mut source, &mut tx, &mut cert, limit, end) {
                 Ok(bounded) => Ok(PlanTexts {
                     sent: tx.into_bytes(),
@@ -190,7 +194,7 @@ pub extern "C" fn pocsag_plan(
     // Any other status says why there is no plan, and never that a device failed; both buffers are as they were.
     ensures bad_end { result ≡ 2 ↔ IsNoEnd end }
     ensures fault { IsWithoutPlan result →
-        TellsFault stream_refusal (ExplainsPlanning (effort_of always) pages.now end limit) result info.new.place }
+        PrintsFault stream_refusal (ExplainsPlanning (on_limit_of always) pages.now end limit) result info.new.place }
     ensures answered { always ≢ 0 → result ≢ 6 }
     ensures placeless { (result ≡ 0) ⊎ IsWithoutRoom result ⊎ (result ≡ 2) → info.new.place ≡ nowhere }
     ensures nothing { IsWithoutPlan result ⊎ (result ≡ 2) →
@@ -204,8 +208,16 @@ pub extern "C" fn pocsag_plan(
     let Some(end) = end_of(end) else {
         return 2;
     };
-    let effort = effort_of(always);
-    match plan_texts(alloc, pages, Search { limit, end, effort }) {
+    let on_limit = on_limit_of(always);
+    match plan_texts(
+        alloc,
+        pages,
+        Search {
+            limit,
+            end,
+            on_limit,
+        },
+    ) {
         Ok(texts) => {
             let Bounded { plan, bound, .. } = &texts.bounded;
             *info = PlanInfo {

@@ -1,6 +1,6 @@
 ghost use Rattle.std.specs.Prelude.{◌≡◌, ◌≢◌, ◌↔◌, None, Some, min};
 ghost use Rattle.pocsag_pages.specs.Quotes.{first_misplaced};
-ghost use Rattle.pocsag_c.specs.Answers.{TellsFault};
+ghost use Rattle.pocsag_c.specs.Answers.{PrintsFault};
 ghost use Rattle.pocsag_c.specs.Statuses.{IsOfBytes, nowhere, quote_refusal, at_record_and_line};
 
 use crate::refusal::{NOWHERE, Place, StatusAt};
@@ -38,7 +38,7 @@ fn refused_quote(fault: QuoteFault) -> StatusAt
 pub extern "C" fn pocsag_strict(pages: &[u8], place: &mut Place) -> u32
     ensures strict { result ≡ 0 ↔ first_misplaced pages.now ≡ None }
     ensures fault { result ≢ 0 →
-        TellsFault quote_refusal (λ quote. first_misplaced pages.now ≡ Some quote) result place.new }
+        PrintsFault quote_refusal (λ quote. first_misplaced pages.now ≡ Some quote) result place.new }
     ensures placeless { result ≡ 0 → place.new ≡ nowhere }
     ensures of_bytes { IsOfBytes result }
 {

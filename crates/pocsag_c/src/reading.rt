@@ -1,8 +1,8 @@
 //! What is read of the bytes that a caller gives: these bytes, their repair, or the transmissions of a capture.
 ghost use Rattle.std.specs.Prelude.{◌≡◌, ◌≢◌, IfErr, IfOk, MatchOption};
-ghost use Rattle.pocsag_capture.specs.LiftedBytes.{ExplainsUnlifted};
+ghost use Rattle.pocsag_capture.specs.ExtractedBytes.{ExplainsUnlifted};
 ghost use Rattle.pocsag_decode.specs.Repairs.{IsRepairOf};
-ghost use Rattle.pocsag_c.specs.Answers.{TellsFault};
+ghost use Rattle.pocsag_c.specs.Answers.{PrintsFault};
 ghost use Rattle.pocsag_c.specs.Readings.{AreAllOf, AreReadAs, IsNoReading, IsUnreadAs, bytes_in, number_of_reading};
 ghost use Rattle.pocsag_c.specs.Statuses.{IsOfBytes, IsRefusing, capture_refusal};
 
@@ -64,14 +64,14 @@ fn repaired(alloc: Global, tx: &[u8]) -> Result<Vec<u8>, AllocError>
 }
 
 // All transmissions of a capture, one behind the other.
-fn lifted(alloc: Global, capture: &[u8]) -> Result<Vec<u8>, StatusAt>
+fn extracted(alloc: Global, capture: &[u8]) -> Result<Vec<u8>, StatusAt>
     ensures all { IfOk result (λ bytes. AreAllOf capture.now bytes.items) }
-    ensures fault { IfErr result (λ r. TellsFault capture_refusal (ExplainsUnlifted capture.now) r.status r.place) }
+    ensures fault { IfErr result (λ r. PrintsFault capture_refusal (ExplainsUnlifted capture.now) r.status r.place) }
     ensures refusing { IfErr result (λ r. IsRefusing r.status) }
     ensures of_bytes { IfErr result (λ r. IsOfBytes r.status) }
 {
     match lift_all(alloc, capture) {
-        Ok(lifted) => Ok(lifted.bytes),
+        Ok(extracted) => Ok(extracted.bytes),
         Err(fault) => Err(refused_capture(fault)),
     }
 }
@@ -96,7 +96,7 @@ pub(crate) fn read_as<'a>(
                 place: NOWHERE,
             }),
         },
-        Reading::Captured => match lifted(alloc, given) {
+        Reading::Captured => match extracted(alloc, given) {
             Ok(bytes) => Ok(Read::Made(bytes)),
             Err(refusal) => Err(refusal),
         },

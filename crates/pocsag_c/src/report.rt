@@ -2,11 +2,11 @@ ghost use Rattle.std.specs.Prelude.{◌≡◌, ◌≢◌, ◌⊎◌, ◌↔◌, 
 ghost use Rattle.pocsag_pages.specs.declared.fault.RoundFault.TheVariants as round_fault;
 ghost use Rattle.pocsag_plan.specs.Plans.{IsPlanFor};
 ghost use Rattle.pocsag_plan.specs.Streams.{IsOfRound};
-ghost use Rattle.pocsag_c.specs.Answers.{IsNoEnd, TellsFault};
-ghost use Rattle.pocsag_c.specs.Reports.{ExplainsReport, ExplainsUnreported, IsBadRate, TellsReport, no_report};
+ghost use Rattle.pocsag_c.specs.Answers.{IsNoEnd, PrintsFault};
+ghost use Rattle.pocsag_c.specs.Reports.{ExplainsReport, ExplainsUnreported, IsBadRate, PrintsReport, no_report};
 ghost use Rattle.pocsag_c.specs.Statuses.{IsOfBytes, nowhere, stream_refusal};
 
-use crate::plan::{effort_of, end_of};
+use crate::plan::{end_of, on_limit_of};
 use crate::refusal::{NOWHERE, Place, refused_stream};
 use pocsag_pages::read_round;
 use pocsag_plan::{Bounded, Search, StreamFault, bounded_plan, report};
@@ -77,12 +77,12 @@ pub extern "C" fn pocsag_report(
     always: u32,
     info: &mut ReportInfo,
 ) -> u32
-    ensures told { result ≡ 0 → TellsReport pages.now end limit always rate info.new }
+    ensures told { result ≡ 0 → PrintsReport pages.now end limit always rate info.new }
     ensures fewest { result ≡ 0 → always ≡ 0 → info.new.bound ≡ info.new.batches }
     ensures bad_end { result ≡ 2 ↔ IsNoEnd end }
     ensures bad_rate { result ≡ 4 → IsBadRate pages.now end limit always rate }
     ensures fault { result ≢ 0 → result ≢ 2 → result ≢ 4 →
-        TellsFault stream_refusal (ExplainsReport pages.now end limit always) result info.new.place }
+        PrintsFault stream_refusal (ExplainsReport pages.now end limit always) result info.new.place }
     ensures answered { always ≢ 0 → result ≢ 6 }
     ensures placeless { (result ≡ 0) ⊎ (result ≡ 2) ⊎ (result ≡ 4) → info.new.place ≡ nowhere }
     ensures nothing { result ≢ 0 → info.new ≡ no_report info.new.place }
@@ -92,8 +92,16 @@ pub extern "C" fn pocsag_report(
     let Some(end) = end_of(end) else {
         return 2;
     };
-    let effort = effort_of(always);
-    let bounded = match plan_in(alloc, pages, Search { limit, end, effort }) {
+    let on_limit = on_limit_of(always);
+    let bounded = match plan_in(
+        alloc,
+        pages,
+        Search {
+            limit,
+            end,
+            on_limit,
+        },
+    ) {
         Ok(bounded) => bounded,
         Err(fault) => {
             let refusal = refused_stream(fault);

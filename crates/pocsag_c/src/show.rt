@@ -1,7 +1,7 @@
 ghost use Rattle.std.specs.Prelude.{◌≡◌, ◌≢◌, ◌⊎◌, ◌↔◌, Err, IfErr, IfOk, OnOk};
 ghost use Rattle.pocsag_show.specs.Shows.{Explains, IsTextOf};
 ghost use Rattle.pocsag_show.specs.Views.{view_text};
-ghost use Rattle.pocsag_c.specs.Answers.{TellsFault};
+ghost use Rattle.pocsag_c.specs.Answers.{PrintsFault};
 ghost use Rattle.pocsag_c.specs.Listings.{HasNoRoom, IsListed};
 ghost use Rattle.pocsag_c.specs.Pictures.{AreNoRows, IsNoPicture, IsNumberOfView, IsPictureAs};
 ghost use Rattle.pocsag_c.specs.Readings.{IsNoReading, IsSoAsRead, IsUnreadOr, number_of_reading};
@@ -36,7 +36,7 @@ fn view_of(form: u32, first: u64, last: u64) -> Result<View, u32>
 
 fn text_shown(alloc: Global, view: View, tx: &[u8]) -> Result<Vec<u8>, StatusAt>
     ensures shown { IfOk result (λ text. IsTextOf (view_text view) tx.now text.items) }
-    ensures fault { IfErr result (λ r. TellsFault show_refusal (Explains tx.now) r.status r.place) }
+    ensures fault { IfErr result (λ r. PrintsFault show_refusal (Explains tx.now) r.status r.place) }
     ensures refusing { IfErr result (λ r. IsRefusing r.status) }
     ensures of_bytes { IfErr result (λ r. IsOfBytes r.status) }
 {
@@ -56,7 +56,7 @@ fn text_shown_as(
     ensures shown { IfOk result (λ text. IsSoAsRead (number_of_reading reading) tx.now
         (λ bytes. IsTextOf (view_text view) bytes text.items)) }
     ensures fault { IfErr result (λ r. IsUnreadOr (number_of_reading reading) tx.now r.status r.place
-        (λ bytes. TellsFault show_refusal (Explains bytes) r.status r.place)) }
+        (λ bytes. PrintsFault show_refusal (Explains bytes) r.status r.place)) }
     ensures refusing { IfErr result (λ r. IsRefusing r.status) }
     ensures of_bytes { IfErr result (λ r. IsOfBytes r.status) }
 {
@@ -91,7 +91,7 @@ pub extern "C" fn pocsag_show(
     ensures rows { AreNoRows first last → (result ≡ 58) ⊎ (result ≡ 57) }
     ensures fault { result ≢ 0 → result ≢ 10 → result ≢ 58 → result ≢ 57 →
         IsUnreadOr reading tx.now result place.new
-        (λ bytes. TellsFault show_refusal (Explains bytes) result place.new) }
+        (λ bytes. PrintsFault show_refusal (Explains bytes) result place.new) }
     ensures placeless { (result ≡ 0) ⊎ (result ≡ 10) ⊎ (result ≡ 58) ⊎ (result ≡ 57) → place.new ≡ nowhere }
     ensures nothing { result ≢ 0 → result ≢ 10 → text_len.new ≡ 0 }
     ensures of_bytes { IsOfBytes result }

@@ -1,5 +1,5 @@
 ghost use Rattle.std.specs.Prelude.{◌≡◌, ◌≢◌, ◌⊎◌, IfErr, IfOk};
-ghost use Rattle.pocsag_c.specs.Answers.{TellsFault};
+ghost use Rattle.pocsag_c.specs.Answers.{PrintsFault};
 ghost use Rattle.pocsag_c.specs.Listings.{HasNoRoom, IsListed};
 ghost use Rattle.pocsag_c.specs.Sounds.{ExplainsNoSound, IsSoundOf, preamble_asked};
 ghost use Rattle.pocsag_c.specs.Statuses.{IsOfBytes, IsRefusing, nowhere, wav_refusal};
@@ -22,7 +22,7 @@ fn preamble_asked(bits: u32) -> Option<u32>
 fn text_sounded(alloc: Global, keying: Keying, tx: &[u8]) -> Result<Vec<u8>, StatusAt>
     ensures reads { IfOk result (λ file. ReadsAsPages tx.now) }
     ensures wav { IfOk result (λ file. IsWav keying tx.now file.items) }
-    ensures fault { IfErr result (λ r. TellsFault wav_refusal (ExplainsWav keying tx.now) r.status r.place) }
+    ensures fault { IfErr result (λ r. PrintsFault wav_refusal (ExplainsWav keying tx.now) r.status r.place) }
     ensures refusing { IfErr result (λ r. IsRefusing r.status) }
     ensures of_bytes { IfErr result (λ r. IsOfBytes r.status) }
 {
@@ -53,7 +53,7 @@ pub extern "C" fn pocsag_wav(
     ensures no_room { result ≡ 10 →
         HasNoRoom (IsSoundOf rate samples preamble inverted tx.now) wav.old wav.new wav_len.new }
     ensures fault { result ≢ 0 → result ≢ 10 →
-        TellsFault wav_refusal (ExplainsNoSound rate samples preamble inverted tx.now) result place.new }
+        PrintsFault wav_refusal (ExplainsNoSound rate samples preamble inverted tx.now) result place.new }
     ensures placeless { (result ≡ 0) ⊎ (result ≡ 10) → place.new ≡ nowhere }
     ensures nothing { result ≢ 0 → result ≢ 10 → wav_len.new ≡ 0 }
     ensures of_bytes { IsOfBytes result }

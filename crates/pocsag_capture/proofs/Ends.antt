@@ -14,11 +14,11 @@ use Rattle.pocsag_pages.specs.Plain.{pages_from}
 use Rattle.pocsag_pager.specs.Shown.{IsMended, said}
 use Rattle.pocsag_pager.proofs.Mended.{mended_same}
 use Rattle.pocsag_capture.specs.Bits.{capture_bits}
-use Rattle.pocsag_capture.specs.Caught.{settled}
-use Rattle.pocsag_capture.specs.LiftedBytes.{LiftsAll, LiftsReception, PutsLift, PutsLifts}
+use Rattle.pocsag_capture.specs.Caught.{without_orphans}
+use Rattle.pocsag_capture.specs.ExtractedBytes.{LiftsAll, LiftsReception, PutsLift, PutsLifts}
 use Rattle.pocsag_capture.specs.Receptions.{AreFound, AreReceptions, IsReception, IsSyncRun, behind, counted, run_end, last_sync, nothing, passed, received, received_word}
-use Rattle.pocsag_capture.specs.declared.lift.Lifted.{Lifted}
-use Rattle.pocsag_capture.specs.declared.reception.Heard.{Heard}
+use Rattle.pocsag_capture.specs.declared.lift.Extracted.{Extracted}
+use Rattle.pocsag_capture.specs.declared.reception.ReceptionStats.{ReceptionStats}
 use Rattle.pocsag_capture.specs.declared.reception.Reception.{Reception}
 use Rattle.pocsag_capture.specs.declared.reception.Run.{Run}
 use Rattle.pocsag_capture.proofs.Joined.{IsBody, all_body, all_bytes, all_caught, all_codewords, all_pages, all_told, body_join, body_reads, join_body, one_body, one_caught, pages_in, sent_body}
@@ -86,25 +86,25 @@ unread_mended : (w : ℕ) (m : Option ℕ) → w ≡ 0x0000000b → IsMended w m
 unread_mended w m is mended = mended_same 0x0000000b m None (subst (λ (v : ℕ). IsMended v m) is mended) unread_far
 
 unread_pages : (i : ℕ) (ws : List ℕ) (ms : List (Option ℕ)) → All (λ w. w ≡ 0x0000000b) ws → AllZip IsMended ws ms
-    → pages_from i (settled false (map said ms)) ≡ []
+    → pages_from i (without_orphans false (map said ms)) ≡ []
 unread_pages i [] [] all each = refl
 unread_pages i [] (m ∷ ms) all each = absurd each
 unread_pages i (w ∷ ws) [] all each = absurd each
 unread_pages i (w ∷ ws) (m ∷ ms) all each =
     let is = unread_mended w m (All-head (λ w. w ≡ 0x0000000b) w ws all) each.0 in
     let rest = unread_pages (i + 1) ws ms (All-tail (λ w. w ≡ 0x0000000b) w ws all) each.1 in
-    ap (λ (n : Option ℕ). pages_from i (settled false (said n ∷ map said ms))) is ∙ rest
+    ap (λ (n : Option ℕ). pages_from i (without_orphans false (said n ∷ map said ms))) is ∙ rest
 
-silent : (bits : List ℕ) (h : Heard) (before after : List ℕ) (f : PutsLift bits h before after) → h.reception.words ≡ 0 → pages_in f.codewords ≡ []
+silent : (bits : List ℕ) (h : ReceptionStats) (before after : List ℕ) (f : PutsLift bits h before after) → h.reception.words ≡ 0 → pages_in f.codewords ≡ []
 silent bits h before after f none =
-    let lifted = f.is.lifted in
-    ap (pages_from 0) lifted.kinds
-    ∙ unread_pages 0 (unsynced 0 (received bits h.reception)) lifted.mended
-    (unread_unsynced 0 (received bits h.reception) (unread_words bits h.reception none 0 (17 * h.reception.batches))) lifted.each
+    let extracted = f.is.extracted in
+    ap (pages_from 0) extracted.kinds
+    ∙ unread_pages 0 (unsynced 0 (received bits h.reception)) extracted.mended
+    (unread_unsynced 0 (received bits h.reception) (unread_words bits h.reception none 0 (17 * h.reception.batches))) extracted.each
 
 -- ---- all receptions, behind a batch that says nothing
 
-pub lifts_all : (capture : List ℕ) (l : Lifted) (start mid : List ℕ) (silence : Heard) (found : List Reception) → start ≡ replicate 72 0xaa
+pub lifts_all : (capture : List ℕ) (l : Extracted) (start mid : List ℕ) (silence : ReceptionStats) (found : List Reception) → start ≡ replicate 72 0xaa
     → silence.reception.words ≡ 0 → silence.reception.batches ≡ 1 → PutsLift (capture_bits capture) silence start mid
     → PutsLifts (capture_bits capture) found l.heard.items mid l.bytes.items → AreReceptions (capture_bits capture) found → LiftsAll capture l
 lifts_all capture l start mid silence found begun unread one f g are =
@@ -130,7 +130,7 @@ lifts_all capture l start mid silence found begun unread one f g are =
       told = all_told bits l.heard.items g.codewords g.each;
     }
 
-pub lifts_reception : (capture : List ℕ) (r : Reception) (start bytes : List ℕ) (heard : Heard) → start ≡ replicate 72 0xaa → 0 < r.batches
+pub lifts_reception : (capture : List ℕ) (r : Reception) (start bytes : List ℕ) (heard : ReceptionStats) → start ≡ replicate 72 0xaa → 0 < r.batches
     → heard.reception ≡ r → PutsLift (capture_bits capture) heard start bytes → LiftsReception capture r heard bytes
 lifts_reception capture r start bytes heard begun some is f =
     let bits = capture_bits capture in
@@ -143,7 +143,7 @@ lifts_reception capture r start bytes heard begun some is f =
       of = is;
       codewords = f.codewords;
       sent = sent_body bytes f.codewords (pages_in f.codewords) whole long body;
-      words = f.is.lifted;
+      words = f.is.extracted;
       pages = pages_in f.codewords;
       caught = one_caught bits heard f.codewords f.is;
       reads = body_reads bytes f.codewords (pages_in f.codewords) whole long body;

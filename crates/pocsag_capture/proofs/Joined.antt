@@ -16,22 +16,22 @@ use Rattle.pocsag_pages.specs.Reading.{frame_at}
 use Rattle.pocsag_pages.proofs.Readings.{plain_reads}
 use Rattle.pocsag_decode.specs.Faults.{ReadsAs}
 use Rattle.pocsag_pager.specs.Shown.{said}
-use Rattle.pocsag_capture.specs.Caught.{AreCaught, settled}
-use Rattle.pocsag_capture.specs.LiftedBytes.{IsLift, TellsHeard}
+use Rattle.pocsag_capture.specs.Caught.{AreCaught, without_orphans}
+use Rattle.pocsag_capture.specs.ExtractedBytes.{IsLift, IsStatsOf}
 use Rattle.pocsag_capture.specs.Receptions.{received}
-use Rattle.pocsag_capture.specs.declared.reception.Heard.{Heard}
+use Rattle.pocsag_capture.specs.declared.reception.ReceptionStats.{ReceptionStats}
 use Rattle.pocsag_capture.specs.declared.reception.Reception.{Reception}
 use Rattle.pocsag_capture.proofs.Settled.{synced_two}
 
 -- ---- settled words read as pages
 
-pub settled_no_orphan : (b : Bool) (ms : List (Option Kind)) → HasNoOrphan b (settled b ms)
-settled_no_orphan b [] = tt
-settled_no_orphan b (None ∷ ms) = settled_no_orphan false ms
-settled_no_orphan b (Some Idle ∷ ms) = settled_no_orphan false ms
-settled_no_orphan b (Some (Address high function) ∷ ms) = settled_no_orphan true ms
-settled_no_orphan true (Some (Message bits) ∷ ms) = (refl, settled_no_orphan true ms)
-settled_no_orphan false (Some (Message bits) ∷ ms) = settled_no_orphan false ms
+pub keeps_no_orphan : (b : Bool) (ms : List (Option Kind)) → HasNoOrphan b (without_orphans b ms)
+keeps_no_orphan b [] = tt
+keeps_no_orphan b (None ∷ ms) = keeps_no_orphan false ms
+keeps_no_orphan b (Some Idle ∷ ms) = keeps_no_orphan false ms
+keeps_no_orphan b (Some (Address high function) ∷ ms) = keeps_no_orphan true ms
+keeps_no_orphan true (Some (Message bits) ∷ ms) = (refl, keeps_no_orphan true ms)
+keeps_no_orphan false (Some (Message bits) ∷ ms) = keeps_no_orphan false ms
 
 -- ---- codewords behind others, which begin no message
 
@@ -98,20 +98,20 @@ pub record IsBody (K : List ℕ) (ps : List Page) : Type 0 where
   pub no_orphan : HasNoOrphan false (map kind_of K)
   pub pages : ps ≡ pages_in K
 
-pub one_body : (bits : List ℕ) (h : Heard) (T : List ℕ) → IsLift bits h T → IsBody T (pages_in T)
+pub one_body : (bits : List ℕ) (h : ReceptionStats) (T : List ℕ) → IsLift bits h T → IsBody T (pages_in T)
 one_body bits h T f = record {
   are = f.are;
   whole = omega (arith, f.long);
-  no_orphan = subst (HasNoOrphan false) (sym f.lifted.kinds) (settled_no_orphan false (map said f.lifted.mended));
+  no_orphan = subst (HasNoOrphan false) (sym f.extracted.kinds) (keeps_no_orphan false (map said f.extracted.mended));
   pages = refl;
 }
 
-pub one_caught : (bits : List ℕ) (h : Heard) (T : List ℕ) → IsLift bits h T → AreCaught (received bits h.reception) (pages_in T)
+pub one_caught : (bits : List ℕ) (h : ReceptionStats) (T : List ℕ) → IsLift bits h T → AreCaught (received bits h.reception) (pages_in T)
 one_caught bits h T f = record {
-  mended = f.lifted.mended;
-  each = f.lifted.each;
-  holds = plain_reads (settled false (map said f.lifted.mended)) 0 (pages_in T) (settled_no_orphan false (map said f.lifted.mended))
-      (ap (pages_from 0) f.lifted.kinds);
+  mended = f.extracted.mended;
+  each = f.extracted.each;
+  holds = plain_reads (without_orphans false (map said f.extracted.mended)) 0 (pages_in T) (keeps_no_orphan false (map said f.extracted.mended))
+      (ap (pages_from 0) f.extracted.kinds);
 }
 
 pub join_body : (A B : List ℕ) (ps qs : List Page) → IsBody A ps → IsBody B qs → IsBody (A ++ B) (ps ++ qs)
@@ -132,14 +132,14 @@ all_codewords Ts = flat_map (λ T. T) Ts
 abbrev pub all_pages : List (List ℕ) → List Page
 all_pages Ts = flat_map (λ ps. ps) (map pages_in Ts)
 
-pub all_body : (bits : List ℕ) (hs : List Heard) (Ts : List (List ℕ)) → AllZip (IsLift bits) hs Ts → IsBody (all_codewords Ts) (all_pages Ts)
+pub all_body : (bits : List ℕ) (hs : List ReceptionStats) (Ts : List (List ℕ)) → AllZip (IsLift bits) hs Ts → IsBody (all_codewords Ts) (all_pages Ts)
 all_body bits [] [] each = record { are = All-nil IsCodeword; whole = refl; no_orphan = tt; pages = refl }
 all_body bits [] (T ∷ Ts) each = absurd each
 all_body bits (h ∷ hs) [] each = absurd each
 all_body bits (h ∷ hs) (T ∷ Ts) each =
     join_body T (all_codewords Ts) (pages_in T) (all_pages Ts) (one_body bits h T each.0) (all_body bits hs Ts each.1)
 
-pub all_bytes : (bits : List ℕ) (hs : List Heard) (Ts : List (List ℕ)) → AllZip (IsLift bits) hs Ts
+pub all_bytes : (bits : List ℕ) (hs : List ReceptionStats) (Ts : List (List ℕ)) → AllZip (IsLift bits) hs Ts
     → flat_map body_bytes Ts ≡ body_bytes (all_codewords Ts)
 all_bytes bits [] [] each = refl
 all_bytes bits [] (T ∷ Ts) each = absurd each
@@ -147,19 +147,19 @@ all_bytes bits (h ∷ hs) [] each = absurd each
 all_bytes bits (h ∷ hs) (T ∷ Ts) each =
     ap (λ (l : List ℕ). body_bytes T ++ l) (all_bytes bits hs Ts each.1) ∙ sym (body_join T (all_codewords Ts) (omega (arith, each.0.long)))
 
-pub all_caught : (bits : List ℕ) (hs : List Heard) (Ts : List (List ℕ)) → AllZip (IsLift bits) hs Ts
-    → AllZip (λ (r : Reception) (here : List Page). AreCaught (received bits r) here) (map (λ (h : Heard). h.reception) hs) (map pages_in Ts)
+pub all_caught : (bits : List ℕ) (hs : List ReceptionStats) (Ts : List (List ℕ)) → AllZip (IsLift bits) hs Ts
+    → AllZip (λ (r : Reception) (here : List Page). AreCaught (received bits r) here) (map (λ (h : ReceptionStats). h.reception) hs) (map pages_in Ts)
 all_caught bits [] [] each = tt
 all_caught bits [] (T ∷ Ts) each = absurd each
 all_caught bits (h ∷ hs) [] each = absurd each
 all_caught bits (h ∷ hs) (T ∷ Ts) each = (one_caught bits h T each.0, all_caught bits hs Ts each.1)
 
-pub all_told : (bits : List ℕ) (hs : List Heard) (Ts : List (List ℕ)) → AllZip (IsLift bits) hs Ts → All (TellsHeard bits) hs
-all_told bits [] [] each = All-nil (TellsHeard bits)
+pub all_told : (bits : List ℕ) (hs : List ReceptionStats) (Ts : List (List ℕ)) → AllZip (IsLift bits) hs Ts → All (IsStatsOf bits) hs
+all_told bits [] [] each = All-nil (IsStatsOf bits)
 all_told bits [] (T ∷ Ts) each = absurd each
 all_told bits (h ∷ hs) [] each = absurd each
 all_told bits (h ∷ hs) (T ∷ Ts) each =
-    All-cons (TellsHeard bits) h hs (record { codewords = T; lifted = each.0.lifted }) (all_told bits hs Ts each.1)
+    All-cons (IsStatsOf bits) h hs (record { codewords = T; extracted = each.0.extracted }) (all_told bits hs Ts each.1)
 
 -- a body behind a preamble
 pub sent_body : (X K : List ℕ) (ps : List Page) → X ≡ replicate 72 0xaa ++ body_bytes K → 0 < length K → IsBody K ps → Sent X K

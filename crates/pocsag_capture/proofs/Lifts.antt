@@ -7,13 +7,13 @@ use Rattle.std.proofs.lemmas.List.FromFn.{length-map-range_with_len, map-range_w
 use Rattle.pocsag_pages.specs.Bytes.{body_bytes}
 use Rattle.pocsag_pager.specs.Shown.{said}
 use Rattle.pocsag_capture.specs.Bits.{as_sent, word_on}
-use Rattle.pocsag_capture.specs.Lifted.{AreLifted}
-use Rattle.pocsag_capture.specs.LiftedBytes.{IsLift, PutsLift, PutsLifts}
+use Rattle.pocsag_capture.specs.Extracted.{AreLifted}
+use Rattle.pocsag_capture.specs.ExtractedBytes.{IsLift, PutsLift, PutsLifts}
 use Rattle.pocsag_capture.specs.Receptions.{received, received_word, sent_at}
 use Rattle.pocsag_capture.specs.declared.polarity.Polarity.{Polarity}
-use Rattle.pocsag_capture.specs.declared.reception.Heard.{Heard}
+use Rattle.pocsag_capture.specs.declared.reception.ReceptionStats.{ReceptionStats}
 use Rattle.pocsag_capture.specs.declared.reception.Reception.{Reception}
-use Rattle.pocsag_capture.specs.declared.settle.Settler.{Settler}
+use Rattle.pocsag_capture.specs.declared.corrector.WordCorrector.{WordCorrector}
 use Rattle.pocsag_capture.proofs.Settled.{IsSettling, begun_batch, cut_all}
 
 -- ---- a word of a reception
@@ -48,7 +48,7 @@ begun_none n whole =
     rw (ne_eqb _ _ other) refl
 
 -- all of them
-pub lift_all_words : (bits : List ℕ) (h : Heard) (s : Settler) (before now : List ℕ) (place : ℕ) → place ≡ 17 * h.reception.batches
+pub lift_all_words : (bits : List ℕ) (h : ReceptionStats) (s : WordCorrector) (before now : List ℕ) (place : ℕ) → place ≡ 17 * h.reception.batches
     → h.corrected ≡ s.corrected → h.lost ≡ s.lost → h.cut ≡ s.cut + cond s.is_open 1 0 → IsSettling (first_words bits h.reception place) s before now → PutsLift bits h before now
 lift_all_words bits h s before now place all corrected lost cut f =
     let same : first_words bits h.reception place ≡ received bits h.reception = ap (first_words bits h.reception) all in
@@ -58,7 +58,7 @@ lift_all_words bits h s before now place all corrected lost cut f =
       is = record {
         are = f.are;
         long = omega (arith, f.long);
-        lifted = subst (λ (l : List ℕ). AreLifted l f.codewords h.corrected h.lost h.cut) same (record {
+        extracted = subst (λ (l : List ℕ). AreLifted l f.codewords h.corrected h.lost h.cut) same (record {
           mended = f.mended;
           each = f.each;
           kinds = f.kinds;
@@ -73,22 +73,22 @@ lift_all_words bits h s before now place all corrected lost cut f =
 
 -- ---- one reception behind the other
 
-lifts_push : (bits : List ℕ) (hs : List Heard) (Ts : List (List ℕ)) (h : Heard) (T : List ℕ) → AllZip (IsLift bits) hs Ts → IsLift bits h T
+lifts_push : (bits : List ℕ) (hs : List ReceptionStats) (Ts : List (List ℕ)) (h : ReceptionStats) (T : List ℕ) → AllZip (IsLift bits) hs Ts → IsLift bits h T
     → AllZip (IsLift bits) (hs ++ h ∷ []) (Ts ++ T ∷ [])
 lifts_push bits [] [] h T all here = (here, tt)
 lifts_push bits [] (V ∷ Ts) h T all here = absurd all
 lifts_push bits (g ∷ hs) [] h T all here = absurd all
 lifts_push bits (g ∷ hs) (V ∷ Ts) h T all here = (all.0, lifts_push bits hs Ts h T all.1 here)
 
-pub lifts_more : (bits : List ℕ) (found found' : List Reception) (heard heard' : List Heard) (h : Heard) (before now after : List ℕ)
+pub lifts_more : (bits : List ℕ) (found found' : List Reception) (heard heard' : List ReceptionStats) (h : ReceptionStats) (before now after : List ℕ)
     → PutsLifts bits found heard before now → PutsLift bits h now after → heard' ≡ heard ++ h ∷ [] → found' ≡ found ++ h.reception ∷ []
     → PutsLifts bits found' heard' before after
 lifts_more bits found found' heard heard' h before now after f g pushed taken =
     record {
       codewords = f.codewords ++ g.codewords ∷ [];
-      each = subst (λ (l : List Heard). AllZip (IsLift bits) l (f.codewords ++ g.codewords ∷ [])) (sym pushed)
+      each = subst (λ (l : List ReceptionStats). AllZip (IsLift bits) l (f.codewords ++ g.codewords ∷ [])) (sym pushed)
           (lifts_push bits heard f.codewords h g.codewords f.each g.is);
-      same = ap (map (λ (k : Heard). k.reception)) pushed ∙ map-append (λ (k : Heard). k.reception) heard (h ∷ [])
+      same = ap (map (λ (k : ReceptionStats). k.reception)) pushed ∙ map-append (λ (k : ReceptionStats). k.reception) heard (h ∷ [])
           ∙ ap (λ (l : List Reception). l ++ h.reception ∷ []) f.same ∙ sym taken;
       bytes = g.bytes ∙ ap (λ (l : List ℕ). l ++ body_bytes g.codewords) f.bytes ∙ flat_map_more body_bytes before f.codewords g.codewords;
     }

@@ -18,7 +18,7 @@ use Rattle.pocsag_pager.proofs.Chosen.{calls}
 use Rattle.pocsag_pager.proofs.Mended.{all_mended_same}
 use Rattle.pocsag_pager.proofs.Damage.{shown_is_chosen}
 use Rattle.pocsag_capture.specs.Bits.{capture_bits, word_on}
-use Rattle.pocsag_capture.specs.Caught.{AreCaught, HasCaught, settled}
+use Rattle.pocsag_capture.specs.Caught.{AreCaught, HasCaught, without_orphans}
 use Rattle.pocsag_capture.specs.Receptions.{AreFound, IsOnAir, HasBatches, IsBridged, IsInStep, IsQuiet, IsReadTo, IsReception, IsSyncRun, IsSynchronised, counted, run_end, last_sync, nothing, passed, received}
 use Rattle.pocsag_capture.specs.declared.polarity.Polarity.{Polarity}
 use Rattle.pocsag_capture.specs.declared.polarity.Polarity.TheVariants.{Upright, Inverted}
@@ -143,7 +143,7 @@ same_found bits first held rs ss fits (passed u more run not rest) (passed v oth
 same_pages : (words : List ℕ) (ps qs : List Page) → AreCaught words ps → AreCaught words qs → ps ≡ qs
 same_pages words ps qs f g =
     (reads_plainly f.holds).pages
-    ∙ ap (λ (ms : List (Option ℕ)). pages_from 0 (settled false (map said ms))) (all_mended_same (unsynced 0 words) f.mended g.mended f.each g.each)
+    ∙ ap (λ (ms : List (Option ℕ)). pages_from 0 (without_orphans false (map said ms))) (all_mended_same (unsynced 0 words) f.mended g.mended f.each g.each)
     ∙ sym (reads_plainly g.holds).pages
 
 same_lists_of_pages : (bits : List ℕ) (rs : List Reception) (pss qss : List (List Page))
@@ -183,28 +183,28 @@ one_thing capture rs ss ps qs f g =
 
 -- ---- what a pager shows
 
-settled_run : (ms : List (Option Kind)) → run_of ms ≡ run_of (map Some (settled true ms))
-settled_run [] = refl
-settled_run (None ∷ ms) = refl
-settled_run (Some Idle ∷ ms) = refl
-settled_run (Some (Address high function) ∷ ms) = refl
-settled_run (Some (Message bits) ∷ ms) = ap (λ (l : List ℕ). bits ∷ l) (settled_run ms)
+without_orphans_run : (ms : List (Option Kind)) → run_of ms ≡ run_of (map Some (without_orphans true ms))
+without_orphans_run [] = refl
+without_orphans_run (None ∷ ms) = refl
+without_orphans_run (Some Idle ∷ ms) = refl
+without_orphans_run (Some (Address high function) ∷ ms) = refl
+without_orphans_run (Some (Message bits) ∷ ms) = ap (λ (l : List ℕ). bits ∷ l) (without_orphans_run ms)
 
-settled_shown : (a i : ℕ) (b : Bool) (ms : List (Option Kind)) → shown_from a i ms ≡ shown_from a i (map Some (settled b ms))
-settled_shown a i b [] = refl
-settled_shown a i b (None ∷ ms) = settled_shown a (i + 1) false ms
-settled_shown a i b (Some Idle ∷ ms) = settled_shown a (i + 1) false ms
-settled_shown a i b (Some (Address high function) ∷ ms) =
+without_orphans_shown : (a i : ℕ) (b : Bool) (ms : List (Option Kind)) → shown_from a i ms ≡ shown_from a i (map Some (without_orphans b ms))
+without_orphans_shown a i b [] = refl
+without_orphans_shown a i b (None ∷ ms) = without_orphans_shown a (i + 1) false ms
+without_orphans_shown a i b (Some Idle ∷ ms) = without_orphans_shown a (i + 1) false ms
+without_orphans_shown a i b (Some (Address high function) ∷ ms) =
     ap₂ (λ (run : List ℕ) (ps : List Page). cond (is_ours a i high) ((record { address = a; function = function; payload = run }) ∷ ps) ps)
-    (settled_run ms) (settled_shown a (i + 1) true ms)
-settled_shown a i true (Some (Message bits) ∷ ms) = settled_shown a (i + 1) true ms
-settled_shown a i false (Some (Message bits) ∷ ms) = settled_shown a (i + 1) false ms
+    (without_orphans_run ms) (without_orphans_shown a (i + 1) true ms)
+without_orphans_shown a i true (Some (Message bits) ∷ ms) = without_orphans_shown a (i + 1) true ms
+without_orphans_shown a i false (Some (Message bits) ∷ ms) = without_orphans_shown a (i + 1) false ms
 
 pub caught_shown : (words : List ℕ) (a : ℕ) (ps qs : List Page) → AreCaught words ps → AreShown words a qs → qs ≡ filter (calls a) ps
 caught_shown words a ps qs f g =
     g.holds
     ∙ ap (λ (ms : List (Option ℕ)). shown_from a 0 (map said ms)) (all_mended_same (unsynced 0 words) g.mended f.mended g.each f.each)
-    ∙ settled_shown a 0 false (map said f.mended) ∙ shown_is_chosen a 0 (settled false (map said f.mended))
+    ∙ without_orphans_shown a 0 false (map said f.mended) ∙ shown_is_chosen a 0 (without_orphans false (map said f.mended))
     ∙ ap (filter (calls a)) (sym (reads_plainly f.holds).pages)
 
 -- ---- noise alone

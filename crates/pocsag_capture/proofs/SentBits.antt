@@ -32,7 +32,7 @@ use Rattle.pocsag_decode.proofs.SentBytes.{body_begins}
 use Rattle.pocsag_pager.specs.Shown.{IsMended, said}
 use Rattle.pocsag_pager.proofs.Mended.{all_mended_same}
 use Rattle.pocsag_capture.specs.Bits.{as_sent, capture_bits, word_on}
-use Rattle.pocsag_capture.specs.Caught.{AreCaught, HasCaught, settled}
+use Rattle.pocsag_capture.specs.Caught.{AreCaught, HasCaught, without_orphans}
 use Rattle.pocsag_capture.specs.Lost.{lost_words}
 use Rattle.pocsag_capture.specs.Receptions.{AreFound, HasFewLost, IsLikeSynchronised, IsQuiet, IsReception, IsSyncRun, IsSynchronised, counted, run_end, last_sync, nothing, passed, received, received_word, sent_at}
 use Rattle.pocsag_capture.specs.Sent.{HoldsSent, NothingFollows, IsReceived, StandAmong}
@@ -40,7 +40,7 @@ use Rattle.pocsag_capture.specs.declared.polarity.Polarity.{Polarity}
 use Rattle.pocsag_capture.specs.declared.polarity.Polarity.TheVariants.{Upright, Inverted}
 use Rattle.pocsag_capture.specs.declared.reception.Reception.{Reception}
 use Rattle.pocsag_capture.specs.declared.reception.Run.{Run}
-use Rattle.pocsag_capture.proofs.Joined.{no_orphan_any, no_orphan_join, pages_join, pages_shift, settled_no_orphan}
+use Rattle.pocsag_capture.proofs.Joined.{no_orphan_any, no_orphan_join, pages_join, pages_shift, keeps_no_orphan}
 use Rattle.pocsag_capture.proofs.Lifts.{word_read, word_there}
 use Rattle.pocsag_capture.proofs.Once.{WordsFit, capture_fits, no_more, same_polarity}
 use Rattle.pocsag_capture.proofs.Settled.{open_after_all}
@@ -172,21 +172,21 @@ said_some : (T : List ℕ) → map said (map Some T) ≡ map Some (map kind_of T
 said_some [] = refl
 said_some (w ∷ T) = ap (λ (l : List (Option Kind)). Some (kind_of w) ∷ l) (said_some T)
 
-settled_same : (b : Bool) (ks : List Kind) → HasNoOrphan b ks → settled b (map Some ks) ≡ ks
-settled_same b [] h = refl
-settled_same b (Idle ∷ ks) h = ap (λ (l : List Kind). Idle ∷ l) (settled_same false ks h)
-settled_same b (Address high function ∷ ks) h = ap (λ (l : List Kind). Address high function ∷ l) (settled_same true ks h)
-settled_same true (Message bits ∷ ks) h = ap (λ (l : List Kind). Message bits ∷ l) (settled_same true ks h.1)
-settled_same false (Message bits ∷ ks) h = absurd (cc h.0)
+without_orphans_same : (b : Bool) (ks : List Kind) → HasNoOrphan b ks → without_orphans b (map Some ks) ≡ ks
+without_orphans_same b [] h = refl
+without_orphans_same b (Idle ∷ ks) h = ap (λ (l : List Kind). Idle ∷ l) (without_orphans_same false ks h)
+without_orphans_same b (Address high function ∷ ks) h = ap (λ (l : List Kind). Address high function ∷ l) (without_orphans_same true ks h)
+without_orphans_same true (Message bits ∷ ks) h = ap (λ (l : List Kind). Message bits ∷ l) (without_orphans_same true ks h.1)
+without_orphans_same false (Message bits ∷ ks) h = absurd (cc h.0)
 
-settled_any : (b : Bool) (ks : List Kind) → HasNoOrphan false ks → settled b (map Some ks) ≡ ks
-settled_any b ks h = settled_same b ks (no_orphan_any b ks h)
+without_orphans_any : (b : Bool) (ks : List Kind) → HasNoOrphan false ks → without_orphans b (map Some ks) ≡ ks
+without_orphans_any b ks h = without_orphans_same b ks (no_orphan_any b ks h)
 
 caught_of_sent : (T Y : List ℕ) (ps : List Page) → All IsCodeword T → All (λ y. y < 2 ^ 32) Y → AllZip IsNear (synced 0 T) Y
     → Reads (map kind_of T) 0 ps → AreCaught Y ps
 caught_of_sent T Y ps are fit near reads =
-    let same : settled false (map said (map Some T)) ≡ map kind_of T =
-    ap (settled false) (said_some T) ∙ settled_same false (map kind_of T) (reads_plainly reads).no_orphan in
+    let same : without_orphans false (map said (map Some T)) ≡ map kind_of T =
+    ap (without_orphans false) (said_some T) ∙ without_orphans_same false (map kind_of T) (reads_plainly reads).no_orphan in
     record {
       mended = map Some T;
       each = all_mended 0 0 T Y (omega arith) are fit near;
@@ -368,19 +368,19 @@ mended_long [] (m ∷ ms) each = absurd each
 mended_long (x ∷ xs) [] each = absurd each
 mended_long (x ∷ xs) (m ∷ ms) each = let rest = mended_long xs ms each.1 in omega arith
 
-settled_long : (b : Bool) (ms : List (Option Kind)) → length (settled b ms) ≡ length ms
-settled_long b [] = refl
-settled_long b (None ∷ ms) = let rest = settled_long false ms in omega arith
-settled_long b (Some Idle ∷ ms) = let rest = settled_long false ms in omega arith
-settled_long b (Some (Address high function) ∷ ms) = let rest = settled_long true ms in omega arith
-settled_long b (Some (Message bits) ∷ ms) = let rest = settled_long b ms in omega arith
+without_orphans_long : (b : Bool) (ms : List (Option Kind)) → length (without_orphans b ms) ≡ length ms
+without_orphans_long b [] = refl
+without_orphans_long b (None ∷ ms) = let rest = without_orphans_long false ms in omega arith
+without_orphans_long b (Some Idle ∷ ms) = let rest = without_orphans_long false ms in omega arith
+without_orphans_long b (Some (Address high function) ∷ ms) = let rest = without_orphans_long true ms in omega arith
+without_orphans_long b (Some (Message bits) ∷ ms) = let rest = without_orphans_long b ms in omega arith
 
-settled_two : (b : Bool) (ms ns : List (Option Kind)) → settled b (ms ++ ns) ≡ settled b ms ++ settled (open_after_all b ms) ns
-settled_two b [] ns = refl
-settled_two b (None ∷ ms) ns = ap (λ (l : List Kind). Idle ∷ l) (settled_two false ms ns)
-settled_two b (Some Idle ∷ ms) ns = ap (λ (l : List Kind). Idle ∷ l) (settled_two false ms ns)
-settled_two b (Some (Address high function) ∷ ms) ns = ap (λ (l : List Kind). Address high function ∷ l) (settled_two true ms ns)
-settled_two b (Some (Message bits) ∷ ms) ns = ap (λ (l : List Kind). cond b (Message bits) Idle ∷ l) (settled_two b ms ns)
+without_orphans_two : (b : Bool) (ms ns : List (Option Kind)) → without_orphans b (ms ++ ns) ≡ without_orphans b ms ++ without_orphans (open_after_all b ms) ns
+without_orphans_two b [] ns = refl
+without_orphans_two b (None ∷ ms) ns = ap (λ (l : List Kind). Idle ∷ l) (without_orphans_two false ms ns)
+without_orphans_two b (Some Idle ∷ ms) ns = ap (λ (l : List Kind). Idle ∷ l) (without_orphans_two false ms ns)
+without_orphans_two b (Some (Address high function) ∷ ms) ns = ap (λ (l : List Kind). Address high function ∷ l) (without_orphans_two true ms ns)
+without_orphans_two b (Some (Message bits) ∷ ms) ns = ap (λ (l : List Kind). cond b (Message bits) Idle ∷ l) (without_orphans_two b ms ns)
 
 ends_closed : (b : Bool) (ks : List Kind) → EndsIdle ks → open_after_all b (map Some ks) ≡ false
 ends_closed b [] e = absurd e
@@ -389,8 +389,8 @@ ends_closed b (w ∷ v ∷ ks) e = ends_closed (stays_open b (Some w)) (v ∷ ks
 
 -- nothing is open after words, or none follow
 after_closed : (b : Bool) (after : List ℕ) (ms : List (Option ℕ)) → AllZip IsMended (unsynced 0 after) ms → (after ≡ []) ⊎ (b ≡ false)
-    → HasNoOrphan false (settled b (map said ms))
-after_closed b after ms each (inr closed) = rw closed (settled_no_orphan false (map said ms))
+    → HasNoOrphan false (without_orphans b (map said ms))
+after_closed b after ms each (inr closed) = rw closed (keeps_no_orphan false (map said ms))
 after_closed b [] [] each (inl none) = tt
 after_closed b [] (m ∷ ms) each (inl none) = absurd each
 after_closed b (w ∷ after) ms each (inl none) = absurd (cc)
@@ -425,8 +425,8 @@ module _ (before Y after T : List ℕ) (ps : List Page) (are : All IsCodeword T)
         of_right = rest.of_right;
       }
 
-  kinds_between : (ms : List (Option ℕ)) (f : IsBetween ms) → (b : Bool) × (settled false (map said ms)
-      ≡ settled false (map said f.left) ++ (map kind_of T ++ settled b (map said f.right)))
+  kinds_between : (ms : List (Option ℕ)) (f : IsBetween ms) → (b : Bool) × (without_orphans false (map said ms)
+      ≡ without_orphans false (map said f.left) ++ (map kind_of T ++ without_orphans b (map said f.right)))
       × (EndsIdle (map kind_of T) → b ≡ false)
   kinds_between ms f =
       let front : List (Option Kind) = map said f.left in
@@ -435,11 +435,11 @@ module _ (before Y after T : List ℕ) (ps : List Page) (are : All IsCodeword T)
       let b : Bool = open_after_all false front in
       let plain = reads_plainly reads in (
         open_after_all b middle,
-        ap (λ (l : List (Option ℕ)). settled false (map said l)) f.whole
-            ∙ ap (settled false) (map-append said f.left (map Some T ++ f.right) ∙ ap (λ (l : List (Option Kind)). front ++ l) (map-append said (map Some T) f.right))
-            ∙ settled_two false front (middle ++ back)
-            ∙ ap (λ (l : List Kind). settled false front ++ l) (settled_two b middle back
-            ∙ ap (λ (l : List Kind). l ++ settled (open_after_all b middle) back) (ap (settled b) (said_some T) ∙ settled_any b (map kind_of T) plain.no_orphan)),
+        ap (λ (l : List (Option ℕ)). without_orphans false (map said l)) f.whole
+            ∙ ap (without_orphans false) (map-append said f.left (map Some T ++ f.right) ∙ ap (λ (l : List (Option Kind)). front ++ l) (map-append said (map Some T) f.right))
+            ∙ without_orphans_two false front (middle ++ back)
+            ∙ ap (λ (l : List Kind). without_orphans false front ++ l) (without_orphans_two b middle back
+            ∙ ap (λ (l : List Kind). l ++ without_orphans (open_after_all b middle) back) (ap (without_orphans b) (said_some T) ∙ without_orphans_any b (map kind_of T) plain.no_orphan)),
         λ idle. ap (open_after_all b) (said_some T) ∙ ends_closed b (map kind_of T) idle,
       )
 
@@ -449,14 +449,14 @@ module _ (before Y after T : List ℕ) (ps : List Page) (are : All IsCodeword T)
       let f = between g.mended first_whole whole g.each in
       let k = kinds_between g.mended f in
       let K : List Kind = map kind_of T in
-      let first : List Kind = settled false (map said f.left) in
-      let last : List Kind = settled k.0 (map said f.right) in
+      let first : List Kind = without_orphans false (map said f.left) in
+      let last : List Kind = without_orphans k.0 (map said f.right) in
       let plain = reads_plainly reads in
       let closed : HasNoOrphan false last = after_closed k.0 after f.right f.of_right
       (elim ended [ inl none ↦ inl none | inr idle ↦ inr (k.2 idle) ]) in
       let joined : HasNoOrphan false (K ++ last) = no_orphan_join false K last plain.no_orphan closed in
       let long : length first ≡ length (unsynced 0 before) =
-      settled_long false (map said f.left) ∙ length-map f.left said ∙ sym (mended_long (unsynced 0 before) f.left f.of_left) in
+      without_orphans_long false (map said f.left) ∙ length-map f.left said ∙ sym (mended_long (unsynced 0 before) f.left f.of_left) in
       let count = unsynced_count 0 before in
       record {
         front = pages_from 0 first;

@@ -13,11 +13,11 @@ use Rattle.pocsag_words.specs.declared.codeword.Kind.TheVariants.{Idle, Address,
 use Rattle.pocsag_pages.specs.Bytes.{body_bytes, sync_word, synced, unsynced}
 use Rattle.pocsag_pages.proofs.Lengths.{unsynced_codeword, unsynced_more, unsynced_sync}
 use Rattle.pocsag_pager.specs.Shown.{IsMended, said}
-use Rattle.pocsag_capture.specs.Caught.{settled}
-use Rattle.pocsag_capture.specs.Lifted.{cut_pages, far_words, lost_synchronisations, mended_errors, near_errors, synchronisation_errors}
+use Rattle.pocsag_capture.specs.Caught.{without_orphans}
+use Rattle.pocsag_capture.specs.Extracted.{cut_pages, far_words, lost_synchronisations, mended_errors, near_errors, synchronisation_errors}
 use Rattle.pocsag_capture.specs.Lost.{lost_words}
 use Rattle.pocsag_capture.specs.TakenWords.{TakesWord, cut_by, is_lost, stays_open, wrong_bits}
-use Rattle.pocsag_capture.specs.declared.settle.Settler.{Settler}
+use Rattle.pocsag_capture.specs.declared.corrector.WordCorrector.{WordCorrector}
 
 -- whether a page is open after words
 abbrev pub open_after_all : Bool → List (Option Kind) → Bool
@@ -28,17 +28,17 @@ open_more : (b : Bool) (ms : List (Option Kind)) (m : Option Kind) → open_afte
 open_more b [] m = refl
 open_more b (k ∷ ms) m = open_more (stays_open b k) ms m
 
-settled_more : (b : Bool) (ms : List (Option Kind)) (m : Option Kind)
-    → settled b (ms ++ m ∷ []) ≡ settled b ms ++ settled (open_after_all b ms) (m ∷ [])
-settled_more b [] m = refl
-settled_more b (None ∷ ms) m = ap (λ (l : List Kind). Idle ∷ l) (settled_more false ms m)
-settled_more b (Some Idle ∷ ms) m = ap (λ (l : List Kind). Idle ∷ l) (settled_more false ms m)
-settled_more b (Some (Address high function) ∷ ms) m = ap (λ (l : List Kind). Address high function ∷ l) (settled_more true ms m)
-settled_more b (Some (Message bits) ∷ ms) m = ap (λ (l : List Kind). cond b (Message bits) Idle ∷ l) (settled_more b ms m)
+without_orphans_more : (b : Bool) (ms : List (Option Kind)) (m : Option Kind)
+    → without_orphans b (ms ++ m ∷ []) ≡ without_orphans b ms ++ without_orphans (open_after_all b ms) (m ∷ [])
+without_orphans_more b [] m = refl
+without_orphans_more b (None ∷ ms) m = ap (λ (l : List Kind). Idle ∷ l) (without_orphans_more false ms m)
+without_orphans_more b (Some Idle ∷ ms) m = ap (λ (l : List Kind). Idle ∷ l) (without_orphans_more false ms m)
+without_orphans_more b (Some (Address high function) ∷ ms) m = ap (λ (l : List Kind). Address high function ∷ l) (without_orphans_more true ms m)
+without_orphans_more b (Some (Message bits) ∷ ms) m = ap (λ (l : List Kind). cond b (Message bits) Idle ∷ l) (without_orphans_more b ms m)
 
 -- a message codeword that continues no page
-pub settled_orphan : (b : Bool) (k : Kind) (bits : ℕ) → b ≡ false → k ≡ Message bits → settled b (Some k ∷ []) ≡ Idle ∷ []
-settled_orphan b k bits closed message = rw (closed, message) refl
+pub without_orphans_orphan : (b : Bool) (k : Kind) (bits : ℕ) → b ≡ false → k ≡ Message bits → without_orphans b (Some k ∷ []) ≡ Idle ∷ []
+without_orphans_orphan b k bits closed message = rw (closed, message) refl
 
 pub stays_as : (b : Bool) (k : Kind) (bits : ℕ) → k ≡ Message bits → b ≡ stays_open b (Some k)
 stays_as b k bits message = rw message refl
@@ -155,12 +155,12 @@ body_push T w =
 abbrev pub begun_batch : ℕ → List ℕ
 begun_batch place = if place % 17 == 1 then to_be_bytes w32 sync_word else []
 
-pub record IsSettling (words : List ℕ) (s : Settler) (before now : List ℕ) : Type 0 where
+pub record IsSettling (words : List ℕ) (s : WordCorrector) (before now : List ℕ) : Type 0 where
   pub codewords : List ℕ
   pub mended : List (Option ℕ)
   pub are : All IsCodeword codewords
   pub each : AllZip IsMended (unsynced 0 words) mended
-  pub kinds : map kind_of codewords ≡ settled false (map said mended)
+  pub kinds : map kind_of codewords ≡ without_orphans false (map said mended)
   pub open_page : s.is_open ≡ open_after_all false (map said mended)
   pub bits : s.corrected ≡ synchronisation_errors 0 words + mended_errors (unsynced 0 words) mended
   pub beyond : s.lost ≡ lost_synchronisations 0 words + lost_words mended
@@ -171,7 +171,7 @@ pub record IsSettling (words : List ℕ) (s : Settler) (before now : List ℕ) :
   pub few_bits : s.corrected ≤ 32 * length words
   pub few_lost : s.lost ≤ length words
 
-pub settling_none : (s : Settler) (before : List ℕ) → s.is_open ≡ false → s.corrected ≡ 0 → s.lost ≡ 0 → s.cut ≡ 0 → IsSettling [] s before before
+pub settling_none : (s : WordCorrector) (before : List ℕ) → s.is_open ≡ false → s.corrected ≡ 0 → s.lost ≡ 0 → s.cut ≡ 0 → IsSettling [] s before before
 settling_none s before closed none zero uncut = record {
   codewords = [];
   mended = [];
@@ -223,7 +223,7 @@ few_lost_of : (m : Option ℕ) → is_lost m ≤ 1
 few_lost_of None = omega arith
 few_lost_of (Some v) = omega arith
 
-module _ (words : List ℕ) (s t : Settler) (before now after : List ℕ) (w : ℕ) (f : IsSettling words s before now) where
+module _ (words : List ℕ) (s t : WordCorrector) (before now after : List ℕ) (w : ℕ) (f : IsSettling words s before now) where
   count_more : length (words ++ w ∷ []) ≡ length words + 1
   count_more = omega (arith, length-append words (w ∷ []))
 
@@ -284,8 +284,8 @@ module _ (words : List ℕ) (s t : Settler) (before now after : List ℕ) (w : �
       map-append said f.mended (takes.mended ∷ []) in
       let not_one : length (words ++ w ∷ []) % 17 ≢ 1 = λ wrong. place (omega (arith, count_more)) in
       let none : begun_batch (length (words ++ w ∷ [])) ≡ [] = rw (ne_eqb _ _ not_one) refl in
-      let one_kind : settled s.is_open (said takes.mended ∷ []) ≡ settled (open_after_all false (map said f.mended)) (said takes.mended ∷ []) =
-      ap (λ (b : Bool). settled b (said takes.mended ∷ [])) f.open_page in
+      let one_kind : without_orphans s.is_open (said takes.mended ∷ []) ≡ without_orphans (open_after_all false (map said f.mended)) (said takes.mended ∷ []) =
+      ap (λ (b : Bool). without_orphans b (said takes.mended ∷ [])) f.open_page in
       record {
         codewords = f.codewords ++ v ∷ [];
         mended = f.mended ++ takes.mended ∷ [];
@@ -293,8 +293,8 @@ module _ (words : List ℕ) (s t : Settler) (before now after : List ℕ) (w : �
         each = subst (λ (l : List ℕ). AllZip IsMended l (f.mended ++ takes.mended ∷ [])) (sym same)
             (mended_push (unsynced 0 words) f.mended w takes.mended f.each takes.is_mended);
         kinds = map-append kind_of f.codewords (v ∷ []) ∙ ap (λ (l : List Kind). l ++ kind_of v ∷ []) f.kinds
-            ∙ ap (λ (l : List Kind). settled false (map said f.mended) ++ l) (sym takes.kind ∙ one_kind)
-            ∙ sym (settled_more false (map said f.mended) (said takes.mended)) ∙ ap (settled false) (sym mended_now);
+            ∙ ap (λ (l : List Kind). without_orphans false (map said f.mended) ++ l) (sym takes.kind ∙ one_kind)
+            ∙ sym (without_orphans_more false (map said f.mended) (said takes.mended)) ∙ ap (without_orphans false) (sym mended_now);
         open_page = takes.open_after ∙ ap (λ (b : Bool). stays_open b (said takes.mended)) f.open_page
             ∙ sym (open_more false (map said f.mended) (said takes.mended)) ∙ ap (open_after_all false) (sym mended_now);
         bits = takes.bits

@@ -12,16 +12,16 @@ use Rattle.pocsag_capture.specs.declared.reception.Reception.{Reception}
 
 -- What mended words say, where a page may be open before them: a word past repair counts as idle, and so does a message
 -- codeword that continues no page.
-abbrev pub settled : (is_open : Bool) → List (Option Kind) → List Kind
-settled is_open [] = []
-settled is_open (None ∷ ms) = Idle ∷ settled false ms
-settled is_open (Some Idle ∷ ms) = Idle ∷ settled false ms
-settled is_open (Some (Address high function) ∷ ms) = Address high function ∷ settled true ms
-settled is_open (Some (Message bits) ∷ ms) = (if is_open then Message bits else Idle) ∷ settled is_open ms
+abbrev pub without_orphans : (is_open : Bool) → List (Option Kind) → List Kind
+without_orphans is_open [] = []
+without_orphans is_open (None ∷ ms) = Idle ∷ without_orphans false ms
+without_orphans is_open (Some Idle ∷ ms) = Idle ∷ without_orphans false ms
+without_orphans is_open (Some (Address high function) ∷ ms) = Address high function ∷ without_orphans true ms
+without_orphans is_open (Some (Message bits) ∷ ms) = (if is_open then Message bits else Idle) ∷ without_orphans is_open ms
 
 -- These are the pages that are caught of words: what they read as, once each is mended and what is left is settled.
 abbrev pub AreCaught : (words : List ℕ) → List Page → Type 0
-AreCaught words ps = HoldsOnceMended words (λ ms. Reads (settled false ms) 0 ps)
+AreCaught words ps = HoldsOnceMended words (λ ms. Reads (without_orphans false ms) 0 ps)
 
 -- *Caught*: the bytes of a capture hold these receptions, and these are the pages of all of them in order.
 pub record HasCaught (capture : List ℕ) (receptions : List Reception) (ps : List Page) : Type 0 where

@@ -1,7 +1,7 @@
 pub mod Bits
 pub mod Caught
-pub mod Lifted
-pub mod LiftedBytes
+pub mod Extracted
+pub mod ExtractedBytes
 pub mod Lost
 pub mod Receptions
 pub mod Runs

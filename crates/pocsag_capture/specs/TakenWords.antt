@@ -5,8 +5,8 @@ use Rattle.pocsag_words.specs.Kinds.{kind_of}
 use Rattle.pocsag_words.specs.declared.codeword.Kind.{Kind}
 use Rattle.pocsag_words.specs.declared.codeword.Kind.TheVariants.{Idle, Address, Message}
 use Rattle.pocsag_pager.specs.Shown.{IsMended, said}
-use Rattle.pocsag_capture.specs.Caught.{settled}
-use Rattle.pocsag_capture.specs.declared.settle.Settler.{Settler}
+use Rattle.pocsag_capture.specs.Caught.{without_orphans}
+use Rattle.pocsag_capture.specs.declared.corrector.WordCorrector.{WordCorrector}
 
 -- Whether a page is open after a word.
 abbrev pub stays_open : Bool → Option Kind → Bool
@@ -30,11 +30,11 @@ cut_by is_open None = if is_open then 1 else 0
 cut_by is_open (Some k) = 0
 
 -- The word was taken and is settled as this codeword.
-pub record TakesWord (before after : Settler) (word codeword : ℕ) : Type 0 where
+pub record TakesWord (before after : WordCorrector) (word codeword : ℕ) : Type 0 where
   pub mended : Option ℕ
   pub is_mended : IsMended word mended
   pub is_codeword : IsCodeword codeword
-  pub kind : settled before.is_open (said mended ∷ []) ≡ kind_of codeword ∷ []
+  pub kind : without_orphans before.is_open (said mended ∷ []) ≡ kind_of codeword ∷ []
   pub open_after : after.is_open ≡ stays_open before.is_open (said mended)
   pub bits : after.corrected ≡ before.corrected + wrong_bits word mended
   pub beyond : after.lost ≡ before.lost + is_lost mended

@@ -3,6 +3,7 @@
 //! and lifted out as a transmission of whole bytes, which the decoder, the pager and the pictures read like any other.
 
 mod bits;
+mod corrector;
 mod fault;
 mod laws;
 mod lift;
@@ -10,10 +11,9 @@ mod polarity;
 mod reading;
 mod reception;
 mod search;
-mod settle;
 
 pub use fault::CaptureFault;
 pub use laws::{captures_show_what_was_sent, caught_pages_are_shown};
-pub use lift::{Lifted, lift_all, lift_one};
+pub use lift::{Extracted, lift_all, lift_one};
 pub use polarity::Polarity;
-pub use reception::{Heard, Reception, Run};
+pub use reception::{Reception, ReceptionStats, Run};

@@ -3,57 +3,61 @@ ghost use Rattle.std.specs.Prelude.{◌≡◌, ◌⊎◌, ℕ, ◌+◌, ◌-◌,
 ghost use Rattle.pocsag_words.specs.Frame.{input_limit, preamble_byte, preamble_length};
 ghost use Rattle.pocsag_pages.specs.declared.page.Page.{Page};
 ghost use Rattle.pocsag_capture.specs.Bits.{capture_bits};
-ghost use Rattle.pocsag_capture.specs.LiftedBytes.{ExplainsNone, ExplainsUnlifted, LiftsAll, LiftsOne, LiftsReception, PutsLift, PutsLifts};
+ghost use Rattle.pocsag_capture.specs.ExtractedBytes.{ExplainsNone, ExplainsUnlifted, LiftsAll, LiftsOne, LiftsReception, PutsLift, PutsLifts};
 ghost use Rattle.pocsag_capture.specs.Receptions.{AreReceptions, behind};
 ghost use Rattle.pocsag_capture.specs.Sent.{HoldsSent, ReadsAmong};
-ghost use Rattle.pocsag_capture.specs.declared.reception.Heard.{Heard};
+ghost use Rattle.pocsag_capture.specs.declared.reception.ReceptionStats.{ReceptionStats};
 ghost use Rattle.pocsag_capture.specs.declared.reception.Reception.{Reception};
 
+use crate::corrector::{BATCH, WordCorrector};
 use crate::fault::CaptureFault;
 use crate::laws::captures_show_what_was_sent;
 use crate::polarity::Polarity;
 use crate::reading::received_word;
-use crate::reception::{Heard, Reception};
+use crate::reception::{Reception, ReceptionStats};
 use crate::search::receptions;
-use crate::settle::{BATCH, Settler};
 use pocsag_words::{INPUT_LIMIT, PREAMBLE_BYTE, PREAMBLE_BYTES};
 use std::alloc::{AllocError, Global};
 
 /// What is lifted out of a capture.
 #[derive(Drop)]
-pub struct Lifted {
+pub struct Extracted {
     /// The bytes of a transmission.
     pub bytes: Vec<u8>,
     /// The receptions that it is lifted from.
-    pub heard: Vec<Heard>,
+    pub heard: Vec<ReceptionStats>,
 }
 
 // Puts the batches of a reception behind the bytes, each word as it is settled.
-fn put_lift(capture: &[u8], reception: Reception, bytes: &mut Vec<u8>) -> Result<Heard, AllocError>
+fn put_lift(
+    capture: &[u8],
+    reception: Reception,
+    bytes: &mut Vec<u8>,
+) -> Result<ReceptionStats, AllocError>
     requires few { length capture.now ≤ input_limit }
     requires end { behind reception < 2 ^ 60 }
-    ensures lifted { IfOk result (λ heard. PutsLift (capture_bits capture.now) heard bytes.old.items bytes.new.items) }
+    ensures extracted { IfOk result (λ heard. PutsLift (capture_bits capture.now) heard bytes.old.items bytes.new.items) }
     ensures same { IfOk result (λ heard. heard.reception ≡ reception) }
 {
-    let mut settler = Settler {
+    let mut corrector = WordCorrector {
         is_open: false,
         corrected: 0,
         lost: 0,
         cut: 0,
     };
     for place in 0..BATCH * reception.batches {
-        let word = settler.take(place, received_word(capture, reception, place));
+        let word = corrector.take(place, received_word(capture, reception, place));
         bytes.extend_from_slice(&word.to_be_bytes())?;
     }
-    let cut = if settler.is_open {
-        settler.cut + 1
+    let cut = if corrector.is_open {
+        corrector.cut + 1
     } else {
-        settler.cut
+        corrector.cut
     };
-    Ok(Heard {
+    Ok(ReceptionStats {
         reception,
-        corrected: settler.corrected,
-        lost: settler.lost,
+        corrected: corrector.corrected,
+        lost: corrector.lost,
         cut,
     })
 }
@@ -64,7 +68,7 @@ fn put_lifts(
     capture: &[u8],
     found: &[Reception],
     bytes: &mut Vec<u8>,
-) -> Result<Vec<Heard>, AllocError>
+) -> Result<Vec<ReceptionStats>, AllocError>
     requires few { length capture.now ≤ input_limit }
     requires ends { All (λ (r : Reception). behind r < 2 ^ 60) found.now }
     ensures { IfOk result (λ heard.
@@ -85,7 +89,7 @@ fn preamble(alloc: Global) -> Result<Vec<u8>, AllocError>
 }
 
 // Lifts receptions out of the capture that holds them.
-fn lifted_all(alloc: Global, capture: &[u8], found: &[Reception]) -> Result<Lifted, AllocError>
+fn lifted_all(alloc: Global, capture: &[u8], found: &[Reception]) -> Result<Extracted, AllocError>
     requires few { length capture.now ≤ input_limit }
     requires found { AreReceptions (capture_bits capture.now) found.now }
     ensures { IfOk result (LiftsAll capture.now) }
@@ -100,20 +104,20 @@ fn lifted_all(alloc: Global, capture: &[u8], found: &[Reception]) -> Result<Lift
     };
     put_lift(capture, silence, &mut bytes)?;
     let heard = put_lifts(alloc, capture, found, &mut bytes)?;
-    Ok(Lifted { bytes, heard })
+    Ok(Extracted { bytes, heard })
 }
 
 // Lifts one reception.
-fn lifted_one(alloc: Global, capture: &[u8], reception: Reception) -> Result<Lifted, AllocError>
+fn lifted_one(alloc: Global, capture: &[u8], reception: Reception) -> Result<Extracted, AllocError>
     requires few { length capture.now ≤ input_limit }
     requires some { 0 < reception.batches }
     requires end { behind reception < 2 ^ 60 }
-    ensures { IfOk result (λ lifted. (told : Heard) × (lifted.heard.items ≡ told ∷ [])
-        × LiftsReception capture.now reception told lifted.bytes.items) }
+    ensures { IfOk result (λ extracted. (told : ReceptionStats) × (extracted.heard.items ≡ told ∷ [])
+        × LiftsReception capture.now reception told extracted.bytes.items) }
 {
     let mut bytes = preamble(alloc)?;
     let heard = put_lift(capture, reception, &mut bytes)?;
-    Ok(Lifted {
+    Ok(Extracted {
         bytes,
         heard: Vec::from_slice(alloc, &[heard])?,
     })
@@ -133,12 +137,12 @@ fn receptions_in(alloc: Global, capture: &[u8]) -> Result<Vec<Reception>, Captur
 
 /// Lifts all transmissions out of a capture, one behind the other: the bytes are a transmission that reads as all their
 /// pages. Each word is repaired; a word that is lost, and a message codeword that continues no page, become idle.
-pub fn lift_all(alloc: Global, capture: &[u8]) -> Result<Lifted, CaptureFault>
-    ensures lifted { IfOk result (LiftsAll capture.now) }
+pub fn lift_all(alloc: Global, capture: &[u8]) -> Result<Extracted, CaptureFault>
+    ensures extracted { IfOk result (LiftsAll capture.now) }
 
     // *A capture that holds a sent transmission shows its pages*, one behind the other, whatever else it holds.
     ensures sent { (pages : List Page) → HoldsSent (capture_bits capture.now) pages →
-        IfOk result (λ lifted. ReadsAmong lifted.bytes.items pages) }
+        IfOk result (λ extracted. ReadsAmong extracted.bytes.items pages) }
     ensures few { OnOk result (length capture.now ≤ input_limit) }
     ensures explained { IfErr result (ExplainsUnlifted capture.now) }
 {
@@ -159,8 +163,8 @@ fn nth_of(found: &[Reception], nth: u64) -> Option<Reception>
 }
 
 /// Lifts one transmission out of a capture, counted from 1.
-pub fn lift_one(alloc: Global, capture: &[u8], nth: u64) -> Result<Lifted, CaptureFault>
-    ensures lifted { IfOk result (λ lifted. LiftsOne capture.now nth lifted.heard.items lifted.bytes.items) }
+pub fn lift_one(alloc: Global, capture: &[u8], nth: u64) -> Result<Extracted, CaptureFault>
+    ensures extracted { IfOk result (λ extracted. LiftsOne capture.now nth extracted.heard.items extracted.bytes.items) }
     ensures few { OnOk result (length capture.now ≤ input_limit) }
     ensures explained { IfErr result (ExplainsNone capture.now nth) }
 {

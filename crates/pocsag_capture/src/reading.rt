@@ -8,9 +8,9 @@ ghost use Rattle.pocsag_capture.specs.declared.reception.Reception.{Reception};
 ghost use Rattle.pocsag_capture.specs.declared.reception.Run.{Run};
 
 use crate::bits::word_on;
+use crate::corrector::BATCH;
 use crate::polarity::Polarity;
 use crate::reception::{Reception, Run};
-use crate::settle::BATCH;
 use pocsag_words::{BATCH_BITS, SYNC_WORD, repair};
 
 /// A word past repair, which stands for each word that was expected and not read.

@@ -23,7 +23,7 @@ pub struct Reception {
 
 /// A transmission in a capture, and how well it was received.
 #[derive(Clone, Copy, PartialEq, Eq, Debug)]
-pub struct Heard {
+pub struct ReceptionStats {
     pub reception: Reception,
     /// How many bits were wrong, in synchronisation codewords and in those that were repaired.
     pub corrected: u64,

@@ -18,7 +18,7 @@ use Rattle.pocsag_tree.specs.BoundTrees.{BoundTree}
 use Rattle.pocsag_tree.specs.CertificateText.{written_text}
 use Rattle.pocsag_tree.specs.Views.{bound_tree_of}
 use Rattle.pocsag_tree.specs.declared.shape.Certificate.{Certificate}
-use Rattle.pocsag_plan.specs.declared.search.Effort.TheVariants.{Fewest}
+use Rattle.pocsag_plan.specs.declared.search.OnLimit.TheVariants.{Fewest}
 use Rattle.pocsag_plan.specs.declared.search.Search.{Search}
 use Rattle.pocsag_plan.specs.declared.front.FrontPlan.{FrontPlan}
 use Rattle.pocsag_plan.specs.Fronts.{ExplainsFront, IsFrontFor, IsLongestFront, IsWhyNoMore}
@@ -32,7 +32,7 @@ use Rattle.pocsag_plan.specs.Headline.{RoundHeadline}
 use Rattle.pocsag_plan.specs.Plans.{IsPlanFor}
 use Rattle.pocsag_plan.specs.Streams.{HeadlineOf, WritesAllOf}
 use Rattle.pocsag_plan.proofs.Due.{all_as, asked_headline}
-use Rattle.pocsag_centre.specs.FrontFiles.{beyond_of, certificate_text, ExplainsNoFront, IsFrontRead, IsFrontTold, IsFrontWritten, IsPageFileOf, IsWhyWritten, why_text}
+use Rattle.pocsag_centre.specs.FrontFiles.{beyond_of, certificate_text, ExplainsNoFront, IsFrontRead, IsFrontPrinted, IsFrontWritten, IsPageFileOf, IsWhyWritten, why_text}
 use Rattle.pocsag_centre.specs.Lines.{below_text, left_text, plan_text}
 use Rattle.std.specs.Prelude.{IsOk, None, Ok, Option, Some}
 
@@ -94,7 +94,7 @@ module _ (file : List ℕ) (R F S : List Page) (read : verdict file ≡ Ok R) (r
 module _ (file : List ℕ) (asked : FrontAsked) (Q R : List Page) (front : FrontPlan) (read : held_pages asked.may_wait file ≡ Ok Q)
     (same : R ≡ firsts Q) (first : front.round ≡ take (length front.round) R) (left : front.rest.items ≡ left_of front.round Q) where
   pub front_read : IsFrontFor asked.search R asked.batches (length front.round)
-      → (asked.search.effort ≡ Fewest → IsLongestFront asked.search.end R asked.batches (length front.round))
+      → (asked.search.on_limit ≡ Fewest → IsLongestFront asked.search.end R asked.batches (length front.round))
       → IsPlanFor asked.search front.round front.bounded
       → front.bounded.plan.batches ≤ asked.batches
       → IsWhyNoMore asked.search R asked.batches (length front.round) front.why
@@ -177,11 +177,11 @@ module _ (file : List ℕ) (asked : FrontAsked) (front : FrontPlan) (is : IsFron
   pub front_told : (out out' : List ℕ) →
       out' ≡ out ++ plan_text front.bounded.plan.pages front.bounded.plan.batches ++ below_text front.bounded.plan.batches front.bounded.bound
       ++ left_text (length front.rest.items) ++ why_text asked.batches (beyond_of front.why) →
-      IsFrontTold file asked front.bounded.plan.pages tx tx' cert cert' rest rest' why why' out out'
+      IsFrontPrinted file asked front.bounded.plan.pages tx tx' cert cert' rest rest' why why' out out'
   unfolding front_written
-  front_told out out' told = record {
+  front_told out out' printed = record {
     front = front_written;
-    told = told
+    printed = printed
         ∙ ap (λ (ps : List Page). out ++ plan_text front.bounded.plan.pages front.bounded.plan.batches ++ below_text front.bounded.plan.batches front.bounded.bound
         ++ left_text (length ps) ++ why_text asked.batches (beyond_of front.why)) behind;
   }

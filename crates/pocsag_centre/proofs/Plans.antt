@@ -10,16 +10,16 @@ use Rattle.pocsag_plan.specs.declared.search.Search.{Search}
 use Rattle.pocsag_plan.specs.Plans.{IsPlanFor}
 use Rattle.pocsag_plan.specs.Streams.{IsOfRound, WritesBounded}
 use Rattle.pocsag_plan.proofs.Due.{tight_plan, tight_stream}
-use Rattle.pocsag_centre.specs.Commands.{Planned, PlannedAndTold, ToldPlan}
+use Rattle.pocsag_centre.specs.Commands.{Planned, PlannedAndPrinted, PrintedPlan}
 use Rattle.pocsag_centre.specs.Lines.{below_text, plan_text}
 use Rattle.pocsag_centre.specs.Refusals.{default_search}
 
 pub told_plan : (file : List ℕ) (R : List Page) (bounded : Bounded) → verdict file ≡ Ok R → IsPlanFor default_search R bounded →
-    (out out' : List ℕ) → out' ≡ out ++ plan_text bounded.plan.pages bounded.plan.batches → ToldPlan file Open out out'
-told_plan file R bounded read is out out' told = record {
+    (out out' : List ℕ) → out' ≡ out ++ plan_text bounded.plan.pages bounded.plan.batches → PrintedPlan file Open out out'
+told_plan file R bounded read is out out' printed = record {
   plan = bounded.plan;
   plan_of = record { round = R; read = read; holds = tight_plan default_search R bounded refl is };
-  told = told;
+  printed = printed;
 }
 
 module _ (file : List ℕ) (search : Search) (tx tx' cert cert' : List ℕ) (bounded : Bounded)
@@ -35,9 +35,9 @@ module _ (file : List ℕ) (search : Search) (tx tx' cert cert' : List ℕ) (bou
 
   pub told_planned : (out out' : List ℕ) →
       out' ≡ out ++ plan_text bounded.plan.pages bounded.plan.batches ++ below_text bounded.plan.batches bounded.bound →
-      PlannedAndTold file search tx tx' cert cert' out out'
+      PlannedAndPrinted file search tx tx' cert cert' out out'
   unfolding planned
-  told_planned out out' told = record { planned = planned; told = told }
+  told_planned out out' printed = record { planned = planned; printed = printed }
 
 -- what is shown holds where there is no value too
 pub where_none : {T : Type 0} (o : Option T) (P : Type 0) → P → IfNone o P

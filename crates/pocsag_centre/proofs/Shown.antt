@@ -7,30 +7,30 @@ use Rattle.pocsag_tree.specs.BoundTrees.{BoundTree}
 use Rattle.pocsag_tree.specs.CertificateText.{IsText}
 use Rattle.pocsag_check.specs.Acceptance.{IsAcceptedFor}
 use Rattle.pocsag_plan.specs.Plans.{NoneHasFewer}
-use Rattle.pocsag_centre.specs.Commands.{IsVerdictTold}
+use Rattle.pocsag_centre.specs.Commands.{IsVerdictPrinted}
 use Rattle.pocsag_centre.specs.Lines.{verdict_text}
 
 module _ (file text : List ℕ) (end : End) (batches : ℕ) (R : List Page) (tree : BoundTree) (read : verdict file ≡ Ok R) (is : IsText end batches tree text) where
   pub shown_told : (e : End) (b : ℕ) → e ≡ end → b ≡ batches → IsAcceptedFor false end R batches tree → NoneHasFewer end R batches →
-      (out out' : List ℕ) → out' ≡ out ++ verdict_text true e b → IsVerdictTold 0 file text out out'
-  shown_told e b same_end same_batches accepted bound out out' told = inl (
+      (out out' : List ℕ) → out' ≡ out ++ verdict_text true e b → IsVerdictPrinted 0 file text out out'
+  shown_told e b same_end same_batches accepted bound out out' printed = inl (
     refl,
     record {
       end = end;
       batches = batches;
       checked = record { round = R; read = read; tree = tree; text = is; accepted = accepted; bound = bound };
-      told = rw (← same_end, ← same_batches) told;
+      printed = rw (← same_end, ← same_batches) printed;
     },
   )
 
   pub not_shown_told : (e : End) (b : ℕ) → (¬ IsAcceptedFor false end R batches tree) → (out out' : List ℕ) → out' ≡ out ++ verdict_text false e b →
-      IsVerdictTold 1 file text out out'
-  not_shown_told e b refused out out' told = inr (
+      IsVerdictPrinted 1 file text out out'
+  not_shown_told e b refused out out' printed = inr (
     refl,
     record {
       end = end;
       batches = batches;
       not_shown = record { round = R; read = read; tree = tree; spelled = is; refused = refused };
-      told = told;
+      printed = printed;
     },
   )

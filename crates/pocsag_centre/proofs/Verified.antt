@@ -25,7 +25,7 @@ use Rattle.pocsag_words.specs.declared.ending.End.{End}
 use Rattle.pocsag_slots.proofs.Rearranged.{rearranged}
 use Rattle.pocsag_decode.specs.Faults.{ReadsAs}
 use Rattle.pocsag_plan.specs.declared.search.Search.{Search}
-use Rattle.pocsag_centre.specs.Verification.{AreAmong, HasRival, IsTransmissionOf, ShowsDue, Verified}
+use Rattle.pocsag_centre.specs.Verification.{AreAmong, HasRival, IsTransmissionOf, ShowsExpected, Verified}
 
 moved_pages : (ps qs : List Page) → IsPermutation ps qs → (R : List Page) → AreAmong qs R → AreAmong ps R
 moved_pages ps qs moved R among = record {
@@ -137,7 +137,7 @@ transmission end R X ps r among ends n same =
 -- the bound that is due was shown
 pub verified : (file : List ℕ) (search : Search) (sent certificate : List ℕ) (R : List Page) (batches : ℕ) (end : End) (bound : ℕ) (tree : BoundTree) →
     verdict file ≡ Ok R → IsTransmissionOf search.end R batches sent → IsText end bound tree certificate →
-    ShowsDue search R batches end bound tree → NoneHasFewer search.end R bound → Verified file search sent certificate
+    ShowsExpected search R batches end bound tree → NoneHasFewer search.end R bound → Verified file search sent certificate
 verified file search sent certificate R batches end bound tree read is text due fewest = record {
   bound = bound;
   checked = record {

@@ -14,7 +14,7 @@ use Rattle.pocsag_tree.specs.Views.{bound_tree_of}
 use Rattle.pocsag_decode.specs.PageFiles.{page_file}
 use Rattle.pocsag_check.specs.Acceptance.{IsAcceptedFor}
 use Rattle.pocsag_branch.specs.Found.{IsNodeLimit}
-use Rattle.pocsag_plan.specs.declared.search.Effort.TheVariants.{Fewest}
+use Rattle.pocsag_plan.specs.declared.search.OnLimit.TheVariants.{Fewest}
 use Rattle.pocsag_plan.specs.declared.search.Search.{Search}
 use Rattle.pocsag_plan.specs.declared.bounded.Bounded.{Bounded}
 use Rattle.pocsag_plan.specs.declared.front.FrontPlan.{FrontPlan}
@@ -53,7 +53,7 @@ pub record CertifiesBeyond (search : Search) (R : List Page) (batches bound : �
   pub text : IsWrittenText search.end bound tree certificate
   pub accepted : IsAcceptedFor false search.end R bound tree
   pub at_least : batches ≤ bound
-  pub more : search.effort ≡ Fewest → batches < bound
+  pub more : search.on_limit ≡ Fewest → batches < bound
 
 -- No page is left, and nothing is written; or a certificate of this bound is, for the first pages and one more.
 abbrev pub IsWhyWritten : Search → List Page → (batches count : ℕ) → (beyond : Option ℕ) → (written : List ℕ) → Type 0
@@ -81,7 +81,7 @@ pub record IsFrontRead (file : List ℕ) (asked : FrontAsked) (front : FrontPlan
   pub first : front.round ≡ take (length front.round) (firsts queue)
   pub left : front.rest.items ≡ left_of front.round queue
   pub front_for : IsFrontFor asked.search (firsts queue) asked.batches (length front.round)
-  pub longest : asked.search.effort ≡ Fewest → IsLongestFront asked.search.end (firsts queue) asked.batches (length front.round)
+  pub longest : asked.search.on_limit ≡ Fewest → IsLongestFront asked.search.end (firsts queue) asked.batches (length front.round)
   pub plan_of : IsPlanFor asked.search front.round front.bounded
   pub within : front.bounded.plan.batches ≤ asked.batches
   pub no_more : IsWhyNoMore asked.search (firsts queue) asked.batches (length front.round) front.why
@@ -94,7 +94,7 @@ pub record IsFrontWritten (file : List ℕ) (asked : FrontAsked) (count : ℕ) (
   pub queue : List Page
   pub read : held_pages asked.may_wait file ≡ Ok queue
   pub front : IsFrontFor asked.search (firsts queue) asked.batches count
-  pub longest : asked.search.effort ≡ Fewest → IsLongestFront asked.search.end (firsts queue) asked.batches count
+  pub longest : asked.search.on_limit ≡ Fewest → IsLongestFront asked.search.end (firsts queue) asked.batches count
   pub bounded : Bounded
   pub pages : bounded.plan.pages ≡ count
   pub plan_of : IsPlanFor asked.search (take count (firsts queue)) bounded
@@ -114,9 +114,9 @@ pub record IsFrontWritten (file : List ℕ) (asked : FrontAsked) (count : ℕ) (
 
 -- The same; and the counts of the plan were told, the bound where it is below the batches, how many pages are left, and what is
 -- shown of one page more.
-pub record IsFrontTold (file : List ℕ) (asked : FrontAsked) (count : ℕ) (tx_before tx_after cert_before cert_after rest_before rest_after why_before why_after out_before out_after : List ℕ) : Type 0 where
+pub record IsFrontPrinted (file : List ℕ) (asked : FrontAsked) (count : ℕ) (tx_before tx_after cert_before cert_after rest_before rest_after why_before why_after out_before out_after : List ℕ) : Type 0 where
   pub front : IsFrontWritten file asked count tx_before tx_after cert_before cert_after rest_before rest_after why_before why_after
-  pub told : out_after ≡ out_before ++ plan_text count front.bounded.plan.batches
+  pub printed : out_after ≡ out_before ++ plan_text count front.bounded.plan.batches
       ++ below_text front.bounded.plan.batches front.bounded.bound ++ left_text (length (left_of (take count (firsts front.queue)) front.queue))
       ++ why_text asked.batches front.beyond
 
@@ -128,7 +128,7 @@ ExplainsNoFront file asked (fault.FirstPage needed) =
     IsNodeLimit asked.search.limit
     × IsOfHeld asked.may_wait file (λ queue. FirstNeeds asked.search (firsts queue) asked.batches needed)
 ExplainsNoFront file asked (fault.SearchLimit least found) =
-    MayStop asked.search.effort × IsNodeLimit asked.search.limit
+    MayStop asked.search.on_limit × IsNodeLimit asked.search.limit
     × IsOfHeld asked.may_wait file (λ queue. (tree : BoundTree) × StopsAtFront asked.search (firsts queue) least found tree)
 ExplainsNoFront file asked (fault.File file_fault.OutOfMemory) =
     IsNodeLimit asked.search.limit × IsOk (held_pages asked.may_wait file)

@@ -7,11 +7,11 @@ use Rattle.pocsag_centre.specs.declared.fault.CentreFault.{CentreFault}
 use Rattle.pocsag_centre.specs.declared.fault.CentreFault.TheVariants as fault
 
 -- `check` said no: nothing is shown by the certificate, and `not shown` was told.
-pub record NotShownAndTold (file certificate out_before out_after : List ℕ) : Type 0 where
+pub record NotShownAndPrinted (file certificate out_before out_after : List ℕ) : Type 0 where
   pub end : End
   pub batches : ℕ
   pub not_shown : IsNotShown file certificate end batches
-  pub told : out_after ≡ out_before ++ (codes "not shown" ++ (10 ∷ []))
+  pub printed : out_after ≡ out_before ++ (codes "not shown" ++ (10 ∷ []))
 
 -- Why a certificate was not judged for a page file, whose fault comes first.
 abbrev pub ExplainsJudging : (file text : List ℕ) → CentreFault → Type 0

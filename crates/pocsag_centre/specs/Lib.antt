@@ -1,8 +1,8 @@
 pub mod Commands
-pub mod Demands
+pub mod Checks
 pub mod Faults
 pub mod Frames
-pub mod FramesTold
+pub mod FramesPrinted
 pub mod FrontFiles
 pub mod Judgements
 pub mod Lines

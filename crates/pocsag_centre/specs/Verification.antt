@@ -12,8 +12,8 @@ use Rattle.pocsag_check.specs.Acceptance.{IsAcceptedFor}
 use Rattle.pocsag_decode.specs.Faults.{HasFault, ReadsAs}
 use Rattle.pocsag_decode.specs.declared.fault.DecodeFault.TheVariants as decoding
 use Rattle.pocsag_plan.specs.Streams.{IsOfRound}
-use Rattle.pocsag_plan.specs.declared.search.Effort.{Effort}
-use Rattle.pocsag_plan.specs.declared.search.Effort.TheVariants.{Fewest, Always}
+use Rattle.pocsag_plan.specs.declared.search.OnLimit.{OnLimit}
+use Rattle.pocsag_plan.specs.declared.search.OnLimit.TheVariants.{Fewest, Always}
 use Rattle.pocsag_plan.specs.declared.search.Search.{Search}
 use Rattle.pocsag_plan.specs.Verdicts.{Checked}
 use Rattle.pocsag_plan.specs.Verdicts.{ExplainsCertificate}
@@ -42,9 +42,9 @@ pub record IsTransmissionOf (end : End) (round : List Page) (batches : ℕ) (byt
 
 -- The bound that a certificate beside so many batches is for: that number, or, where one batch more than the bound is an
 -- answer, one less too.
-abbrev pub IsDueBound : Effort → (bound batches : ℕ) → Type 0
-IsDueBound Fewest bound batches = bound ≡ batches
-IsDueBound Always bound batches = (bound ≡ batches) ⊎ (bound + 1 ≡ batches)
+abbrev pub IsExpectedBound : OnLimit → (bound batches : ℕ) → Type 0
+IsExpectedBound Fewest bound batches = bound ≡ batches
+IsExpectedBound Always bound batches = (bound ≡ batches) ⊎ (bound + 1 ≡ batches)
 
 -- The transmission is one of the page file's round and the end, in so many batches, and the certificate is a
 -- text of the end, a bound and a tree that the checker accepts for them: the bound that is due.
@@ -53,7 +53,7 @@ pub record Verified (file : List ℕ) (search : Search) (sent certificate : List
   pub checked : Checked file certificate search.end bound
   pub batches : ℕ
   pub transmission : IsTransmissionOf search.end checked.round batches sent
-  pub due : IsDueBound search.effort bound batches
+  pub due : IsExpectedBound search.on_limit bound batches
 
 -- The bytes read as pages that are not those of the round.
 pub record HoldsOthers (round : List Page) (bytes : List ℕ) : Type 0 where
@@ -68,9 +68,9 @@ pub record EndsOtherwise (end : End) (bytes : List ℕ) : Type 0 where
   pub ends : ¬ EndsAs end (map kind_of reads.codewords)
 
 -- The certificate shows for the end a bound that is due beside so many batches of the round.
-pub record ShowsDue (search : Search) (round : List Page) (batches : ℕ) (end : End) (bound : ℕ) (tree : BoundTree) : Type 0 where
+pub record ShowsExpected (search : Search) (round : List Page) (batches : ℕ) (end : End) (bound : ℕ) (tree : BoundTree) : Type 0 where
   pub same_end : end ≡ search.end
-  pub due : IsDueBound search.effort bound batches
+  pub due : IsExpectedBound search.on_limit bound batches
   pub accepted : IsAcceptedFor false search.end round bound tree
 
 -- The bytes are a transmission of the round and the end, and the certificate beside them does not show such a bound.
@@ -81,7 +81,7 @@ pub record IsNotDue (search : Search) (round : List Page) (bytes certificate : L
   pub bound : ℕ
   pub tree : BoundTree
   pub text : IsText end bound tree certificate
-  pub undue : ¬ ShowsDue search round batches end bound tree
+  pub undue : ¬ ShowsExpected search round batches end bound tree
 
 -- Why bytes are not taken for a transmission of the round and the end: also where they are more than are read, or memory
 -- refused them.

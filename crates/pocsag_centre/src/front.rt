@@ -7,21 +7,21 @@ ghost use Rattle.pocsag_decode.specs.PageFiles.{page_file};
 ghost use Rattle.pocsag_branch.specs.Found.{IsNodeLimit};
 ghost use Rattle.pocsag_plan.specs.Plans.{IsBounded};
 ghost use Rattle.pocsag_centre.specs.Faults.{centre_status};
-ghost use Rattle.pocsag_centre.specs.FrontFiles.{beyond_of, certificate_text, ExplainsFirst, ExplainsNoFront, HasCertificateText, IsOfHeld, IsFrontRead, IsFrontTold, IsFrontWritten, IsPageFileOf, why_text};
+ghost use Rattle.pocsag_centre.specs.FrontFiles.{beyond_of, certificate_text, ExplainsFirst, ExplainsNoFront, HasCertificateText, IsOfHeld, IsFrontRead, IsFrontPrinted, IsFrontWritten, IsPageFileOf, why_text};
 ghost use Rattle.pocsag_centre.specs.Lines.{below_text, left_text, plan_text};
 ghost use Rattle.pocsag_centre.specs.Refusals.{OrDevice};
-ghost use Rattle.pocsag_shell.specs.ErrorStreams.{stream_of, told_by};
+ghost use Rattle.pocsag_shell.specs.ErrorStreams.{stream_of, printed_by};
 ghost use Rattle.pocsag_shell.specs.declared.fault.FileFault.TheVariants as file_fault;
 
-use crate::demand::refuse_bad_limit;
+use crate::checks::refuse_bad_limit;
 use crate::fault::CentreFault;
-use crate::plan::tell_bounded;
+use crate::plan::print_bounded;
 use pocsag_decode::{
     ListFault, page_files_are_read_back, pages_of_files_are_spellable, write_page_file,
 };
 use pocsag_pages::{Page, first_pages, held_pages, left_pages, read_pages, read_round};
 use pocsag_plan::{FrontPlan, Search, longest_front, send};
-use pocsag_shell::{ErrorStream, FileFault, tell_numbers};
+use pocsag_shell::{ErrorStream, FileFault, print_numbers};
 use pocsag_tree::{Certificate, write_text};
 use pocsag_words::{GrowingSink, OutOfMemory, Sink, Source};
 use std::alloc::Global;
@@ -64,29 +64,29 @@ pub fn run_front<P: Source + Drop, S: Sink + Drop, O: Sink, E: Sink + Drop>(
     out: &mut O,
     err: &mut ErrorStream<CentreFault, E>,
 ) -> u8
-    ensures written { P.tells → S.tells → IfNone (told_by err.new)
+    ensures written { P.is_known → S.is_known → IfNone (printed_by err.new)
         (IsFrontWritten (P.held files.old.pages) asked files.new.count
         (S.taken files.old.tx) (S.taken files.new.tx) (S.taken files.old.cert) (S.taken files.new.cert)
         (S.taken files.old.rest) (S.taken files.new.rest) (S.taken files.old.why) (S.taken files.new.why)) }
-    ensures told { P.tells → S.tells → O.tells → IfNone (told_by err.new)
-        (IsFrontTold (P.held files.old.pages) asked files.new.count
+    ensures printed { P.is_known → S.is_known → O.is_known → IfNone (printed_by err.new)
+        (IsFrontPrinted (P.held files.old.pages) asked files.new.count
         (S.taken files.old.tx) (S.taken files.new.tx) (S.taken files.old.cert) (S.taken files.new.cert)
         (S.taken files.old.rest) (S.taken files.new.rest) (S.taken files.old.why) (S.taken files.new.why)
         (O.taken out.old) (O.taken out.new)) }
-    ensures done { IfNone (told_by err.new) ((result ≡ 0) × (stream_of err.new ≡ stream_of err.old)) }
+    ensures done { IfNone (printed_by err.new) ((result ≡ 0) × (stream_of err.new ≡ stream_of err.old)) }
 
     // When each fault comes, and what it leaves.
-    ensures status { IfSome (told_by err.new) (λ e. result ≡ centre_status e) }
-    ensures explained { P.tells → IfSome (told_by err.new)
+    ensures status { IfSome (printed_by err.new) (λ e. result ≡ centre_status e) }
+    ensures explained { P.is_known → IfSome (printed_by err.new)
         (OrDevice (ExplainsNoFront (P.held files.old.pages) asked)) }
-    ensures refused { IfSome (told_by err.new) (λ e. e ≢ CentreFault.File file_fault.Write →
+    ensures refused { IfSome (printed_by err.new) (λ e. e ≢ CentreFault.File file_fault.Write →
         (files.new.tx ≡ files.old.tx) × (files.new.cert ≡ files.old.cert)
         × (files.new.rest ≡ files.old.rest) × (files.new.why ≡ files.old.why) × (out.new ≡ out.old)) }
 
     // A device's fault is told only where that device failed.
-    ensures read_failed { told_by err.new ≡ Some (CentreFault.Round round_fault.ReadFault) →
+    ensures read_failed { printed_by err.new ≡ Some (CentreFault.Round round_fault.ReadFault) →
         HasFailed (P.failures files.old.pages) (P.failures files.new.pages) }
-    ensures write_failed { told_by err.new ≡ Some (CentreFault.File file_fault.Write) →
+    ensures write_failed { printed_by err.new ≡ Some (CentreFault.File file_fault.Write) →
         HasFailed (S.failures files.old.rest) (S.failures files.new.rest)
         ⊎ HasFailed (S.failures files.old.why) (S.failures files.new.why)
         ⊎ HasFailed (S.failures files.old.tx) (S.failures files.new.tx)
@@ -103,17 +103,17 @@ fn fronted<P: Source + Drop, S: Sink + Drop, O: Sink>(
     files: &mut FrontFiles<P, S>,
     out: &mut O,
 ) -> Result<u8, CentreFault>
-    ensures written { P.tells → S.tells → OnOk result
+    ensures written { P.is_known → S.is_known → OnOk result
         (IsFrontWritten (P.held files.old.pages) asked files.new.count
         (S.taken files.old.tx) (S.taken files.new.tx) (S.taken files.old.cert) (S.taken files.new.cert)
         (S.taken files.old.rest) (S.taken files.new.rest) (S.taken files.old.why) (S.taken files.new.why)) }
-    ensures told { P.tells → S.tells → O.tells → OnOk result
-        (IsFrontTold (P.held files.old.pages) asked files.new.count
+    ensures printed { P.is_known → S.is_known → O.is_known → OnOk result
+        (IsFrontPrinted (P.held files.old.pages) asked files.new.count
         (S.taken files.old.tx) (S.taken files.new.tx) (S.taken files.old.cert) (S.taken files.new.cert)
         (S.taken files.old.rest) (S.taken files.new.rest) (S.taken files.old.why) (S.taken files.new.why)
         (O.taken out.old) (O.taken out.new)) }
     ensures done { IfOk result (λ status. status ≡ 0) }
-    ensures explained { P.tells → IfErr result
+    ensures explained { P.is_known → IfErr result
         (OrDevice (ExplainsNoFront (P.held files.old.pages) asked)) }
     ensures refused { IfErr result (λ e. e ≢ CentreFault.File file_fault.Write →
         (files.new.tx ≡ files.old.tx) × (files.new.cert ≡ files.old.cert)
@@ -139,7 +139,7 @@ fn fronted<P: Source + Drop, S: Sink + Drop, O: Sink>(
         Ok(()) => {}
         Err(_) => return Err(CentreFault::File(FileFault::Write)),
     }
-    match tell_front(&front, asked.batches, out) {
+    match print_front(&front, asked.batches, out) {
         Ok(()) => Ok(0),
         Err(fault) => Err(CentreFault::File(fault)),
     }
@@ -151,14 +151,14 @@ fn read_front<P: Source>(
     asked: FrontAsked,
     pages: &mut P,
 ) -> Result<FrontPlan, CentreFault>
-    ensures front { P.tells → IfOk result (IsFrontRead (P.held pages.old) asked) }
+    ensures front { P.is_known → IfOk result (IsFrontRead (P.held pages.old) asked) }
     ensures planned { IfOk result (λ front.
         IsBounded front.bounded.plan.end front.round front.bounded.plan front.bounded.bound) }
     ensures listable { IfOk result (λ front. All IsListable front.rest.items) }
     ensures texts { IfOk result (λ front. HasCertificateText front.why) }
-    ensures limited { P.tells → OnOk result
+    ensures limited { P.is_known → OnOk result
         (ExplainsNoFront (P.held pages.old) asked (CentreFault.File file_fault.OutOfMemory)) }
-    ensures explained { P.tells → IfErr result
+    ensures explained { P.is_known → IfErr result
         (OrDevice (ExplainsNoFront (P.held pages.old) asked)) }
     ensures read_failed { IsErrOf result (CentreFault.Round round_fault.ReadFault) →
         HasFailed (P.failures pages.old) (P.failures pages.new) }
@@ -190,14 +190,14 @@ fn queue_front<P: Source>(
     pages: &mut P,
 ) -> Result<FrontPlan, CentreFault>
     requires { IsNodeLimit asked.search.limit }
-    ensures front { P.tells → IfOk result (IsFrontRead (P.held pages.old) asked) }
+    ensures front { P.is_known → IfOk result (IsFrontRead (P.held pages.old) asked) }
     ensures planned { IfOk result (λ front.
         IsBounded front.bounded.plan.end front.round front.bounded.plan front.bounded.bound) }
     ensures listable { IfOk result (λ front. All IsListable front.rest.items) }
     ensures texts { IfOk result (λ front. HasCertificateText front.why) }
-    ensures limited { P.tells → OnOk result
+    ensures limited { P.is_known → OnOk result
         (ExplainsNoFront (P.held pages.old) asked (CentreFault.File file_fault.OutOfMemory)) }
-    ensures explained { P.tells → IfErr result (OrDevice (ExplainsNoFront (P.held pages.old) asked)) }
+    ensures explained { P.is_known → IfErr result (OrDevice (ExplainsNoFront (P.held pages.old) asked)) }
     ensures read_failed { IsErrOf result (CentreFault.Round round_fault.ReadFault) →
         HasFailed (P.failures pages.old) (P.failures pages.new) }
     ensures unwritten { ¬ IsErrOf result (CentreFault.File file_fault.Write) }
@@ -240,9 +240,9 @@ fn put_others<P: Drop, S: Sink + Drop>(
 ) -> Result<(), FileFault>
     requires listable { All IsListable front.now.rest.items }
     requires texts { HasCertificateText front.now.why }
-    ensures rest { S.tells → OnOk result
+    ensures rest { S.is_known → OnOk result
         (S.taken files.new.rest ≡ S.taken files.old.rest ++ page_file front.now.rest.items) }
-    ensures why { S.tells → OnOk result
+    ensures why { S.is_known → OnOk result
         (S.taken files.new.why ≡ S.taken files.old.why ++ certificate_text front.now.why) }
     ensures others { (files.new.pages ≡ files.old.pages) × (files.new.count ≡ files.old.count)
         × (files.new.tx ≡ files.old.tx) × (files.new.cert ≡ files.old.cert) }
@@ -263,7 +263,7 @@ fn put_others<P: Drop, S: Sink + Drop>(
 // Writes the certificate, if there is one.
 fn put_why<S: Sink>(why: &Option<Certificate>, sink: &mut S) -> Result<(), FileFault>
     requires { HasCertificateText why.now }
-    ensures written { S.tells → OnOk result (S.taken sink.new ≡ S.taken sink.old ++ certificate_text why.now) }
+    ensures written { S.is_known → OnOk result (S.taken sink.new ≡ S.taken sink.old ++ certificate_text why.now) }
     ensures lost { IfErr result (λ e. e ≡ FileFault.Write) }
     ensures failures { CountsFailures result (S.failures sink.old) (S.failures sink.new) }
 {
@@ -318,18 +318,18 @@ pub(crate) fn written_pages(alloc: Global, pages: &[Page]) -> Result<Vec<u8>, Ce
 // Tells the counts of a front, with its bound where that is below its batches; how many pages are left; and what is shown
 // of one page more, where that is no more than the batches that were asked for.
 #[tactic(auto, unfolding(crate::specs::Lines::left_text, crate::specs::Lines::undecided_text))]
-fn tell_front<O: Sink>(front: &FrontPlan, batches: u32, out: &mut O) -> Result<(), FileFault>
-    ensures told { O.tells → OnOk result (O.taken out.new ≡ O.taken out.old
+fn print_front<O: Sink>(front: &FrontPlan, batches: u32, out: &mut O) -> Result<(), FileFault>
+    ensures printed { O.is_known → OnOk result (O.taken out.new ≡ O.taken out.old
         ++ plan_text front.now.bounded.plan.pages front.now.bounded.plan.batches
         ++ below_text front.now.bounded.plan.batches front.now.bounded.bound
         ++ left_text (length front.now.rest.items) ++ why_text batches (beyond_of front.now.why)) }
     ensures lost { IfErr result (λ e. e ≡ FileFault.Write) }
     ensures failures { CountsFailures result (O.failures out.old) (O.failures out.new) }
 {
-    if let Err(fault) = tell_bounded(&front.bounded, out) {
+    if let Err(fault) = print_bounded(&front.bounded, out) {
         return Err(fault);
     }
-    if let Err(fault) = tell_numbers(out, &[("left ", front.rest.len() as u64)], "\n") {
+    if let Err(fault) = print_numbers(out, &[("left ", front.rest.len() as u64)], "\n") {
         return Err(fault);
     }
     let Some(why) = &front.why else {
@@ -339,5 +339,5 @@ fn tell_front<O: Sink>(front: &FrontPlan, batches: u32, out: &mut O) -> Result<(
         return Ok(());
     }
     let number = [("at least ", why.batches as u64)];
-    tell_numbers(out, &number, " batches with one page more\n")
+    print_numbers(out, &number, " batches with one page more\n")
 }

@@ -1,9 +1,9 @@
+use crate::args::{ReportArgs, SearchArgs, plan_args, report_args};
 use crate::check::run_check;
 use crate::fault::CentreFault;
-use crate::files::{Streams, loaded, obey_plan, refuse_unmet};
 use crate::note::{note_file, quote_asked};
-use crate::order::{ReportOrder, SearchOrder, plan_order, report_order};
 use crate::plan::{DEFAULT_SEARCH, run_input};
+use crate::plan_files::{Streams, loaded, plan_command, refuse_unmet};
 use crate::report::{ReportAsked, run_report};
 use crate::texts::EARLY_STRICT;
 use crate::words::{
@@ -12,8 +12,8 @@ use crate::words::{
 };
 use clap::{ArgMatches, Error};
 use pocsag_shell::{
-    CERT, Call, Desk, Group, Names, PAGES, PAGES_READ, Role, STANDARD, TX, Tables, load_both,
-    path_of, tell,
+    CERT, Call, Context, Group, Names, PAGES, PAGES_READ, Role, STANDARD, TX, Tables, load_both,
+    path_of, print,
 };
 use std::alloc::AllocError;
 use std::io::IsTerminal;
@@ -39,20 +39,20 @@ impl Group for Centre {
         found.get_flag(STRICT).then_some(EARLY_STRICT)
     }
 
-    fn obey(&self, desk: Desk<'_>, call: Call<'_, '_>) -> Option<Result<u8, Error>> {
+    fn run(&self, context: Context<'_>, call: Call<'_, '_>) -> Option<Result<u8, Error>> {
         let found = call.found;
-        let mut streams = Streams::new(desk.alloc);
+        let mut streams = Streams::new(context.alloc);
         let done = match call.name {
-            None => plan_input(desk, found.get_flag(STRICT), &mut streams),
-            Some(PLAN) => obey_plan(desk, plan_order(found)?, &mut streams),
+            None => plan_input(context, found.get_flag(STRICT), &mut streams),
+            Some(PLAN) => plan_command(context, plan_args(found)?, &mut streams),
             Some(CHECK) => {
                 let (pages, cert) = (found.get_str(PAGES)?, found.get_str(CERT)?);
-                check_paths(desk, pages, cert, &mut streams)
+                check_paths(context, pages, cert, &mut streams)
             }
-            Some(REPORT) => report_path(desk, report_order(found)?, &mut streams),
+            Some(REPORT) => report_path(context, report_args(found)?, &mut streams),
             _ => return None,
         };
-        Some(Ok(streams.end(desk, names_of(call), done)))
+        Some(Ok(streams.end(context, names_of(call), done)))
     }
 }
 
@@ -77,66 +77,75 @@ fn names_of<'a>(call: Call<'a, '_>) -> Names<'a> {
 }
 
 // Plans the page file of standard input.
-fn plan_input(desk: Desk<'_>, strict: bool, streams: &mut Streams) -> Result<u8, CentreFault> {
-    if desk.rt.stdin().is_terminal() {
-        let _ = tell(&mut desk.err(), AT_TERMINAL);
+fn plan_input(
+    context: Context<'_>,
+    strict: bool,
+    streams: &mut Streams,
+) -> Result<u8, CentreFault> {
+    if context.rt.stdin().is_terminal() {
+        let _ = print(&mut context.err(), AT_TERMINAL);
     }
-    let asked = SearchOrder {
+    let asked = SearchArgs {
         expect: None,
         strict,
         may_wait: false,
         search: DEFAULT_SEARCH,
     };
-    let mut pages = loaded(desk, Role::PageFile, None, PAGES_READ)?;
-    refuse_unmet(desk, None, &pages, asked)?;
-    let quote = quote_asked(desk, &pages);
-    let status = run_input(desk.alloc, &mut pages, &mut streams.out, &mut streams.err);
-    note_file(desk, None, &pages, quote, streams.err.fault());
+    let mut pages = loaded(context, Role::PageFile, None, PAGES_READ)?;
+    refuse_unmet(context, None, &pages, asked)?;
+    let quote = quote_asked(context, &pages);
+    let status = run_input(
+        context.alloc,
+        &mut pages,
+        &mut streams.out,
+        &mut streams.err,
+    );
+    note_file(context, None, &pages, quote, streams.err.fault());
     Ok(status)
 }
 
 // Judges a certificate; the status is 1 where it does not show its batches.
 fn check_paths(
-    desk: Desk<'_>,
+    context: Context<'_>,
     pages: &str,
     cert: &str,
     streams: &mut Streams,
 ) -> Result<u8, CentreFault> {
     let path = path_of(pages);
-    let (mut pages, mut cert) = load_both(desk, pages, cert)?;
-    let quote = quote_asked(desk, &pages);
+    let (mut pages, mut cert) = load_both(context, pages, cert)?;
+    let quote = quote_asked(context, &pages);
     let status = run_check(
-        desk.alloc,
+        context.alloc,
         &mut pages,
         &mut cert,
         &mut streams.out,
         &mut streams.err,
     );
-    note_file(desk, path, &pages, quote, streams.err.fault());
+    note_file(context, path, &pages, quote, streams.err.fault());
     Ok(status)
 }
 
 // Reports on the plan of a page file.
 fn report_path(
-    desk: Desk<'_>,
-    order: ReportOrder<'_>,
+    context: Context<'_>,
+    args: ReportArgs<'_>,
     streams: &mut Streams,
 ) -> Result<u8, CentreFault> {
-    let mut pages = loaded(desk, Role::PageFile, order.pages, PAGES_READ)?;
-    refuse_unmet(desk, order.pages, &pages, order.search)?;
-    let quote = quote_asked(desk, &pages);
+    let mut pages = loaded(context, Role::PageFile, args.pages, PAGES_READ)?;
+    refuse_unmet(context, args.pages, &pages, args.search)?;
+    let quote = quote_asked(context, &pages);
     let asked = ReportAsked {
-        rate: order.rate,
-        search: order.search.search,
-        frames: order.frames,
+        rate: args.rate,
+        search: args.search.search,
+        frames: args.frames,
     };
     let status = run_report(
-        desk.alloc,
+        context.alloc,
         asked,
         &mut pages,
         &mut streams.out,
         &mut streams.err,
     );
-    note_file(desk, order.pages, &pages, quote, streams.err.fault());
+    note_file(context, args.pages, &pages, quote, streams.err.fault());
     Ok(status)
 }

@@ -2,25 +2,25 @@
 //! The group of commands of a paging centre: no words, `plan`, `check` and `report`. Each command is one function over any
 //! sources and sinks, which ends its standard error and returns the exit status; the group runs it over what files hold.
 
+mod args;
 mod check;
-mod demand;
+mod checks;
 mod fault;
-mod files;
 mod frames;
 mod front;
 mod group;
 mod lines;
 mod note;
-mod order;
 mod oversized;
 mod plan;
+mod plan_files;
 mod readback;
 mod report;
 mod texts;
 mod words;
 
 pub use check::run_check;
-pub use demand::{expected_file, refuse_bad_limit, strict_file};
+pub use checks::{expected_file, refuse_bad_limit, strict_file};
 pub use fault::CentreFault;
 pub use frames::FrameRoom;
 pub use front::{FrontAsked, FrontFiles, first_file, run_front};

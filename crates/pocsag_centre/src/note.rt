@@ -1,7 +1,7 @@
 use crate::fault::CentreFault;
 use csv::{ByteRecord, ReaderBuilder};
 use pocsag_pages::{QuoteFault, RoundFault, quote_fault};
-use pocsag_shell::{Desk, Loaded, NamedFile, Role, STANDARD};
+use pocsag_shell::{Context, Loaded, NamedFile, Role, STANDARD};
 use pocsag_words::Source;
 use std::alloc::Global;
 use std::fmt::{self, Display, Write};
@@ -54,22 +54,22 @@ fn record_at(alloc: Global, file: &[u8], number: u32) -> Option<(usize, &[u8])> 
 }
 
 /// With `--verbose` keeps a note on the record that a fault of a page file names: its line, and its text.
-pub fn note_record(desk: Desk<'_>, place: NamedFile<'_>, file: &[u8], fault: RoundFault) {
+pub fn note_record(context: Context<'_>, place: NamedFile<'_>, file: &[u8], fault: RoundFault) {
     let RoundFault::Record(number, _) = fault else {
         return;
     };
-    if !desk.watch.is_asked() {
+    if !context.diagnostics.is_asked() {
         return;
     }
-    if let Some((line, bytes)) = record_at(desk.alloc, file, number) {
+    if let Some((line, bytes)) = record_at(context.alloc, file, number) {
         let text = Front { bytes };
-        desk.note(format_args!("{place}: line {line}: {text}"));
+        context.note(format_args!("{place}: line {line}: {text}"));
     }
 }
 
 /// The first misplaced quote of a page file, which `--strict` would refuse, where `--verbose` asks for it.
-pub(crate) fn quote_asked(desk: Desk<'_>, pages: &Loaded) -> Option<QuoteFault> {
-    if !desk.watch.is_asked() {
+pub(crate) fn quote_asked(context: Context<'_>, pages: &Loaded) -> Option<QuoteFault> {
+    if !context.diagnostics.is_asked() {
         return None;
     }
     quote_fault(pages.lent()?)
@@ -78,7 +78,7 @@ pub(crate) fn quote_asked(desk: Desk<'_>, pages: &Loaded) -> Option<QuoteFault> 
 /// Keeps a note on a page file that a command was run over: on the record that its fault names, or, where it had none, on the
 /// first misplaced quote.
 pub(crate) fn note_file(
-    desk: Desk<'_>,
+    context: Context<'_>,
     path: Option<&str>,
     pages: &Loaded,
     quote: Option<QuoteFault>,
@@ -91,10 +91,10 @@ pub(crate) fn note_file(
     match (fault, quote) {
         (Some(CentreFault::Round(fault)), _) => {
             if let Some(file) = pages.lent() {
-                note_record(desk, place, file, fault);
+                note_record(context, place, file, fault);
             }
         }
-        (None, Some(quote)) => desk.note(format_args!("{place}: {quote}")),
+        (None, Some(quote)) => context.note(format_args!("{place}: {quote}")),
         _ => {}
     }
 }

@@ -9,17 +9,17 @@ ghost use Rattle.pocsag_plan.specs.Plans.{IsPlanFor};
 ghost use Rattle.pocsag_plan.specs.Streams.{ExplainsStream, fault_in, IsCertificate, IsOfRound, IsTransmission, WritesBounded, WritesCertificatePart, WritesInTurn, WritesPart};
 ghost use Rattle.pocsag_plan.specs.declared.fault.StreamFault.TheVariants as stream_fault;
 ghost use Rattle.pocsag_shell.specs.declared.fault.FileFault.TheVariants as file_fault;
-ghost use Rattle.pocsag_shell.specs.ErrorStreams.{stream_of, told_by};
-ghost use Rattle.pocsag_centre.specs.Commands.{LeavesOutputs, Planned, PlannedAndTold, ToldPlan};
+ghost use Rattle.pocsag_shell.specs.ErrorStreams.{stream_of, printed_by};
+ghost use Rattle.pocsag_centre.specs.Commands.{LeavesOutputs, Planned, PlannedAndPrinted, PrintedPlan};
 ghost use Rattle.pocsag_centre.specs.Faults.{centre_status};
 ghost use Rattle.pocsag_centre.specs.Lines.{below_text, plan_text};
 ghost use Rattle.pocsag_centre.specs.Refusals.{ExplainsNoPlan, ExplainsUnwritten, OrDevice, default_search};
 
 use crate::fault::CentreFault;
-use crate::lines::{tell_below, tell_plan};
+use crate::lines::{print_below, print_plan};
 use pocsag_pages::{Round, read_round};
 use pocsag_plan::{
-    Bounded, Effort, Search, StreamFault, bounded_plan, plan_stream, plan_stream_always,
+    Bounded, OnLimit, Search, StreamFault, bounded_plan, plan_stream, plan_stream_always,
 };
 use pocsag_shell::{ErrorStream, FileFault};
 use pocsag_words::{End, Sink, Source};
@@ -32,7 +32,7 @@ pub const DEFAULT_LIMIT: u32 = 100_000;
 pub(crate) const DEFAULT_SEARCH: Search = Search {
     limit: DEFAULT_LIMIT,
     end: End::Open,
-    effort: Effort::Fewest,
+    on_limit: OnLimit::Fewest,
 };
 
 /// The files of a plan: `plan` reads the first and writes the other two, and `--verify` reads all three.
@@ -59,10 +59,10 @@ pub(crate) fn read_plan<P: Source>(
     pages: &mut P,
     search: Search,
 ) -> Result<RoundPlan, CentreFault>
-    ensures read { P.tells → IfOk result (λ found. verdict (P.held pages.old) ≡ Ok found.round) }
+    ensures read { P.is_known → IfOk result (λ found. verdict (P.held pages.old) ≡ Ok found.round) }
     ensures plan { IfOk result (λ found. IsPlanFor search found.round found.bounded) }
     ensures limited { OnOk result (IsNodeLimit search.limit) }
-    ensures explained { P.tells → IfErr result (OrDevice (ExplainsNoPlan (P.held pages.old) search)) }
+    ensures explained { P.is_known → IfErr result (OrDevice (ExplainsNoPlan (P.held pages.old) search)) }
     ensures read_failed { IsErrOf result (CentreFault.Round round_fault.ReadFault) →
         HasFailed (P.failures pages.old) (P.failures pages.new) }
     ensures unwritten { ¬ IsErrOf result (CentreFault.File file_fault.Write) }
@@ -85,20 +85,20 @@ pub fn run_input<I: Source, O: Sink, E: Sink + Drop>(
     out: &mut O,
     err: &mut ErrorStream<CentreFault, E>,
 ) -> u8
-    ensures told { I.tells → O.tells → IfNone (told_by err.new)
-        (ToldPlan (I.held input.old) open_end (O.taken out.old) (O.taken out.new)) }
-    ensures done { IfNone (told_by err.new) ((result ≡ 0) × (stream_of err.new ≡ stream_of err.old)) }
+    ensures printed { I.is_known → O.is_known → IfNone (printed_by err.new)
+        (PrintedPlan (I.held input.old) open_end (O.taken out.old) (O.taken out.new)) }
+    ensures done { IfNone (printed_by err.new) ((result ≡ 0) × (stream_of err.new ≡ stream_of err.old)) }
 
     // When each fault comes, and what it leaves.
-    ensures status { IfSome (told_by err.new) (λ e. result ≡ centre_status e) }
-    ensures explained { I.tells →
-        IfSome (told_by err.new) (OrDevice (ExplainsNoPlan (I.held input.old) default_search)) }
-    ensures refused { IfSome (told_by err.new) (λ e. e ≢ CentreFault.File file_fault.Write → out.new ≡ out.old) }
+    ensures status { IfSome (printed_by err.new) (λ e. result ≡ centre_status e) }
+    ensures explained { I.is_known →
+        IfSome (printed_by err.new) (OrDevice (ExplainsNoPlan (I.held input.old) default_search)) }
+    ensures refused { IfSome (printed_by err.new) (λ e. e ≢ CentreFault.File file_fault.Write → out.new ≡ out.old) }
 
     // A device's fault is told only where that device failed.
-    ensures read_failed { told_by err.new ≡ Some (CentreFault.Round round_fault.ReadFault) →
+    ensures read_failed { printed_by err.new ≡ Some (CentreFault.Round round_fault.ReadFault) →
         HasFailed (I.failures input.old) (I.failures input.new) }
-    ensures write_failed { told_by err.new ≡ Some (CentreFault.File file_fault.Write) →
+    ensures write_failed { printed_by err.new ≡ Some (CentreFault.File file_fault.Write) →
         HasFailed (O.failures out.old) (O.failures out.new) }
 {
     let found = match read_plan(alloc, input, DEFAULT_SEARCH) {
@@ -106,7 +106,7 @@ pub fn run_input<I: Source, O: Sink, E: Sink + Drop>(
         Err(fault) => return err.end(Err(fault)),
     };
     let plan = &found.bounded.plan;
-    match tell_plan(plan.pages, plan.batches, out) {
+    match print_plan(plan.pages, plan.batches, out) {
         Ok(()) => err.end(Ok(0)),
         Err(fault) => err.end(Err(CentreFault::File(fault))),
     }
@@ -123,28 +123,28 @@ pub fn run_plan<P: Source + Drop, T: Sink + Drop, C: Sink + Drop, O: Sink, E: Si
     err: &mut ErrorStream<CentreFault, E>,
 ) -> u8
     // The headline with a bound; and where the bound is the batches, the headline.
-    ensures planned { P.tells → T.tells → C.tells → IfNone (told_by err.new)
+    ensures planned { P.is_known → T.is_known → C.is_known → IfNone (printed_by err.new)
         (Planned (P.held files.old.pages) search (T.taken files.old.tx) (T.taken files.new.tx)
         (C.taken files.old.cert) (C.taken files.new.cert)) }
-    ensures told { P.tells → T.tells → C.tells → O.tells → IfNone (told_by err.new)
-        (PlannedAndTold (P.held files.old.pages) search (T.taken files.old.tx) (T.taken files.new.tx)
+    ensures printed { P.is_known → T.is_known → C.is_known → O.is_known → IfNone (printed_by err.new)
+        (PlannedAndPrinted (P.held files.old.pages) search (T.taken files.old.tx) (T.taken files.new.tx)
         (C.taken files.old.cert) (C.taken files.new.cert) (O.taken out.old) (O.taken out.new)) }
-    ensures done { IfNone (told_by err.new) ((result ≡ 0) × (stream_of err.new ≡ stream_of err.old)) }
+    ensures done { IfNone (printed_by err.new) ((result ≡ 0) × (stream_of err.new ≡ stream_of err.old)) }
 
     // When each fault comes, and what it leaves.
-    ensures status { IfSome (told_by err.new) (λ e. result ≡ centre_status e) }
-    ensures explained { P.tells →
-        IfSome (told_by err.new) (OrDevice (ExplainsUnwritten (P.held files.old.pages) search)) }
-    ensures refused { IfSome (told_by err.new) (λ e. e ≢ CentreFault.File file_fault.Write →
+    ensures status { IfSome (printed_by err.new) (λ e. result ≡ centre_status e) }
+    ensures explained { P.is_known →
+        IfSome (printed_by err.new) (OrDevice (ExplainsUnwritten (P.held files.old.pages) search)) }
+    ensures refused { IfSome (printed_by err.new) (λ e. e ≢ CentreFault.File file_fault.Write →
         (files.new.tx ≡ files.old.tx) × (files.new.cert ≡ files.old.cert) × (out.new ≡ out.old)) }
-    ensures leaves { P.tells → T.tells → C.tells →
+    ensures leaves { P.is_known → T.is_known → C.is_known →
         LeavesOutputs (P.held files.old.pages) search (T.taken files.old.tx) (T.taken files.new.tx)
         (C.taken files.old.cert) (C.taken files.new.cert) }
 
     // A device's fault is told only where that device failed.
-    ensures read_failed { told_by err.new ≡ Some (CentreFault.Round round_fault.ReadFault) →
+    ensures read_failed { printed_by err.new ≡ Some (CentreFault.Round round_fault.ReadFault) →
         HasFailed (P.failures files.old.pages) (P.failures files.new.pages) }
-    ensures write_failed { told_by err.new ≡ Some (CentreFault.File file_fault.Write) →
+    ensures write_failed { printed_by err.new ≡ Some (CentreFault.File file_fault.Write) →
         HasFailed (T.failures files.old.tx) (T.failures files.new.tx)
         ⊎ HasFailed (C.failures files.old.cert) (C.failures files.new.cert)
         ⊎ HasFailed (O.failures out.old) (O.failures out.new) }
@@ -154,7 +154,7 @@ pub fn run_plan<P: Source + Drop, T: Sink + Drop, C: Sink + Drop, O: Sink, E: Si
         Ok(bounded) => bounded,
         Err(fault) => return err.end(Err(CentreFault::from(fault))),
     };
-    match tell_bounded(&bounded, out) {
+    match print_bounded(&bounded, out) {
         Ok(()) => err.end(Ok(0)),
         Err(fault) => err.end(Err(CentreFault::File(fault))),
     }
@@ -168,26 +168,30 @@ fn stream_asked<P: Source, T: Sink, C: Sink>(
     cert: &mut C,
     search: Search,
 ) -> Result<Bounded, StreamFault>
-    ensures headline { P.tells → T.tells → C.tells → IfOk result (λ bounded.
+    ensures headline { P.is_known → T.is_known → C.is_known → IfOk result (λ bounded.
         WritesBounded (P.held pages.old) search.end bounded.plan.batches bounded.bound
         (bound_tree_of bounded.plan.tree)
         (T.taken tx.old) (T.taken tx.new) (C.taken cert.old) (C.taken cert.new)) }
-    ensures plan { P.tells →
+    ensures plan { P.is_known →
         IfOk result (λ bounded. IsOfRound (P.held pages.old) (λ round. IsPlanFor search round bounded)) }
-    ensures explained { P.tells →
-        IfErr result (ExplainsStream search.effort (P.held pages.old) search.end search.limit) }
+    ensures explained { P.is_known →
+        IfErr result (ExplainsStream search.on_limit (P.held pages.old) search.end search.limit) }
     ensures writers { WritesInTurn T.failures C.failures tx.old tx.new cert.old cert.new (fault_in result) }
-    ensures part { P.tells → T.tells → IfErr result (λ e. IsTransmission e →
-        WritesPart search.effort (P.held pages.old) search.end (T.taken tx.old) (T.taken tx.new)) }
-    ensures certificate_part { P.tells → T.tells → C.tells → IfErr result (λ e. IsCertificate e →
-        WritesCertificatePart search.effort (P.held pages.old) search.end
+    ensures part { P.is_known → T.is_known → IfErr result (λ e. IsTransmission e →
+        WritesPart search.on_limit (P.held pages.old) search.end (T.taken tx.old) (T.taken tx.new)) }
+    ensures certificate_part { P.is_known → T.is_known → C.is_known → IfErr result (λ e. IsCertificate e →
+        WritesCertificatePart search.on_limit (P.held pages.old) search.end
         (T.taken tx.old) (T.taken tx.new) (C.taken cert.old) (C.taken cert.new)) }
     ensures read_failed { IsErrOf result (stream_fault.Round round_fault.ReadFault) →
         HasFailed (P.failures pages.old) (P.failures pages.new) }
 {
-    let Search { limit, end, effort } = search;
-    match effort {
-        Effort::Fewest => match plan_stream(alloc, pages, tx, cert, limit, end) {
+    let Search {
+        limit,
+        end,
+        on_limit,
+    } = search;
+    match on_limit {
+        OnLimit::Fewest => match plan_stream(alloc, pages, tx, cert, limit, end) {
             Ok(plan) => Ok(Bounded {
                 bound: plan.batches,
                 plan,
@@ -195,20 +199,20 @@ fn stream_asked<P: Source, T: Sink, C: Sink>(
             }),
             Err(fault) => Err(fault),
         },
-        Effort::Always => plan_stream_always(alloc, pages, tx, cert, limit, end),
+        OnLimit::Always => plan_stream_always(alloc, pages, tx, cert, limit, end),
     }
 }
 
 /// Tells the counts of a plan, and its bound where that is below the batches.
-pub(crate) fn tell_bounded<O: Sink>(bounded: &Bounded, out: &mut O) -> Result<(), FileFault>
-    ensures told { O.tells → OnOk result
+pub(crate) fn print_bounded<O: Sink>(bounded: &Bounded, out: &mut O) -> Result<(), FileFault>
+    ensures printed { O.is_known → OnOk result
         (O.taken out.new ≡ O.taken out.old ++ plan_text bounded.now.plan.pages bounded.now.plan.batches
         ++ below_text bounded.now.plan.batches bounded.now.bound) }
     ensures lost { IfErr result (λ e. e ≡ FileFault.Write) }
     ensures failures { CountsFailures result (O.failures out.old) (O.failures out.new) }
 {
-    match tell_plan(bounded.plan.pages, bounded.plan.batches, out) {
-        Ok(()) => tell_below(bounded.plan.batches, bounded.bound, out),
+    match print_plan(bounded.plan.pages, bounded.plan.batches, out) {
+        Ok(()) => print_below(bounded.plan.batches, bounded.bound, out),
         Err(fault) => Err(fault),
     }
 }

@@ -9,18 +9,18 @@ ghost use Rattle.pocsag_pages.specs.declared.fault.RoundFault.TheVariants as rou
 ghost use Rattle.pocsag_tree.specs.Views.{bound_tree_of};
 ghost use Rattle.pocsag_tree.specs.declared.refusals.CertificateFault.TheVariants as tree_fault;
 ghost use Rattle.pocsag_shell.specs.declared.fault.FileFault.TheVariants as file_fault;
-ghost use Rattle.pocsag_shell.specs.ErrorStreams.{stream_of, told_by};
+ghost use Rattle.pocsag_shell.specs.ErrorStreams.{stream_of, printed_by};
 ghost use Rattle.pocsag_plan.specs.Plans.{NoneHasFewer};
 ghost use Rattle.pocsag_centre.specs.Faults.{centre_status};
 ghost use Rattle.pocsag_centre.specs.Refusals.{OrDevice};
-ghost use Rattle.pocsag_centre.specs.Verification.{AreAmong, ExplainsReadback, ExplainsVerifying, HasRival, IsDueBound, IsOfReadback, IsTransmissionOf, ShowsDue, Verified};
+ghost use Rattle.pocsag_centre.specs.Verification.{AreAmong, ExplainsReadback, ExplainsVerifying, HasRival, IsExpectedBound, IsOfReadback, IsTransmissionOf, ShowsExpected, Verified};
 
 use crate::fault::CentreFault;
 use crate::plan::PlanFiles;
 use pocsag_check::check;
 use pocsag_decode::decode;
-use pocsag_pages::{Page, Round, leading_len, read_round, read_whole};
-use pocsag_plan::{Effort, Search};
+use pocsag_pages::{Page, Round, preamble_len, read_round, read_whole};
+use pocsag_plan::{OnLimit, Search};
 use pocsag_shell::{ErrorStream, FileFault, put_whole};
 use pocsag_tree::{Certificate, read_certificate};
 use pocsag_words::{BATCH_BYTES, End, INPUT_LIMIT, Sink, Source};
@@ -39,26 +39,26 @@ pub fn run_verify<P: Source + Drop, T: Source + Drop, C: Source + Drop, O: Sink,
     out: &mut O,
     err: &mut ErrorStream<CentreFault, E>,
 ) -> u8
-    ensures verified { P.tells → T.tells → C.tells → IfNone (told_by err.new)
+    ensures verified { P.is_known → T.is_known → C.is_known → IfNone (printed_by err.new)
         (Verified (P.held files.old.pages) search (T.held files.old.tx) (C.held files.old.cert)) }
-    ensures told { O.tells → IfNone (told_by err.new)
+    ensures printed { O.is_known → IfNone (printed_by err.new)
         (O.taken out.new ≡ O.taken out.old ++ codes "verified" ++ 10 ∷ []) }
-    ensures done { IfNone (told_by err.new) ((result ≡ 0) × (stream_of err.new ≡ stream_of err.old)) }
+    ensures done { IfNone (printed_by err.new) ((result ≡ 0) × (stream_of err.new ≡ stream_of err.old)) }
 
     // When each fault comes, and what it leaves.
-    ensures status { IfSome (told_by err.new) (λ e. result ≡ centre_status e) }
-    ensures explained { P.tells → T.tells → C.tells → IfSome (told_by err.new) (OrDevice
+    ensures status { IfSome (printed_by err.new) (λ e. result ≡ centre_status e) }
+    ensures explained { P.is_known → T.is_known → C.is_known → IfSome (printed_by err.new) (OrDevice
         (ExplainsVerifying (P.held files.old.pages) search (T.held files.old.tx) (C.held files.old.cert))) }
-    ensures refused { IfSome (told_by err.new) (λ e. e ≢ CentreFault.File file_fault.Write → out.new ≡ out.old) }
+    ensures refused { IfSome (printed_by err.new) (λ e. e ≢ CentreFault.File file_fault.Write → out.new ≡ out.old) }
 
     // A device's fault is told only where that device failed.
-    ensures read_failed { told_by err.new ≡ Some (CentreFault.Round round_fault.ReadFault) →
+    ensures read_failed { printed_by err.new ≡ Some (CentreFault.Round round_fault.ReadFault) →
         HasFailed (P.failures files.old.pages) (P.failures files.new.pages) }
-    ensures device_failed { told_by err.new ≡ Some (CentreFault.File file_fault.Device) →
+    ensures device_failed { printed_by err.new ≡ Some (CentreFault.File file_fault.Device) →
         HasFailed (T.failures files.old.tx) (T.failures files.new.tx) }
-    ensures certificate_failed { told_by err.new ≡ Some (CentreFault.Certificate tree_fault.ReadFault) →
+    ensures certificate_failed { printed_by err.new ≡ Some (CentreFault.Certificate tree_fault.ReadFault) →
         HasFailed (C.failures files.old.cert) (C.failures files.new.cert) }
-    ensures write_failed { told_by err.new ≡ Some (CentreFault.File file_fault.Write) →
+    ensures write_failed { printed_by err.new ≡ Some (CentreFault.File file_fault.Write) →
         HasFailed (O.failures out.old) (O.failures out.new) }
 {
     let PlanFiles { pages, tx, cert } = files;
@@ -90,8 +90,8 @@ fn read_batches<T: Source>(
     round: &Round,
     end: End,
 ) -> Result<usize, CentreFault>
-    ensures taken { T.tells → IfOk result (λ batches. IsTransmissionOf end round.now batches (T.held tx.old)) }
-    ensures explained { T.tells → IfErr result (OrDevice (ExplainsReadback end round.now (T.held tx.old))) }
+    ensures taken { T.is_known → IfOk result (λ batches. IsTransmissionOf end round.now batches (T.held tx.old)) }
+    ensures explained { T.is_known → IfErr result (OrDevice (ExplainsReadback end round.now (T.held tx.old))) }
     ensures alone { IfErr result IsOfReadback }
     ensures device_failed { IsErrOf result (CentreFault.File file_fault.Device) →
         HasFailed (T.failures tx.old) (T.failures tx.new) }
@@ -110,14 +110,14 @@ fn read_batches<T: Source>(
 
 // Whether a certificate shows for the round and the end the bound that is due beside so many batches.
 fn shows_due(round: &Round, certificate: &Certificate, batches: usize, search: Search) -> bool
-    ensures due { IsTrue result ↔ ShowsDue search round.now batches
+    ensures due { IsTrue result ↔ ShowsExpected search round.now batches
         certificate.now.end certificate.now.batches (bound_tree_of certificate.now.tree) }
     ensures bound { IsTrue result → NoneHasFewer search.end round.now certificate.now.batches }
 {
     if certificate.end != search.end {
         return false;
     }
-    if !is_due(certificate.batches as usize, batches, search.effort) {
+    if !is_due(certificate.batches as usize, batches, search.on_limit) {
         return false;
     }
     check(round, certificate.batches, &certificate.tree, search.end)
@@ -144,12 +144,12 @@ fn read_back(alloc: Global, bytes: &[u8], round: &Round, end: End) -> Result<usi
 }
 
 // Whether a certificate for the bound is due beside a transmission of so many batches.
-fn is_due(bound: usize, batches: usize, effort: Effort) -> bool
-    ensures { IsTrue result ↔ IsDueBound effort bound batches }
+fn is_due(bound: usize, batches: usize, on_limit: OnLimit) -> bool
+    ensures { IsTrue result ↔ IsExpectedBound on_limit bound batches }
 {
-    match effort {
-        Effort::Fewest => bound == batches,
-        Effort::Always => bound == batches || bound == batches.saturating_sub(1),
+    match on_limit {
+        OnLimit::Fewest => bound == batches,
+        OnLimit::Always => bound == batches || bound == batches.saturating_sub(1),
     }
 }
 
@@ -157,7 +157,7 @@ fn is_due(bound: usize, batches: usize, effort: Effort) -> bool
 fn batches_of(bytes: &[u8]) -> usize
     ensures { (codewords : List ℕ) → (sent : Sent bytes.now codewords) → result ≡ sent.batches }
 {
-    bytes.len().saturating_sub(leading_len(bytes)) / BATCH_BYTES
+    bytes.len().saturating_sub(preamble_len(bytes)) / BATCH_BYTES
 }
 
 // Whether the last codeword of a transmission may be its last: for the closed end it is no message codeword,

@@ -4,21 +4,21 @@ ghost use Rattle.pocsag_words.specs.Devices.{CountsFailures, HasFailed};
 ghost use Rattle.pocsag_pages.specs.declared.fault.RoundFault.TheVariants as round_fault;
 ghost use Rattle.pocsag_plan.specs.Reports.{report_text};
 ghost use Rattle.pocsag_shell.specs.declared.fault.FileFault.TheVariants as file_fault;
-ghost use Rattle.pocsag_shell.specs.ErrorStreams.{stream_of, told_by};
+ghost use Rattle.pocsag_shell.specs.ErrorStreams.{stream_of, printed_by};
 ghost use Rattle.pocsag_centre.specs.Commands.{Reported};
 ghost use Rattle.pocsag_centre.specs.Faults.{centre_status};
 ghost use Rattle.pocsag_centre.specs.Frames.{frame_text, AreByRoom, HasClasses};
-ghost use Rattle.pocsag_centre.specs.FramesTold.{ReportedFrames};
+ghost use Rattle.pocsag_centre.specs.FramesPrinted.{ReportedFrames};
 ghost use Rattle.pocsag_centre.specs.Lines.{below_text};
 ghost use Rattle.pocsag_centre.specs.Refusals.{OrDevice};
 ghost use Rattle.pocsag_centre.specs.Reports.{ExplainsReporting};
 
 use crate::fault::CentreFault;
 use crate::frames::{FrameRoom, frames_of};
-use crate::lines::tell_below;
+use crate::lines::print_below;
 use crate::plan::{RoundPlan, read_plan};
 use pocsag_plan::{Report, Search, report};
-use pocsag_shell::{ErrorStream, FileFault, tell_numbers};
+use pocsag_shell::{ErrorStream, FileFault, print_numbers};
 use pocsag_words::{OutOfMemory, Sink, Source};
 use std::alloc::Global;
 
@@ -41,22 +41,22 @@ pub fn run_report<P: Source, O: Sink, E: Sink + Drop>(
     out: &mut O,
     err: &mut ErrorStream<CentreFault, E>,
 ) -> u8
-    ensures told { P.tells → O.tells → IsFalse asked.frames → IfNone (told_by err.new)
+    ensures printed { P.is_known → O.is_known → IsFalse asked.frames → IfNone (printed_by err.new)
         (Reported (P.held pages.old) asked.search asked.rate (O.taken out.old) (O.taken out.new)) }
-    ensures told_frames { P.tells → O.tells → IsTrue asked.frames → IfNone (told_by err.new)
+    ensures told_frames { P.is_known → O.is_known → IsTrue asked.frames → IfNone (printed_by err.new)
         (ReportedFrames (P.held pages.old) asked.search asked.rate (O.taken out.old) (O.taken out.new)) }
-    ensures done { IfNone (told_by err.new) ((result ≡ 0) × (stream_of err.new ≡ stream_of err.old)) }
+    ensures done { IfNone (printed_by err.new) ((result ≡ 0) × (stream_of err.new ≡ stream_of err.old)) }
 
     // When each fault comes, and what it leaves. The page file is judged first, and the rate last.
-    ensures status { IfSome (told_by err.new) (λ e. result ≡ centre_status e) }
-    ensures explained { P.tells →
-        IfSome (told_by err.new) (OrDevice (ExplainsReporting (P.held pages.old) asked.search asked.rate)) }
-    ensures refused { IfSome (told_by err.new) (λ e. e ≢ CentreFault.File file_fault.Write → out.new ≡ out.old) }
+    ensures status { IfSome (printed_by err.new) (λ e. result ≡ centre_status e) }
+    ensures explained { P.is_known →
+        IfSome (printed_by err.new) (OrDevice (ExplainsReporting (P.held pages.old) asked.search asked.rate)) }
+    ensures refused { IfSome (printed_by err.new) (λ e. e ≢ CentreFault.File file_fault.Write → out.new ≡ out.old) }
 
     // A device's fault is told only where that device failed.
-    ensures read_failed { told_by err.new ≡ Some (CentreFault.Round round_fault.ReadFault) →
+    ensures read_failed { printed_by err.new ≡ Some (CentreFault.Round round_fault.ReadFault) →
         HasFailed (P.failures pages.old) (P.failures pages.new) }
-    ensures write_failed { told_by err.new ≡ Some (CentreFault.File file_fault.Write) →
+    ensures write_failed { printed_by err.new ≡ Some (CentreFault.File file_fault.Write) →
         HasFailed (O.failures out.old) (O.failures out.new) }
 {
     let found = match read_plan(alloc, pages, asked.search) {
@@ -71,7 +71,7 @@ pub fn run_report<P: Source, O: Sink, E: Sink + Drop>(
         Ok(rooms) => rooms,
         Err(_) => return err.end(Err(CentreFault::File(FileFault::OutOfMemory))),
     };
-    match tell_frames(report, found.bounded.bound, rooms.as_slice(), out) {
+    match print_frames(report, found.bounded.bound, rooms.as_slice(), out) {
         Ok(()) => err.end(Ok(0)),
         Err(fault) => err.end(Err(CentreFault::File(fault))),
     }
@@ -96,8 +96,8 @@ fn rooms_asked(
 
 // Tells a report, and the bound where it is below the batches.
 #[tactic(auto, using(crate::proofs::ReportLines::report_numbered))]
-fn tell_report<O: Sink>(report: Report, bound: u32, out: &mut O) -> Result<(), FileFault>
-    ensures told { O.tells → OnOk result
+fn print_report<O: Sink>(report: Report, bound: u32, out: &mut O) -> Result<(), FileFault>
+    ensures printed { O.is_known → OnOk result
         (O.taken out.new ≡ O.taken out.old ++ report_text report ++ below_text report.batches bound) }
     ensures lost { IfErr result (λ e. e ≡ FileFault.Write) }
     ensures failures { CountsFailures result (O.failures out.old) (O.failures out.new) }
@@ -111,29 +111,29 @@ fn tell_report<O: Sink>(report: Report, bound: u32, out: &mut O) -> Result<(), F
         ("\nbits ", report.bits),
         ("\nairtime_ms ", report.airtime_ms),
     ];
-    match tell_numbers(out, &numbers, "\n") {
-        Ok(()) => tell_below(report.batches, bound, out),
+    match print_numbers(out, &numbers, "\n") {
+        Ok(()) => print_below(report.batches, bound, out),
         Err(fault) => Err(fault),
     }
 }
 
 // The same, and a line for each frame.
-fn tell_frames<O: Sink>(
+fn print_frames<O: Sink>(
     report: Report,
     bound: u32,
     rooms: &[FrameRoom],
     out: &mut O,
 ) -> Result<(), FileFault>
-    ensures told { O.tells → OnOk result (O.taken out.new ≡ O.taken out.old ++ report_text report
+    ensures printed { O.is_known → OnOk result (O.taken out.new ≡ O.taken out.old ++ report_text report
         ++ below_text report.batches bound ++ flat_map frame_text rooms.now) }
     ensures lost { IfErr result (λ e. e ≡ FileFault.Write) }
     ensures failures { CountsFailures result (O.failures out.old) (O.failures out.new) }
 {
-    if let Err(fault) = tell_report(report, bound, out) {
+    if let Err(fault) = print_report(report, bound, out) {
         return Err(fault);
     }
     for room in rooms {
-        if let Err(fault) = tell_frame(room, out) {
+        if let Err(fault) = print_frame(room, out) {
             return Err(fault);
         }
     }
@@ -141,8 +141,8 @@ fn tell_frames<O: Sink>(
 }
 
 #[tactic(auto, unfolding(crate::specs::Frames::frame_text))]
-fn tell_frame<O: Sink>(room: &FrameRoom, out: &mut O) -> Result<(), FileFault>
-    ensures told { O.tells → OnOk result (O.taken out.new ≡ O.taken out.old ++ frame_text room.now) }
+fn print_frame<O: Sink>(room: &FrameRoom, out: &mut O) -> Result<(), FileFault>
+    ensures printed { O.is_known → OnOk result (O.taken out.new ≡ O.taken out.old ++ frame_text room.now) }
     ensures lost { IfErr result (λ e. e ≡ FileFault.Write) }
     ensures failures { CountsFailures result (O.failures out.old) (O.failures out.new) }
 {
@@ -152,5 +152,5 @@ fn tell_frame<O: Sink>(room: &FrameRoom, out: &mut O) -> Result<(), FileFault>
         (" codewords ", room.codewords as u64),
         (" room ", room.room as u64),
     ];
-    tell_numbers(out, &numbers, "\n")
+    print_numbers(out, &numbers, "\n")
 }

@@ -1,7 +1,7 @@
 //! `decode`, `hear` and `show` of captures that are worked out by hand: a tone, inverted and one bit late, and one behind a
 //! synchronisation codeword that cannot be recognised.
 
-use pocsag_capture::{CaptureFault, Heard, Polarity, Reception};
+use pocsag_capture::{CaptureFault, Polarity, Reception, ReceptionStats};
 use pocsag_receiver::{
     Listening, ReceiverFault, Viewing, run_decode_capture, run_hear_capture, run_show_capture,
 };
@@ -27,7 +27,7 @@ fn late_tone() -> [u8; 69] {
 #[test]
 fn a_late_tone_is_caught(rt: HostRuntime) {
     let capture = late_tone();
-    let due = Heard {
+    let due = ReceptionStats {
         reception: Reception {
             bit: 1,
             polarity: Polarity::Inverted,
@@ -100,7 +100,7 @@ fn bridged_tone() -> [u8; 204] {
 #[test]
 fn a_bridged_tone_is_caught(rt: HostRuntime) {
     let capture = bridged_tone();
-    let due = Heard {
+    let due = ReceptionStats {
         reception: Reception {
             bit: 0,
             polarity: Polarity::Upright,

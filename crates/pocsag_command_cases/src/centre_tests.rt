@@ -6,7 +6,7 @@ use pocsag_centre::{
     strict_file,
 };
 use pocsag_pages::{FieldFault, QuoteFault, RecordFault, RoundFault};
-use pocsag_plan::{Effort, Search};
+use pocsag_plan::{OnLimit, Search};
 use pocsag_shell::{ErrorStream, Loaded};
 use pocsag_words::{End, GrowingSink, MemorySink, MemorySource, SliceSource, Source};
 use std::alloc::Global;
@@ -35,42 +35,42 @@ const SIXTEEN_TONES: &[u8] = b"address,kind,message\n\
 const OPEN: Search = Search {
     limit: DEFAULT_LIMIT,
     end: End::Open,
-    effort: Effort::Fewest,
+    on_limit: OnLimit::Fewest,
 };
 
 const CLOSED: Search = Search {
     limit: DEFAULT_LIMIT,
     end: End::Closed,
-    effort: Effort::Fewest,
+    on_limit: OnLimit::Fewest,
 };
 
 const IDLE_LAST: Search = Search {
     limit: DEFAULT_LIMIT,
     end: End::Idle,
-    effort: Effort::Fewest,
+    on_limit: OnLimit::Fewest,
 };
 
 const OPEN_ALWAYS: Search = Search {
-    effort: Effort::Always,
+    on_limit: OnLimit::Always,
     ..OPEN
 };
 
 const CLOSED_ALWAYS: Search = Search {
-    effort: Effort::Always,
+    on_limit: OnLimit::Always,
     ..CLOSED
 };
 
-const fn open_to(limit: u32, effort: Effort) -> Search {
+const fn open_to(limit: u32, on_limit: OnLimit) -> Search {
     Search {
         limit,
         end: End::Open,
-        effort,
+        on_limit,
     }
 }
 
 // What a command answered and told.
 #[derive(Drop)]
-struct Told {
+struct Printed {
     status: u8,
     out: MemorySink<500>,
     err: Errors,
@@ -85,7 +85,7 @@ fn errors() -> Errors {
 // The same of a plan, and what its two files took.
 #[derive(Drop)]
 struct Planned {
-    told: Told,
+    told: Printed,
     tx: MemorySink<300>,
     cert: MemorySink<100>,
 }
@@ -114,7 +114,7 @@ fn plan(alloc: Global, search: Search, file: &[u8], faults: Faults) -> Planned {
     let mut err = errors();
     let status = run_plan(alloc, search, &mut files, &mut out, &mut err);
     Planned {
-        told: Told { status, out, err },
+        told: Printed { status, out, err },
         tx: files.tx,
         cert: files.cert,
     }
@@ -149,7 +149,7 @@ const LONE_PLAN: PlanCase = PlanCase {
 const fn apart_plan(limit: u32, out: &'static str, bound: u8) -> PlanCase {
     PlanCase {
         file: LOOPS_APART,
-        search: open_to(limit, Effort::Always),
+        search: open_to(limit, OnLimit::Always),
         faults: SOUND,
         status: 0,
         out,
@@ -194,11 +194,11 @@ fn plans_are_told(rt: HostRuntime) -> Result<(), Fail> {
         },
         apart_plan(1, "pages 2\nbatches 3\nat least 2 batches\n", 2),
         apart_plan(3, "pages 2\nbatches 3\n", 3),
-        refused_plan(open_to(0, Effort::Fewest), SOUND, 1, bad_limit, 0),
-        refused_plan(open_to(9, Effort::Fewest), no_page, 3, no_read, 0),
-        refused_plan(open_to(9, Effort::Fewest), cut_sending, 3, no_write, 100),
+        refused_plan(open_to(0, OnLimit::Fewest), SOUND, 1, bad_limit, 0),
+        refused_plan(open_to(9, OnLimit::Fewest), no_page, 3, no_read, 0),
+        refused_plan(open_to(9, OnLimit::Fewest), cut_sending, 3, no_write, 100),
         refused_plan(
-            open_to(9, Effort::Fewest),
+            open_to(9, OnLimit::Fewest),
             cut_certificate,
             3,
             no_write,
@@ -242,7 +242,7 @@ const fn frames(rate: u32, search: Search) -> Command {
 }
 
 // Runs a command on the page file and on what was planned.
-fn run(alloc: Global, command: Command, file: &[u8], planned: &Planned) -> Told {
+fn run(alloc: Global, command: Command, file: &[u8], planned: &Planned) -> Printed {
     let mut pages = MemorySource::new(file, 4, 1000);
     let tx = MemorySource::new(planned.tx.bytes(), 4, 1000);
     let mut cert = MemorySource::new(planned.cert.bytes(), 4, 1000);
@@ -257,7 +257,7 @@ fn run(alloc: Global, command: Command, file: &[u8], planned: &Planned) -> Told 
         }
         Command::Report(asked) => run_report(alloc, asked, &mut pages, &mut out, &mut err),
     };
-    Told { status, out, err }
+    Printed { status, out, err }
 }
 
 const LONE_REPORT: &str =
@@ -307,7 +307,7 @@ type ReadCase = (
 #[test]
 fn what_was_planned_is_read(rt: HostRuntime) -> Result<(), Fail> {
     let alloc = rt.alloc();
-    let (to_one, to_three) = (open_to(1, Effort::Always), open_to(3, Effort::Always));
+    let (to_one, to_three) = (open_to(1, OnLimit::Always), open_to(3, OnLimit::Always));
     let cases: [ReadCase; 25] = [
         (
             ONE_FULL_BATCH,
@@ -568,7 +568,7 @@ fn lent_files_are_planned(rt: HostRuntime) -> Result<(), Fail> {
         ),
         (
             LOOPS_APART,
-            open_to(1, Effort::Always),
+            open_to(1, OnLimit::Always),
             72 + 3 * 68,
             "pages 2\nbatches 3\nat least 2 batches\n",
         ),

@@ -112,7 +112,7 @@ impl Disk for CrashDisk {
     ghost use Rattle.pocsag_command_cases.specs.Disks.{DiskLeftSince, counts_now, disk_bytes, disk_moment, disk_synced, only_now};
     ghost use Rattle.std.specs.Prelude.{false};
 
-    ghost tells = { Unit {0} };
+    ghost is_known = { Unit {0} };
 
     ghost held = { disk_bytes };
 
@@ -126,9 +126,9 @@ impl Disk for CrashDisk {
 
     ghost is_sound = { λ disk. disk.is_lost ≡ false };
 
-    ghost counts_now = { λ disk t left tells le now. counts_now disk.past.items disk.text (disk_synced disk) t left le now };
+    ghost counts_now = { λ disk t left is_known le now. counts_now disk.past.items disk.text (disk_synced disk) t left le now };
 
-    ghost only_now = { λ disk left tells since. only_now disk.past.items disk.text (disk_synced disk) left since };
+    ghost only_now = { λ disk left is_known since. only_now disk.past.items disk.text (disk_synced disk) left since };
 
     fn read(&mut self, alloc: Global, most: usize) -> Result<Vec<u8>, WholeFault> {
         let all = self.text.lines.len();

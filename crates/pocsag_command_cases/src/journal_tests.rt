@@ -9,8 +9,8 @@ ghost use Rattle.pocsag_open.specs.Plans.{no_fault, no_names, no_plans, placed_p
 use crate::crash_disk::CrashDisk;
 use pocsag_core_cases::given::{Records, round_of_file};
 use pocsag_journal::{Journal, JournalFault, Replayed, first_line, read_journal, text_of_pages};
-use pocsag_open::{KeptStreams, OpenFault, OpenRound, Places, Planner, open_kept};
-use pocsag_plan::{Book, Effort};
+use pocsag_open::{KeptRound, KeptStreams, OpenFault, OutputStore, PlanSettings, open_kept};
+use pocsag_plan::{Book, OnLimit};
 use pocsag_shell::{FileFault, Outputs};
 use pocsag_words::{MemorySink, MemorySource};
 use std::alloc::Global;
@@ -21,10 +21,10 @@ use std::test::Fail;
 #[derive(Drop)]
 struct NoFolder;
 
-impl Places for NoFolder {
+impl OutputStore for NoFolder {
     type Output = MemorySink<1>;
 
-    ghost tells = { ⊥ };
+    ghost is_known = { ⊥ };
 
     ghost placed = { λ _. no_plans };
 
@@ -67,11 +67,11 @@ struct Left {
 
 // Keeps a round on the disk, from what it holds on.
 fn keep(alloc: Global, disk: CrashDisk, lines: &[u8]) -> Left {
-    let planner = &mut Planner {
-        places: NoFolder,
-        effort: Effort::Fewest,
+    let settings = &mut PlanSettings {
+        store: NoFolder,
+        on_limit: OnLimit::Fewest,
     };
-    let mut round = OpenRound {
+    let mut round = KeptRound {
         book: Book::new(alloc),
         keeper: Journal::on(disk),
     };
@@ -81,7 +81,7 @@ fn keep(alloc: Global, disk: CrashDisk, lines: &[u8]) -> Left {
         out: MemorySink::<8000>::new(5, u64::MAX),
         err: MemorySink::<200>::new(5, u64::MAX),
     };
-    let done = open_kept(alloc, planner, &mut round, &mut streams);
+    let done = open_kept(alloc, settings, &mut round, &mut streams);
     Left {
         answers: streams.out,
         disk: round.keeper.disk,

@@ -5,9 +5,9 @@ ghost use Rattle.pocsag_words.specs.Devices.{CountsFailures};
 ghost use Rattle.pocsag_words.specs.MemorySink.{taken_of};
 ghost use Rattle.pocsag_open.specs.Plans.{no_fault, no_names, no_plans, placed_plan};
 
-use pocsag_open::{LINE_LIMIT, Places, Planner, run_open, run_open_pages};
-use pocsag_plan::Effort;
-use pocsag_shell::{Failure, FileFault, Outputs, tell_fault};
+use pocsag_open::{LINE_LIMIT, OutputStore, PlanSettings, run_open, run_open_pages};
+use pocsag_plan::OnLimit;
+use pocsag_shell::{Failure, FileFault, Outputs, print_fault};
 use pocsag_words::{MemorySink, MemorySource};
 use std::alloc::Global;
 use std::process::Abort;
@@ -29,10 +29,10 @@ fn sink_at(path: &str) -> Result<MemorySink<1000>, FileFault> {
     }
 }
 
-impl Places for Folder {
+impl OutputStore for Folder {
     type Output = MemorySink<1000>;
 
-    ghost tells = { ⊥ };
+    ghost is_known = { ⊥ };
 
     ghost placed = { λ _. no_plans };
 
@@ -81,7 +81,7 @@ impl Places for Folder {
 #[derive(Clone, Copy)]
 struct Beginning {
     pages: Option<&'static [u8]>,
-    effort: Effort,
+    on_limit: OnLimit,
     read: u64,
     asked: u64,
     answered: u64,
@@ -89,7 +89,7 @@ struct Beginning {
 
 const EMPTY: Beginning = Beginning {
     pages: None,
-    effort: Effort::Fewest,
+    on_limit: OnLimit::Fewest,
     read: u64::MAX,
     asked: u64::MAX,
     answered: u64::MAX,
@@ -104,7 +104,7 @@ const TWO_PAGES: Beginning = Beginning {
 fn status_after<F: Failure>(done: Result<(), F>, err: &mut MemorySink<100>) -> u8 {
     match done {
         Ok(()) => 0,
-        Err(fault) => tell_fault(err, fault),
+        Err(fault) => print_fault(err, fault),
     }
 }
 
@@ -116,9 +116,9 @@ fn assert_answers<R: Abort>(
     lines: &[u8],
     due: (u8, &[u8], &[u8]),
 ) -> Result<(), Fail> {
-    let planner = &mut Planner {
-        places: Folder,
-        effort: beginning.effort,
+    let settings = &mut PlanSettings {
+        store: Folder,
+        on_limit: beginning.on_limit,
     };
     let mut input = MemorySource::new(lines, 7, beginning.asked);
     let mut out = MemorySink::<2000>::new(5, beginning.answered);
@@ -126,10 +126,10 @@ fn assert_answers<R: Abort>(
     let status = match beginning.pages {
         Some(file) => {
             let mut pages = MemorySource::new(file, 4, beginning.read);
-            let done = run_open_pages(alloc, planner, &mut pages, &mut input, &mut out);
+            let done = run_open_pages(alloc, settings, &mut pages, &mut input, &mut out);
             status_after(done, &mut err)
         }
-        None => status_after(run_open(alloc, planner, &mut input, &mut out), &mut err),
+        None => status_after(run_open(alloc, settings, &mut input, &mut out), &mut err),
     };
     let (ended, answers, told) = due;
     assert_eq!(rt; out.bytes(), answers);
@@ -279,7 +279,7 @@ const AFTER_PAGES: Lines = &[
 fn lines_are_answered_one_by_one(rt: HostRuntime) -> Result<(), Fail> {
     let alloc = rt.alloc();
     let always = Beginning {
-        effort: Effort::Always,
+        on_limit: OnLimit::Always,
         ..TWO_PAGES
     };
     let rounds = [

@@ -2,7 +2,7 @@
 
 use pocsag_decode::Repaired;
 use pocsag_explain::{ExplainFiles, run_explain};
-use pocsag_findings::Telling;
+use pocsag_findings::Format;
 use pocsag_plan::plan_stream;
 use pocsag_receiver::{
     Decoding, Hearing, ListForm, Repairing, Showing, run_decode, run_hear, run_show,
@@ -64,7 +64,7 @@ const SOUND: Faults = Faults {
 
 // What a command told.
 #[derive(Drop)]
-struct Told {
+struct Printed {
     status: u8,
     out: MemorySink<400>,
     line: [u8; 100],
@@ -80,12 +80,12 @@ fn outcome<F: Failure + Drop>(
     status: u8,
     out: MemorySink<400>,
     err: &ErrorStream<F, MemorySink<100>>,
-) -> Told {
+) -> Printed {
     let mut line = [0; 100];
     let taken = err.stream().bytes();
     let length = taken.len().min(100);
     line[..length].copy_from_slice(&taken[..length]);
-    Told {
+    Printed {
         status,
         out,
         line,
@@ -113,7 +113,7 @@ fn spoiled(alloc: Global, sent: &[u8], faults: Faults) -> Result<Vec<u8>, Fail> 
 }
 
 // Runs a command on the plan of a lone tone.
-fn run(rt: &impl Abort, alloc: Global, command: Command, faults: Faults) -> Result<Told, Fail> {
+fn run(rt: &impl Abort, alloc: Global, command: Command, faults: Faults) -> Result<Printed, Fail> {
     let (sent, certificate) = planned(rt, alloc);
     let bytes = spoiled(alloc, sent.as_slice(), faults)?;
     let mut tx = MemorySource::new(bytes.as_slice(), 4, faults.tx);
@@ -124,7 +124,7 @@ fn run(rt: &impl Abort, alloc: Global, command: Command, faults: Faults) -> Resu
             cert: MemorySource::new(certificate.as_slice(), 4, faults.tx),
         };
         let mut err = errors();
-        let status = run_explain(alloc, Telling::Lines(3), &mut files, &mut out, &mut err);
+        let status = run_explain(alloc, Format::Lines(3), &mut files, &mut out, &mut err);
         return Ok(outcome(status, out, &err));
     }
     let mut err = errors();

@@ -1,6 +1,6 @@
 //! What the commands share, over memory: what names a file, and how a line is told.
 
-use pocsag_shell::{FileFault, NamedFile, Names, Role, equal_paths, tell, tell_fault};
+use pocsag_shell::{FileFault, NamedFile, Names, Role, equal_paths, print, print_fault};
 use pocsag_words::MemorySink;
 use std::test::Fail;
 
@@ -44,7 +44,7 @@ fn long_texts_are_refused(rt: HostRuntime) -> Result<(), Fail> {
             text.push('a')?;
         }
         let mut out = MemorySink::<300>::new(7, 1000);
-        assert_eq!(rt; tell(&mut out, text.as_str()), done);
+        assert_eq!(rt; print(&mut out, text.as_str()), done);
         assert_eq!(rt; out.bytes().len(), taken);
     }
     Ok(())
@@ -65,7 +65,7 @@ fn faults_are_told(rt: HostRuntime) -> Result<(), Fail> {
     ];
     for (fault, fails_at, status, due) in cases {
         let mut err = MemorySink::<100>::new(7, fails_at);
-        assert_eq!(rt; tell_fault(&mut err, fault), status);
+        assert_eq!(rt; print_fault(&mut err, fault), status);
         assert_eq!(rt; err.bytes(), due.as_bytes());
     }
     Ok(())

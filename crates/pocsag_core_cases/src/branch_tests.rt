@@ -2,7 +2,7 @@
 
 use crate::given::tones;
 use crate::{has_page, round_of, same};
-use pocsag_branch::{FreeFault, SearchFault, near, search, search_freely};
+use pocsag_branch::{FreeFault, SearchFault, fallback, search, search_freely};
 use pocsag_check::{check, check_open};
 use pocsag_pages::Round;
 use pocsag_slots::classes_of;
@@ -165,12 +165,13 @@ fn node_limits_of_the_free_search(rt: HostRuntime) {
     let round = round_of(alloc, LOOPS_APART).expect(&rt, "an answer");
     let classes = classes_of(&round, End::Open);
     assert!(rt; has_page(&classes));
-    let Err(FreeFault::SearchLimit { near: found, stop }) = search_freely(
-        alloc,
-        &classes,
-        1,
-        End::Open,
-    ) else {
+    let Err(
+        FreeFault::SearchLimit {
+            fallback: found,
+            stop,
+        },
+    ) = search_freely(alloc, &classes, 1, End::Open)
+    else {
         panic!(rt; "the limit is not reached freely");
     };
     same!(rt; found.least, 2);
@@ -178,7 +179,7 @@ fn node_limits_of_the_free_search(rt: HostRuntime) {
     same!(rt; found.steps.len(), 2 + 16);
     same!(rt; (stop.least, stop.found, nodes(&stop.tree)), (2, 3, 1));
     same!(rt; check_open(&round, 3, &stop.tree, End::Open), true);
-    let at_once = near(alloc, &classes, End::Open).expect(&rt, "an answer");
+    let at_once = fallback(alloc, &classes, End::Open).expect(&rt, "an answer");
     same!(rt; at_once.least, 2);
     same!(rt; at_once.steps.as_slice(), found.steps.as_slice());
 }

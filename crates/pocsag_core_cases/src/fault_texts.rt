@@ -2,7 +2,7 @@
 
 use crate::same;
 use pocsag_batch::FirstFault;
-use pocsag_branch::{FreeFault, Near, SearchFault, SearchLimit};
+use pocsag_branch::{FallbackPlan, FreeFault, SearchFault, SearchLimit};
 use pocsag_decode::{DecodeFault, ListFault};
 use pocsag_flow::ChooseFault;
 use pocsag_pager::PagerFault;
@@ -234,8 +234,8 @@ fn stopped() -> SearchLimit {
 }
 
 // What the free search has where it stops.
-fn near(alloc: Global) -> Near {
-    Near {
+fn fallback(alloc: Global) -> FallbackPlan {
+    FallbackPlan {
         least: 2,
         choice: Choice {
             early: [0; CLASSES],
@@ -291,7 +291,7 @@ fn plans_and_edits(rt: HostRuntime) {
         &[
             (
                 FreeFault::SearchLimit {
-                    near: near(alloc),
+                    fallback: fallback(alloc),
                     stop: stopped(),
                 },
                 "search limit reached",

@@ -5,7 +5,8 @@ use crate::{THREE_PAGES_TIGHT, ones, same};
 use pocsag_batch::{FirstFault, first_stream};
 use pocsag_pages::{
     FieldFault, PageFault, Payload, RecordFault, Round, RoundFault, WholeFault,
-    is_reserved_address, leading_len, only_row, page_fault, page_of_fields, read_round, read_whole,
+    is_reserved_address, only_row, page_fault, page_of_fields, preamble_len, read_round,
+    read_whole,
 };
 use pocsag_words::{DeviceFault, MemorySink, MemorySource, Source};
 use std::alloc::Global;
@@ -189,7 +190,7 @@ struct LongFile {
 impl Source for LongFile {
     ghost use Rattle.std.specs.Prelude.{[]};
 
-    ghost tells = { ⊥ };
+    ghost is_known = { ⊥ };
 
     ghost held = { λ _. [] };
 
@@ -348,9 +349,9 @@ fn leading_bytes(rt: HostRuntime) {
     let alloc = rt.alloc();
     for count in 71..74 {
         let mut bytes = vec![in alloc; 0xAA; count].expect(&rt, "an answer");
-        same!(rt; leading_len(bytes.as_slice()), count);
+        same!(rt; preamble_len(bytes.as_slice()), count);
         bytes.push(0x2A).expect(&rt, "an answer");
-        same!(rt; leading_len(bytes.as_slice()), count);
+        same!(rt; preamble_len(bytes.as_slice()), count);
     }
 }
 

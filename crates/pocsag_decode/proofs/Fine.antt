@@ -23,8 +23,8 @@ pub none_fine : AreFine 0 false []
 none_fine = record { count = refl; good = none_good; follows = refl }
 
 -- one word more
-module _ (place : ℕ) (may : Bool) (w : ℕ) where
-  pub fine_sync : place % 17 ≡ 0 → w ≡ sync_word → JudgesMore (Ok may) place may (w ∷ [])
+module _ (place : ℕ) (in_page : Bool) (w : ℕ) where
+  pub fine_sync : place % 17 ≡ 0 → w ≡ sync_word → JudgesMore (Ok in_page) place in_page (w ∷ [])
   fine_sync s e ws h =
       let n : place ≡ length ws = h.count in
       let s' : length ws % 17 ≡ 0 = omega arith in
@@ -34,18 +34,18 @@ module _ (place : ℕ) (may : Bool) (w : ℕ) where
         follows = h.follows ∙ sym (may_sync ws w s');
       }
 
-  pub not_sync : place % 17 ≡ 0 → w ≢ sync_word → JudgesMore (Err (fault.NoSync (place / 17))) place may (w ∷ [])
+  pub not_sync : place % 17 ≡ 0 → w ≢ sync_word → JudgesMore (Err (fault.NoSync (place / 17))) place in_page (w ∷ [])
   not_sync s e ws h = let n = h.count in rw n (bad_sync ws w h.good (omega arith) e)
 
-  pub not_codeword : 0 < place % 17 → ¬ IsCodeword w → JudgesMore (Err (fault.BadWord (index_at place))) place may (w ∷ [])
+  pub not_codeword : 0 < place % 17 → ¬ IsCodeword w → JudgesMore (Err (fault.BadWord (index_at place))) place in_page (w ∷ [])
   not_codeword s c ws h = let n = h.count in rw n (bad_codeword ws w h.good (omega arith) c)
 
-  pub no_page : 0 < place % 17 → IsCodeword w → IsTrue (is_message (kind_of w)) → may ≡ false
-      → JudgesMore (Err (fault.Orphan (index_at place))) place may (w ∷ [])
+  pub no_page : 0 < place % 17 → IsCodeword w → IsTrue (is_message (kind_of w)) → in_page ≡ false
+      → JudgesMore (Err (fault.Orphan (index_at place))) place in_page (w ∷ [])
   no_page s c m f ws h = let n = h.count in rw n (bad_orphan ws w h.good (omega arith) c m (sym h.follows ∙ f))
 
   pub fine_codeword : 0 < place % 17 → IsCodeword w → (now : Bool) → now ≡ not (is_idle (kind_of w))
-      → (IsTrue (is_message (kind_of w)) → IsTrue may) → JudgesMore (Ok now) place may (w ∷ [])
+      → (IsTrue (is_message (kind_of w)) → IsTrue in_page) → JudgesMore (Ok now) place in_page (w ∷ [])
   fine_codeword s c now e follows ws h =
       let n : place ≡ length ws = h.count in
       let s' : length ws % 17 ≢ 0 = omega arith in
@@ -56,37 +56,37 @@ module _ (place : ℕ) (may : Bool) (w : ℕ) where
       }
 
   -- the same by its kind
-  pub fine_kind : 0 < place % 17 → IsCodeword w → (kind : Kind) → kind ≡ kind_of w → (IsTrue (is_message kind) → IsTrue may)
-      → JudgesMore (Ok (not (is_idle kind))) place may (w ∷ [])
+  pub fine_kind : 0 < place % 17 → IsCodeword w → (kind : Kind) → kind ≡ kind_of w → (IsTrue (is_message kind) → IsTrue in_page)
+      → JudgesMore (Ok (not (is_idle kind))) place in_page (w ∷ [])
   fine_kind s c kind is follows =
       fine_codeword s c (not (is_idle kind)) (ap (λ (k : Kind). not (is_idle k)) is) (λ m. follows (ap is_message is ∙ m))
 
 -- some more words, and then more
-pub fine_then : (place mid : ℕ) (may now : Bool) (xs ys : List ℕ) (next : Result Bool DecodeFault) → mid ≡ place + length xs
-    → JudgesMore (Ok now) place may xs → JudgesMore next mid now ys → JudgesMore next place may (xs ++ ys)
-fine_then place mid may now xs ys (Ok last) at f g ws h =
+pub fine_then : (place mid : ℕ) (in_page now : Bool) (xs ys : List ℕ) (next : Result Bool DecodeFault) → mid ≡ place + length xs
+    → JudgesMore (Ok now) place in_page xs → JudgesMore next mid now ys → JudgesMore next place in_page (xs ++ ys)
+fine_then place mid in_page now xs ys (Ok last) at f g ws h =
     let r = g (ws ++ xs) (subst (λ (n : ℕ). AreFine n now (ws ++ xs)) (sym at) (f ws h)) in
     record {
       count = let c = r.count in let l = ap length (append_assoc ws xs ys) in let m = length-append xs ys in omega arith;
       good = subst AllMayStand (append_assoc ws xs ys) r.good;
       follows = subst (λ (l : List ℕ). last ≡ may_follow l (length l)) (append_assoc ws xs ys) r.follows;
     }
-fine_then place mid may now xs ys (Err e) at f g ws h =
+fine_then place mid in_page now xs ys (Err e) at f g ws h =
     subst (λ (l : List ℕ). HasBadWord l e) (append_assoc ws xs ys)
     (g (ws ++ xs) (subst (λ (n : ℕ). AreFine n now (ws ++ xs)) (sym at) (f ws h)))
 
 -- a bad word stays, whatever follows
-pub bad_then : (place : ℕ) (may : Bool) (xs ys : List ℕ) (e : DecodeFault) → JudgesMore (Err e) place may xs
-    → JudgesMore (Err e) place may (xs ++ ys)
-bad_then place may xs ys e f ws h =
+pub bad_then : (place : ℕ) (in_page : Bool) (xs ys : List ℕ) (e : DecodeFault) → JudgesMore (Err e) place in_page xs
+    → JudgesMore (Err e) place in_page (xs ++ ys)
+bad_then place in_page xs ys e f ws h =
     subst (λ (l : List ℕ). HasBadWord l e) (append_assoc ws xs ys) (bad_stays (ws ++ xs) ys e (f ws h))
 
 -- no words more
-pub fine_none : (place : ℕ) (may : Bool) → JudgesMore (Ok may) place may []
-fine_none place may ws h = record {
+pub fine_none : (place : ℕ) (in_page : Bool) → JudgesMore (Ok in_page) place in_page []
+fine_none place in_page ws h = record {
   count = let c = h.count in let l = ap length (append-nil ws) in omega arith;
   good = subst AllMayStand (sym (append-nil ws)) h.good;
-  follows = subst (λ (l : List ℕ). may ≡ may_follow l (length l)) (sym (append-nil ws)) h.follows;
+  follows = subst (λ (l : List ℕ). in_page ≡ may_follow l (length l)) (sym (append-nil ws)) h.follows;
 }
 
 -- ---- the words of bytes
@@ -94,55 +94,55 @@ fine_none place may ws h = record {
 abbrev number : List ℕ → ℕ
 number = from_be_bytes w32
 
-module _ (place at i : ℕ) (may now : Bool) (chunks : List (List ℕ)) (w : ℕ) (next : Result Bool DecodeFault) (here : at ≡ place + i)
-    (within : i < length chunks) (is : w ≡ number (get_or chunks i [])) (so_far : JudgesMore (Ok now) place may (map number (take i chunks)))
+module _ (place at i : ℕ) (in_page now : Bool) (chunks : List (List ℕ)) (w : ℕ) (next : Result Bool DecodeFault) (here : at ≡ place + i)
+    (within : i < length chunks) (is : w ≡ number (get_or chunks i [])) (so_far : JudgesMore (Ok now) place in_page (map number (take i chunks)))
     (step : JudgesMore next at now (w ∷ [])) where
-  pub word_judged : JudgesMore next place may (map number (take (i + 1) chunks))
+  pub word_judged : JudgesMore next place in_page (map number (take (i + 1) chunks))
   word_judged =
-      subst (JudgesMore next place may) (sym (one_more_word chunks i w within is))
-      (fine_then place at may now (map number (take i chunks)) (w ∷ []) next
+      subst (JudgesMore next place in_page) (sym (one_more_word chunks i w within is))
+      (fine_then place at in_page now (map number (take i chunks)) (w ∷ []) next
       (let l = length-map (take i chunks) number in let t = length-take-le i chunks (omega arith) in omega arith) so_far step)
 
 -- the same of words that stand in a list
-module _ (place at i : ℕ) (may now : Bool) (ws : List ℕ) (w : ℕ) (next : Result Bool DecodeFault) (here : at ≡ place + i)
-    (within : i < length ws) (is : w ≡ get_or ws i 0) (so_far : JudgesMore (Ok now) place may (take i ws))
+module _ (place at i : ℕ) (in_page now : Bool) (ws : List ℕ) (w : ℕ) (next : Result Bool DecodeFault) (here : at ≡ place + i)
+    (within : i < length ws) (is : w ≡ get_or ws i 0) (so_far : JudgesMore (Ok now) place in_page (take i ws))
     (step : JudgesMore next at now (w ∷ [])) where
-  pub one_judged : JudgesMore next place may (take (i + 1) ws)
+  pub one_judged : JudgesMore next place in_page (take (i + 1) ws)
   one_judged =
-      subst (JudgesMore next place may) (ap (λ (v : ℕ). take i ws ++ v ∷ []) is ∙ sym (take_more ws i 0 within))
-      (fine_then place at may now (take i ws) (w ∷ []) next (let t = length-take-le i ws (omega arith) in omega arith) so_far step)
+      subst (JudgesMore next place in_page) (ap (λ (v : ℕ). take i ws ++ v ∷ []) is ∙ sym (take_more ws i 0 within))
+      (fine_then place at in_page now (take i ws) (w ∷ []) next (let t = length-take-le i ws (omega arith) in omega arith) so_far step)
 
-pub bad_within : (place i : ℕ) (may : Bool) (ws : List ℕ) (e : DecodeFault) → JudgesMore (Err e) place may (take i ws)
-    → JudgesMore (Err e) place may ws
-bad_within place i may ws e f =
-    subst (JudgesMore (Err e) place may) (take-append-drop i ws) (bad_then place may (take i ws) (drop i ws) e f)
+pub bad_within : (place i : ℕ) (in_page : Bool) (ws : List ℕ) (e : DecodeFault) → JudgesMore (Err e) place in_page (take i ws)
+    → JudgesMore (Err e) place in_page ws
+bad_within place i in_page ws e f =
+    subst (JudgesMore (Err e) place in_page) (take-append-drop i ws) (bad_then place in_page (take i ws) (drop i ws) e f)
 
 -- a synchronisation codeword and what follows it
-pub fine_after_sync : (place : ℕ) (may : Bool) (w : ℕ) (ws all : List ℕ) (next : Result Bool DecodeFault) → place % 17 ≡ 0
-    → w ≡ sync_word → all ≡ w ∷ ws → JudgesMore next (place + 1) may ws → JudgesMore next place may all
-fine_after_sync place may w ws all next s e is f =
-    subst (JudgesMore next place may) (sym is)
-    (fine_then place (place + 1) may may (w ∷ []) ws next refl (fine_sync place may w s e) f)
+pub fine_after_sync : (place : ℕ) (in_page : Bool) (w : ℕ) (ws all : List ℕ) (next : Result Bool DecodeFault) → place % 17 ≡ 0
+    → w ≡ sync_word → all ≡ w ∷ ws → JudgesMore next (place + 1) in_page ws → JudgesMore next place in_page all
+fine_after_sync place in_page w ws all next s e is f =
+    subst (JudgesMore next place in_page) (sym is)
+    (fine_then place (place + 1) in_page in_page (w ∷ []) ws next refl (fine_sync place in_page w s e) f)
 
-pub bad_among : (place i : ℕ) (may : Bool) (chunks : List (List ℕ)) (e : DecodeFault) → JudgesMore (Err e) place may (map number (take i chunks))
-    → JudgesMore (Err e) place may (map number chunks)
-bad_among place i may chunks e f =
-    subst (JudgesMore (Err e) place may) (sym (map-append number (take i chunks) (drop i chunks)) ∙ ap (map number) (take-append-drop i chunks))
-    (bad_then place may (map number (take i chunks)) (map number (drop i chunks)) e f)
+pub bad_among : (place i : ℕ) (in_page : Bool) (chunks : List (List ℕ)) (e : DecodeFault) → JudgesMore (Err e) place in_page (map number (take i chunks))
+    → JudgesMore (Err e) place in_page (map number chunks)
+bad_among place i in_page chunks e f =
+    subst (JudgesMore (Err e) place in_page) (sym (map-append number (take i chunks) (drop i chunks)) ∙ ap (map number) (take-append-drop i chunks))
+    (bad_then place in_page (map number (take i chunks)) (map number (drop i chunks)) e f)
 
 -- ---- a batch of idle codewords
 
-idles : (n place : ℕ) (may : Bool) → 0 < place % 17 → place % 17 + n < 17 → JudgesMore (Ok false) place may (replicate (suc n) idle_word)
-idles zero place may s h = fine_kind place may idle_word s IsCodeword-idle Idle refl (λ m. absurd (true≢false (sym m)))
-idles (suc n) place may s h =
-    fine_then place (place + 1) may false (idle_word ∷ []) (replicate (suc n) idle_word) (Ok false) refl
-    (fine_kind place may idle_word s IsCodeword-idle Idle refl (λ m. absurd (true≢false (sym m))))
+idles : (n place : ℕ) (in_page : Bool) → 0 < place % 17 → place % 17 + n < 17 → JudgesMore (Ok false) place in_page (replicate (suc n) idle_word)
+idles zero place in_page s h = fine_kind place in_page idle_word s IsCodeword-idle Idle refl (λ m. absurd (true≢false (sym m)))
+idles (suc n) place in_page s h =
+    fine_then place (place + 1) in_page false (idle_word ∷ []) (replicate (suc n) idle_word) (Ok false) refl
+    (fine_kind place in_page idle_word s IsCodeword-idle Idle refl (λ m. absurd (true≢false (sym m))))
     (idles n (place + 1) false (omega arith) (omega arith))
 
-pub fine_idles : (place : ℕ) (may : Bool) → place % 17 ≡ 0 → JudgesMore (Ok false) place may (sync_word ∷ replicate 16 idle_word)
-fine_idles place may s =
-    fine_then place (place + 1) may may (sync_word ∷ []) (replicate 16 idle_word) (Ok false) refl (fine_sync place may sync_word s refl)
-    (idles 15 (place + 1) may (omega arith) (omega arith))
+pub fine_idles : (place : ℕ) (in_page : Bool) → place % 17 ≡ 0 → JudgesMore (Ok false) place in_page (sync_word ∷ replicate 16 idle_word)
+fine_idles place in_page s =
+    fine_then place (place + 1) in_page in_page (sync_word ∷ []) (replicate 16 idle_word) (Ok false) refl (fine_sync place in_page sync_word s refl)
+    (idles 15 (place + 1) in_page (omega arith) (omega arith))
 
 -- ---- all the words
 

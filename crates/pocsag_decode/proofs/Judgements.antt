@@ -11,7 +11,7 @@ use Rattle.pocsag_decode.specs.declared.fault.DecodeFault.{DecodeFault}
 use Rattle.pocsag_decode.specs.declared.fault.DecodeFault.TheVariants as fault
 use Rattle.pocsag_decode.specs.Faults.{words, HasFaultThere, HasFaultOfEnd, IsFaultless}
 use Rattle.pocsag_decode.specs.declared.state.Decoder.{Decoder}
-use Rattle.pocsag_decode.specs.States.{StandsAfter}
+use Rattle.pocsag_decode.specs.States.{HasTakenIn}
 use Rattle.pocsag_decode.specs.Places.{is_message, index_at, may_follow, AllMayStand, HasBadWord}
 use Rattle.pocsag_decode.proofs.Preambles.{nil_or}
 use Rattle.pocsag_decode.proofs.Transmissions.{IsWhole}
@@ -107,6 +107,6 @@ whole_no_fault X h = λ f d. elim d [ inl t ↦ not_there f t | inr t ↦ not_en
   not_end f (HasFaultOfEnd.cut a b c) = c h.batches
 
 -- a decoder that stands has met no fault
-pub standing_clean : (d : Decoder) (X : List ℕ) (f : DecodeFault) → StandsAfter d X → ¬ HasFaultThere X f
+pub standing_clean : (d : Decoder) (X : List ℕ) (f : DecodeFault) → HasTakenIn d X → ¬ HasFaultThere X f
 standing_clean d X f s (HasFaultThere.short a b) = let p = s.past b in omega arith
 standing_clean d X f s (HasFaultThere.bad a b) = all_good (words X) f s.words.read.good b

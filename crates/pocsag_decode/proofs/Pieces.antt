@@ -9,7 +9,7 @@ use Rattle.pocsag_decode.specs.declared.state.Decoder.{Decoder}
 use Rattle.pocsag_decode.specs.Carried.{size_of}
 use Rattle.pocsag_decode.specs.Faults.{HasFaultThere, HasFaultOfEnd, RefusesPiece, no_memory, fault_there, words}
 use Rattle.pocsag_decode.specs.Places.{KeepsFrom}
-use Rattle.pocsag_decode.specs.States.{StandsAfter, StandsIn}
+use Rattle.pocsag_decode.specs.States.{HasTakenIn, HoldsOf}
 use Rattle.pocsag_decode.proofs.Preambles.{begun_leading, begun_after, alone_leading, alone_after, count_is, nil_or}
 use Rattle.pocsag_decode.specs.Intake.{IsWantingOrBad}
 use Rattle.pocsag_decode.proofs.Transmissions.{IsWhole}
@@ -34,7 +34,7 @@ skips_alone X Z rest leads size count e s z c r =
       alone_after X Z none ∙ ap (λ (l : List ℕ). after_preamble X ++ l) (sym (r ∙ ap (λ (n : ℕ). drop n Z) c)),
     )
 
-module _ (d : Decoder) (X : List ℕ) (s : StandsAfter d X) where
+module _ (d : Decoder) (X : List ℕ) (s : HasTakenIn d X) where
   pub body_size : size_of d.body.place d.body.carry ≡ length (after_preamble X)
   body_size = size_is d.body (after_preamble X) s.words
 
@@ -69,7 +69,7 @@ module _ (d : Decoder) (X : List ℕ) (s : StandsAfter d X) where
   module _ (new : Decoder) (Z rest : List ℕ) (few : length X + length Z < 2 ^ 64)
       (after : after_preamble (X ++ Z) ≡ after_preamble X ++ rest) (leads : new.leading ≡ leading (X ++ Z)) where
     fed : new.has_failed ≡ d.has_failed → All (λ b. b < 256) Z → (after_preamble (X ++ Z) ≢ [] → 72 ≤ new.leading)
-        → StandsIn new.body (after_preamble X ++ rest) → StandsAfter new (X ++ Z)
+        → HoldsOf new.body (after_preamble X ++ rest) → HasTakenIn new (X ++ Z)
     fed works bytes past stands = record {
       works = works ∙ s.works;
       bytes = All-append (λ b. b < 256) X Z s.bytes bytes;
@@ -81,7 +81,7 @@ module _ (d : Decoder) (X : List ℕ) (s : StandsAfter d X) where
 
     -- nothing but bytes AA came
     pub fed_preamble : new.has_failed ≡ d.has_failed → All (λ b. b < 256) Z → d.leading ≤ new.leading → new.body ≡ d.body → rest ≡ []
-        → StandsAfter new (X ++ Z)
+        → HasTakenIn new (X ++ Z)
     fed_preamble works bytes more same e =
         let same_after : after_preamble X ++ rest ≡ after_preamble X =
         ap (λ (l : List ℕ). after_preamble X ++ l) e ∙ append-nil (after_preamble X) in
@@ -89,8 +89,8 @@ module _ (d : Decoder) (X : List ℕ) (s : StandsAfter d X) where
         (λ n. let p = s.past (λ z. n (after ∙ (same_after ∙ z))) in let q = s.preamble in omega arith)
         (rw (same_after, same) s.words)
 
-    pub fed_body : new.has_failed ≡ d.has_failed → All (λ b. b < 256) Z → 72 ≤ new.leading → StandsIn new.body (after_preamble X ++ rest)
-        → StandsAfter new (X ++ Z)
+    pub fed_body : new.has_failed ≡ d.has_failed → All (λ b. b < 256) Z → 72 ≤ new.leading → HoldsOf new.body (after_preamble X ++ rest)
+        → HasTakenIn new (X ++ Z)
     fed_body works bytes long stands = fed works bytes (λ n. long) stands
 
     pub refused_short : new.leading < 72 → rest ≢ [] → RefusesPiece X Z fault.ShortPreamble

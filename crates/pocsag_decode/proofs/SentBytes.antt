@@ -20,15 +20,15 @@ use Rattle.pocsag_pages.proofs.Lengths.{body_length, synced_count, synced_small,
 use Rattle.pocsag_decode.proofs.Judgements.{none_good}
 
 -- the words of what was sent
-no_orphan_head : (may : Bool) (k : Kind) (ks : List Kind) → HasNoOrphan may (k ∷ ks) → IsTrue (is_message k) → IsTrue may
-no_orphan_head may Idle ks h m = absurd (true≢false (sym m))
-no_orphan_head may (Address high function) ks h m = absurd (true≢false (sym m))
-no_orphan_head may (Message bits) ks h m = h.0
+no_orphan_head : (in_page : Bool) (k : Kind) (ks : List Kind) → HasNoOrphan in_page (k ∷ ks) → IsTrue (is_message k) → IsTrue in_page
+no_orphan_head in_page Idle ks h m = absurd (true≢false (sym m))
+no_orphan_head in_page (Address high function) ks h m = absurd (true≢false (sym m))
+no_orphan_head in_page (Message bits) ks h m = h.0
 
-no_orphan_tail : (may : Bool) (k : Kind) (ks : List Kind) → HasNoOrphan may (k ∷ ks) → HasNoOrphan (not (is_idle k)) ks
-no_orphan_tail may Idle ks h = h
-no_orphan_tail may (Address high function) ks h = h
-no_orphan_tail may (Message bits) ks h = h.1
+no_orphan_tail : (in_page : Bool) (k : Kind) (ks : List Kind) → HasNoOrphan in_page (k ∷ ks) → HasNoOrphan (not (is_idle k)) ks
+no_orphan_tail in_page Idle ks h = h
+no_orphan_tail in_page (Address high function) ks h = h
+no_orphan_tail in_page (Message bits) ks h = h.1
 
 module _ (before : List ℕ) (w : ℕ) (T : List ℕ) (good : AllMayStand before) (n : length before % 17 ≢ 0)
     (are : All IsCodeword (w ∷ T)) (h : HasNoOrphan (may_follow before (length before)) (map kind_of (w ∷ T))) where

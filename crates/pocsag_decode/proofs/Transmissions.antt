@@ -61,11 +61,11 @@ codewords_good before (w ∷ ws) good =
       | inr n ↦ rw (ne_eqb _ _ n) (All-cons IsCodeword w (unsynced (length before + 1) ws) (w_is_codeword before w ws good n) rest)
     ]
 
-no_orphan_cons : (may : Bool) (k : Kind) (ks : List Kind) → (IsTrue (is_message k) → IsTrue may) → HasNoOrphan (not (is_idle k)) ks
-    → HasNoOrphan may (k ∷ ks)
-no_orphan_cons may Idle ks f h = h
-no_orphan_cons may (Address high function) ks f h = h
-no_orphan_cons may (Message bits) ks f h = (f refl, h)
+no_orphan_cons : (in_page : Bool) (k : Kind) (ks : List Kind) → (IsTrue (is_message k) → IsTrue in_page) → HasNoOrphan (not (is_idle k)) ks
+    → HasNoOrphan in_page (k ∷ ks)
+no_orphan_cons in_page Idle ks f h = h
+no_orphan_cons in_page (Address high function) ks f h = h
+no_orphan_cons in_page (Message bits) ks f h = (f refl, h)
 
 pub none_is_orphan : (before ws : List ℕ) → AllMayStand (before ++ ws)
     → HasNoOrphan (may_follow before (length before)) (map kind_of (unsynced (length before) ws))

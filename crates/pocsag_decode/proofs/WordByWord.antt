@@ -152,12 +152,12 @@ module _ (place : ℕ) (growing : Growing) (ws : List ℕ) (w : ℕ) (r : HasRea
 
   pub refused_orphan : 0 < place % 17 → IsCodeword w → IsTrue (is_message (kind_of w)) → is_some growing.current ≡ false
       → HasBadWord (ws ++ w ∷ []) (fault.Orphan (index_at place))
-  refused_orphan s c m f = let n = r.count in rw n (bad_orphan ws w r.good (omega arith) c m (sym r.may ∙ f))
+  refused_orphan s c m f = let n = r.count in rw n (bad_orphan ws w r.good (omega arith) c m (sym r.in_page ∙ f))
 
   pub kept_codeword : 0 < place % 17 → IsCodeword w → IsTrue (is_some growing.current) → KeepsFrom (ws ++ w ∷ []) (length ws)
   kept_codeword s c o =
       let n = r.count in
-      let follows : IsTrue (may_follow ws (length ws)) = sym r.may ∙ o in
+      let follows : IsTrue (may_follow ws (length ws)) = sym r.in_page ∙ o in
       let l = length_push ws w in
       record {
         place = length ws;
@@ -179,7 +179,7 @@ read_sync place growing ws w s e r =
     record {
       count = let l = length_push ws w in omega arith;
       good = good_sync ws w r.good s' e;
-      may = r.may ∙ sym (may_sync ws w s');
+      in_page = r.in_page ∙ sym (may_sync ws w s');
       pages = λ ks. rw same (r.pages ks);
     }
 
@@ -204,8 +204,8 @@ read_codeword place frame growing after ws w s at c kind is follows current grow
     let frame_is : frame ≡ frame_at (length (unsynced 0 ws)) = omega arith in
     record {
       count = let l = length_push ws w in omega arith;
-      good = good_codeword ws w r.good s' c (λ m. sym r.may ∙ follows (ap is_message is ∙ m));
-      may = current ∙ (ap (λ (k : Kind). not (is_idle k)) is ∙ sym (may_codeword ws w s'));
+      good = good_codeword ws w r.good s' c (λ m. sym r.in_page ∙ follows (ap is_message is ∙ m));
+      in_page = current ∙ (ap (λ (k : Kind). not (is_idle k)) is ∙ sym (may_codeword ws w s'));
       pages = λ ks.
           rw (
             more,

@@ -10,7 +10,7 @@ use Rattle.pocsag_decode.specs.declared.body.Body.{Body}
 use Rattle.pocsag_decode.specs.declared.carry.Carry.{Carry}
 use Rattle.pocsag_decode.specs.Carried.{carried, size_of, unfinished}
 use Rattle.pocsag_decode.specs.Places.{HasBadWord, KeepsFrom}
-use Rattle.pocsag_decode.specs.States.{HasRead, StandsIn}
+use Rattle.pocsag_decode.specs.States.{HasRead, HoldsOf}
 use Rattle.pocsag_decode.specs.Intake.{IsTaking, IsWantingOrBad}
 use Rattle.pocsag_decode.proofs.WordByWord.{bad_stays, keeps_on}
 
@@ -36,7 +36,7 @@ bytes_count (a ∷ b ∷ c ∷ []) = refl
 bytes_count (a ∷ b ∷ c ∷ d ∷ Y) = let e = bytes_count Y in omega arith
 
 -- as many bytes as the decoder's count
-pub size_is : (b : Body) (Y : List ℕ) → StandsIn b Y → size_of b.place b.carry ≡ length Y
+pub size_is : (b : Body) (Y : List ℕ) → HoldsOf b Y → size_of b.place b.carry ≡ length Y
 size_is b Y s =
     let e = bytes_count Y in
     let n = s.read.count in
@@ -49,7 +49,7 @@ bad_on Y Z f b = subst (λ (ws : List ℕ). HasBadWord ws f) (sym (words_on Y Z)
 -- a byte that makes no word whole
 pub byte_more : (b : Body) (old new : Carry) (Y : List ℕ) (x : ℕ) → b.carry ≡ old → words_of (carried old ++ x ∷ []) ≡ []
     → unfinished (carried old ++ x ∷ []) ≡ carried new
-    → StandsIn b Y → StandsIn (record b { carry = new }) (Y ++ x ∷ [])
+    → HoldsOf b Y → HoldsOf (record b { carry = new }) (Y ++ x ∷ [])
 byte_more b old new Y x is none one s =
     let left : unfinished Y ≡ carried old = sym s.carry ∙ ap carried is in
     record {
@@ -74,7 +74,7 @@ four_left : (l : List ℕ) → length l ≡ 4 → unfinished l ≡ []
 four_left l e = nil_from_length (unfinished l) (let n = bytes_count l in let m = words_long l in omega arith)
 
 -- bytes that make a word whole
-module _ (b : Body) (Y Z : List ℕ) (w : ℕ) (s : StandsIn b Y)
+module _ (b : Body) (Y Z : List ℕ) (w : ℕ) (s : HoldsOf b Y)
     (e : length (carried b.carry ++ Z) ≡ 4) (is : w ≡ from_be_bytes w32 (carried b.carry ++ Z)) where
   words_are : words_of (Y ++ Z) ≡ words_of Y ++ w ∷ []
   words_are =
@@ -82,7 +82,7 @@ module _ (b : Body) (Y Z : List ℕ) (w : ℕ) (s : StandsIn b Y)
       ∙ ap (λ (l : List ℕ). words_of Y ++ l)
       (ap (λ (l : List ℕ). words_of (l ++ Z)) (sym s.carry) ∙ (four_words _ e ∙ ap (λ (x : ℕ). x ∷ []) (sym is)))
 
-  pub word_more : (new : Body) → HasRead new.place new.growing (words_of Y ++ w ∷ []) → carried new.carry ≡ [] → StandsIn new (Y ++ Z)
+  pub word_more : (new : Body) → HasRead new.place new.growing (words_of Y ++ w ∷ []) → carried new.carry ≡ [] → HoldsOf new (Y ++ Z)
   word_more new r none = record {
     read = rw words_are r;
     carry = none ∙ sym (rest_on Y Z ∙ (ap (λ (l : List ℕ). unfinished (l ++ Z)) (sym s.carry) ∙ four_left _ e));
@@ -95,7 +95,7 @@ module _ (b : Body) (Y Z : List ℕ) (w : ℕ) (s : StandsIn b Y)
 -- a part of the bytes more
 module _ (first now : Body) (bytes rest front back : List ℕ) (t : IsTaking first now bytes rest) (e : rest ≡ front ++ back) where
   pub taken : (new : Body) → size_of new.place new.carry ≡ size_of now.place now.carry + length front
-      → ((Y : List ℕ) → StandsIn now Y → StandsIn new (Y ++ front)) → IsTaking first new bytes back
+      → ((Y : List ℕ) → HoldsOf now Y → HoldsOf new (Y ++ front)) → IsTaking first new bytes back
   taken new size stands = record {
     size = let s = t.size in let l = length-append front back in let r = ap length e in omega arith;
     less = let s = t.less in let l = length-append front back in let r = ap length e in omega arith;
@@ -109,8 +109,8 @@ module _ (first now : Body) (bytes rest front back : List ℕ) (t : IsTaking fir
   }
 
   pub not_taken : (f : DecodeFault)
-      → ((Y : List ℕ) → StandsIn now Y → IsWantingOrBad (length (words_of Y)) (words_of (Y ++ front)) f)
-      → (Y : List ℕ) → StandsIn first Y
+      → ((Y : List ℕ) → HoldsOf now Y → IsWantingOrBad (length (words_of Y)) (words_of (Y ++ front)) f)
+      → (Y : List ℕ) → HoldsOf first Y
       → IsWantingOrBad (length (words_of Y)) (words_of (Y ++ bytes)) f
   not_taken f bad Y h =
       let s = t.before Y h in
@@ -147,8 +147,8 @@ is_nil (x ∷ l) e = absurd (let n = eqb-true (length (x ∷ l)) 0 (sym e) in om
 pub not_nil : (l : List ℕ) → false ≡ (length l == 0) → l ≢ []
 not_nil l e z = false≢true (e ∙ ap (λ (m : List ℕ). length m == 0) z)
 
-pub taking_last : (first now : Body) (bytes rest : List ℕ) → rest ≡ [] → IsTaking first now bytes rest → (Y : List ℕ) → StandsIn first Y
-    → StandsIn now (Y ++ bytes)
+pub taking_last : (first now : Body) (bytes rest : List ℕ) → rest ≡ [] → IsTaking first now bytes rest → (Y : List ℕ) → HoldsOf first Y
+    → HoldsOf now (Y ++ bytes)
 taking_last first now bytes rest e t Y h =
     let s = t.before Y h in
-    subst (StandsIn now) (sym (append-nil s.eaten) ∙ (ap (λ (l : List ℕ). s.eaten ++ l) (sym e) ∙ s.all)) s.stands
+    subst (HoldsOf now) (sym (append-nil s.eaten) ∙ (ap (λ (l : List ℕ). s.eaten ++ l) (sym e) ∙ s.all)) s.stands

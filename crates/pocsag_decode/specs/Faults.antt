@@ -9,8 +9,8 @@ use Rattle.pocsag_decode.specs.declared.fault.DecodeFault.TheVariants as fault
 use Rattle.pocsag_decode.specs.Places.{AllMayStand, HasBadWord, KeepsFrom, may_follow}
 
 -- Where the call answers, no call of the device failed; where it answers this fault, one failed.
-abbrev pub TellsFailures : {T E : Type 0} → Result T E → E → (before after : ℕ) → Type 0
-TellsFailures result fault before after = OnOk result (after ≡ before) × (result ≡ Err fault → HasFailed before after)
+abbrev pub NamesFailures : {T E : Type 0} → Result T E → E → (before after : ℕ) → Type 0
+NamesFailures result fault before after = OnOk result (after ≡ before) × (result ≡ Err fault → HasFailed before after)
 
 -- The whole words after the preamble.
 abbrev pub words : List ℕ → List ℕ

@@ -6,7 +6,7 @@ use Rattle.pocsag_decode.specs.declared.fault.DecodeFault.{DecodeFault}
 use Rattle.pocsag_decode.specs.declared.fault.DecodeFault.TheVariants as fault
 use Rattle.pocsag_decode.specs.Carried.{size_of}
 use Rattle.pocsag_decode.specs.Places.{HasBadWord, KeepsFrom}
-use Rattle.pocsag_decode.specs.States.{HasRead, StandsIn}
+use Rattle.pocsag_decode.specs.States.{HasRead, HoldsOf}
 
 -- Want of memory, where one of these words from a place on has to be kept, or a bad word among them.
 abbrev pub IsWantingOrBad : ℕ → List ℕ → DecodeFault → Type 0
@@ -33,22 +33,22 @@ CountsBytes result before after count =
     × (size_of after.place after.carry ≤ size_of before.place before.carry + count)
 
 -- It stands after the bytes before and these, where the call answers.
-abbrev pub StandsWith : {T : Type 0} → Result T DecodeFault → (before after : Body) → List ℕ → Type 0
-StandsWith result before after bytes = (Y : List ℕ) → StandsIn before Y → OnOk result (StandsIn after (Y ++ bytes))
+abbrev pub TakesIn : {T : Type 0} → Result T DecodeFault → (before after : Body) → List ℕ → Type 0
+TakesIn result before after bytes = (Y : List ℕ) → HoldsOf before Y → OnOk result (HoldsOf after (Y ++ bytes))
 
 -- Where it does not, memory was wanting for a word of these bytes, or a word of all the bytes is bad.
 abbrev pub RefusesBytes : {T : Type 0} → Result T DecodeFault → (before : Body) → List ℕ → Type 0
 RefusesBytes result before bytes =
-    (Y : List ℕ) → StandsIn before Y → IfErr result (IsWantingOrBad (length (words_of Y)) (words_of (Y ++ bytes)))
+    (Y : List ℕ) → HoldsOf before Y → IfErr result (IsWantingOrBad (length (words_of Y)) (words_of (Y ++ bytes)))
 
 -- It stands after all of these bytes but the rest.
-pub record StandsBefore (b : Body) (Y rest : List ℕ) : Type 0 where
+pub record HoldsAllBut (b : Body) (Y rest : List ℕ) : Type 0 where
   pub eaten : List ℕ
   pub all : eaten ++ rest ≡ Y
-  pub stands : StandsIn b eaten
+  pub stands : HoldsOf b eaten
 
 -- Of these bytes the rest is still to be taken.
 pub record IsTaking (at_first now : Body) (bytes rest : List ℕ) : Type 0 where
   pub size : size_of now.place now.carry + length rest ≡ size_of at_first.place at_first.carry + length bytes
   pub less : length rest ≤ length bytes
-  pub before : (Y : List ℕ) → StandsIn at_first Y → StandsBefore now (Y ++ bytes) rest
+  pub before : (Y : List ℕ) → HoldsOf at_first Y → HoldsAllBut now (Y ++ bytes) rest

@@ -16,25 +16,25 @@ use Rattle.pocsag_decode.specs.Places.{AllMayStand, may_follow}
 pub record HasRead (place : ℕ) (growing : Growing) (ws : List ℕ) : Type 0 where
   pub count : place ≡ length ws
   pub good : AllMayStand ws
-  pub may : is_some growing.current ≡ may_follow ws (length ws)
+  pub in_page : is_some growing.current ≡ may_follow ws (length ws)
   -- Whatever codewords follow: the finished pages, the open page with what comes of its message, and
   -- the pages that follow.
   pub pages : (ks : List Kind)
       → pages_from 0 (map kind_of (unsynced 0 ws) ++ ks) ≡ growing.pages.items ++ resumed (length (unsynced 0 ws)) growing.current ks
 
 -- The same of bytes after the preamble, with those of a word that is not whole.
-pub record StandsIn (b : Body) (Y : List ℕ) : Type 0 where
+pub record HoldsOf (b : Body) (Y : List ℕ) : Type 0 where
   pub read : HasRead b.place b.growing (words_of Y)
   pub carry : carried b.carry ≡ unfinished Y
 
 -- *Standing*: the decoder has met no fault and no end, and holds of the bytes X what a decoder has to.
-pub record StandsAfter (d : Decoder) (X : List ℕ) : Type 0 where
+pub record HasTakenIn (d : Decoder) (X : List ℕ) : Type 0 where
   pub works : d.has_failed ≡ false
   pub bytes : All (λ b. b < 256) X
   pub few : length X < 2 ^ 64
   pub preamble : d.leading ≡ leading X
   pub past : after_preamble X ≢ [] → 72 ≤ leading X
-  pub words : StandsIn d.body (after_preamble X)
+  pub words : HoldsOf d.body (after_preamble X)
 
 -- The decoder answers `Failed` from now on.
 abbrev pub HasStopped : Decoder → Type 0

@@ -3,8 +3,8 @@ ghost use Rattle.std.specs.Int.{from_be_bytes, w32};
 ghost use Rattle.pocsag_decode.specs.Carried.{carried, size_of};
 ghost use Rattle.pocsag_decode.specs.OpenPages.{closed};
 ghost use Rattle.pocsag_decode.specs.Places.{is_message};
-ghost use Rattle.pocsag_decode.specs.States.{StandsIn};
-ghost use Rattle.pocsag_decode.specs.Intake.{CountsBytes, CountsWord, ReadsWord, RefusesBytes, RefusesWord, StandsWith};
+ghost use Rattle.pocsag_decode.specs.States.{HoldsOf};
+ghost use Rattle.pocsag_decode.specs.Intake.{CountsBytes, CountsWord, ReadsWord, RefusesBytes, RefusesWord, TakesIn};
 
 use crate::carry::Carry;
 use crate::fault::DecodeFault;
@@ -82,7 +82,7 @@ impl Body {
     fn take_byte(&mut self, byte: u8) -> Result<(), DecodeFault>
         requires { size_of self.old.place self.old.carry + 1 < 2 ^ 64 }
         ensures count { CountsBytes result self.old self.new 1 }
-        ensures stands { StandsWith result self.old self.new (byte ∷ []) }
+        ensures stands { TakesIn result self.old self.new (byte ∷ []) }
         ensures bad { RefusesBytes result self.old (byte ∷ []) }
     {
         match self.carry {
@@ -109,7 +109,7 @@ impl Body {
     pub(crate) fn take(&mut self, bytes: &[u8]) -> Result<(), DecodeFault>
         requires { size_of self.old.place self.old.carry + length bytes.now < 2 ^ 64 }
         ensures count { CountsBytes result self.old self.new (length bytes.now) }
-        ensures stands { StandsWith result self.old self.new bytes.now }
+        ensures stands { TakesIn result self.old self.new bytes.now }
         ensures bad { RefusesBytes result self.old bytes.now }
     {
         let mut rest = bytes;

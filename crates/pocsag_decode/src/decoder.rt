@@ -3,14 +3,14 @@ ghost use Rattle.pocsag_pages.specs.Bytes.{after_preamble, leading};
 ghost use Rattle.pocsag_decode.specs.Carried.{size_of};
 ghost use Rattle.pocsag_decode.specs.Faults.{EndsOpen, HasFaultOfEnd, IsFaultless, ReadsAs, RefusesPiece};
 ghost use Rattle.pocsag_pages.specs.Listable.{IsListable};
-ghost use Rattle.pocsag_decode.specs.States.{HasStopped, StandsAfter};
+ghost use Rattle.pocsag_decode.specs.States.{HasStopped, HasTakenIn};
 
 use crate::body::Body;
 use crate::carry::Carry;
 use crate::fault::DecodeFault;
 use crate::open_page::Growing;
 use crate::state::Decoder;
-use pocsag_pages::{Page, leading_len};
+use pocsag_pages::{Page, preamble_len};
 use pocsag_words::{BATCH_BYTES, PREAMBLE_BYTES};
 use std::alloc::Global;
 
@@ -20,7 +20,7 @@ const PREAMBLE: u64 = PREAMBLE_BYTES as u64;
 impl Decoder {
     /// A decoder of no bytes, which takes no memory.
     pub fn new(alloc: Global) -> Decoder
-        ensures { StandsAfter result [] }
+        ensures { HasTakenIn result [] }
     {
         Decoder {
             has_failed: false,
@@ -41,8 +41,8 @@ impl Decoder {
     /// `Failed`.
     pub fn feed(&mut self, piece: &[u8]) -> Result<(), DecodeFault>
         // The bytes X that were fed so far and the piece have no fault at a byte that is there.
-        ensures stands { (X : List ℕ) → StandsAfter self.old X → OnOk result (StandsAfter self.new (X ++ piece.now)) }
-        ensures refused { (X : List ℕ) → StandsAfter self.old X → IfErr result (RefusesPiece X piece.now) }
+        ensures stands { (X : List ℕ) → HasTakenIn self.old X → OnOk result (HasTakenIn self.new (X ++ piece.now)) }
+        ensures refused { (X : List ℕ) → HasTakenIn self.old X → IfErr result (RefusesPiece X piece.now) }
 
         // A decoder that has failed stays so.
         ensures over { OnErr result (HasStopped self.new) }
@@ -63,12 +63,12 @@ impl Decoder {
     /// The pages of all the bytes that were fed, or the fault of their end. Every later call answers
     /// `Failed`.
     pub fn finish(&mut self) -> Result<Vec<Page>, DecodeFault>
-        ensures finished { (X : List ℕ) → StandsAfter self.old X →
+        ensures finished { (X : List ℕ) → HasTakenIn self.old X →
             MatchResult result (λ v. ReadsAs X v.items) (λ e. (e ≡ DecodeFault.OutOfMemory) ⊎ HasFaultOfEnd X e) }
-        ensures listable { (X : List ℕ) → StandsAfter self.old X → IfOk result (λ v. All IsListable v.items) }
+        ensures listable { (X : List ℕ) → HasTakenIn self.old X → IfOk result (λ v. All IsListable v.items) }
 
         // Memory is wanted only by bytes that have no fault, to keep the page that is open at their end.
-        ensures memory { (X : List ℕ) → StandsAfter self.old X → result ≡ Err DecodeFault.OutOfMemory →
+        ensures memory { (X : List ℕ) → HasTakenIn self.old X → result ≡ Err DecodeFault.OutOfMemory →
             IsFaultless X × EndsOpen X }
 
         // A decoder that has failed stays so.
@@ -108,15 +108,15 @@ impl Decoder {
         if self.body.size() > 0 {
             return piece;
         }
-        let count = leading_len(piece);
+        let count = preamble_len(piece);
         self.leading += count as u64;
         let (_, rest) = piece.split_at(count);
         rest
     }
 
     fn take(&mut self, piece: &[u8]) -> Result<(), DecodeFault>
-        ensures stands { (X : List ℕ) → StandsAfter self.old X → OnOk result (StandsAfter self.new (X ++ piece.now)) }
-        ensures refused { (X : List ℕ) → StandsAfter self.old X → IfErr result (RefusesPiece X piece.now) }
+        ensures stands { (X : List ℕ) → HasTakenIn self.old X → OnOk result (HasTakenIn self.new (X ++ piece.now)) }
+        ensures refused { (X : List ℕ) → HasTakenIn self.old X → IfErr result (RefusesPiece X piece.now) }
     {
         if piece.len() as u64 > u64::MAX - (self.leading + self.body.size()) {
             return Err(DecodeFault::TooMuch);

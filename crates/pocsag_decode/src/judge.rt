@@ -9,7 +9,7 @@ ghost use Rattle.pocsag_decode.specs.Places.{AllMayStand, HasBadWord, index_at};
 
 use crate::fault::DecodeFault;
 use crate::lister::kind_of_number;
-use pocsag_pages::leading_len;
+use pocsag_pages::preamble_len;
 use pocsag_words::{
     BATCH_BYTES, BATCH_WORDS, Kind, PREAMBLE_BYTES, SYNC_WORD, check_all, from_raw,
 };
@@ -41,10 +41,10 @@ fn index_at(place: u64) -> u64
 
 // Judges a codeword at its place by what it says.
 #[inline(always)]
-fn judge_kind(place: u64, may: bool, codeword: u32) -> Result<bool, DecodeFault>
+fn judge_kind(place: u64, in_page: bool, codeword: u32) -> Result<bool, DecodeFault>
     requires other { 0 < place % 17 }
     requires codeword { IsCodeword codeword }
-    ensures { JudgesMore result place may (codeword ∷ []) }
+    ensures { JudgesMore result place in_page (codeword ∷ []) }
 {
     match kind_of_number(codeword) {
         Kind::Idle => Ok(false),
@@ -52,41 +52,41 @@ fn judge_kind(place: u64, may: bool, codeword: u32) -> Result<bool, DecodeFault>
             high: _,
             function: _,
         } => Ok(true),
-        Kind::Message(_) if may => Ok(true),
+        Kind::Message(_) if in_page => Ok(true),
         Kind::Message(_) => Err(DecodeFault::Orphan(index_at(place))),
     }
 }
 
 // Judges the word at a place, where a message codeword may follow or not.
 #[inline(always)]
-fn judge_word(place: u64, may: bool, word: u32) -> Result<bool, DecodeFault>
-    ensures { JudgesMore result place may (word ∷ []) }
+fn judge_word(place: u64, in_page: bool, word: u32) -> Result<bool, DecodeFault>
+    ensures { JudgesMore result place in_page (word ∷ []) }
 {
     if place % BATCH > 0 {
         return match from_raw(word) {
-            Some(_) => judge_kind(place, may, word),
+            Some(_) => judge_kind(place, in_page, word),
             None => Err(DecodeFault::BadWord(index_at(place))),
         };
     }
     if word != SYNC_WORD {
         return Err(DecodeFault::NoSync(place / BATCH));
     }
-    Ok(may)
+    Ok(in_page)
 }
 
 // Judges the whole words of the bytes, the first of them at this place.
-fn judge_words(place: u64, may: bool, bytes: &[u8]) -> Result<bool, DecodeFault>
+fn judge_words(place: u64, in_page: bool, bytes: &[u8]) -> Result<bool, DecodeFault>
     requires { place + length bytes.now / 4 < 2 ^ 64 }
-    ensures { JudgesMore result place may (words_of bytes.now) }
+    ensures { JudgesMore result place in_page (words_of bytes.now) }
 {
     let mut place = place;
-    let mut may = may;
+    let mut in_page = in_page;
     let (words, _) = bytes.as_chunks::<4>();
     for word in words {
-        may = judge_word(place, may, u32::from_be_bytes(*word))?;
+        in_page = judge_word(place, in_page, u32::from_be_bytes(*word))?;
         place += 1;
     }
-    Ok(may)
+    Ok(in_page)
 }
 
 // The words of a batch.
@@ -104,28 +104,28 @@ fn words_in(batch: &[u8]) -> [u32; WORDS]
 }
 
 // Judges codewords of one batch by what they say, the first of them at this place.
-fn judge_kinds(place: u64, may: bool, codewords: &[u32]) -> Result<bool, DecodeFault>
+fn judge_kinds(place: u64, in_page: bool, codewords: &[u32]) -> Result<bool, DecodeFault>
     requires codewords { All IsCodeword codewords.now }
     requires first { place % 17 ≡ 1 }
     requires few { length codewords.now ≤ 16 }
     requires small { place + 16 < 2 ^ 64 }
-    ensures { JudgesMore result place may codewords.now }
+    ensures { JudgesMore result place in_page codewords.now }
 {
     let mut place = place;
-    let mut may = may;
+    let mut in_page = in_page;
     for codeword in codewords {
-        may = judge_kind(place, may, *codeword)?;
+        in_page = judge_kind(place, in_page, *codeword)?;
         place += 1;
     }
-    Ok(may)
+    Ok(in_page)
 }
 
 // Judges the words of a batch: where all codewords are such, each by what it says alone.
-fn judge_batch(place: u64, may: bool, batch: &[u8]) -> Result<bool, DecodeFault>
+fn judge_batch(place: u64, in_page: bool, batch: &[u8]) -> Result<bool, DecodeFault>
     requires long { length batch.now ≡ 68 }
     requires first { place % 17 ≡ 0 }
     requires small { place + 17 < 2 ^ 64 }
-    ensures { JudgesMore result place may (words_of batch.now) }
+    ensures { JudgesMore result place in_page (words_of batch.now) }
 {
     if batch == IDLE_BATCH.as_slice() {
         return Ok(false);
@@ -135,9 +135,9 @@ fn judge_batch(place: u64, may: bool, batch: &[u8]) -> Result<bool, DecodeFault>
     let mut flags = [false; BATCH_CODEWORDS];
     check_all(codewords, &mut flags);
     if words[0] != SYNC_WORD || flags.contains(&false) {
-        return judge_words(place, may, batch);
+        return judge_words(place, in_page, batch);
     }
-    judge_kinds(place + 1, may, codewords)
+    judge_kinds(place + 1, in_page, codewords)
 }
 
 // Judges all whole words after the preamble.
@@ -145,12 +145,16 @@ fn judge_batches(bytes: &[u8]) -> Result<(), DecodeFault>
     ensures { MatchResult result (λ _. AllMayStand (words_of bytes.now)) (λ f. HasBadWord (words_of bytes.now) f) }
 {
     let count = bytes.len() / BATCH_BYTES;
-    let mut may = false;
+    let mut in_page = false;
     for i in 0..count {
         let start = BATCH_BYTES * i;
-        may = judge_batch(BATCH * i as u64, may, &bytes[start..start + BATCH_BYTES])?;
+        in_page = judge_batch(
+            BATCH * i as u64,
+            in_page,
+            &bytes[start..start + BATCH_BYTES],
+        )?;
     }
-    judge_words(BATCH * count as u64, may, &bytes[BATCH_BYTES * count..])?;
+    judge_words(BATCH * count as u64, in_page, &bytes[BATCH_BYTES * count..])?;
     Ok(())
 }
 
@@ -159,7 +163,7 @@ pub fn judge_bytes(bytes: &[u8]) -> Result<(), DecodeFault>
     ensures ok { OnOk result ((pages : List Page) × ReadsAs bytes.now pages) }
     ensures err { IfErr result (HasFault bytes.now) }
 {
-    let count = leading_len(bytes);
+    let count = preamble_len(bytes);
     let (_, rest) = bytes.split_at(count);
     if count < PREAMBLE_BYTES {
         return Err(DecodeFault::ShortPreamble);

@@ -22,7 +22,7 @@ pub use laws::{
     page_files_are_read_back, pages_of_files_are_spellable, readings_have_no_fault,
     readings_of_bytes_are_one, repair_restores,
 };
-pub use lister::{list_sent, list_spent};
+pub use lister::{list_owned, list_sent};
 pub use listing::{kind_of_page, list, message_of, whole_message, write_page_file};
 pub use repair::repair_all;
 pub use repaired::Repaired;

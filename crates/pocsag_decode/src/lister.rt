@@ -9,7 +9,7 @@ ghost use Rattle.pocsag_pages.specs.Bytes.{unsynced, words_of};
 ghost use Rattle.pocsag_pages.specs.Listable.{IsListable};
 ghost use Rattle.pocsag_pages.specs.Plain.{pages_from};
 ghost use Rattle.pocsag_pages.specs.Reading.{frame_at};
-ghost use Rattle.pocsag_decode.specs.Faults.{ReadsAs, TellsFailures};
+ghost use Rattle.pocsag_decode.specs.Faults.{ReadsAs, NamesFailures};
 ghost use Rattle.pocsag_decode.specs.OpenPages.{closed, resumed};
 ghost use Rattle.pocsag_decode.specs.Lines.{IsReady, text_in};
 ghost use Rattle.pocsag_decode.specs.Listers.{CanList, rows_of_pages, still_listed};
@@ -20,7 +20,7 @@ use crate::judge::IDLE_BATCH;
 use crate::listing::{begun, pour, pour_many, put_spent};
 use crate::open_page::OpenPage;
 use csv::Writer;
-use pocsag_pages::{Page, Payload, leading_len};
+use pocsag_pages::{Page, Payload, preamble_len};
 use pocsag_words::{BATCH_BYTES, Kind, Sink};
 use std::alloc::{AllocError, Global};
 use std::mem;
@@ -146,11 +146,11 @@ fn list_batches<S: Sink>(lister: &mut Lister, bytes: &[u8], sink: &mut S) -> Res
     requires fresh { lister.old.current ≡ None }
     requires begun { text_in lister.old.records ≡ row_text default_writer header }
     requires long { length bytes.now % 68 ≡ 0 }
-    ensures whole { S.tells → OnOk result (S.taken sink.new
+    ensures whole { S.is_known → OnOk result (S.taken sink.new
         ≡ S.taken sink.old ++ listing (pages_from 0 (map kind_of (unsynced 0 (words_of bytes.now))))) }
-    ensures part { S.tells → OnErr result (TookPrefix (S.taken sink.old) (S.taken sink.new)
+    ensures part { S.is_known → OnErr result (TookPrefix (S.taken sink.old) (S.taken sink.new)
         (listing (pages_from 0 (map kind_of (unsynced 0 (words_of bytes.now)))))) }
-    ensures failures { TellsFailures result ListFault.WriteFault (S.failures sink.old) (S.failures sink.new) }
+    ensures failures { NamesFailures result ListFault.WriteFault (S.failures sink.old) (S.failures sink.new) }
 {
     for i in 0..bytes.len() / BATCH_BYTES {
         let start = BATCH_BYTES * i;
@@ -165,15 +165,15 @@ fn list_batches<S: Sink>(lister: &mut Lister, bytes: &[u8], sink: &mut S) -> Res
 /// than one page is held, and records up to 1,048,576 bytes beside its own. After a fault a prefix was written. Of bytes that
 /// have a fault nothing is promised: `judge_bytes` finds it before.
 pub fn list_sent<S: Sink>(alloc: Global, bytes: &[u8], sink: &mut S) -> Result<(), ListFault>
-    ensures whole { S.tells → OnOk result ((pages : List Page) → ReadsAs bytes.now pages →
+    ensures whole { S.is_known → OnOk result ((pages : List Page) → ReadsAs bytes.now pages →
         S.taken sink.new ≡ S.taken sink.old ++ listing pages) }
-    ensures part { S.tells → OnErr result ((pages : List Page) → ReadsAs bytes.now pages →
+    ensures part { S.is_known → OnErr result ((pages : List Page) → ReadsAs bytes.now pages →
         TookPrefix (S.taken sink.old) (S.taken sink.new) (listing pages)) }
 
     // A device's fault is answered only where that device failed.
-    ensures failures { TellsFailures result ListFault.WriteFault (S.failures sink.old) (S.failures sink.new) }
+    ensures failures { NamesFailures result ListFault.WriteFault (S.failures sink.old) (S.failures sink.new) }
 {
-    let (_, rest) = bytes.split_at(leading_len(bytes));
+    let (_, rest) = bytes.split_at(preamble_len(bytes));
     let len = rest.len() / BATCH_BYTES * BATCH_BYTES;
     let mut lister = Lister {
         alloc,
@@ -194,9 +194,9 @@ fn put_all<S: Sink>(
     requires ready { IsReady records.old }
     requires begun { text_in records.old ≡ row_text default_writer header }
     requires listable { All IsListable pages.items }
-    ensures whole { S.tells → OnOk result (S.taken sink.new ≡ S.taken sink.old ++ listing pages.items) }
-    ensures part { S.tells → OnErr result (TookPrefix (S.taken sink.old) (S.taken sink.new) (listing pages.items)) }
-    ensures failures { TellsFailures result ListFault.WriteFault (S.failures sink.old) (S.failures sink.new) }
+    ensures whole { S.is_known → OnOk result (S.taken sink.new ≡ S.taken sink.old ++ listing pages.items) }
+    ensures part { S.is_known → OnErr result (TookPrefix (S.taken sink.old) (S.taken sink.new) (listing pages.items)) }
+    ensures failures { NamesFailures result ListFault.WriteFault (S.failures sink.old) (S.failures sink.new) }
 {
     for page in pages {
         put_spent(alloc, records, page)?;
@@ -207,13 +207,13 @@ fn put_all<S: Sink>(
 
 /// Writes the listing of the pages, as `list` does, but each page is let go as its record is made. After a fault a prefix
 /// was written.
-pub fn list_spent<S: Sink>(alloc: Global, pages: Vec<Page>, sink: &mut S) -> Result<(), ListFault>
+pub fn list_owned<S: Sink>(alloc: Global, pages: Vec<Page>, sink: &mut S) -> Result<(), ListFault>
     requires { All IsListable pages.items }
-    ensures whole { S.tells → OnOk result (S.taken sink.new ≡ S.taken sink.old ++ listing pages.items) }
-    ensures part { S.tells → OnErr result (TookPrefix (S.taken sink.old) (S.taken sink.new) (listing pages.items)) }
+    ensures whole { S.is_known → OnOk result (S.taken sink.new ≡ S.taken sink.old ++ listing pages.items) }
+    ensures part { S.is_known → OnErr result (TookPrefix (S.taken sink.old) (S.taken sink.new) (listing pages.items)) }
 
     // A device's fault is answered only where that device failed.
-    ensures failures { TellsFailures result ListFault.WriteFault (S.failures sink.old) (S.failures sink.new) }
+    ensures failures { NamesFailures result ListFault.WriteFault (S.failures sink.old) (S.failures sink.new) }
 {
     let mut records = begun(alloc)?;
     put_all(alloc, &mut records, pages, sink)

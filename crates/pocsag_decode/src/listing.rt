@@ -4,7 +4,7 @@ ghost use Rattle.std.specs.Fmt.{decimal};
 ghost use Rattle.csv.specs.Writing.{default_writer, row_text};
 ghost use Rattle.pocsag_words.specs.Devices.{TookPrefix};
 ghost use Rattle.pocsag_decode.specs.Lines.{IsReady, PutsRow, text_in};
-ghost use Rattle.pocsag_decode.specs.Faults.{TellsFailures};
+ghost use Rattle.pocsag_decode.specs.Faults.{NamesFailures};
 ghost use Rattle.pocsag_pages.specs.Listable.{IsListable};
 ghost use Rattle.pocsag_decode.specs.Listing.{header, hex_digit, hex_digits, kind_field, listing, message_field, record_of};
 ghost use Rattle.pocsag_decode.specs.PageFiles.{page_file, record_in, pages_text, whole_message};
@@ -211,9 +211,9 @@ pub(crate) fn pour<S: Sink>(
 ) -> Result<(), ListFault>
     ensures ready { OnOk result (IsReady writer.new) }
     ensures none { OnOk result (text_in writer.new ≡ []) }
-    ensures whole { S.tells → OnOk result (S.taken sink.new ≡ S.taken sink.old ++ text_in writer.old) }
-    ensures part { S.tells → OnErr result (TookPrefix (S.taken sink.old) (S.taken sink.new) (text_in writer.old)) }
-    ensures failures { TellsFailures result ListFault.WriteFault (S.failures sink.old) (S.failures sink.new) }
+    ensures whole { S.is_known → OnOk result (S.taken sink.new ≡ S.taken sink.old ++ text_in writer.old) }
+    ensures part { S.is_known → OnErr result (TookPrefix (S.taken sink.old) (S.taken sink.new) (text_in writer.old)) }
+    ensures failures { NamesFailures result ListFault.WriteFault (S.failures sink.old) (S.failures sink.new) }
 {
     let full = mem::replace(writer, Writer::from_writer(Vec::new(alloc)));
     let mut records = match full.into_inner() {
@@ -234,11 +234,11 @@ pub(crate) fn pour_many<S: Sink>(
 ) -> Result<(), ListFault>
     requires { IsReady writer.old }
     ensures ready { OnOk result (IsReady writer.new) }
-    ensures told { S.tells → OnOk result
+    ensures told { S.is_known → OnOk result
         (S.taken sink.new ++ text_in writer.new ≡ S.taken sink.old ++ text_in writer.old) }
-    ensures grown { S.tells → OnOk result (length (S.taken sink.old) ≤ length (S.taken sink.new)) }
-    ensures part { S.tells → OnErr result (TookPrefix (S.taken sink.old) (S.taken sink.new) (text_in writer.old)) }
-    ensures failures { TellsFailures result ListFault.WriteFault (S.failures sink.old) (S.failures sink.new) }
+    ensures grown { S.is_known → OnOk result (length (S.taken sink.old) ≤ length (S.taken sink.new)) }
+    ensures part { S.is_known → OnErr result (TookPrefix (S.taken sink.old) (S.taken sink.new) (text_in writer.old)) }
+    ensures failures { NamesFailures result ListFault.WriteFault (S.failures sink.old) (S.failures sink.new) }
 {
     if writer.get_ref().len() < PIECE {
         return Ok(());
@@ -267,13 +267,13 @@ fn pages_text(alloc: Global, for_file: bool, pages: &[Page]) -> Result<Vec<u8>, 
 #[tactic(auto, unfolding(crate::specs::Listing::listing))]
 pub fn list<S: Sink>(alloc: Global, pages: &[Page], sink: &mut S) -> Result<(), ListFault>
     requires { All IsListable pages.now }
-    ensures whole { S.tells → OnOk result (S.taken sink.new ≡ S.taken sink.old ++ listing pages.now) }
-    ensures part { S.tells → result ≡ Err ListFault.WriteFault →
+    ensures whole { S.is_known → OnOk result (S.taken sink.new ≡ S.taken sink.old ++ listing pages.now) }
+    ensures part { S.is_known → result ≡ Err ListFault.WriteFault →
         TookPrefix (S.taken sink.old) (S.taken sink.new) (listing pages.now) }
     ensures untouched { result ≡ Err ListFault.OutOfMemory → sink.new ≡ sink.old }
 
     // A device's fault is answered only where that device failed.
-    ensures failures { TellsFailures result ListFault.WriteFault (S.failures sink.old) (S.failures sink.new) }
+    ensures failures { NamesFailures result ListFault.WriteFault (S.failures sink.old) (S.failures sink.new) }
 {
     let text = pages_text(alloc, false, pages)?;
     write_all(sink, text.as_slice())?;
@@ -290,13 +290,13 @@ pub fn write_page_file<S: Sink>(
     sink: &mut S,
 ) -> Result<(), ListFault>
     requires { All IsListable pages.now }
-    ensures whole { S.tells → OnOk result (S.taken sink.new ≡ S.taken sink.old ++ page_file pages.now) }
-    ensures part { S.tells → result ≡ Err ListFault.WriteFault →
+    ensures whole { S.is_known → OnOk result (S.taken sink.new ≡ S.taken sink.old ++ page_file pages.now) }
+    ensures part { S.is_known → result ≡ Err ListFault.WriteFault →
         TookPrefix (S.taken sink.old) (S.taken sink.new) (page_file pages.now) }
     ensures untouched { result ≡ Err ListFault.OutOfMemory → sink.new ≡ sink.old }
 
     // A device's fault is answered only where that device failed.
-    ensures failures { TellsFailures result ListFault.WriteFault (S.failures sink.old) (S.failures sink.new) }
+    ensures failures { NamesFailures result ListFault.WriteFault (S.failures sink.old) (S.failures sink.new) }
 {
     let text = pages_text(alloc, true, pages)?;
     write_all(sink, text.as_slice())?;

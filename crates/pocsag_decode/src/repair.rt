@@ -7,7 +7,7 @@ ghost use Rattle.pocsag_decode.specs.Repairs.{Counts, IsRepaired, IsRepairOf};
 
 use crate::laws::repair_restores;
 use crate::repaired::Repaired;
-use pocsag_pages::leading_len;
+use pocsag_pages::preamble_len;
 use pocsag_words::{BATCH_WORDS, SYNC_WORD, repair};
 
 // The words of a batch, its synchronisation codeword among them.
@@ -57,7 +57,7 @@ pub fn repair_all(bytes: &mut [u8]) -> Repaired
 {
     repair_restores();
     let mut told = Repaired { words: 0, bits: 0 };
-    let mut at = leading_len(bytes);
+    let mut at = preamble_len(bytes);
     let mut place = 0;
     while bytes.len() - at >= 4 {
         let before = word_at(bytes, at);

@@ -11,8 +11,8 @@ use Rattle.pocsag_plan.specs.Verdicts.{Checked, IsNotShown}
 use Rattle.pocsag_centre.specs.Judgements.{ExplainsJudging}
 use Rattle.pocsag_centre.specs.declared.fault.CentreFault.{CentreFault}
 use Rattle.pocsag_centre.specs.declared.fault.CentreFault.TheVariants as fault
-use Rattle.pocsag_findings.specs.Beginnings.{TellsVerdict}
-use Rattle.pocsag_findings.specs.declared.form.Telling.{Telling}
+use Rattle.pocsag_findings.specs.Beginnings.{GivesVerdict}
+use Rattle.pocsag_findings.specs.declared.format.Format.{Format}
 
 -- The certificate shows its number of batches, with its end, for the round of the page file.
 pub record ShowsItsBatches (file certificate : List ℕ) : Type 0 where
@@ -27,17 +27,17 @@ pub record DoesNotShow (file certificate : List ℕ) : Type 0 where
   pub not_shown : IsNotShown file certificate end batches
 
 -- What was taken more is a text of this form which begins with this verdict on the end and the batches of the certificate.
-pub record TookVerdict (telling : Telling) (is_shown : Bool) (certificate before after : List ℕ) : Type 0 where
+pub record TookVerdict (format : Format) (is_shown : Bool) (certificate before after : List ℕ) : Type 0 where
   pub end : End
   pub batches : ℕ
   pub tree : BoundTree
   pub spelled : IsText end batches tree certificate
   pub text : List ℕ
-  pub tells : TellsVerdict telling is_shown end batches text
+  pub is_known : GivesVerdict format is_shown end batches text
   pub taken : after ≡ before ++ text
 
 -- What was taken more is a prefix of such a text, whose verdict is so of the page file and the certificate.
-pub record TookVerdictPart (telling : Telling) (file certificate before after : List ℕ) : Type 0 where
+pub record TookVerdictPart (format : Format) (file certificate before after : List ℕ) : Type 0 where
   pub is_shown : Bool
   pub shown : is_shown ≡ true → ShowsItsBatches file certificate
   pub not_shown : is_shown ≡ false → DoesNotShow file certificate
@@ -46,7 +46,7 @@ pub record TookVerdictPart (telling : Telling) (file certificate before after : 
   pub tree : BoundTree
   pub spelled : IsText end batches tree certificate
   pub text : List ℕ
-  pub tells : TellsVerdict telling is_shown end batches text
+  pub is_known : GivesVerdict format is_shown end batches text
   pub part : TookPrefix before after text
 
 -- The page file is that of a round, and the certificate is a text of a tree.

@@ -5,15 +5,15 @@ ghost use Rattle.pocsag_tree.specs.declared.refusals.CertificateFault.TheVariant
 ghost use Rattle.pocsag_tree.specs.Views.{bound_tree_of};
 ghost use Rattle.pocsag_check.specs.Acceptance.{IsAcceptedFor};
 ghost use Rattle.pocsag_plan.specs.Plans.{NoneHasFewer};
-ghost use Rattle.pocsag_shell.specs.ErrorStreams.{stream_of, told_by};
+ghost use Rattle.pocsag_shell.specs.ErrorStreams.{stream_of, printed_by};
 ghost use Rattle.pocsag_shell.specs.declared.fault.FileFault.TheVariants as file_fault;
 ghost use Rattle.pocsag_centre.specs.Faults.{centre_status};
 ghost use Rattle.pocsag_centre.specs.Refusals.{OrDevice};
-ghost use Rattle.pocsag_findings.specs.Beginnings.{TellsVerdict};
+ghost use Rattle.pocsag_findings.specs.Beginnings.{GivesVerdict};
 ghost use Rattle.pocsag_explain.specs.Verdicts.{DoesNotShow, ExplainsUntold, ShowsItsBatches, TookVerdict, TookVerdictPart};
 
 use pocsag_centre::CentreFault;
-use pocsag_findings::{Telling, explanation};
+use pocsag_findings::{Format, explanation};
 use pocsag_pages::{Round, read_round};
 use pocsag_plan::{CheckVerdict, verdict_on};
 use pocsag_shell::{ErrorStream, put_whole};
@@ -42,7 +42,7 @@ struct Explained {
 // Judges a certificate for a round, and makes the text that `explain` tells of it.
 fn judged_and_told(
     alloc: Global,
-    telling: Telling,
+    format: Format,
     round: &Round,
     certificate: &Certificate,
 ) -> Result<Explained, OutOfMemory>
@@ -52,33 +52,33 @@ fn judged_and_told(
         certificate.now.batches (bound_tree_of certificate.now.tree)) }
     ensures bound { IfOk result (λ e. IsTrue e.judged.is_shown →
         NoneHasFewer certificate.now.end round.now certificate.now.batches) }
-    ensures told { IfOk result (λ e.
-        TellsVerdict telling e.judged.is_shown e.judged.end e.judged.batches (string_bytes e.text)) }
+    ensures printed { IfOk result (λ e.
+        GivesVerdict format e.judged.is_shown e.judged.end e.judged.batches (string_bytes e.text)) }
 {
     let judged = verdict_on(round, certificate);
     Ok(Explained {
         judged,
-        text: explanation(alloc, telling, round, certificate, judged.is_shown)?,
+        text: explanation(alloc, format, round, certificate, judged.is_shown)?,
     })
 }
 
 // Tells why fewer batches do not suffice for the page file, by its certificate, or which node of the certificate does not hold.
-// Answers whether the certificate shows its number of batches.
+// Returns whether the certificate shows its number of batches.
 fn explain_held<P: Source + Drop, C: Source + Drop, O: Sink>(
     alloc: Global,
-    telling: Telling,
+    format: Format,
     files: &mut ExplainFiles<P, C>,
     out: &mut O,
 ) -> Result<bool, CentreFault>
-    ensures shown { P.tells → C.tells → IfOk result (λ shown. IsTrue shown →
+    ensures shown { P.is_known → C.is_known → IfOk result (λ shown. IsTrue shown →
         ShowsItsBatches (P.held files.old.pages) (C.held files.old.cert)) }
-    ensures not_shown { P.tells → C.tells → IfOk result (λ shown. IsFalse shown →
+    ensures not_shown { P.is_known → C.is_known → IfOk result (λ shown. IsFalse shown →
         DoesNotShow (P.held files.old.pages) (C.held files.old.cert)) }
-    ensures told { C.tells → O.tells → IfOk result (λ shown.
-        TookVerdict telling shown (C.held files.old.cert) (O.taken out.old) (O.taken out.new)) }
-    ensures part { P.tells → C.tells → O.tells → IsErrOf result (CentreFault.File file_fault.Write) →
-        TookVerdictPart telling (P.held files.old.pages) (C.held files.old.cert) (O.taken out.old) (O.taken out.new) }
-    ensures explained { P.tells → C.tells →
+    ensures printed { C.is_known → O.is_known → IfOk result (λ shown.
+        TookVerdict format shown (C.held files.old.cert) (O.taken out.old) (O.taken out.new)) }
+    ensures part { P.is_known → C.is_known → O.is_known → IsErrOf result (CentreFault.File file_fault.Write) →
+        TookVerdictPart format (P.held files.old.pages) (C.held files.old.cert) (O.taken out.old) (O.taken out.new) }
+    ensures explained { P.is_known → C.is_known →
         IfErr result (OrDevice (ExplainsUntold (P.held files.old.pages) (C.held files.old.cert))) }
     ensures refused { IfErr result (λ e. e ≢ CentreFault.File file_fault.Write → out.new ≡ out.old) }
     ensures read_failed { IsErrOf result (CentreFault.Round round_fault.ReadFault) →
@@ -90,7 +90,7 @@ fn explain_held<P: Source + Drop, C: Source + Drop, O: Sink>(
 {
     let round = read_round(alloc, &mut files.pages)?;
     let certificate = read_certificate(alloc, &mut files.cert)?;
-    let explained = judged_and_told(alloc, telling, &round, &certificate)?;
+    let explained = judged_and_told(alloc, format, &round, &certificate)?;
     put_whole(out, explained.text.as_str().as_bytes())?;
     Ok(explained.judged.is_shown)
 }
@@ -99,35 +99,35 @@ fn explain_held<P: Source + Drop, C: Source + Drop, O: Sink>(
 /// certificate does not hold. Returns the exit status: 0 where the certificate shows its number of batches, 1 where it does not.
 pub fn run_explain<P: Source + Drop, C: Source + Drop, O: Sink, E: Sink + Drop>(
     alloc: Global,
-    telling: Telling,
+    format: Format,
     files: &mut ExplainFiles<P, C>,
     out: &mut O,
     err: &mut ErrorStream<CentreFault, E>,
 ) -> u8
-    ensures done { IfNone (told_by err.new)
+    ensures done { IfNone (printed_by err.new)
         (((result ≡ 0) ⊎ (result ≡ 1)) × (stream_of err.new ≡ stream_of err.old)) }
-    ensures status { IfSome (told_by err.new) (λ e. result ≡ centre_status e) }
-    ensures shown { P.tells → C.tells → IfNone (told_by err.new) (result ≡ 0 →
+    ensures status { IfSome (printed_by err.new) (λ e. result ≡ centre_status e) }
+    ensures shown { P.is_known → C.is_known → IfNone (printed_by err.new) (result ≡ 0 →
         ShowsItsBatches (P.held files.old.pages) (C.held files.old.cert)) }
-    ensures not_shown { P.tells → C.tells → IfNone (told_by err.new) (result ≡ 1 →
+    ensures not_shown { P.is_known → C.is_known → IfNone (printed_by err.new) (result ≡ 1 →
         DoesNotShow (P.held files.old.pages) (C.held files.old.cert)) }
-    ensures told { C.tells → O.tells → IfNone (told_by err.new)
-        (TookVerdict telling (result == 0) (C.held files.old.cert) (O.taken out.old) (O.taken out.new)) }
-    ensures part { P.tells → C.tells → O.tells → told_by err.new ≡ Some (CentreFault.File file_fault.Write) →
-        TookVerdictPart telling (P.held files.old.pages) (C.held files.old.cert) (O.taken out.old) (O.taken out.new) }
-    ensures explained { P.tells → C.tells → IfSome (told_by err.new)
+    ensures printed { C.is_known → O.is_known → IfNone (printed_by err.new)
+        (TookVerdict format (result == 0) (C.held files.old.cert) (O.taken out.old) (O.taken out.new)) }
+    ensures part { P.is_known → C.is_known → O.is_known → printed_by err.new ≡ Some (CentreFault.File file_fault.Write) →
+        TookVerdictPart format (P.held files.old.pages) (C.held files.old.cert) (O.taken out.old) (O.taken out.new) }
+    ensures explained { P.is_known → C.is_known → IfSome (printed_by err.new)
         (OrDevice (ExplainsUntold (P.held files.old.pages) (C.held files.old.cert))) }
-    ensures refused { IfSome (told_by err.new) (λ e. e ≢ CentreFault.File file_fault.Write → out.new ≡ out.old) }
+    ensures refused { IfSome (printed_by err.new) (λ e. e ≢ CentreFault.File file_fault.Write → out.new ≡ out.old) }
 
     // A device's fault is told only where that device failed.
-    ensures read_failed { told_by err.new ≡ Some (CentreFault.Round round_fault.ReadFault) →
+    ensures read_failed { printed_by err.new ≡ Some (CentreFault.Round round_fault.ReadFault) →
         HasFailed (P.failures files.old.pages) (P.failures files.new.pages) }
-    ensures certificate_failed { told_by err.new ≡ Some (CentreFault.Certificate tree_fault.ReadFault) →
+    ensures certificate_failed { printed_by err.new ≡ Some (CentreFault.Certificate tree_fault.ReadFault) →
         HasFailed (C.failures files.old.cert) (C.failures files.new.cert) }
-    ensures write_failed { told_by err.new ≡ Some (CentreFault.File file_fault.Write) →
+    ensures write_failed { printed_by err.new ≡ Some (CentreFault.File file_fault.Write) →
         HasFailed (O.failures out.old) (O.failures out.new) }
 {
-    match explain_held(alloc, telling, files, out) {
+    match explain_held(alloc, format, files, out) {
         Ok(true) => err.end(Ok(0)),
         Ok(false) => err.end(Ok(1)),
         Err(fault) => err.end(Err(fault)),

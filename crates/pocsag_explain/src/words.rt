@@ -1,7 +1,7 @@
 //! The words of `explain`, and what help says of them.
 
 use clap::ArgMatches;
-use pocsag_findings::Telling;
+use pocsag_findings::Format;
 use pocsag_shell::{CERT_PLACE, Content, FLAG, Given, LineWord, PAGES_PLACE, SVG, Shape};
 
 pub(crate) const EXPLAIN: &str = "explain";
@@ -63,13 +63,13 @@ pub(crate) const EXPLAIN_COMMANDS: &[Shape] = &[Shape {
 }];
 
 /// How a certificate is told, by the words of `explain`.
-pub(crate) fn wanted_telling(found: &ArgMatches<'_>) -> Option<Telling> {
+pub(crate) fn wanted_format(found: &ArgMatches<'_>) -> Option<Format> {
     let depth = found.get_one::<u32>(DEPTH)?;
     Some(if found.get_flag(SVG) {
-        Telling::Drawing
+        Format::Drawing
     } else if found.get_flag(JSON) {
-        Telling::Facts(depth)
+        Format::Json(depth)
     } else {
-        Telling::Lines(depth)
+        Format::Lines(depth)
     })
 }

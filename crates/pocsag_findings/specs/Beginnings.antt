@@ -3,8 +3,8 @@ use Rattle.std.specs.Prelude.{◌≡◌, ◌==◌, ℕ, Bool, true, false, if◌
 use Rattle.std.specs.Fmt.{decimal}
 use Rattle.pocsag_words.specs.declared.ending.End.{End}
 use Rattle.pocsag_words.specs.declared.ending.End.TheVariants as ends
-use Rattle.pocsag_findings.specs.declared.form.Telling.{Telling}
-use Rattle.pocsag_findings.specs.declared.form.Telling.TheVariants as telling
+use Rattle.pocsag_findings.specs.declared.format.Format.{Format}
+use Rattle.pocsag_findings.specs.declared.format.Format.TheVariants as format
 
 -- The text begins with these words.
 pub record BeginsWith (words text : List ℕ) : Type 0 where
@@ -41,8 +41,8 @@ drawing_head height =
 
 -- A text of this form begins with the verdict: the words; of JSON the members; of a drawing its head, and the words as its
 -- title.
-abbrev pub TellsVerdict : Telling → (is_shown : Bool) → End → (batches : ℕ) → List ℕ → Type 0
-TellsVerdict (telling.Lines depth) is_shown end batches text = BeginsWith (verdict_words is_shown end batches) text
-TellsVerdict (telling.Facts depth) is_shown end batches text = BeginsWith (verdict_members is_shown end batches) text
-TellsVerdict telling.Drawing is_shown end batches text =
+abbrev pub GivesVerdict : Format → (is_shown : Bool) → End → (batches : ℕ) → List ℕ → Type 0
+GivesVerdict (format.Lines depth) is_shown end batches text = BeginsWith (verdict_words is_shown end batches) text
+GivesVerdict (format.Json depth) is_shown end batches text = BeginsWith (verdict_members is_shown end batches) text
+GivesVerdict format.Drawing is_shown end batches text =
     (height : ℕ) × BeginsWith (drawing_head height ++ verdict_words is_shown end batches) text

@@ -1,9 +1,9 @@
 ghost use Rattle.std.specs.Prelude.{IfOk, string_bytes};
-ghost use Rattle.pocsag_findings.specs.Beginnings.{TellsVerdict};
+ghost use Rattle.pocsag_findings.specs.Beginnings.{GivesVerdict};
 
 use crate::drawing::drawing;
-use crate::facts::{other_members, verdict};
-use crate::form::Telling;
+use crate::format::Format;
+use crate::json::{other_members, verdict};
 use crate::judgement::DRAWN_DEPTH;
 use crate::kind::kinds_of;
 use crate::listing::findings;
@@ -19,19 +19,19 @@ use std::alloc::{AllocError, Global};
 /// or the first node that does not hold, which may stand at any depth.
 pub fn explanation(
     alloc: Global,
-    telling: Telling,
+    format: Format,
     round: &Round,
     certificate: &Certificate,
     is_shown: bool,
 ) -> Result<String, OutOfMemory>
     ensures told { IfOk result (λ text.
-        TellsVerdict telling is_shown certificate.now.end certificate.now.batches (string_bytes text)) }
+        GivesVerdict format is_shown certificate.now.end certificate.now.batches (string_bytes text)) }
 {
     let classes = classes_of(round, certificate.end);
-    let depth = match telling {
+    let depth = match format {
         _ if !is_shown => DEPTH_LIMIT,
-        Telling::Lines(depth) | Telling::Facts(depth) => depth,
-        Telling::Drawing => DRAWN_DEPTH,
+        Format::Lines(depth) | Format::Json(depth) => depth,
+        Format::Drawing => DRAWN_DEPTH,
     };
     let found = findings(alloc, &classes, certificate, depth)?;
     let kinds = kinds_of(alloc, round, certificate.end, &classes)?;
@@ -42,20 +42,20 @@ pub fn explanation(
         found.as_slice(),
         kinds.as_slice(),
     );
-    Ok(told(alloc, telling, &subject)?)
+    Ok(told(alloc, format, &subject)?)
 }
 
-fn told(alloc: Global, telling: Telling, subject: &Subject<'_>) -> Result<String, AllocError>
+fn told(alloc: Global, format: Format, subject: &Subject<'_>) -> Result<String, AllocError>
     ensures { IfOk result (λ text.
-        TellsVerdict telling subject.now.is_shown subject.now.refuted.end subject.now.batches (string_bytes text)) }
+        GivesVerdict format subject.now.is_shown subject.now.refuted.end subject.now.batches (string_bytes text)) }
 {
-    let (mut text, others) = match telling {
-        Telling::Lines(_) => (first_words(alloc, subject)?, outline(alloc, subject)?),
-        Telling::Facts(depth) => (
+    let (mut text, others) = match format {
+        Format::Lines(_) => (first_words(alloc, subject)?, outline(alloc, subject)?),
+        Format::Json(depth) => (
             verdict(alloc, subject)?,
             other_members(alloc, subject, depth)?,
         ),
-        Telling::Drawing => return drawing(alloc, subject),
+        Format::Drawing => return drawing(alloc, subject),
     };
     text.push_str(others.as_str())?;
     Ok(text)

@@ -5,10 +5,10 @@
 mod columns;
 mod drawing;
 mod explained;
-mod facts;
 mod finding;
-mod form;
+mod format;
 mod inquiry;
+mod json;
 mod judgement;
 mod kind;
 mod limit;
@@ -22,5 +22,5 @@ mod subject;
 
 pub use explained::explanation;
 pub use finding::{Column, Fact, Finding, Narrowed, Reached, Share};
-pub use form::Telling;
+pub use format::Format;
 pub use listing::findings;

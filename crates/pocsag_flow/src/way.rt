@@ -41,7 +41,7 @@ fn next_at(slot: u8, class: u8) -> u8
 // Moves up to `most` into the slot, which is not reached yet, and on where it has no room.
 #[cycle(push)]
 fn enter(network: &Network, search: &mut Progress, slot: u8, most: u32) -> u32
-    requires may { MayPush network.now search.old most }
+    requires has_room { MayPush network.now search.old most }
     requires slot { slot < 16 }
     requires apart { holds search.old.reached slot ≡ false }
     ensures pushes { Pushes network.now search.old search.new slot most result }
@@ -61,7 +61,7 @@ fn enter(network: &Network, search: &mut Progress, slot: u8, most: u32) -> u32
 // the first class that leads to one.
 #[cycle(push)]
 pub(crate) fn leave(network: &Network, search: &mut Progress, slot: u8, most: u32) -> u32
-    requires may { MayPush network.now search.old most }
+    requires has_room { MayPush network.now search.old most }
     requires slot { slot < 16 }
     requires reached { holds search.old.reached slot ≡ true }
     ensures pushes { Pushes network.now search.old search.new slot most result }
@@ -87,7 +87,7 @@ pub(crate) fn leave(network: &Network, search: &mut Progress, slot: u8, most: u3
 // Moves up to `most` out of the slot by the first class that leads straight into a slot with room.
 #[cycle(push)]
 fn leave_straight(network: &Network, search: &mut Progress, slot: u8, most: u32) -> u32
-    requires may { MayPush network.now search.old most }
+    requires has_room { MayPush network.now search.old most }
     requires slot { slot < 16 }
     requires reached { holds search.old.reached slot ≡ true }
     ensures pushes { Pushes network.now search.old search.new slot most result }
@@ -112,7 +112,7 @@ fn switch_straight(
     slot: u8,
     most: u32,
 ) -> u32
-    requires may { MayPush network.now search.old most }
+    requires has_room { MayPush network.now search.old most }
     requires reached { holds search.old.reached slot ≡ true }
     ensures pushes { Pushes network.now search.old search.new slot most result }
 {
@@ -149,7 +149,7 @@ fn has_room(network: &Network, slot: u8) -> bool
 #[inline(always)]
 #[cycle(push)]
 fn switch(network: &Network, search: &mut Progress, class: Class, slot: u8, most: u32) -> u32
-    requires may { MayPush network.now search.old most }
+    requires has_room { MayPush network.now search.old most }
     requires reached { holds search.old.reached slot ≡ true }
     ensures pushes { Pushes network.now search.old search.new slot most result }
     ensures leads { result ≡ 0 →
@@ -181,7 +181,7 @@ fn switch(network: &Network, search: &mut Progress, class: Class, slot: u8, most
 // Moves up to `most` runs of the class from early to late.
 #[cycle(push)]
 fn to_late(network: &Network, search: &mut Progress, class: Class, most: u32) -> u32
-    requires may { MayPush network.now search.old most }
+    requires has_room { MayPush network.now search.old most }
     requires reached { holds search.old.reached (start_of class.number true) ≡ true }
     requires apart { holds search.old.reached (finish_of class.number true) ≡ false }
     requires room { slice_index network.now.limits.now.lo class.number < slice_index search.old.early class.number }
@@ -197,7 +197,7 @@ fn to_late(network: &Network, search: &mut Progress, class: Class, most: u32) ->
 // Moves up to `most` runs of the class from late to early.
 #[cycle(push)]
 fn to_early(network: &Network, search: &mut Progress, class: Class, most: u32) -> u32
-    requires may { MayPush network.now search.old most }
+    requires has_room { MayPush network.now search.old most }
     requires reached { holds search.old.reached (finish_of class.number true) ≡ true }
     requires apart { holds search.old.reached (start_of class.number true) ≡ false }
     requires room { slice_index search.old.early class.number < slice_index network.now.limits.now.hi class.number }

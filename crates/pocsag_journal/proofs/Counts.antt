@@ -6,7 +6,7 @@ use Rattle.std.specs.Str.{IsUtf8}
 use Rattle.std.proofs.lemmas.Fmt.{IsAscii-decimal}
 use Rattle.std.proofs.lemmas.Str.{IsUtf8-from_ascii}
 use Rattle.pocsag_pages.specs.declared.page.Page.{Page}
-use Rattle.pocsag_shell.proofs.Besides.{IsNumberIn}
+use Rattle.pocsag_shell.proofs.StagedFiles.{IsNumberIn}
 use Rattle.pocsag_journal.specs.Edited.{SpellsCount}
 use Rattle.pocsag_journal.specs.Runs.{IsEdit, asked_of, sent_record}
 

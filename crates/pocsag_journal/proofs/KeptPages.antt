@@ -15,15 +15,15 @@ use Rattle.pocsag_journal.specs.Runs.{IsEdit, IsRefusedFor, IsRun, asked_of, wan
 use Rattle.pocsag_journal.specs.declared.refusal.Refusal.{Refusal}
 use Rattle.pocsag_journal.specs.Runs.{first_record}
 use Rattle.pocsag_journal.specs.LineTexts.{IsWholeLine}
-use Rattle.pocsag_journal.specs.Journals.{AddsLine, IsAdd, ListsPages, StandsFor, add_record, rows_text}
+use Rattle.pocsag_journal.specs.Journals.{AddsLine, IsAdd, ListsPages, Represents, add_record, rows_text}
 use Rattle.pocsag_journal.specs.Faults.{IsUnspelled}
 use Rattle.pocsag_journal.proofs.EditRuns.{edit_once, run_on}
 use Rattle.pocsag_journal.proofs.TextLines.{same_row}
 use Rattle.pocsag_journal.proofs.Prefixes.{all_more, journal_more}
 use Rattle.pocsag_journal.proofs.Replays.{edit_some}
 
-pub stands_on : (text later : List ℕ) (row : Row) (before after : List Page) → StandsFor text before →
-    IsWholeLine (row_text default_writer row) → IsEdit row before after → later ≡ text ++ row_text default_writer row → StandsFor later after
+pub stands_on : (text later : List ℕ) (row : Row) (before after : List Page) → Represents text before →
+    IsWholeLine (row_text default_writer row) → IsEdit row before after → later ≡ text ++ row_text default_writer row → Represents later after
 stands_on text later row before after stands line edit e = record {
   rows = stands.rows ++ row ∷ [];
   text = e ∙ ap (λ (t : List ℕ). t ++ row_text default_writer row) stands.text ∙ sym (journal_more stands.rows row);

@@ -18,5 +18,5 @@ pub mod Replays
 pub mod RowTexts
 pub mod Strays
 pub mod TextLines
-mod ToldReplays
+mod PrintedReplays
 pub mod TornLines

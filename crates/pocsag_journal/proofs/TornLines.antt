@@ -11,7 +11,7 @@ use Rattle.pocsag_journal.specs.LineTexts.{HasNoLineFeed, IsWholeLine}
 use Rattle.pocsag_journal.proofs.Moments.{goes_on, started}
 use Rattle.pocsag_journal.specs.Crashes.{IsTorn, LeavesAfter, LeavesOr, RestartsAs}
 use Rattle.pocsag_journal.specs.Growth.{kept_line_limit}
-use Rattle.pocsag_journal.specs.Journals.{IsAdd, ListsPages, StandsFor, journal_limit, rows_text}
+use Rattle.pocsag_journal.specs.Journals.{IsAdd, ListsPages, Represents, journal_limit, rows_text}
 use Rattle.pocsag_journal.specs.Views.{IsHeld, disk_of}
 use Rattle.pocsag_journal.specs.Restarts.{held_restarts, restarts}
 use Rattle.pocsag_journal.specs.declared.journal.Journal.{Journal}
@@ -20,7 +20,7 @@ use Rattle.pocsag_journal.proofs.Prefixes.{short}
 use Rattle.pocsag_journal.proofs.KeptPages.{added_behind, stands_on}
 
 -- a torn end is passed over
-passed_over : (held left part : List ℕ) (pages : List Page) → StandsFor held pages → left ≡ held ++ part → HasNoLineFeed part →
+passed_over : (held left part : List ℕ) (pages : List Page) → Represents held pages → left ≡ held ++ part → HasNoLineFeed part →
     length left ≤ journal_limit → RestartsAs left pages
 passed_over held left part pages stands e none few = record {
   rows = stands.rows;
@@ -31,7 +31,7 @@ passed_over held left part pages stands e none few = record {
 }
 
 -- a front of a line is all of it, or has no line feed
-front_reads : (held line left part rest : List ℕ) (row : Row) (before after : List Page) → StandsFor held before →
+front_reads : (held line left part rest : List ℕ) (row : Row) (before after : List Page) → Represents held before →
     line ≡ row_text default_writer row → IsWholeLine line → IsEdit row before after → left ≡ held ++ part → line ≡ part ++ rest →
     length left ≤ journal_limit → ReadsAsEither RestartsAs before after left
 front_reads held line left part [] row before after stands text whole edit e cut few =
@@ -42,7 +42,7 @@ front_reads held line left part (b ∷ rest) row before after stands text whole 
     inl (passed_over held left part before stands e (short part (b ∷ rest) line whole (λ n. cc n) cut) few)
 
 -- whatever a crash leaves of a line that was being written: the pages before its edit are read, or those after it
-pub torn_reads : (held line left : List ℕ) (row : Row) (before after : List Page) → StandsFor held before →
+pub torn_reads : (held line left : List ℕ) (row : Row) (before after : List Page) → Represents held before →
     line ≡ row_text default_writer row → IsWholeLine line → IsEdit row before after → length held + length line ≤ journal_limit →
     IsTorn line held left → ReadsAsEither RestartsAs before after left
 torn_reads held line left row before after stands text whole edit fits torn =

@@ -111,7 +111,7 @@ abbrev pub PutsLine : (text later : List ℕ) (before : List Page) → Page → 
 PutsLine text later before page after = (line : List ℕ) × AddsLine line before page after × (later ≡ text ++ line)
 
 -- The bytes are the journal text of a run that leads from no pages to these.
-pub record StandsFor (bytes : List ℕ) (pages : List Page) : Type 0 where
+pub record Represents (bytes : List ℕ) (pages : List Page) : Type 0 where
   pub rows : List Row
   pub text : bytes ≡ journal_text rows
   pub each : AllByRecursion IsLine rows
@@ -119,5 +119,5 @@ pub record StandsFor (bytes : List ℕ) (pages : List Page) : Type 0 where
 
 -- *Written anew*: the same, and each record adds a page.
 pub record ListsPages (bytes : List ℕ) (pages : List Page) : Type 0 where
-  pub stands : StandsFor bytes pages
+  pub stands : Represents bytes pages
   pub adds : AllByRecursion IsAdd stands.rows

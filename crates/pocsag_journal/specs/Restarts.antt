@@ -2,11 +2,11 @@
 use Rattle.std.proofs.Common.{inl, ℕ, ◌≤◌, List, [], length, sym, ◌∙◌, subst, append-nil}
 use Rattle.pocsag_pages.specs.declared.page.Page.{Page}
 use Rattle.pocsag_journal.specs.Crashes.{RestartsAs}
-use Rattle.pocsag_journal.specs.Journals.{StandsFor, journal_limit, journal_text}
+use Rattle.pocsag_journal.specs.Journals.{Represents, journal_limit, journal_text}
 use Rattle.pocsag_journal.specs.Views.{IsHeld}
 use Rattle.pocsag_journal.specs.declared.journal.Journal.{Journal}
 
-pub restarts : (bytes : List ℕ) (pages : List Page) → StandsFor bytes pages → length bytes ≤ journal_limit → RestartsAs bytes pages
+pub restarts : (bytes : List ℕ) (pages : List Page) → Represents bytes pages → length bytes ≤ journal_limit → RestartsAs bytes pages
 restarts bytes pages stands few = record {
   rows = stands.rows;
   torn = [];

@@ -2,7 +2,7 @@
 use Rattle.std.specs.Prelude.{◌≡◌, ℕ, ◌≤◌, List, length}
 use Rattle.pocsag_pages.specs.declared.page.Page.{Page}
 use Rattle.pocsag_journal.specs.Moments.{IsSafe}
-use Rattle.pocsag_journal.specs.Journals.{StandsFor, journal_limit}
+use Rattle.pocsag_journal.specs.Journals.{Represents, journal_limit}
 use Rattle.pocsag_journal.specs.declared.journal.Journal.{Journal}
 
 -- The disk that it is on.
@@ -24,6 +24,6 @@ pub record IsMeasured {D : Type 0} (journal : Journal D) (held : List ℕ) : Typ
 
 -- What the disk holds stands for the pages, can be read again, and no crash takes any of it away.
 pub record IsHeld {D : Type 0} (journal : Journal D) (held : List ℕ) (may_leave : List ℕ → Type 0) (pages : List Page) : Type 0 where
-  pub stands : StandsFor held pages
+  pub stands : Represents held pages
   pub counted : IsMeasured journal held
   pub safe : IsSafe held may_leave

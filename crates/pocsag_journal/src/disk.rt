@@ -11,7 +11,7 @@ use std::alloc::Global;
 /// crash, which leaves some of what was written.
 pub trait Disk {
     // Whether contracts know its bytes.
-    ghost tells: { Type 0 };
+    ghost is_known: { Type 0 };
 
     // The bytes that it holds.
     ghost held: { Self → List ℕ };
@@ -33,51 +33,51 @@ pub trait Disk {
     ghost is_sound: { Self → Type 0 };
 
     // This moment is one of those since an earlier one, and since this moment there is no other.
-    ghost counts_now: { (disk : Self) (t : ℕ) (left : List ℕ) → tells → t ≤ moment disk → may_leave disk left →
+    ghost counts_now: { (disk : Self) (t : ℕ) (left : List ℕ) → is_known → t ≤ moment disk → may_leave disk left →
         left_since disk t left };
 
-    ghost only_now: { (disk : Self) (left : List ℕ) → tells → left_since disk (moment disk) left →
+    ghost only_now: { (disk : Self) (left : List ℕ) → is_known → left_since disk (moment disk) left →
         may_leave disk left };
 
     /// Reads all that it holds, of which so many bytes are allowed.
     fn read(&mut self, alloc: Global, most: usize) -> Result<Vec<u8>, WholeFault>
-        ensures whole { tells → IfOk result (λ bytes. bytes.items ≡ held self.old) }
+        ensures whole { is_known → IfOk result (λ bytes. bytes.items ≡ held self.old) }
         ensures fits { IfOk result (λ bytes. length bytes.items ≤ most) }
-        ensures too_large { tells → result ≡ Err WholeFault.TooLarge → most < length (held self.old) }
-        ensures same { tells → held self.new ≡ held self.old }
-        ensures crash { tells → (left : List ℕ) → may_leave self.new left → may_leave self.old left }
-        ensures time { tells → Elapses (moment self.old) (moment self.new)
+        ensures too_large { is_known → result ≡ Err WholeFault.TooLarge → most < length (held self.old) }
+        ensures same { is_known → held self.new ≡ held self.old }
+        ensures crash { is_known → (left : List ℕ) → may_leave self.new left → may_leave self.old left }
+        ensures time { is_known → Elapses (moment self.old) (moment self.new)
             (left_since self.old) (left_since self.new) (may_leave self.new) }
-        ensures succeeded { tells → OnOk result (failures self.new ≡ failures self.old) }
-        ensures failed { tells → result ≡ Err WholeFault.ReadFault →
+        ensures succeeded { is_known → OnOk result (failures self.new ≡ failures self.old) }
+        ensures failed { is_known → result ≡ Err WholeFault.ReadFault →
             HasFailed (failures self.old) (failures self.new) };
 
     /// Writes a line behind what it holds. Before `sync` a crash may leave the line torn.
     fn append(&mut self, line: &[u8]) -> Result<(), DeviceFault>
-        ensures delivers { tells → Delivers result (held self.old) (held self.new) line.now }
-        ensures crash { tells → LeavesAfter (IsTorn line.now) (may_leave self.old) (may_leave self.new) }
-        ensures time { tells → Elapses (moment self.old) (moment self.new)
+        ensures delivers { is_known → Delivers result (held self.old) (held self.new) line.now }
+        ensures crash { is_known → LeavesAfter (IsTorn line.now) (may_leave self.old) (may_leave self.new) }
+        ensures time { is_known → Elapses (moment self.old) (moment self.new)
             (left_since self.old) (left_since self.new) (may_leave self.new) }
-        ensures sound { tells → is_sound self.old → is_sound self.new }
-        ensures failures { tells → CountsFailures result (failures self.old) (failures self.new) };
+        ensures sound { is_known → is_sound self.old → is_sound self.new }
+        ensures failures { is_known → CountsFailures result (failures self.old) (failures self.new) };
 
     /// Puts all that it holds where no crash takes it away, if none of these calls failed before.
     fn sync(&mut self) -> Result<(), DeviceFault>
-        ensures safe { tells → is_sound self.old → OnOk result (IsSafe (held self.new) (may_leave self.new)) }
-        ensures sound { tells → is_sound self.old → OnOk result (is_sound self.new) }
-        ensures same { tells → held self.new ≡ held self.old }
-        ensures crash { tells → (left : List ℕ) → may_leave self.new left → may_leave self.old left }
-        ensures time { tells → Elapses (moment self.old) (moment self.new)
+        ensures safe { is_known → is_sound self.old → OnOk result (IsSafe (held self.new) (may_leave self.new)) }
+        ensures sound { is_known → is_sound self.old → OnOk result (is_sound self.new) }
+        ensures same { is_known → held self.new ≡ held self.old }
+        ensures crash { is_known → (left : List ℕ) → may_leave self.new left → may_leave self.old left }
+        ensures time { is_known → Elapses (moment self.old) (moment self.new)
             (left_since self.old) (left_since self.new) (may_leave self.new) }
-        ensures failures { tells → CountsFailures result (failures self.old) (failures self.new) };
+        ensures failures { is_known → CountsFailures result (failures self.old) (failures self.new) };
 
     /// Puts a text in the place of all that it holds, at once: a crash leaves the one or the other.
     fn replace(&mut self, text: &[u8]) -> Result<(), DeviceFault>
-        ensures held { tells → OnOk result (held self.new ≡ text.now) }
-        ensures safe { tells → OnOk result (IsSafe text.now (may_leave self.new)) }
-        ensures sound { tells → OnOk result (is_sound self.new) }
-        ensures crash { tells → LeavesOr text.now (may_leave self.old) (may_leave self.new) }
-        ensures time { tells → Elapses (moment self.old) (moment self.new)
+        ensures held { is_known → OnOk result (held self.new ≡ text.now) }
+        ensures safe { is_known → OnOk result (IsSafe text.now (may_leave self.new)) }
+        ensures sound { is_known → OnOk result (is_sound self.new) }
+        ensures crash { is_known → LeavesOr text.now (may_leave self.old) (may_leave self.new) }
+        ensures time { is_known → Elapses (moment self.old) (moment self.new)
             (left_since self.old) (left_since self.new) (may_leave self.new) }
-        ensures failures { tells → CountsFailures result (failures self.old) (failures self.new) };
+        ensures failures { is_known → CountsFailures result (failures self.old) (failures self.new) };
 }

@@ -5,7 +5,7 @@ ghost use Rattle.pocsag_journal.specs.Faults.{ExplainsAnew, ExplainsReplay};
 ghost use Rattle.pocsag_journal.specs.Journals.{ListsPages, Replays, journal_limit};
 ghost use Rattle.pocsag_journal.specs.Views.{IsMeasured, counted_of, disk_of, journal_length};
 
-use crate::anew::text_of_pages;
+use crate::compaction::text_of_pages;
 use crate::disk::Disk;
 use crate::fault::JournalFault;
 use crate::keeper::Keeper;
@@ -42,16 +42,16 @@ impl<D: Disk + Drop> Journal<D> {
 
     /// Reads what the disk holds, as `read_journal` reads a source. Nothing is changed.
     pub fn read(&mut self, alloc: Global) -> Result<Replayed, JournalFault>
-        ensures read { D.tells → IfOk result
+        ensures read { D.is_known → IfOk result
             (λ replayed. Replays (D.held (disk_of self.old)) replayed.edits replayed.torn replayed.book) }
-        ensures few { D.tells → OnOk result (length (D.held (disk_of self.old)) ≤ journal_limit) }
-        ensures told { D.tells → IfErr result (ExplainsReplay (D.held (disk_of self.old))
+        ensures few { D.is_known → OnOk result (length (D.held (disk_of self.old)) ≤ journal_limit) }
+        ensures told { D.is_known → IfErr result (ExplainsReplay (D.held (disk_of self.old))
             (D.failures (disk_of self.old)) (D.failures (disk_of self.new))) }
-        ensures succeeded { D.tells → OnOk result (D.failures (disk_of self.new) ≡ D.failures (disk_of self.old)) }
-        ensures same { D.tells → D.held (disk_of self.new) ≡ D.held (disk_of self.old) }
+        ensures succeeded { D.is_known → OnOk result (D.failures (disk_of self.new) ≡ D.failures (disk_of self.old)) }
+        ensures same { D.is_known → D.held (disk_of self.new) ≡ D.held (disk_of self.old) }
 
         // A crash at any moment of it leaves what one before might have left.
-        ensures any_moment { D.tells → LeavesOnly D.moment D.left_since (disk_of self.old) (disk_of self.new)
+        ensures any_moment { D.is_known → LeavesOnly D.moment D.left_since (disk_of self.old) (disk_of self.new)
             (D.may_leave (disk_of self.old)) }
     {
         match self.disk.read(alloc, JOURNAL_LIMIT) {
@@ -63,19 +63,19 @@ impl<D: Disk + Drop> Journal<D> {
     }
 
     /// Writes the journal of a round anew, in the place of all that the disk holds.
-    pub fn write_anew(&mut self, alloc: Global, book: &Book) -> Result<(), JournalFault>
-        ensures adds { D.tells → OnOk result (ListsPages (D.held (disk_of self.new)) book.now) }
-        ensures safe { D.tells → OnOk result (IsSafe (D.held (disk_of self.new)) (D.may_leave (disk_of self.new))) }
-        ensures sound { D.tells → OnOk result (D.is_sound (disk_of self.new)) }
-        ensures measured { D.tells → OnOk result (IsMeasured self.new (D.held (disk_of self.new))) }
+    pub fn compact(&mut self, alloc: Global, book: &Book) -> Result<(), JournalFault>
+        ensures adds { D.is_known → OnOk result (ListsPages (D.held (disk_of self.new)) book.now) }
+        ensures safe { D.is_known → OnOk result (IsSafe (D.held (disk_of self.new)) (D.may_leave (disk_of self.new))) }
+        ensures sound { D.is_known → OnOk result (D.is_sound (disk_of self.new)) }
+        ensures measured { D.is_known → OnOk result (IsMeasured self.new (D.held (disk_of self.new))) }
         ensures counted { OnOk result (counted_of self.new ≡ journal_length self.new) }
 
         // A crash at any moment of it leaves what one before might have left, or what is read as the pages of the round.
-        ensures any_moment { D.tells → LeavesOnly D.moment D.left_since (disk_of self.old) (disk_of self.new)
+        ensures any_moment { D.is_known → LeavesOnly D.moment D.left_since (disk_of self.old) (disk_of self.new)
             (λ left. D.may_leave (disk_of self.old) left ⊎ RestartsAs left book.now) }
-        ensures explained { D.tells → IfErr result
+        ensures explained { D.is_known → IfErr result
             (ExplainsAnew book.now (D.failures (disk_of self.old)) (D.failures (disk_of self.new))) }
-        ensures succeeded { D.tells → OnOk result (D.failures (disk_of self.new) ≡ D.failures (disk_of self.old)) }
+        ensures succeeded { D.is_known → OnOk result (D.failures (disk_of self.new) ≡ D.failures (disk_of self.old)) }
     {
         let text = text_of_pages(alloc, book.pages())?;
         let Ok(()) = self.disk.replace(text.as_slice()) else {
@@ -93,13 +93,13 @@ impl<D: Disk + Drop> Keeper for Journal<D> {
     ghost use Rattle.pocsag_journal.specs.Views.{IsHeld};
     ghost use Rattle.pocsag_journal.specs.Restarts.{held_restarts};
 
-    ghost tells = { D.tells };
+    ghost is_known = { D.is_known };
 
     ghost taken = { λ journal. D.held (disk_of journal) };
 
     ghost most = { journal_limit };
 
-    ghost counts = { D.tells };
+    ghost counts = { D.is_known };
 
     ghost failures = { λ journal. D.failures (disk_of journal) };
 
@@ -111,7 +111,7 @@ impl<D: Disk + Drop> Keeper for Journal<D> {
 
     ghost reads_as = { RestartsAs };
 
-    ghost stands_for = { λ journal pages. D.tells →
+    ghost represents = { λ journal pages. D.is_known →
         IsHeld journal (D.held (disk_of journal)) (D.may_leave (disk_of journal)) pages × D.is_sound (disk_of journal) };
 
     ghost settles = { λ done pages old new. SettlesAs done pages (counted_of old) (counted_of new)
@@ -119,12 +119,12 @@ impl<D: Disk + Drop> Keeper for Journal<D> {
 
     ghost settled_at = { counted_of };
 
-    ghost restarts = { λ journal pages left tells stands now.
-        held_restarts journal (D.held (disk_of journal)) (D.may_leave (disk_of journal)) pages left (stands tells).0 now };
+    ghost restarts = { λ journal pages left is_known stands now.
+        held_restarts journal (D.held (disk_of journal)) (D.may_leave (disk_of journal)) pages left (stands is_known).0 now };
 
-    ghost counts_now = { λ journal t left tells le now. D.counts_now (disk_of journal) t left tells le now };
+    ghost counts_now = { λ journal t left is_known le now. D.counts_now (disk_of journal) t left is_known le now };
 
-    ghost only_now = { λ journal left tells since. D.only_now (disk_of journal) left tells since };
+    ghost only_now = { λ journal left is_known since. D.only_now (disk_of journal) left is_known since };
 
     fn keep(&mut self, alloc: Global, row: &ByteRecord) -> Result<(), FileFault> {
         let line = row_line(alloc, row)?;
@@ -144,7 +144,7 @@ impl<D: Disk + Drop> Keeper for Journal<D> {
         Ok(())
     }
 
-    fn settle(&mut self, alloc: Global, book: &Book) -> Result<bool, FileFault> {
+    fn compact_if_due(&mut self, alloc: Global, book: &Book) -> Result<bool, FileFault> {
         if !self.sizes.is_due() {
             return Ok(true);
         }

@@ -16,7 +16,7 @@ use std::alloc::Global;
 /// What keeps the edits of an open round, each before it is answered.
 pub trait Keeper {
     // Whether contracts know what it keeps.
-    ghost tells: { Type 0 };
+    ghost is_known: { Type 0 };
 
     // The bytes that it took, and the most that it may take.
     ghost taken: { Self → List ℕ };
@@ -41,7 +41,7 @@ pub trait Keeper {
     ghost reads_as: { List ℕ → List Page → Type 0 };
 
     // What it took stands for these pages, and no crash takes any of it away.
-    ghost stands_for: { Self → List Page → Type 0 };
+    ghost represents: { Self → List Page → Type 0 };
 
     // What it took between two edits of these pages is put shorter where that is due, or that is put off.
     ghost settles: { Bool → List Page → Self → Self → Type 0 };
@@ -49,32 +49,32 @@ pub trait Keeper {
     // How many bytes it had when what its pages need was counted last.
     ghost settled_at: { Self → ℕ };
 
-    ghost restarts: { (keeper : Self) (pages : List Page) (left : List ℕ) → tells → stands_for keeper pages →
+    ghost restarts: { (keeper : Self) (pages : List Page) (left : List ℕ) → is_known → represents keeper pages →
         may_leave keeper left → reads_as left pages };
 
-    ghost counts_now: { (keeper : Self) (t : ℕ) (left : List ℕ) → tells → t ≤ moment keeper →
+    ghost counts_now: { (keeper : Self) (t : ℕ) (left : List ℕ) → is_known → t ≤ moment keeper →
         may_leave keeper left → left_since keeper t left };
 
-    ghost only_now: { (keeper : Self) (left : List ℕ) → tells → left_since keeper (moment keeper) left →
+    ghost only_now: { (keeper : Self) (left : List ℕ) → is_known → left_since keeper (moment keeper) left →
         may_leave keeper left };
 
     /// Keeps an edit that was made, by the text of its record. Where it cannot, it took a prefix of that text.
     fn keep(&mut self, alloc: Global, row: &ByteRecord) -> Result<(), FileFault>
-        ensures taken { tells → OnOk result
+        ensures taken { is_known → OnOk result
             (taken self.new ≡ taken self.old ++ row_text default_writer (fields_of row.now)) }
-        ensures safe { tells → (before : List Page) → stands_for self.old before →
+        ensures safe { is_known → (before : List Page) → represents self.old before →
             OnOk result (IsSafe (taken self.new) (may_leave self.new)) }
-        ensures part { tells → OnErr result
+        ensures part { is_known → OnErr result
             (TookPrefix (taken self.old) (taken self.new) (row_text default_writer (fields_of row.now))) }
-        ensures stands { (before after : List Page) → stands_for self.old before →
-            IsEdit (fields_of row.now) before after → OnOk result (stands_for self.new after) }
+        ensures stands { (before after : List Page) → represents self.old before →
+            IsEdit (fields_of row.now) before after → OnOk result (represents self.new after) }
 
         // A crash at any moment of it leaves what is read as the pages before the edit, or as those after it.
-        ensures any_moment { tells → (before after : List Page) → stands_for self.old before →
+        ensures any_moment { is_known → (before after : List Page) → represents self.old before →
             IsEdit (fields_of row.now) before after →
             LeavesOnly moment left_since self.old self.new (ReadsAsEither reads_as before after) }
         ensures same { settled_at self.new ≡ settled_at self.old }
-        ensures explained { counts → (before : List Page) → stands_for self.old before → IfErr result
+        ensures explained { counts → (before : List Page) → represents self.old before → IfErr result
             (ExplainsKeeping most (taken self.old) (taken self.new) (row_text default_writer (fields_of row.now))
             (failures self.old) (failures self.new)) }
         ensures succeeded { counts → OnOk result (failures self.new ≡ failures self.old) }
@@ -82,13 +82,13 @@ pub trait Keeper {
 
     /// Is called between two lines. What it took is put shorter where that is due, and stands for the same pages; where
     /// memory is wanting for that, it is put off.
-    fn settle(&mut self, alloc: Global, book: &Book) -> Result<bool, FileFault>
-        ensures stands { stands_for self.old book.now → OnOk result (stands_for self.new book.now) }
-        ensures settled { tells → stands_for self.old book.now →
+    fn compact_if_due(&mut self, alloc: Global, book: &Book) -> Result<bool, FileFault>
+        ensures stands { represents self.old book.now → OnOk result (represents self.new book.now) }
+        ensures settled { is_known → represents self.old book.now →
             IfOk result (λ done. settles done book.now self.old self.new) }
 
         // A crash at any moment of it leaves what is read as these pages.
-        ensures any_moment { tells → stands_for self.old book.now →
+        ensures any_moment { is_known → represents self.old book.now →
             LeavesOnly moment left_since self.old self.new (λ left. reads_as left book.now) }
         ensures failures { counts → CountsFailures result (failures self.old) (failures self.new) }
         ensures lost { IfErr result (λ e. e ≡ FileFault.Write) };
@@ -102,7 +102,7 @@ impl Keeper for NoKeeper {
     ghost use Rattle.std.specs.Prelude.{[]};
     ghost use Rattle.pocsag_journal.specs.Growth.{kept_line_limit};
 
-    ghost tells = { ⊥ };
+    ghost is_known = { ⊥ };
 
     ghost taken = { λ _. [] };
 
@@ -120,23 +120,23 @@ impl Keeper for NoKeeper {
 
     ghost reads_as = { λ _ _. ⊥ };
 
-    ghost stands_for = { λ _ _. Unit {0} };
+    ghost represents = { λ _ _. Unit {0} };
 
     ghost settles = { λ _ _ _ _. Unit {0} };
 
     ghost settled_at = { λ _. 0 };
 
-    ghost restarts = { λ keeper pages left tells stands now. absurd tells };
+    ghost restarts = { λ keeper pages left is_known stands now. absurd is_known };
 
-    ghost counts_now = { λ keeper t left tells le now. absurd tells };
+    ghost counts_now = { λ keeper t left is_known le now. absurd is_known };
 
-    ghost only_now = { λ keeper left tells since. absurd tells };
+    ghost only_now = { λ keeper left is_known since. absurd is_known };
 
     fn keep(&mut self, _alloc: Global, _row: &ByteRecord) -> Result<(), FileFault> {
         Ok(())
     }
 
-    fn settle(&mut self, _alloc: Global, _book: &Book) -> Result<bool, FileFault> {
+    fn compact_if_due(&mut self, _alloc: Global, _book: &Book) -> Result<bool, FileFault> {
         Ok(true)
     }
 }

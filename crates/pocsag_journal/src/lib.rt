@@ -3,7 +3,7 @@
 //! journal that keeps them: their text, and what reading it gives, whole or cut. It knows no file: it reads a source, and
 //! writes to a disk that tells its bytes.
 
-mod anew;
+mod compaction;
 mod disk;
 mod edit;
 mod edits;
@@ -18,7 +18,7 @@ mod replay;
 mod sizes;
 mod text;
 
-pub use anew::text_of_pages;
+pub use compaction::text_of_pages;
 pub use disk::Disk;
 pub use edit::{edit_row, sent_row};
 pub use edits::{Line, line_of, record_of};

@@ -15,11 +15,11 @@ pub fn list_journal<S: Source, O: Sink>(
     source: &mut S,
     out: &mut O,
 ) -> Result<Replayed, JournalFault>
-    ensures read { S.tells → IfOk result
+    ensures read { S.is_known → IfOk result
         (λ replayed. Replays (S.held source.old) replayed.edits replayed.torn replayed.book) }
-    ensures listed { O.tells → IfOk result
+    ensures listed { O.is_known → IfOk result
         (λ replayed. O.taken out.new ≡ O.taken out.old ++ page_file replayed.book) }
-    ensures explained { S.tells → IfErr result (ExplainsListing (S.held source.old)
+    ensures explained { S.is_known → IfErr result (ExplainsListing (S.held source.old)
         (S.failures source.old) (S.failures source.new) (O.failures out.old) (O.failures out.new)) }
 
     // Nothing is listed where it is refused.

@@ -2,7 +2,7 @@ ghost use Rattle.std.specs.Prelude.{◌≡◌, ◌≤◌, ℕ, List, [], length,
 ghost use Rattle.pocsag_pages.specs.PageFile.{Row};
 ghost use Rattle.pocsag_pages.specs.declared.page.Page.{Page};
 ghost use Rattle.pocsag_journal.specs.Runs.{IsRun};
-ghost use Rattle.pocsag_journal.specs.Faults.{ExplainsReplay, IsTold, IsToldOf};
+ghost use Rattle.pocsag_journal.specs.Faults.{ExplainsReplay, IsPrinted, IsPrintedOf};
 ghost use Rattle.pocsag_journal.specs.Journals.{IsRead, MakesLine, Replays, ReplaysAs, journal_limit};
 
 use crate::edit::edit_row;
@@ -34,15 +34,15 @@ pub struct Replayed {
 /// Reads the journal that a source holds up to its end. A torn end is passed over, also one in the first line; bytes that
 /// begin otherwise than a journal are told as none, and a line behind the first that is none of a journal by its number.
 pub fn read_journal<S: Source>(alloc: Global, source: &mut S) -> Result<Replayed, JournalFault>
-    ensures read { S.tells → IfOk result
+    ensures read { S.is_known → IfOk result
         (λ replayed. Replays (S.held source.old) replayed.edits replayed.torn replayed.book) }
-    ensures told { S.tells → IfErr result
+    ensures told { S.is_known → IfErr result
         (ExplainsReplay (S.held source.old) (S.failures source.old) (S.failures source.new)) }
 
     // Whatever edits the bytes are the text of, each accepted in its turn: their list is read.
-    ensures replay { S.tells → (rows : List Row) (torn : List ℕ) (pages : List Page) →
+    ensures replay { S.is_known → (rows : List Row) (torn : List ℕ) (pages : List Page) →
         IsRead (S.held source.old) rows torn → IsRun rows [] pages → MatchResult result
-        (λ replayed. ReplaysAs replayed.book replayed.edits replayed.torn pages rows torn) IsToldOf }
+        (λ replayed. ReplaysAs replayed.book replayed.edits replayed.torn pages rows torn) IsPrintedOf }
     ensures succeeded { OnOk result (S.failures source.new ≡ S.failures source.old) }
 {
     match read_whole(alloc, source, JOURNAL_LIMIT) {
@@ -57,7 +57,7 @@ pub fn read_journal<S: Source>(alloc: Global, source: &mut S) -> Result<Replayed
 pub(crate) fn replay(alloc: Global, bytes: &[u8]) -> Result<Replayed, JournalFault>
     requires { length bytes.now ≤ journal_limit }
     ensures read { IfOk result (λ replayed. Replays bytes.now replayed.edits replayed.torn replayed.book) }
-    ensures told { IfErr result (λ e. IsTold bytes.now e) }
+    ensures told { IfErr result (λ e. IsPrinted bytes.now e) }
 {
     let first = first_line();
     let Some(behind) = bytes.strip_prefix(first) else {

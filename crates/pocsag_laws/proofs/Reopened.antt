@@ -10,7 +10,7 @@ use Rattle.pocsag_pages.specs.PageFile.{Row}
 use Rattle.pocsag_pages.specs.declared.page.Page.{Page}
 use Rattle.pocsag_pages.specs.declared.fault.FieldFault.TheVariants as field
 use Rattle.pocsag_plan.specs.declared.refusal.AddFault.TheVariants as adding
-use Rattle.pocsag_plan.specs.declared.search.Effort.{Effort}
+use Rattle.pocsag_plan.specs.declared.search.OnLimit.{OnLimit}
 use Rattle.pocsag_words.specs.declared.ending.End.{End}
 use Rattle.pocsag_journal.specs.Asks.{AsksPlan}
 use Rattle.pocsag_journal.specs.Quotes.{MayEnd, quoting_after, quoting_from}
@@ -34,8 +34,8 @@ use Rattle.pocsag_journal.proofs.TextLines.{at_line, first_line, no_whole_line, 
 use Rattle.pocsag_open.specs.Lines.{AreLines, IsFirstLine}
 use Rattle.pocsag_open.specs.Plans.{PlacedPlan}
 use Rattle.pocsag_open.specs.Words.{refusal_words}
-use Rattle.pocsag_laws.specs.Reopened.{TellsNoMemory}
-use Rattle.pocsag_open.specs.Replies.{AreReplies, IsLineReply, IsRefusalTold, IsReply, IsSession, edited, listed, noted, planned, read, refused, sent_first, too_long, unread}
+use Rattle.pocsag_laws.specs.Reopened.{NamesNoMemory}
+use Rattle.pocsag_open.specs.Replies.{AreReplies, IsLineReply, IsRefusalPrinted, IsReply, IsSession, edited, listed, noted, planned, read, refused, sent_first, too_long, unread}
 use Rattle.pocsag_open.proofs.Sessions.{plan_or_heading}
 
 -- the text of an edit, without its line feed
@@ -147,7 +147,7 @@ no_memory_words (refusal.Field field.OutOfMemory) e = refl
 no_memory_words (refusal.Add adding.OutOfMemory) e = refl
 no_memory_words _ e = absurd (cc e)
 
-refused_told : (why : Refusal) (told : List ℕ) → refusal_words why ≡ codes "out of memory" → IsRefusalTold why told → TellsNoMemory told
+refused_told : (why : Refusal) (told : List ℕ) → refusal_words why ≡ codes "out of memory" → IsRefusalPrinted why told → NamesNoMemory told
 refused_told why told e is =
     record { front = []; rest = []; parts = is ∙ ap (λ (w : List ℕ). codes "refused: " ++ (w ++ line_feed ∷ [])) e }
 
@@ -155,13 +155,13 @@ lost_none : (row : Row) (text front : List ℕ) (byte : ℕ) → IsRowText row t
 lost_none row text front byte spelled lost = lost.lost lost.rest row (subst (λ (t : List ℕ). IsRowText row t) lost.parts spelled)
 
 unread_told : (row : Row) (text : List ℕ) (why : Refusal) (told : List ℕ) → text ≢ [] → IsRowText row text → IsUnread text why →
-    IsRefusalTold why told → TellsNoMemory told
+    IsRefusalPrinted why told → NamesNoMemory told
 unread_told row text refusal.InQuotes told some spelled h is = absurd (h.0 row spelled)
 unread_told row text refusal.StrayQuote told some spelled h is = absurd (lost_none row text h.0 h.1.0 spelled h.1.1)
 unread_told row text refusal.Unknown told some spelled (inl h) is = absurd (lost_none row text h.0 h.1.0 spelled h.1.1)
 unread_told row text refusal.Unknown told some spelled (inr none) is = absurd (some none)
 unread_told row text (refusal.Undone f) told some spelled h is =
-    refused_told (refusal.Undone undone.OutOfMemory) told refl (subst (λ (g : UndoneFault). IsRefusalTold (refusal.Undone g) told) h is)
+    refused_told (refusal.Undone undone.OutOfMemory) told refl (subst (λ (g : UndoneFault). IsRefusalPrinted (refusal.Undone g) told) h is)
 unread_told row text (refusal.Field f) told some spelled h is = absurd h
 unread_told row text (refusal.Add f) told some spelled h is = absurd h
 unread_told row text (refusal.Cancel f) told some spelled h is = absurd h
@@ -175,44 +175,44 @@ plan_edits end (Some b) tx cert row pages after e d = subst (λ (r : Row). IsEdi
 
 -- the reply to a record leaves what is due, or tells that memory was wanting
 abbrev Leaves : (after due : List Page) (told : List ℕ) → Type 0
-Leaves after due told = (after ≡ due) ⊎ TellsNoMemory told
+Leaves after due told = (after ≡ due) ⊎ NamesNoMemory told
 
-record_reply : (Tells : Type 0) (effort : Effort) (row : Row) (pages after due : List Page) (told : List ℕ) (placed : List PlacedPlan) →
-    IsEdit row pages due → IsReply Tells effort row pages after told placed → Leaves after due told
+record_reply : (IsKnown : Type 0) (on_limit : OnLimit) (row : Row) (pages after due : List Page) (told : List ℕ) (placed : List PlacedPlan) →
+    IsEdit row pages due → IsReply IsKnown on_limit row pages after told placed → Leaves after due told
 unfolding asked_of
-record_reply Tells effort row pages after due told placed d (edited e t n) = inl (edit_once row pages after due e d)
-record_reply Tells effort row pages after due told placed d (listed is s t n) = absurd (subst (λ (r : Row). IsEdit r pages due) is d)
-record_reply Tells effort row pages after due told placed d (noted is s t n) = absurd (subst (λ (r : Row). IsEdit r pages due) is d)
-record_reply Tells effort row pages after due told placed d (planned end tx cert batches bound sent asks is s t n) =
+record_reply IsKnown on_limit row pages after due told placed d (edited e t n) = inl (edit_once row pages after due e d)
+record_reply IsKnown on_limit row pages after due told placed d (listed is s t n) = absurd (subst (λ (r : Row). IsEdit r pages due) is d)
+record_reply IsKnown on_limit row pages after due told placed d (noted is s t n) = absurd (subst (λ (r : Row). IsEdit r pages due) is d)
+record_reply IsKnown on_limit row pages after due told placed d (planned end tx cert batches bound sent asks is s t n) =
     absurd (plan_edits end None tx cert row pages due asks d)
-record_reply Tells effort row pages after due told placed d (sent_first end most tx cert count batches bound sent asks is s t n) =
+record_reply IsKnown on_limit row pages after due told placed d (sent_first end most tx cert count batches bound sent asks is s t n) =
     absurd (plan_edits end (Some most) tx cert row pages due asks d)
-record_reply Tells effort row pages after due told placed d (refused why is s t n) = elim is.edit [
+record_reply IsKnown on_limit row pages after due told placed d (refused why is s t n) = elim is.edit [
   | inl wants ↦ inr (refused_told why told (no_memory_words why wants) t)
   | inr none ↦ absurd (none due d)
 ]
 
-heading_reply : (Tells : Type 0) (effort : Effort) (pages after : List Page) (told : List ℕ) (placed : List PlacedPlan) →
-    IsReply Tells effort first_record pages after told placed → Leaves after pages told
+heading_reply : (IsKnown : Type 0) (on_limit : OnLimit) (pages after : List Page) (told : List ℕ) (placed : List PlacedPlan) →
+    IsReply IsKnown on_limit first_record pages after told placed → Leaves after pages told
 unfolding asked_of
-heading_reply Tells effort pages after told placed (edited e t n) = absurd e
-heading_reply Tells effort pages after told placed (listed is s t n) = inl s
-heading_reply Tells effort pages after told placed (noted is s t n) = inl s
-heading_reply Tells effort pages after told placed (planned end tx cert batches bound sent asks is s t n) = inl s
-heading_reply Tells effort pages after told placed (sent_first end most tx cert count batches bound sent asks is s t n) =
+heading_reply IsKnown on_limit pages after told placed (edited e t n) = absurd e
+heading_reply IsKnown on_limit pages after told placed (listed is s t n) = inl s
+heading_reply IsKnown on_limit pages after told placed (noted is s t n) = inl s
+heading_reply IsKnown on_limit pages after told placed (planned end tx cert batches bound sent asks is s t n) = inl s
+heading_reply IsKnown on_limit pages after told placed (sent_first end most tx cert count batches bound sent asks is s t n) =
     absurd (plan_or_heading end (Some most) tx cert first_record asks refl)
-heading_reply Tells effort pages after told placed (refused why is s t n) = inl s
+heading_reply IsKnown on_limit pages after told placed (refused why is s t n) = inl s
 
 -- the reply to its line
-line_reply : (Tells : Type 0) (effort : Effort) (line : List ℕ) (row : Row) (pages after due : List Page) (told : List ℕ)
+line_reply : (IsKnown : Type 0) (on_limit : OnLimit) (line : List ℕ) (row : Row) (pages after due : List Page) (told : List ℕ)
     (placed : List PlacedPlan) → length line ≤ kept_line_limit → IsRowText row (record_text line) → record_text line ≢ [] →
-    (IsReply Tells effort row pages after told placed → Leaves after due told) →
-    IsLineReply Tells effort line pages after told placed → Leaves after due told
-line_reply Tells effort line row pages after due told placed short spelled some reply (too_long long s t n) = absurd (omega (arith, short, long))
-line_reply Tells effort line row pages after due told placed short spelled some reply (unread why few is s t n) =
+    (IsReply IsKnown on_limit row pages after told placed → Leaves after due told) →
+    IsLineReply IsKnown on_limit line pages after told placed → Leaves after due told
+line_reply IsKnown on_limit line row pages after due told placed short spelled some reply (too_long long s t n) = absurd (omega (arith, short, long))
+line_reply IsKnown on_limit line row pages after due told placed short spelled some reply (unread why few is s t n) =
     inr (unread_told row (record_text line) why told some spelled is t)
-line_reply Tells effort line row pages after due told placed short spelled some reply (read other few is here) =
-    reply (subst (λ (r : Row). IsReply Tells effort r pages after told placed) (one_record row other (record_text line) some spelled is) here)
+line_reply IsKnown on_limit line row pages after due told placed short spelled some reply (read other few is here) =
+    reply (subst (λ (r : Row). IsReply IsKnown on_limit r pages after told placed) (one_record row other (record_text line) some spelled is) here)
 
 -- the first line of a text that begins with a whole one
 same_body : (xs ys : List ℕ) (b : ℕ) → xs ++ b ∷ [] ≡ ys ++ b ∷ [] → xs ≡ ys
@@ -235,14 +235,14 @@ first_is text body rest line behind e whole first = elim first.parts [
   | inr none ↦ absurd (no_whole_line text rest line whole first.one none.1)
 ]
 
-wanted_later : (told reply more : List ℕ) → told ≡ reply ++ more → TellsNoMemory more → TellsNoMemory told
+wanted_later : (told reply more : List ℕ) → told ≡ reply ++ more → NamesNoMemory more → NamesNoMemory told
 wanted_later told reply more e h = record {
   front = reply ++ h.front;
   rest = h.rest;
   parts = e ∙ ap (λ (l : List ℕ). reply ++ l) h.parts ∙ sym (append_assoc reply h.front (codes "refused: out of memory" ++ (line_feed ∷ h.rest)));
 }
 
-wanted_now : (told reply more : List ℕ) → told ≡ reply ++ more → TellsNoMemory reply → TellsNoMemory told
+wanted_now : (told reply more : List ℕ) → told ≡ reply ++ more → NamesNoMemory reply → NamesNoMemory told
 wanted_now told reply more e h = record {
   front = h.front;
   rest = h.rest ++ more;
@@ -274,26 +274,26 @@ short_line row pages after d =
     let text : length (row_text default_writer row) ≡ length (row_body default_writer row ++ line_feed ∷ []) = ap length (edit_body row pages after d) in
     omega (arith, text, length-append (row_body default_writer row) (line_feed ∷ []), line_length row pages after d)
 
-rows_reopened : (Tells : Type 0) (effort : Effort) (rows : List Row) (lines : List (List ℕ)) (before pages after : List Page) (told : List ℕ)
+rows_reopened : (IsKnown : Type 0) (on_limit : OnLimit) (rows : List Row) (lines : List (List ℕ)) (before pages after : List Page) (told : List ℕ)
     (placed : List PlacedPlan) → AllByRecursion IsLine rows → IsRun rows before pages → AreLines lines (rows_text rows) →
-    AreReplies Tells effort lines before after told placed → Leaves after pages told
+    AreReplies IsKnown on_limit lines before after told placed → Leaves after pages told
 unfolding IsRun rows_text AreLines AreReplies
-rows_reopened Tells effort [] [] start pages after told placed each run cut replies = inl (replies.0 ∙ sym run)
-rows_reopened Tells effort [] (line ∷ lines) start pages after told placed each run cut replies = absurd (no_first line cut.0 cut.1)
-rows_reopened Tells effort (row ∷ rows) [] start pages after told placed each run cut replies =
+rows_reopened IsKnown on_limit [] [] start pages after told placed each run cut replies = inl (replies.0 ∙ sym run)
+rows_reopened IsKnown on_limit [] (line ∷ lines) start pages after told placed each run cut replies = absurd (no_first line cut.0 cut.1)
+rows_reopened IsKnown on_limit (row ∷ rows) [] start pages after told placed each run cut replies =
     absurd (some_line (row_text default_writer row) (rows_text rows) each.0.line cut)
-rows_reopened Tells effort (row ∷ rows) (line ∷ lines) start pages after told placed each (mid, edit, run) (rest, first, cut)
+rows_reopened IsKnown on_limit (row ∷ rows) (line ∷ lines) start pages after told placed each (mid, edit, run) (rest, first, cut)
     (between, reply, more, its, others, here, next, parts, sent) =
     let at_line_is = first_is (row_text default_writer row) (row_body default_writer row) (rows_text rows) line rest
     (edit_body row start mid edit) each.0.line first in
-    let answer = line_reply Tells effort (row_body default_writer row) row start between mid reply its (short_line row start mid edit)
-    (edit_line row start mid edit) (some_text row start mid edit) (record_reply Tells effort row start between mid reply its edit)
-    (subst (λ (l : List ℕ). IsLineReply Tells effort l start between reply its) at_line_is.0 here) in
+    let answer = line_reply IsKnown on_limit (row_body default_writer row) row start between mid reply its (short_line row start mid edit)
+    (edit_line row start mid edit) (some_text row start mid edit) (record_reply IsKnown on_limit row start between mid reply its edit)
+    (subst (λ (l : List ℕ). IsLineReply IsKnown on_limit l start between reply its) at_line_is.0 here) in
     elim answer [
       | inl same ↦
-          let later = rows_reopened Tells effort rows lines mid pages after more others each.1 run
+          let later = rows_reopened IsKnown on_limit rows lines mid pages after more others each.1 run
           (subst (λ (l : List ℕ). AreLines lines l) at_line_is.1 cut)
-          (subst (λ (ps : List Page). AreReplies Tells effort lines ps after more others) same next) in
+          (subst (λ (ps : List Page). AreReplies IsKnown on_limit lines ps after more others) same next) in
           elim later [
             | inl is ↦ inl is
             | inr wanted ↦ inr (wanted_later told reply more parts wanted)
@@ -317,26 +317,26 @@ heading_short : length (row_body default_writer first_record) ≤ kept_line_limi
 unfolding fields_text
 heading_short = omega arith
 
-session_reopened : (Tells : Type 0) (effort : Effort) (rows : List Row) (lines : List (List ℕ)) (pages after : List Page) (told : List ℕ)
+session_reopened : (IsKnown : Type 0) (on_limit : OnLimit) (rows : List Row) (lines : List (List ℕ)) (pages after : List Page) (told : List ℕ)
     (placed : List PlacedPlan) → AllByRecursion IsLine rows → IsRun rows [] pages → AreLines lines (journal_text rows) →
-    AreReplies Tells effort lines [] after told placed → Leaves after pages told
+    AreReplies IsKnown on_limit lines [] after told placed → Leaves after pages told
 unfolding AreLines AreReplies
-session_reopened Tells effort rows [] pages after told placed each run cut replies =
+session_reopened IsKnown on_limit rows [] pages after told placed each run cut replies =
     absurd (some_line (row_text default_writer first_record) (rows_text rows) first_line cut)
-session_reopened Tells effort rows (line ∷ lines) pages after told placed each run (rest, first, cut)
+session_reopened IsKnown on_limit rows (line ∷ lines) pages after told placed each run (rest, first, cut)
     (between, reply, more, its, others, here, next, parts, sent) =
     let at_line_is = first_is (row_text default_writer first_record) (row_body default_writer first_record) (rows_text rows) line rest
     heading_body first_line first in
     let spelled : IsRowText first_record (record_text (row_body default_writer first_record)) =
     subst (λ (t : List ℕ). IsRowText first_record t) (sym heading_text) (row_spelled (codes "pocsag journal") (codes "1" ∷ [])) in
-    let answer = line_reply Tells effort (row_body default_writer first_record) first_record [] between [] reply its heading_short
-    spelled heading_some (heading_reply Tells effort [] between reply its)
-    (subst (λ (l : List ℕ). IsLineReply Tells effort l [] between reply its) at_line_is.0 here) in
+    let answer = line_reply IsKnown on_limit (row_body default_writer first_record) first_record [] between [] reply its heading_short
+    spelled heading_some (heading_reply IsKnown on_limit [] between reply its)
+    (subst (λ (l : List ℕ). IsLineReply IsKnown on_limit l [] between reply its) at_line_is.0 here) in
     elim answer [
       | inl same ↦
-          let later = rows_reopened Tells effort rows lines [] pages after more others each run
+          let later = rows_reopened IsKnown on_limit rows lines [] pages after more others each run
           (subst (λ (l : List ℕ). AreLines lines l) at_line_is.1 cut)
-          (subst (λ (ps : List Page). AreReplies Tells effort lines ps after more others) same next) in
+          (subst (λ (ps : List Page). AreReplies IsKnown on_limit lines ps after more others) same next) in
           elim later [
             | inl is ↦ inl is
             | inr wanted ↦ inr (wanted_later told reply more parts wanted)
@@ -345,8 +345,8 @@ session_reopened Tells effort rows (line ∷ lines) pages after told placed each
     ]
 
 -- *Reopened*
-pub reopened : (Tells : Type 0) (effort : Effort) (rows : List Row) (pages after : List Page) (told : List ℕ) (placed : List PlacedPlan) →
-    AllByRecursion IsLine rows → IsRun rows [] pages → IsSession Tells effort (journal_text rows) [] after told placed →
-    (after ≡ pages) ⊎ TellsNoMemory told
-reopened Tells effort rows pages after told placed each run session =
-    session_reopened Tells effort rows session.lines pages after told placed each run session.cut session.replies
+pub reopened : (IsKnown : Type 0) (on_limit : OnLimit) (rows : List Row) (pages after : List Page) (told : List ℕ) (placed : List PlacedPlan) →
+    AllByRecursion IsLine rows → IsRun rows [] pages → IsSession IsKnown on_limit (journal_text rows) [] after told placed →
+    (after ≡ pages) ⊎ NamesNoMemory told
+reopened IsKnown on_limit rows pages after told placed each run session =
+    session_reopened IsKnown on_limit rows session.lines pages after told placed each run session.cut session.replies

@@ -3,7 +3,7 @@ use Rattle.std.specs.Prelude.{◌≡◌, ℕ, List, ◌∷◌, ◌++◌, codes}
 use Rattle.csv.specs.Machine.{line_feed}
 
 -- One of the lines that are told is `refused: out of memory`.
-pub record TellsNoMemory (told : List ℕ) : Type 0 where
+pub record NamesNoMemory (told : List ℕ) : Type 0 where
   pub front : List ℕ
   pub rest : List ℕ
   pub parts : told ≡ front ++ (codes "refused: out of memory" ++ (line_feed ∷ rest))

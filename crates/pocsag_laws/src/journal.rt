@@ -3,14 +3,14 @@ ghost use Rattle.std.specs.Prelude.{List, [], length, ℕ, ◌++◌, ◌∷◌, 
 ghost use Rattle.csv.specs.Writing.{default_writer, row_text};
 ghost use Rattle.pocsag_pages.specs.declared.page.Page.{Page};
 ghost use Rattle.pocsag_pages.specs.PageFile.{Row};
-ghost use Rattle.pocsag_plan.specs.declared.search.Effort.{Effort};
+ghost use Rattle.pocsag_plan.specs.declared.search.OnLimit.{OnLimit};
 ghost use Rattle.pocsag_journal.specs.declared.refusal.Refusal.{Refusal};
 ghost use Rattle.pocsag_journal.specs.Growth.{kept_line_limit};
 ghost use Rattle.pocsag_journal.specs.Journals.{IsBadLine, IsBegun, IsLine, IsRead, ReadsFirst, journal_text};
 ghost use Rattle.pocsag_journal.specs.Runs.{IsEdit, IsRun};
 ghost use Rattle.pocsag_open.specs.Plans.{PlacedPlan};
 ghost use Rattle.pocsag_open.specs.Replies.{IsSession};
-ghost use Rattle.pocsag_laws.specs.Reopened.{TellsNoMemory};
+ghost use Rattle.pocsag_laws.specs.Reopened.{NamesNoMemory};
 ghost use Rattle.pocsag_journal.specs.Faults.{HasNoLine};
 ghost use Rattle.pocsag_journal.specs.LineTexts.{HasNoLineFeed, IsRowText, IsUnread};
 ghost use Rattle.pocsag_journal.specs.PageLines.{HaveLines};
@@ -71,18 +71,18 @@ pub fn texts_have_one_reason()
 
 /// `open` over the text of a journal: the session leaves the pages of the journal, unless it told that memory was wanting.
 pub fn a_journal_opens_as_its_pages<P: Places>()
-    ensures { (effort : Effort) (rows : List Row) (pages after : List Page) (told : List ℕ)
+    ensures { (on_limit : OnLimit) (rows : List Row) (pages after : List Page) (told : List ℕ)
         (placed : List PlacedPlan) → AllByRecursion IsLine rows → IsRun rows [] pages →
-        IsSession P.tells effort (journal_text rows) [] after told placed → (after ≡ pages) ⊎ TellsNoMemory told }
+        IsSession P.is_known on_limit (journal_text rows) [] after told placed → (after ≡ pages) ⊎ NamesNoMemory told }
 {}
 
 /// A session is a run of edits whose records are lines. So where all pages before it have lines in a journal, as no pages
 /// and those of a journal have, all pages after it have.
 pub fn sessions_are_runs<P: Places>()
-    ensures run { (effort : Effort) (input told : List ℕ) (before after : List Page) (placed : List PlacedPlan) →
-        IsSession P.tells effort input before after told placed →
+    ensures run { (on_limit : OnLimit) (input told : List ℕ) (before after : List Page) (placed : List PlacedPlan) →
+        IsSession P.is_known on_limit input before after told placed →
         (rows : List Row) × AllByRecursion IsLine rows × IsRun rows before after }
-    ensures lined { (effort : Effort) (input told : List ℕ) (before after : List Page)
-        (placed : List PlacedPlan) → IsSession P.tells effort input before after told placed →
+    ensures lined { (on_limit : OnLimit) (input told : List ℕ) (before after : List Page)
+        (placed : List PlacedPlan) → IsSession P.is_known on_limit input before after told placed →
         HaveLines before → HaveLines after }
 {}

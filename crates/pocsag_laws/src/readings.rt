@@ -12,7 +12,7 @@ ghost use Rattle.pocsag_decode.specs.Faults.{HasFault, HasFaultThere, IsFaultles
 ghost use Rattle.pocsag_decode.specs.ListedFields.{IsSpelled};
 ghost use Rattle.pocsag_decode.specs.Listing.{kind_field, message_field};
 ghost use Rattle.pocsag_decode.specs.Repairs.{IsRepairOf};
-ghost use Rattle.pocsag_decode.specs.States.{StandsAfter};
+ghost use Rattle.pocsag_decode.specs.States.{HasTakenIn};
 ghost use Rattle.pocsag_pager.specs.Shown.{AreShown};
 
 /// A list of codewords has at most one reading.
@@ -42,7 +42,7 @@ pub fn a_fault_there_stays()
 
 /// What a decoder stands after has no fault at a byte that is there.
 pub fn standing_is_without_fault()
-    ensures { (d : Decoder) (X : List ℕ) (f : DecodeFault) → StandsAfter d X → ¬ HasFaultThere X f }
+    ensures { (d : Decoder) (X : List ℕ) (f : DecodeFault) → HasTakenIn d X → ¬ HasFaultThere X f }
 {}
 
 /// What the pager of an address shows of bytes are the pages of that address, in order, among those that the repaired

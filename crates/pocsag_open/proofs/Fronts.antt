@@ -4,7 +4,7 @@ use Rattle.std.specs.Prelude.{OnErr, OnOk, Result, Ok, Err}
 use Rattle.pocsag_words.specs.declared.ending.End.{End}
 use Rattle.pocsag_pages.specs.PageFile.{Row}
 use Rattle.pocsag_pages.specs.declared.page.Page.{Page}
-use Rattle.pocsag_plan.specs.declared.search.Effort.{Effort}
+use Rattle.pocsag_plan.specs.declared.search.OnLimit.{OnLimit}
 use Rattle.pocsag_journal.specs.Keepers.{ReadsAsEither}
 use Rattle.pocsag_journal.specs.Runs.{IsEdit, sent_record}
 use Rattle.pocsag_journal.proofs.Counts.{sent_edit}
@@ -22,8 +22,8 @@ pub if_err : {X E : Type 0} (r : Result X E) (P : Type 0) → P → OnErr r P
 if_err (Ok x) P p = tt
 if_err (Err e) P p = p
 
-module _ (Tells : Type 0) (effort : Effort) (end : End) (most : ℕ) (tx cert : List ℕ) (pages after : List Page) (count batches bound : ℕ)
-    (sent : PlanBytes) (planned : IsFrontPlanned Tells effort end most pages count batches bound sent) (left_is : after ≡ drop count pages) where
+module _ (IsKnown : Type 0) (on_limit : OnLimit) (end : End) (most : ℕ) (tx cert : List ℕ) (pages after : List Page) (count batches bound : ℕ)
+    (sent : PlanBytes) (planned : IsFrontPlanned IsKnown on_limit end most pages count batches bound sent) (left_is : after ≡ drop count pages) where
   -- they are taken out by an edit
   pub front_edit : (row : Row) → row ≡ sent_record count → IsEdit row pages after
   front_edit row e =
@@ -32,24 +32,24 @@ module _ (Tells : Type 0) (effort : Effort) (end : End) (most : ℕ) (tx cert : 
       (subst (λ (ps : List Page). IsEdit (sent_record count) pages ps) (sym left_is) (sent_edit count pages planned.front.some small planned.front.among))
 
   -- the reply that leaves the others
-  pub front_replied : FrontRepliesTo Tells effort end most tx cert pages after (front_answer batches count bound)
+  pub front_replied : FrontRepliesTo IsKnown on_limit end most tx cert pages after (front_answer batches count bound)
   front_replied = (placed_plan tx cert sent ∷ [], front_sent count batches bound sent planned left_is refl refl)
 
   -- what is read as the pages before or after
   pub front_read : (reads_as : List ℕ → List Page → Type 0) (left : List ℕ) → ReadsAsEither reads_as pages after left →
-      ReadsOrReplied reads_as (FrontRepliesTo Tells effort end most tx cert) pages left
+      ReadsOrReplied reads_as (FrontRepliesTo IsKnown on_limit end most tx cert) pages left
   front_read reads_as left is =
-      either_read (FrontRepliesTo Tells effort end most tx cert) pages after (front_answer batches count bound) reads_as left front_replied is
+      either_read (FrontRepliesTo IsKnown on_limit end most tx cert) pages after (front_answer batches count bound) reads_as left front_replied is
 
   -- and where its outputs were put
-  pub front_placed : (first later : List PlacedPlan) → (Tells → later ≡ first ++ placed_plan tx cert sent ∷ []) →
-      FrontRepliesAndPlaces Tells effort end most tx cert first later pages after (front_answer batches count bound)
+  pub front_placed : (first later : List PlacedPlan) → (IsKnown → later ≡ first ++ placed_plan tx cert sent ∷ []) →
+      FrontRepliesAndPlaces IsKnown on_limit end most tx cert first later pages after (front_answer batches count bound)
   front_placed first later placed =
       (placed_plan tx cert sent ∷ [], front_sent count batches bound sent planned left_is refl refl, placed)
 
-  pub front_read_placed : (first later : List PlacedPlan) → (Tells → later ≡ first ++ placed_plan tx cert sent ∷ []) →
+  pub front_read_placed : (first later : List PlacedPlan) → (IsKnown → later ≡ first ++ placed_plan tx cert sent ∷ []) →
       (reads_as : List ℕ → List Page → Type 0) (left : List ℕ) → ReadsAsEither reads_as pages after left →
-      ReadsOrReplied reads_as (FrontRepliesAndPlaces Tells effort end most tx cert first later) pages left
+      ReadsOrReplied reads_as (FrontRepliesAndPlaces IsKnown on_limit end most tx cert first later) pages left
   front_read_placed first later placed reads_as left is =
-      either_read (FrontRepliesAndPlaces Tells effort end most tx cert first later) pages after (front_answer batches count bound) reads_as left
+      either_read (FrontRepliesAndPlaces IsKnown on_limit end most tx cert first later) pages after (front_answer batches count bound) reads_as left
       (front_placed first later placed) is

@@ -5,4 +5,4 @@ pub mod Plans
 pub mod SeenLines
 pub mod Sessions
 pub mod Survival
-pub mod Told
+pub mod Printed

@@ -4,7 +4,7 @@ use Rattle.std.specs.Prelude.{Option, Some}
 use Rattle.pocsag_words.specs.declared.ending.End.{End}
 use Rattle.pocsag_pages.specs.declared.page.Page.{Page}
 use Rattle.pocsag_tree.specs.Views.{bound_tree_of}
-use Rattle.pocsag_plan.specs.declared.search.Effort.{Effort}
+use Rattle.pocsag_plan.specs.declared.search.OnLimit.{OnLimit}
 use Rattle.pocsag_plan.specs.declared.fault.PlanFault.TheVariants as planning
 use Rattle.pocsag_plan.specs.declared.fault.StreamFault.{StreamFault}
 use Rattle.pocsag_plan.specs.declared.fault.StreamFault.TheVariants as streaming
@@ -23,28 +23,28 @@ all_held Holds tx tx_after cert cert_after none no_text w =
     subst (λ (l : List ℕ). Holds l cert_after) (sym sent) (subst (λ (l : List ℕ). Holds w.sent l) (sym text) w.headline)
 
 -- the fault of a stream of the pages explains why their plan is refused
-pub explains : (effort : Effort) (end : End) (pages : List Page) (limit : ℕ) (f : StreamFault) → limit ≡ plan_limit →
-    ExplainsBookStream effort end pages limit f → ExplainsUndone effort end pages (undone_of f)
-explains effort end pages limit (streaming.Plan planning.BadLimit) e h = absurd (h (record { some = omega (arith, e); few = omega (arith, e) }))
-explains effort end pages limit (streaming.Plan (planning.SearchLimit stop)) e h = (
+pub explains : (on_limit : OnLimit) (end : End) (pages : List Page) (limit : ℕ) (f : StreamFault) → limit ≡ plan_limit →
+    ExplainsBookStream on_limit end pages limit f → ExplainsUndone on_limit end pages (undone_of f)
+explains on_limit end pages limit (streaming.Plan planning.BadLimit) e h = absurd (h (record { some = omega (arith, e); few = omega (arith, e) }))
+explains on_limit end pages limit (streaming.Plan (planning.SearchLimit stop)) e h = (
   h.0,
   h.2,
   (bound_tree_of stop.tree, subst (λ (l : ℕ). IsStopped end pages l stop.least stop.found (bound_tree_of stop.tree)) e h.3),
 )
-explains effort end pages limit (streaming.Plan planning.OutOfMemory) e h = h.1
-explains effort end pages limit (streaming.Round f) e h = h.1
-explains effort end pages limit (streaming.Transmission f) e h = tt
-explains effort end pages limit (streaming.Certificate f) e h = tt
+explains on_limit end pages limit (streaming.Plan planning.OutOfMemory) e h = h.1
+explains on_limit end pages limit (streaming.Round f) e h = h.1
+explains on_limit end pages limit (streaming.Transmission f) e h = tt
+explains on_limit end pages limit (streaming.Certificate f) e h = tt
 
 -- and so does that of a stream of a front
-pub explains_front : (effort : Effort) (end : End) (most : ℕ) (pages : List Page) (f : StreamFault) →
-    ExplainsBookFront (plan_search effort end) pages most (front.Stream f) → ExplainsFrontUndone effort end most pages (undone_of f)
-explains_front effort end most pages (streaming.Plan planning.BadLimit) h = absurd (h (record { some = omega arith; few = omega arith }))
-explains_front effort end most pages (streaming.Plan (planning.SearchLimit stop)) h = (h.0, h.2, (bound_tree_of stop.tree, h.3))
-explains_front effort end most pages (streaming.Plan planning.OutOfMemory) h = h.1
-explains_front effort end most pages (streaming.Round f) h = h.1
-explains_front effort end most pages (streaming.Transmission f) h = tt
-explains_front effort end most pages (streaming.Certificate f) h = tt
+pub explains_front : (on_limit : OnLimit) (end : End) (most : ℕ) (pages : List Page) (f : StreamFault) →
+    ExplainsBookFront (plan_search on_limit end) pages most (front.Stream f) → ExplainsFrontUndone on_limit end most pages (undone_of f)
+explains_front on_limit end most pages (streaming.Plan planning.BadLimit) h = absurd (h (record { some = omega arith; few = omega arith }))
+explains_front on_limit end most pages (streaming.Plan (planning.SearchLimit stop)) h = (h.0, h.2, (bound_tree_of stop.tree, h.3))
+explains_front on_limit end most pages (streaming.Plan planning.OutOfMemory) h = h.1
+explains_front on_limit end most pages (streaming.Round f) h = h.1
+explains_front on_limit end most pages (streaming.Transmission f) h = tt
+explains_front on_limit end most pages (streaming.Certificate f) h = tt
 
 -- the fault of a stream of two outputs is one of its files only where one of these failed
 pub unsent_files : {Output : Type 0} (failures : Output → ℕ) (places : PlaceNames) (before after : ℕ) (last : Option PlaceFault)

@@ -4,7 +4,7 @@ use Rattle.std.specs.Prelude.{Option, Some, None}
 use Rattle.pocsag_words.specs.declared.ending.End.{End}
 use Rattle.pocsag_pages.specs.PageFile.{Row}
 use Rattle.pocsag_pages.specs.declared.page.Page.{Page}
-use Rattle.pocsag_plan.specs.declared.search.Effort.{Effort}
+use Rattle.pocsag_plan.specs.declared.search.OnLimit.{OnLimit}
 use Rattle.pocsag_journal.specs.Asks.{AsksNone, AsksPlan, IsAskedBy, list_record}
 use Rattle.pocsag_journal.specs.Runs.{Asked, IsDone, IsEdit, asked_of, first_record}
 use Rattle.pocsag_journal.specs.declared.edits.Line.{Line}
@@ -14,42 +14,42 @@ use Rattle.pocsag_journal.specs.declared.refusal.UndoneFault.{UndoneFault}
 use Rattle.pocsag_journal.specs.declared.refusal.UndoneFault.TheVariants as undone
 use Rattle.pocsag_open.specs.Lines.{AreLines, IsFirstLine}
 use Rattle.pocsag_open.specs.Plans.{ExplainsPlanUndone, PlacedPlan}
-use Rattle.pocsag_open.specs.Replies.{AreReplies, IsEditReply, IsFrontReply, IsLineReply, IsPlanRefused, IsRefusalDue, IsReply, IsSession, TellsAndPlaces, edited, front_refused, front_sent, refused, sent_first}
+use Rattle.pocsag_open.specs.Replies.{AreReplies, IsEditReply, IsFrontReply, IsLineReply, IsPlanRefused, IsRefusalDue, IsReply, IsSession, PrintsAndPlaces, edited, front_refused, front_sent, refused, sent_first}
 
 -- one line more, and its reply
-pub one_reply : (Tells : Type 0) (effort : Effort) (pending line rest input : List ℕ) (before now between : List Page)
+pub one_reply : (IsKnown : Type 0) (on_limit : OnLimit) (pending line rest input : List ℕ) (before now between : List Page)
     (start out next : List ℕ) (first_placed placed then_placed : List PlacedPlan) →
-    IsFirstLine pending line rest → TellsAndPlaces Tells out next placed then_placed (IsLineReply Tells effort line now between) →
-    ((lines : List (List ℕ)) (after : List Page) (told : List ℕ) (sent : List PlacedPlan) → AreLines lines pending → AreReplies Tells effort lines now after told sent →
-    TellsAndPlaces Tells start (out ++ told) first_placed (placed ++ sent) (IsSession Tells effort input before after)) →
-    (lines : List (List ℕ)) (after : List Page) (told : List ℕ) (sent : List PlacedPlan) → AreLines lines rest → AreReplies Tells effort lines between after told sent →
-    TellsAndPlaces Tells start (next ++ told) first_placed (then_placed ++ sent) (IsSession Tells effort input before after)
+    IsFirstLine pending line rest → PrintsAndPlaces IsKnown out next placed then_placed (IsLineReply IsKnown on_limit line now between) →
+    ((lines : List (List ℕ)) (after : List Page) (printed : List ℕ) (sent : List PlacedPlan) → AreLines lines pending → AreReplies IsKnown on_limit lines now after printed sent →
+    PrintsAndPlaces IsKnown start (out ++ printed) first_placed (placed ++ sent) (IsSession IsKnown on_limit input before after)) →
+    (lines : List (List ℕ)) (after : List Page) (printed : List ℕ) (sent : List PlacedPlan) → AreLines lines rest → AreReplies IsKnown on_limit lines between after printed sent →
+    PrintsAndPlaces IsKnown start (next ++ printed) first_placed (then_placed ++ sent) (IsSession IsKnown on_limit input before after)
 unfolding AreLines AreReplies
-one_reply Tells effort pending line rest input before now between start out next first_placed placed then_placed first reply all lines after told sent cut replies =
-    let whole = all (line ∷ lines) after (reply.told ++ told) (reply.placed ++ sent) (rest, first, cut)
-    (between, reply.told, told, reply.placed, sent, reply.holds, replies, refl, refl) in
+one_reply IsKnown on_limit pending line rest input before now between start out next first_placed placed then_placed first reply all lines after printed sent cut replies =
+    let whole = all (line ∷ lines) after (reply.printed ++ printed) (reply.placed ++ sent) (rest, first, cut)
+    (between, reply.printed, printed, reply.placed, sent, reply.holds, replies, refl, refl) in
     record {
-      told = whole.told;
+      printed = whole.printed;
       placed = whole.placed;
-      answers = ap (λ (l : List ℕ). l ++ told) reply.answers ∙ append_assoc out reply.told told ∙ whole.answers;
-      outputs = λ tells. ap (λ (l : List PlacedPlan). l ++ sent) (reply.outputs tells) ∙ append_assoc placed reply.placed sent ∙ whole.outputs tells;
+      answers = ap (λ (l : List ℕ). l ++ printed) reply.answers ∙ append_assoc out reply.printed printed ∙ whole.answers;
+      outputs = λ is_known. ap (λ (l : List PlacedPlan). l ++ sent) (reply.outputs is_known) ∙ append_assoc placed reply.placed sent ∙ whole.outputs is_known;
       holds = whole.holds;
     }
 
 -- no line is left
-pub no_reply : (Tells : Type 0) (effort : Effort) (pending input : List ℕ) (before now : List Page) (start out : List ℕ)
+pub no_reply : (IsKnown : Type 0) (on_limit : OnLimit) (pending input : List ℕ) (before now : List Page) (start out : List ℕ)
     (first_placed placed : List PlacedPlan) → pending ≡ [] →
-    ((lines : List (List ℕ)) (after : List Page) (told : List ℕ) (sent : List PlacedPlan) → AreLines lines pending → AreReplies Tells effort lines now after told sent →
-    TellsAndPlaces Tells start (out ++ told) first_placed (placed ++ sent) (IsSession Tells effort input before after)) →
-    TellsAndPlaces Tells start out first_placed placed (IsSession Tells effort input before now)
+    ((lines : List (List ℕ)) (after : List Page) (printed : List ℕ) (sent : List PlacedPlan) → AreLines lines pending → AreReplies IsKnown on_limit lines now after printed sent →
+    PrintsAndPlaces IsKnown start (out ++ printed) first_placed (placed ++ sent) (IsSession IsKnown on_limit input before after)) →
+    PrintsAndPlaces IsKnown start out first_placed placed (IsSession IsKnown on_limit input before now)
 unfolding AreLines AreReplies
-no_reply Tells effort pending input before now start out first_placed placed none all =
+no_reply IsKnown on_limit pending input before now start out first_placed placed none all =
     let whole = all [] now [] [] none (refl, refl, refl) in
     record {
-      told = whole.told;
+      printed = whole.printed;
       placed = whole.placed;
       answers = sym (append-nil out) ∙ whole.answers;
-      outputs = λ tells. sym (append-nil placed) ∙ whole.outputs tells;
+      outputs = λ is_known. sym (append-nil placed) ∙ whole.outputs is_known;
       holds = whole.holds;
     }
 
@@ -82,11 +82,11 @@ other_none line.Journal row l p j h = absurd (j refl)
 other_none line.Unknown row l p j h = h
 
 -- a reason that applies to the plan is due where it is refused
-pub plan_due : (effort : Effort) (end : End) (most : Option ℕ) (tx cert : List ℕ) (row : Row) (pages : List Page) (fault : UndoneFault) →
-    AsksPlan end most tx cert row → None ≡ asked_of row → ExplainsPlanUndone effort end most pages fault →
-    IsRefusalDue effort row pages (refusal.Undone fault)
-plan_due effort end most tx cert row pages fault asks e explained =
-    let why : IsPlanRefused effort row pages (refusal.Undone fault) =
+pub plan_due : (on_limit : OnLimit) (end : End) (most : Option ℕ) (tx cert : List ℕ) (row : Row) (pages : List Page) (fault : UndoneFault) →
+    AsksPlan end most tx cert row → None ≡ asked_of row → ExplainsPlanUndone on_limit end most pages fault →
+    IsRefusalDue on_limit row pages (refusal.Undone fault)
+plan_due on_limit end most tx cert row pages fault asks e explained =
+    let why : IsPlanRefused on_limit row pages (refusal.Undone fault) =
     record { end = end; at_most = most; tx = tx; cert = cert; asks = asks; fault = fault; names = refl; explained = explained } in
     record {
       edit = inr (λ after d. no_edit row e pages after d);
@@ -97,9 +97,9 @@ plan_due effort end most tx cert row pages fault asks e explained =
     }
 
 -- want of memory is due where the list is refused
-pub list_due : (effort : Effort) (row : Row) (pages : List Page) → row ≡ list_record → None ≡ asked_of row →
-    IsRefusalDue effort row pages (refusal.Undone undone.OutOfMemory)
-list_due effort row pages asks e =
+pub list_due : (on_limit : OnLimit) (row : Row) (pages : List Page) → row ≡ list_record → None ≡ asked_of row →
+    IsRefusalDue on_limit row pages (refusal.Undone undone.OutOfMemory)
+list_due on_limit row pages asks e =
     record {
       edit = inr (λ after d. no_edit row e pages after d);
       reason = inr (inl asks);
@@ -109,11 +109,11 @@ list_due effort row pages asks e =
     }
 
 -- the reply to a record that is judged as an edit
-pub edit_reply : (Tells : Type 0) (effort : Effort) (row : Row) (before after : List Page) (told : List ℕ) → AsksNone row →
-    IsEditReply row before after told → IsReply Tells effort row before after told []
-edit_reply Tells effort row before after told none (inl h) = edited h.0 h.1 refl
-edit_reply Tells effort row before after told none (inr h) =
-    let due : IsRefusalDue effort row before h.1.0 =
+pub edit_reply : (IsKnown : Type 0) (on_limit : OnLimit) (row : Row) (before after : List Page) (printed : List ℕ) → AsksNone row →
+    IsEditReply row before after printed → IsReply IsKnown on_limit row before after printed []
+edit_reply IsKnown on_limit row before after printed none (inl h) = edited h.0 h.1 refl
+edit_reply IsKnown on_limit row before after printed none (inr h) =
+    let due : IsRefusalDue on_limit row before h.1.0 =
     record {
       edit = h.1.1;
       reason = inl h.1.2;
@@ -124,10 +124,10 @@ edit_reply Tells effort row before after told none (inr h) =
     refused h.1.0 due h.0 h.1.3 refl
 
 -- the reply to a record that asks for a plan of a front
-pub front_reply : (Tells : Type 0) (effort : Effort) (end : End) (most : ℕ) (tx cert : List ℕ) (row : Row) (before after : List Page)
-    (told : List ℕ) (placed : List PlacedPlan) → AsksPlan end (Some most) tx cert row → None ≡ asked_of row →
-    IsFrontReply Tells effort end most tx cert before after told placed → IsReply Tells effort row before after told placed
-front_reply Tells effort end most tx cert row before after told placed asks e (front_sent count batches bound sent is left t n) =
+pub front_reply : (IsKnown : Type 0) (on_limit : OnLimit) (end : End) (most : ℕ) (tx cert : List ℕ) (row : Row) (before after : List Page)
+    (printed : List ℕ) (placed : List PlacedPlan) → AsksPlan end (Some most) tx cert row → None ≡ asked_of row →
+    IsFrontReply IsKnown on_limit end most tx cert before after printed placed → IsReply IsKnown on_limit row before after printed placed
+front_reply IsKnown on_limit end most tx cert row before after printed placed asks e (front_sent count batches bound sent is left t n) =
     sent_first end most tx cert count batches bound sent asks is left t n
-front_reply Tells effort end most tx cert row before after told placed asks e (front_refused fault explained same t n) =
-    refused (refusal.Undone fault) (plan_due effort end (Some most) tx cert row before fault asks e explained) same t n
+front_reply IsKnown on_limit end most tx cert row before after printed placed asks e (front_refused fault explained same t n) =
+    refused (refusal.Undone fault) (plan_due on_limit end (Some most) tx cert row before fault asks e explained) same t n

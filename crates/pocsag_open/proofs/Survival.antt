@@ -4,11 +4,11 @@ use Rattle.std.proofs.Math.Seq.{take-append-add}
 use Rattle.std.specs.Prelude.{OnErr, Result, Ok, Err}
 use Rattle.pocsag_words.specs.Devices.{Delivers, TookPrefix}
 use Rattle.pocsag_pages.specs.declared.page.Page.{Page}
-use Rattle.pocsag_plan.specs.declared.search.Effort.{Effort}
+use Rattle.pocsag_plan.specs.declared.search.OnLimit.{OnLimit}
 use Rattle.pocsag_journal.specs.Keepers.{ReadsAsEither}
 use Rattle.pocsag_open.specs.Lines.{AreLines, IsFirstLine}
 use Rattle.pocsag_open.specs.Plans.{PlacedPlan}
-use Rattle.pocsag_open.specs.Replies.{AreReplies, IsLineReply, IsSession, TellsAndPlaces}
+use Rattle.pocsag_open.specs.Replies.{AreReplies, IsLineReply, IsSession, PrintsAndPlaces}
 use Rattle.pocsag_open.specs.Survival.{AreFirstLines, IsCutShort, ReadsAfterLines, ReadsOrReplied, RepliesAndPlaces, RepliesTo, Survives, TookPartOf, begun, between, untold, within}
 
 pub on_err : {X E : Type 0} (r : Result X E) (P Q : Type 0) → (P → Q) → OnErr r P → OnErr r Q
@@ -29,27 +29,27 @@ pub told_part : {X E : Type 0} (r : Result X E) (before after due : List ℕ) (i
 told_part r before after due is so h = on_err r _ _ (took_part before after due is so) h.1
 
 -- what is read as the pages before or after a reply
-pub either_read : (Replies : (before after : List Page) → List ℕ → Type 0) (before after : List Page) (told : List ℕ)
-    (reads_as : List ℕ → List Page → Type 0) (left : List ℕ) → Replies before after told → ReadsAsEither reads_as before after left →
+pub either_read : (Replies : (before after : List Page) → List ℕ → Type 0) (before after : List Page) (printed : List ℕ)
+    (reads_as : List ℕ → List Page → Type 0) (left : List ℕ) → Replies before after printed → ReadsAsEither reads_as before after left →
     ReadsOrReplied reads_as Replies before left
-either_read Replies before after told reads_as left so (inl is) = inl is
-either_read Replies before after told reads_as left so (inr is) = inr (after, (told, so, is))
+either_read Replies before after printed reads_as left so (inl is) = inl is
+either_read Replies before after printed reads_as left so (inr is) = inr (after, (printed, so, is))
 
 -- an answer of which a part was told is cut short
 pub cut_part : (Replies : (before after : List Page) → List ℕ → Type 0)
     (before after : List Page) (out_before out_after : List ℕ) (reads_as : List ℕ → List Page → Type 0) (may_leave : List ℕ → Type 0)
-    (is : List ℕ → Type 0) → ((told : List ℕ) → is told → Replies before after told) →
+    (is : List ℕ → Type 0) → ((printed : List ℕ) → is printed → Replies before after printed) →
     ((left : List ℕ) → may_leave left → ReadsOrReplied reads_as Replies before left) → ((left : List ℕ) → may_leave left → reads_as left after) →
     TookPartOf out_before out_after is → IsCutShort Replies before out_before out_after reads_as may_leave
 cut_part Replies before after out_before out_after reads_as may_leave is reply either kept (inl same) = untold same either
-cut_part Replies before after out_before out_after reads_as may_leave is reply either kept (inr (told, part, more, so, parts, took)) =
-    begun after told part more (reply told so) parts took kept
+cut_part Replies before after out_before out_after reads_as may_leave is reply either kept (inr (printed, part, more, so, parts, took)) =
+    begun after printed part more (reply printed so) parts took kept
 
 -- the same where the pages stay as they are
 pub cut_told : {X E : Type 0} (r : Result X E) (Replies : (before after : List Page) → List ℕ → Type 0)
     (before : List Page) (out_before out_after : List ℕ)
     (reads_as : List ℕ → List Page → Type 0) (may_leave : List ℕ → Type 0) (is : List ℕ → Type 0) →
-    ((told : List ℕ) → is told → Replies before before told) → ((left : List ℕ) → may_leave left → reads_as left before) →
+    ((printed : List ℕ) → is printed → Replies before before printed) → ((left : List ℕ) → may_leave left → reads_as left before) →
     OnErr r (TookPartOf out_before out_after is) → OnErr r (IsCutShort Replies before out_before out_after reads_as may_leave)
 cut_told r Replies before out_before out_after reads_as may_leave is reply kept h =
     on_err r _ _
@@ -62,9 +62,9 @@ pub cut_due : {X E : Type 0} (r : Result X E) (Replies : (before after : List Pa
     ((left : List ℕ) → may_leave left → reads_as left before) → OnErr r (TookPrefix out_before out_after due) →
     OnErr r (IsCutShort Replies before out_before out_after reads_as may_leave)
 cut_due r Replies before out_before out_after due reads_as may_leave reply kept h =
-    cut_told r Replies before out_before out_after reads_as may_leave (λ (told : List ℕ). told ≡ due)
-    (λ told e. subst (λ (t : List ℕ). Replies before before t) (sym e) reply) kept
-    (on_err r _ _ (took_part out_before out_after due (λ (told : List ℕ). told ≡ due) refl) h)
+    cut_told r Replies before out_before out_after reads_as may_leave (λ (printed : List ℕ). printed ≡ due)
+    (λ printed e. subst (λ (t : List ℕ). Replies before before t) (sym e) reply) kept
+    (on_err r _ _ (took_part out_before out_after due (λ (printed : List ℕ). printed ≡ due) refl) h)
 
 -- of its first part
 pub cut_front : (Replies : (before after : List Page) → List ℕ → Type 0) (before : List Page)
@@ -72,11 +72,11 @@ pub cut_front : (Replies : (before after : List Page) → List ℕ → Type 0) (
     Replies before before (first ++ last) → ((left : List ℕ) → may_leave left → reads_as left before) →
     TookPrefix out_before out_after first → IsCutShort Replies before out_before out_after reads_as may_leave
 cut_front Replies before out_before out_after first last reads_as may_leave reply kept took =
-    cut_of (took_part out_before out_after first (λ (told : List ℕ). told ≡ first) refl took)
+    cut_of (took_part out_before out_after first (λ (printed : List ℕ). printed ≡ first) refl took)
   where
-    cut_of : TookPartOf out_before out_after (λ (told : List ℕ). told ≡ first) → IsCutShort Replies before out_before out_after reads_as may_leave
+    cut_of : TookPartOf out_before out_after (λ (printed : List ℕ). printed ≡ first) → IsCutShort Replies before out_before out_after reads_as may_leave
     cut_of (inl same) = untold same (λ left now. inl (kept left now))
-    cut_of (inr (told, part, more, so, parts, is)) =
+    cut_of (inr (printed, part, more, so, parts, is)) =
         begun before (first ++ last) part (more ++ last) reply
         (ap (λ (l : List ℕ). l ++ last) (sym so ∙ parts) ∙ append_assoc part more last) is kept
 
@@ -87,25 +87,25 @@ pub cut_last : {X E : Type 0} (r : Result X E) (Replies : (before after : List P
     ((left : List ℕ) → may_leave left → reads_as left before) → OnErr r (TookPrefix mid out_after last) →
     OnErr r (IsCutShort Replies before out_before out_after reads_as may_leave)
 cut_last r Replies before out_before mid out_after first last reads_as may_leave begins reply kept h =
-    on_err r _ _ (λ took. cut_of (took_part mid out_after last (λ (told : List ℕ). told ≡ last) refl took)) h
+    on_err r _ _ (λ took. cut_of (took_part mid out_after last (λ (printed : List ℕ). printed ≡ last) refl took)) h
   where
-    cut_of : TookPartOf mid out_after (λ (told : List ℕ). told ≡ last) → IsCutShort Replies before out_before out_after reads_as may_leave
+    cut_of : TookPartOf mid out_after (λ (printed : List ℕ). printed ≡ last) → IsCutShort Replies before out_before out_after reads_as may_leave
     cut_of (inl same) = begun before (first ++ last) first last reply refl (same ∙ begins) kept
-    cut_of (inr (told, part, more, so, parts, is)) =
+    cut_of (inr (printed, part, more, so, parts, is)) =
         begun before (first ++ last) (first ++ part) more reply
         (ap (λ (l : List ℕ). first ++ l) (sym so ∙ parts) ∙ sym (append_assoc first part more))
         (is ∙ ap (λ (l : List ℕ). l ++ part) begins ∙ append_assoc out_before first part) kept
 
 -- and by other names
 pub read_as : (Replies More : (before after : List Page) → List ℕ → Type 0) (before : List Page) (reads_as : List ℕ → List Page → Type 0)
-    (left : List ℕ) → ((after : List Page) (told : List ℕ) → Replies before after told → More before after told) →
+    (left : List ℕ) → ((after : List Page) (printed : List ℕ) → Replies before after printed → More before after printed) →
     ReadsOrReplied reads_as Replies before left → ReadsOrReplied reads_as More before left
 read_as Replies More before reads_as left h (inl is) = inl is
 read_as Replies More before reads_as left h (inr (after, (reply, so, is))) = inr (after, (reply, h after reply so, is))
 
 pub cut_as : (Replies More : (before after : List Page) → List ℕ → Type 0)
     (before : List Page) (out_before out_after : List ℕ) (reads_as : List ℕ → List Page → Type 0) (may_leave : List ℕ → Type 0) →
-    ((after : List Page) (told : List ℕ) → Replies before after told → More before after told) →
+    ((after : List Page) (printed : List ℕ) → Replies before after printed → More before after printed) →
     IsCutShort Replies before out_before out_after reads_as may_leave → IsCutShort More before out_before out_after reads_as may_leave
 cut_as Replies More before out_before out_after reads_as may_leave h (untold same either) =
     untold same (λ left now. read_as Replies More before reads_as left h (either left now))
@@ -120,13 +120,13 @@ lines_more [] line bytes pending rest firsts first = (rest, subst (λ (b : List 
 lines_more (l ∷ lines) line bytes pending rest firsts first =
     (firsts.0, firsts.1, lines_more lines line firsts.0 pending rest firsts.2 first)
 
-replies_more : (Tells : Type 0) (effort : Effort) (lines : List (List ℕ)) (line : List ℕ) (before now after : List Page) (told reply : List ℕ)
-    (placed its : List PlacedPlan) → AreReplies Tells effort lines before now told placed → IsLineReply Tells effort line now after reply its →
-    AreReplies Tells effort (lines ++ line ∷ []) before after (told ++ reply) (placed ++ its)
+replies_more : (IsKnown : Type 0) (on_limit : OnLimit) (lines : List (List ℕ)) (line : List ℕ) (before now after : List Page) (printed reply : List ℕ)
+    (placed its : List PlacedPlan) → AreReplies IsKnown on_limit lines before now printed placed → IsLineReply IsKnown on_limit line now after reply its →
+    AreReplies IsKnown on_limit (lines ++ line ∷ []) before after (printed ++ reply) (placed ++ its)
 unfolding AreReplies
-replies_more Tells effort [] line before now after told reply placed its replies next =
-    let here : IsLineReply Tells effort line before after reply its =
-    subst (λ (ps : List Page). IsLineReply Tells effort line ps after reply its) replies.0 next in (
+replies_more IsKnown on_limit [] line before now after printed reply placed its replies next =
+    let here : IsLineReply IsKnown on_limit line before after reply its =
+    subst (λ (ps : List Page). IsLineReply IsKnown on_limit line ps after reply its) replies.0 next in (
       after,
       reply,
       [],
@@ -137,55 +137,55 @@ replies_more Tells effort [] line before now after told reply placed its replies
       ap (λ (l : List ℕ). l ++ reply) replies.1 ∙ sym (append-nil reply),
       ap (λ (l : List PlacedPlan). l ++ its) replies.2 ∙ sym (append-nil its),
     )
-replies_more Tells effort (l ∷ lines) line before now after told reply placed its (mid, first, more, one, others, here, rest, parts, sent) next = (
+replies_more IsKnown on_limit (l ∷ lines) line before now after printed reply placed its (mid, first, more, one, others, here, rest, parts, sent) next = (
   mid,
   first,
   more ++ reply,
   one,
   others ++ its,
   here,
-  replies_more Tells effort lines line mid now after more reply others its rest next,
+  replies_more IsKnown on_limit lines line mid now after more reply others its rest next,
   ap (λ (t : List ℕ). t ++ reply) parts ∙ append_assoc first more reply,
   ap (λ (t : List PlacedPlan). t ++ its) sent ∙ append_assoc one others its,
 )
 
 -- the lines so far are answered
-pub record Answered (Tells : Type 0) (effort : Effort) (input pending : List ℕ) (before now : List Page) (out_before out_after : List ℕ)
+pub record Answered (IsKnown : Type 0) (on_limit : OnLimit) (input pending : List ℕ) (before now : List Page) (out_before out_after : List ℕ)
     (placed_before placed_after : List PlacedPlan) : Type 0 where
   pub lines : List (List ℕ)
-  pub told : List ℕ
+  pub printed : List ℕ
   pub placed : List PlacedPlan
   pub firsts : AreFirstLines lines input pending
-  pub replies : AreReplies Tells effort lines before now told placed
-  pub answers : out_after ≡ out_before ++ told
-  pub outputs : Tells → placed_after ≡ placed_before ++ placed
+  pub replies : AreReplies IsKnown on_limit lines before now printed placed
+  pub answers : out_after ≡ out_before ++ printed
+  pub outputs : IsKnown → placed_after ≡ placed_before ++ placed
 
-pub none_answered : (Tells : Type 0) (effort : Effort) (input pending : List ℕ) (before : List Page) (out : List ℕ) (placed : List PlacedPlan) →
-    pending ≡ input → Answered Tells effort input pending before before out out placed placed
+pub none_answered : (IsKnown : Type 0) (on_limit : OnLimit) (input pending : List ℕ) (before : List Page) (out : List ℕ) (placed : List PlacedPlan) →
+    pending ≡ input → Answered IsKnown on_limit input pending before before out out placed placed
 unfolding AreFirstLines AreReplies
-none_answered Tells effort input pending before out placed e = record {
+none_answered IsKnown on_limit input pending before out placed e = record {
   lines = [];
-  told = [];
+  printed = [];
   placed = [];
   firsts = e;
   replies = (refl, refl, refl);
   answers = sym (append-nil out);
-  outputs = λ tells. sym (append-nil placed);
+  outputs = λ is_known. sym (append-nil placed);
 }
 
-pub one_answered : (Tells : Type 0) (effort : Effort) (input pending line rest : List ℕ) (before now after : List Page)
+pub one_answered : (IsKnown : Type 0) (on_limit : OnLimit) (input pending line rest : List ℕ) (before now after : List Page)
     (start out next : List ℕ) (first_placed placed then_placed : List PlacedPlan) →
-    Answered Tells effort input pending before now start out first_placed placed → IsFirstLine pending line rest →
-    TellsAndPlaces Tells out next placed then_placed (IsLineReply Tells effort line now after) →
-    Answered Tells effort input rest before after start next first_placed then_placed
-one_answered Tells effort input pending line rest before now after start out next first_placed placed then_placed so_far first reply = record {
+    Answered IsKnown on_limit input pending before now start out first_placed placed → IsFirstLine pending line rest →
+    PrintsAndPlaces IsKnown out next placed then_placed (IsLineReply IsKnown on_limit line now after) →
+    Answered IsKnown on_limit input rest before after start next first_placed then_placed
+one_answered IsKnown on_limit input pending line rest before now after start out next first_placed placed then_placed so_far first reply = record {
   lines = so_far.lines ++ line ∷ [];
-  told = so_far.told ++ reply.told;
+  printed = so_far.printed ++ reply.printed;
   placed = so_far.placed ++ reply.placed;
   firsts = lines_more so_far.lines line input pending rest so_far.firsts first;
-  replies = replies_more Tells effort so_far.lines line before now after so_far.told reply.told so_far.placed reply.placed so_far.replies reply.holds;
-  answers = reply.answers ∙ ap (λ (l : List ℕ). l ++ reply.told) so_far.answers ∙ append_assoc start so_far.told reply.told;
-  outputs = λ tells. reply.outputs tells ∙ ap (λ (l : List PlacedPlan). l ++ reply.placed) (so_far.outputs tells)
+  replies = replies_more IsKnown on_limit so_far.lines line before now after so_far.printed reply.printed so_far.placed reply.placed so_far.replies reply.holds;
+  answers = reply.answers ∙ ap (λ (l : List ℕ). l ++ reply.printed) so_far.answers ∙ append_assoc start so_far.printed reply.printed;
+  outputs = λ is_known. reply.outputs is_known ∙ ap (λ (l : List PlacedPlan). l ++ reply.placed) (so_far.outputs is_known)
       ∙ append_assoc first_placed so_far.placed reply.placed;
 }
 
@@ -195,11 +195,11 @@ all_lines [] bytes rest none firsts = sym firsts ∙ none
 all_lines (line ∷ lines) bytes rest none firsts = (firsts.0, firsts.1, all_lines lines firsts.0 rest none firsts.2)
 
 -- no line is left
-pub all_answered : (Tells : Type 0) (effort : Effort) (input pending : List ℕ) (before now : List Page) (start out : List ℕ)
-    (first_placed placed : List PlacedPlan) → pending ≡ [] → Answered Tells effort input pending before now start out first_placed placed →
-    TellsAndPlaces Tells start out first_placed placed (IsSession Tells effort input before now)
-all_answered Tells effort input pending before now start out first_placed placed none so_far = record {
-  told = so_far.told;
+pub all_answered : (IsKnown : Type 0) (on_limit : OnLimit) (input pending : List ℕ) (before now : List Page) (start out : List ℕ)
+    (first_placed placed : List PlacedPlan) → pending ≡ [] → Answered IsKnown on_limit input pending before now start out first_placed placed →
+    PrintsAndPlaces IsKnown start out first_placed placed (IsSession IsKnown on_limit input before now)
+all_answered IsKnown on_limit input pending before now start out first_placed placed none so_far = record {
+  printed = so_far.printed;
   placed = so_far.placed;
   answers = so_far.answers;
   outputs = so_far.outputs;
@@ -207,15 +207,15 @@ all_answered Tells effort input pending before now start out first_placed placed
 }
 
 -- what a crash leaves between two lines
-pub survives_between : (Tells : Type 0) (effort : Effort) (input pending : List ℕ) (before now : List Page) (start out : List ℕ)
+pub survives_between : (IsKnown : Type 0) (on_limit : OnLimit) (input pending : List ℕ) (before now : List Page) (start out : List ℕ)
     (first_placed placed : List PlacedPlan) (reads_as : List ℕ → List Page → Type 0) (may_leave : List ℕ → Type 0) →
-    Answered Tells effort input pending before now start out first_placed placed → ((left : List ℕ) → may_leave left → reads_as left now) →
-    Survives Tells effort input before start out first_placed placed reads_as may_leave
-survives_between Tells effort input pending before now start out first_placed placed reads_as may_leave so_far kept = record {
+    Answered IsKnown on_limit input pending before now start out first_placed placed → ((left : List ℕ) → may_leave left → reads_as left now) →
+    Survives IsKnown on_limit input before start out first_placed placed reads_as may_leave
+survives_between IsKnown on_limit input pending before now start out first_placed placed reads_as may_leave so_far kept = record {
   lines = so_far.lines;
   rest = pending;
   now = now;
-  told = so_far.told;
+  printed = so_far.printed;
   placed = so_far.placed;
   firsts = so_far.firsts;
   replies = so_far.replies;
@@ -223,44 +223,44 @@ survives_between Tells effort input pending before now start out first_placed pl
 }
 
 -- what was placed more, behind what was placed so far
-placed_on : (Tells : Type 0) (effort : Effort) (line : List ℕ) (first mid more later : List PlacedPlan) (before after : List Page) (told : List ℕ) →
-    (Tells → mid ≡ first ++ more) → RepliesAndPlaces Tells effort line mid later before after told →
-    RepliesAndPlaces Tells effort line (first ++ more) later before after told
-placed_on Tells effort line first mid more later before after told so_far (its, is, placed) =
-    (its, is, λ tells. placed tells ∙ ap (λ (l : List PlacedPlan). l ++ its) (so_far tells))
+placed_on : (IsKnown : Type 0) (on_limit : OnLimit) (line : List ℕ) (first mid more later : List PlacedPlan) (before after : List Page) (printed : List ℕ) →
+    (IsKnown → mid ≡ first ++ more) → RepliesAndPlaces IsKnown on_limit line mid later before after printed →
+    RepliesAndPlaces IsKnown on_limit line (first ++ more) later before after printed
+placed_on IsKnown on_limit line first mid more later before after printed so_far (its, is, placed) =
+    (its, is, λ is_known. placed is_known ∙ ap (λ (l : List PlacedPlan). l ++ its) (so_far is_known))
 
 -- and within one
-pub survives_within : (Tells : Type 0) (effort : Effort) (input pending line behind : List ℕ) (before now : List Page) (start out next : List ℕ)
+pub survives_within : (IsKnown : Type 0) (on_limit : OnLimit) (input pending line behind : List ℕ) (before now : List Page) (start out next : List ℕ)
     (first_placed placed then_placed : List PlacedPlan) (reads_as : List ℕ → List Page → Type 0) (may_leave : List ℕ → Type 0) →
-    Answered Tells effort input pending before now start out first_placed placed → IsFirstLine pending line behind →
-    IsCutShort (RepliesAndPlaces Tells effort line placed then_placed) now out next reads_as may_leave →
-    Survives Tells effort input before start next first_placed then_placed reads_as may_leave
-survives_within Tells effort input pending line behind before now start out next first_placed placed then_placed reads_as may_leave so_far first cut = record {
+    Answered IsKnown on_limit input pending before now start out first_placed placed → IsFirstLine pending line behind →
+    IsCutShort (RepliesAndPlaces IsKnown on_limit line placed then_placed) now out next reads_as may_leave →
+    Survives IsKnown on_limit input before start next first_placed then_placed reads_as may_leave
+survives_within IsKnown on_limit input pending line behind before now start out next first_placed placed then_placed reads_as may_leave so_far first cut = record {
   lines = so_far.lines;
   rest = pending;
   now = now;
-  told = so_far.told;
+  printed = so_far.printed;
   placed = so_far.placed;
   firsts = so_far.firsts;
   replies = so_far.replies;
   cut = within line behind first
-      (subst (λ (l : List ℕ). IsCutShort (RepliesAndPlaces Tells effort line (first_placed ++ so_far.placed) then_placed) now l next reads_as may_leave)
+      (subst (λ (l : List ℕ). IsCutShort (RepliesAndPlaces IsKnown on_limit line (first_placed ++ so_far.placed) then_placed) now l next reads_as may_leave)
       so_far.answers
-      (cut_as (RepliesAndPlaces Tells effort line placed then_placed)
-      (RepliesAndPlaces Tells effort line (first_placed ++ so_far.placed) then_placed) now out next reads_as may_leave
-      (λ after told is. placed_on Tells effort line first_placed placed so_far.placed then_placed now after told so_far.outputs is) cut));
+      (cut_as (RepliesAndPlaces IsKnown on_limit line placed then_placed)
+      (RepliesAndPlaces IsKnown on_limit line (first_placed ++ so_far.placed) then_placed) now out next reads_as may_leave
+      (λ after printed is. placed_on IsKnown on_limit line first_placed placed so_far.placed then_placed now after printed so_far.outputs is) cut));
 }
 
 -- what is read as the pages now is read after the lines so far
-pub read_now : (Tells : Type 0) (effort : Effort) (input pending : List ℕ) (before now : List Page) (start out : List ℕ)
+pub read_now : (IsKnown : Type 0) (on_limit : OnLimit) (input pending : List ℕ) (before now : List Page) (start out : List ℕ)
     (first_placed placed : List PlacedPlan) (reads_as : List ℕ → List Page → Type 0) (left : List ℕ) →
-    Answered Tells effort input pending before now start out first_placed placed → reads_as left now →
-    ReadsAfterLines Tells effort input before reads_as left
-read_now Tells effort input pending before now start out first_placed placed reads_as left so_far is = record {
+    Answered IsKnown on_limit input pending before now start out first_placed placed → reads_as left now →
+    ReadsAfterLines IsKnown on_limit input before reads_as left
+read_now IsKnown on_limit input pending before now start out first_placed placed reads_as left so_far is = record {
   lines = so_far.lines;
   rest = pending;
   pages = now;
-  told = so_far.told;
+  printed = so_far.printed;
   placed = so_far.placed;
   firsts = so_far.firsts;
   replies = so_far.replies;
@@ -268,20 +268,20 @@ read_now Tells effort input pending before now start out first_placed placed rea
 }
 
 -- and as those that the reply leaves, after one line more
-pub read_next : (Tells : Type 0) (effort : Effort) (input pending line behind : List ℕ) (before now : List Page) (start out : List ℕ)
+pub read_next : (IsKnown : Type 0) (on_limit : OnLimit) (input pending line behind : List ℕ) (before now : List Page) (start out : List ℕ)
     (first_placed placed : List PlacedPlan) (reads_as : List ℕ → List Page → Type 0) (left : List ℕ) →
-    Answered Tells effort input pending before now start out first_placed placed → IsFirstLine pending line behind →
-    ReadsOrReplied reads_as (RepliesTo Tells effort line) now left → ReadsAfterLines Tells effort input before reads_as left
-read_next Tells effort input pending line behind before now start out first_placed placed reads_as left so_far first (inl is) =
-    read_now Tells effort input pending before now start out first_placed placed reads_as left so_far is
-read_next Tells effort input pending line behind before now start out first_placed placed reads_as left so_far first (inr (after, (told, (its, reply), is))) =
+    Answered IsKnown on_limit input pending before now start out first_placed placed → IsFirstLine pending line behind →
+    ReadsOrReplied reads_as (RepliesTo IsKnown on_limit line) now left → ReadsAfterLines IsKnown on_limit input before reads_as left
+read_next IsKnown on_limit input pending line behind before now start out first_placed placed reads_as left so_far first (inl is) =
+    read_now IsKnown on_limit input pending before now start out first_placed placed reads_as left so_far is
+read_next IsKnown on_limit input pending line behind before now start out first_placed placed reads_as left so_far first (inr (after, (printed, (its, reply), is))) =
     record {
       lines = so_far.lines ++ line ∷ [];
       rest = behind;
       pages = after;
-      told = so_far.told ++ told;
+      printed = so_far.printed ++ printed;
       placed = so_far.placed ++ its;
       firsts = lines_more so_far.lines line input pending behind so_far.firsts first;
-      replies = replies_more Tells effort so_far.lines line before now after so_far.told told so_far.placed its so_far.replies reply;
+      replies = replies_more IsKnown on_limit so_far.lines line before now after so_far.printed printed so_far.placed its so_far.replies reply;
       read = is;
     }

@@ -4,10 +4,10 @@ use Rattle.pocsag_words.specs.Devices.{HasFailed}
 use Rattle.pocsag_pages.specs.PageFile.{verdict}
 use Rattle.pocsag_pages.specs.declared.fault.RoundFault.TheVariants as round
 use Rattle.pocsag_pages.specs.declared.page.Page.{Page}
-use Rattle.pocsag_plan.specs.declared.search.Effort.{Effort}
+use Rattle.pocsag_plan.specs.declared.search.OnLimit.{OnLimit}
 use Rattle.pocsag_shell.specs.declared.fault.FileFault.{FileFault}
 use Rattle.pocsag_journal.specs.Crashes.{RestartsAs}
-use Rattle.pocsag_journal.specs.Faults.{HasNoLine, IsTold}
+use Rattle.pocsag_journal.specs.Faults.{HasNoLine, IsPrinted}
 use Rattle.pocsag_journal.specs.Journals.{IsRead, Replays, journal_limit}
 use Rattle.pocsag_journal.specs.declared.fault.JournalFault.{JournalFault}
 use Rattle.pocsag_journal.specs.declared.fault.JournalFault.TheVariants as journal
@@ -28,34 +28,34 @@ ReadsBeginning bytes file left = (before : List Page) × IsBeginning bytes file 
 
 -- *At any moment*: one that is left might have been left before; or it is read as the pages after some of the first lines of the
 -- input, none of them left out, from the beginning on.
-abbrev pub ReadsKept : (Tells : Type 0) → Effort → (input bytes : List ℕ) → (file : Option (List ℕ)) → (could_leave : List ℕ → Type 0) → (left : List ℕ) → Type 0
-ReadsKept Tells effort input bytes file could_leave left =
-    could_leave left ⊎ ((before : List Page) × IsBeginning bytes file before × ReadsAfterLines Tells effort input before RestartsAs left)
+abbrev pub ReadsKept : (IsKnown : Type 0) → OnLimit → (input bytes : List ℕ) → (file : Option (List ℕ)) → (could_leave : List ℕ → Type 0) → (left : List ℕ) → Type 0
+ReadsKept IsKnown on_limit input bytes file could_leave left =
+    could_leave left ⊎ ((before : List Page) × IsBeginning bytes file before × ReadsAfterLines IsKnown on_limit input before RestartsAs left)
 
 -- *Kept*: no line was answered, and whatever a crash leaves might have been left before, or is read as the beginning; or the round
 -- survives from its beginning on.
-pub data IsKeptRound (Tells : Type 0) (effort : Effort) (input bytes : List ℕ) (file : Option (List ℕ)) (out_before out_after : List ℕ)
+pub data IsKeptRound (IsKnown : Type 0) (on_limit : OnLimit) (input bytes : List ℕ) (file : Option (List ℕ)) (out_before out_after : List ℕ)
     (placed_before placed_after : List PlacedPlan) (could_leave may_leave : List ℕ → Type 0) : Type 0 where
   not_begun :
       out_after ≡ out_before → ((left : List ℕ) → may_leave left → could_leave left ⊎ ReadsBeginning bytes file left) →
-      IsKeptRound Tells effort input bytes file out_before out_after placed_before placed_after could_leave may_leave
+      IsKeptRound IsKnown on_limit input bytes file out_before out_after placed_before placed_after could_leave may_leave
   begun :
       (before : List Page) → IsBeginning bytes file before →
-      Survives Tells effort input before out_before out_after placed_before placed_after RestartsAs may_leave →
-      IsKeptRound Tells effort input bytes file out_before out_after placed_before placed_after could_leave may_leave
+      Survives IsKnown on_limit input before out_before out_after placed_before placed_after RestartsAs may_leave →
+      IsKeptRound IsKnown on_limit input bytes file out_before out_after placed_before placed_after could_leave may_leave
 
 -- The bytes are read as one edit at least.
 abbrev pub HoldsEdits : List ℕ → Type 0
 HoldsEdits bytes = (edits torn : ℕ) × (pages : List Page) × Replays bytes edits torn pages × (0 < edits)
 
 -- What is told of the journal: its bytes are none, or too many, or no line of it holds a page with which the round begins.
-abbrev pub IsToldOfJournal : (bytes : List ℕ) → (file : Option (List ℕ)) → JournalFault → Type 0
-IsToldOfJournal bytes file journal.TooLarge = journal_limit < length bytes
-IsToldOfJournal bytes file journal.NotJournal = IsTold bytes journal.NotJournal
-IsToldOfJournal bytes file journal.OtherVersion = IsTold bytes journal.OtherVersion
-IsToldOfJournal bytes file (journal.BadLine n) = IsTold bytes (journal.BadLine n)
-IsToldOfJournal bytes file (journal.NoLine n) = (before : List Page) × IsBeginning bytes file before × HasNoLine before n
-IsToldOfJournal bytes file _ = ⊥
+abbrev pub IsPrintedOfJournal : (bytes : List ℕ) → (file : Option (List ℕ)) → JournalFault → Type 0
+IsPrintedOfJournal bytes file journal.TooLarge = journal_limit < length bytes
+IsPrintedOfJournal bytes file journal.NotJournal = IsPrinted bytes journal.NotJournal
+IsPrintedOfJournal bytes file journal.OtherVersion = IsPrinted bytes journal.OtherVersion
+IsPrintedOfJournal bytes file (journal.BadLine n) = IsPrinted bytes (journal.BadLine n)
+IsPrintedOfJournal bytes file (journal.NoLine n) = (before : List Page) × IsBeginning bytes file before × HasNoLine before n
+IsPrintedOfJournal bytes file _ = ⊥
 
 -- There is a page file, and it failed between these two counts of failures.
 abbrev pub HasFileFailed : (before after : Option ℕ) → Type 0
@@ -64,20 +64,20 @@ HasFileFailed _ _ = ⊥
 
 -- Why a round does not begin with the pages of its page file: there is one, and it has this fault, or a read of it failed; or
 -- memory was wanting.
-abbrev pub IsToldOfPages : (file : Option (List ℕ)) → (file_failed : Type 0) → OpenFault → Type 0
-IsToldOfPages None file_failed f = ⊥
-IsToldOfPages (Some file) file_failed (fault.Round round.OutOfMemory) = Unit {0}
-IsToldOfPages (Some file) file_failed (fault.Round round.ReadFault) = file_failed
-IsToldOfPages (Some file) file_failed (fault.Round f) = verdict file ≡ Err f
-IsToldOfPages (Some file) file_failed _ = ⊥
+abbrev pub IsPrintedOfPages : (file : Option (List ℕ)) → (file_failed : Type 0) → OpenFault → Type 0
+IsPrintedOfPages None file_failed f = ⊥
+IsPrintedOfPages (Some file) file_failed (fault.Round round.OutOfMemory) = Unit {0}
+IsPrintedOfPages (Some file) file_failed (fault.Round round.ReadFault) = file_failed
+IsPrintedOfPages (Some file) file_failed (fault.Round f) = verdict file ≡ Err f
+IsPrintedOfPages (Some file) file_failed _ = ⊥
 
 -- *Cause of a refused start or an end*: what is told of the journal or of the page file; that there is a page file and the
 -- journal holds edits; or why the round ends before its input.
 abbrev pub ExplainsKept : (bytes : List ℕ) → (file : Option (List ℕ)) → (file_failed : Type 0) → (Ends : FileFault → Type 0) → OpenFault → Type 0
 ExplainsKept bytes file file_failed Ends (fault.File f) = Ends f
-ExplainsKept bytes file file_failed Ends (fault.Round f) = IsToldOfPages file file_failed (fault.Round f)
+ExplainsKept bytes file file_failed Ends (fault.Round f) = IsPrintedOfPages file file_failed (fault.Round f)
 ExplainsKept bytes (Some file) file_failed Ends fault.HoldsEdits = HoldsEdits bytes
 ExplainsKept bytes None file_failed Ends fault.HoldsEdits = ⊥
-ExplainsKept bytes file file_failed Ends (fault.Journal f) = IsToldOfJournal bytes file f
+ExplainsKept bytes file file_failed Ends (fault.Journal f) = IsPrintedOfJournal bytes file f
 ExplainsKept bytes file file_failed Ends fault.NotHeld = ⊥
 ExplainsKept bytes file file_failed Ends fault.HeldByAnother = ⊥

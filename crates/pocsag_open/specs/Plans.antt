@@ -6,8 +6,8 @@ use Rattle.pocsag_pages.specs.Pages.{IsRound}
 use Rattle.pocsag_pages.specs.declared.page.Page.{Page}
 use Rattle.pocsag_tree.specs.BoundTrees.{BoundTree}
 use Rattle.pocsag_tree.specs.Views.{bound_tree_of}
-use Rattle.pocsag_plan.specs.declared.search.Effort.{Effort}
-use Rattle.pocsag_plan.specs.declared.search.Effort.TheVariants.{Fewest}
+use Rattle.pocsag_plan.specs.declared.search.OnLimit.{OnLimit}
+use Rattle.pocsag_plan.specs.declared.search.OnLimit.TheVariants.{Fewest}
 use Rattle.pocsag_plan.specs.declared.fault.PlanFault.TheVariants as planning
 use Rattle.pocsag_plan.specs.declared.fault.StreamFault.{StreamFault}
 use Rattle.pocsag_plan.specs.declared.fault.StreamFault.TheVariants as streaming
@@ -62,50 +62,50 @@ placed_plan tx cert sent = record { tx = tx; cert = cert; sent = sent }
 -- A plan of the pages for the end has so many batches and this bound, which is its batches where only the fewest are an
 -- answer, and is below them only where a search stopped at the limit of an open round; and its two outputs, where it is known what they hold, hold the transmission and the certificate of the headline of
 -- these pages, this end, these batches and this bound.
-pub record IsPlanned (Tells : Type 0) (effort : Effort) (end : End) (pages : List Page) (batches bound : ℕ) (sent : PlanBytes) : Type 0 where
+pub record IsPlanned (IsKnown : Type 0) (on_limit : OnLimit) (end : End) (pages : List Page) (batches bound : ℕ) (sent : PlanBytes) : Type 0 where
   pub made : Bounded
   pub plan_of : IsBounded end pages made.plan bound
   pub same : batches ≡ made.plan.batches
   pub its_bound : bound ≡ made.bound
   pub no_worse : IsNoWorse end pages plan_limit made
-  pub fewest : effort ≡ Fewest → bound ≡ batches
-  pub headline : Tells → RoundHeadline pages end batches bound (bound_tree_of made.plan.tree) sent.0 sent.1
+  pub fewest : on_limit ≡ Fewest → bound ≡ batches
+  pub headline : IsKnown → RoundHeadline pages end batches bound (bound_tree_of made.plan.tree) sent.0 sent.1
 
 -- The search of a plan for the end.
-abbrev pub plan_search : Effort → End → Search
-plan_search effort end = record { limit = plan_limit; end = end; effort = effort }
+abbrev pub plan_search : OnLimit → End → Search
+plan_search on_limit end = record { limit = plan_limit; end = end; on_limit = on_limit }
 
 -- The first `count` pages are the front that is owed for so many batches, the longest where only the fewest are an answer; and
 -- they are planned, in no more batches. The pages may stand in a round.
-pub record IsFrontPlanned (Tells : Type 0) (effort : Effort) (end : End) (most : ℕ) (pages : List Page) (count batches bound : ℕ) (sent : PlanBytes) : Type 0 where
+pub record IsFrontPlanned (IsKnown : Type 0) (on_limit : OnLimit) (end : End) (most : ℕ) (pages : List Page) (count batches bound : ℕ) (sent : PlanBytes) : Type 0 where
   pub round : IsRound pages
-  pub front : IsFrontFor (plan_search effort end) pages most count
-  pub longest : effort ≡ Fewest → IsLongestFront end pages most count
-  pub planned : IsPlanned Tells effort end (take count pages) batches bound sent
+  pub front : IsFrontFor (plan_search on_limit end) pages most count
+  pub longest : on_limit ≡ Fewest → IsLongestFront end pages most count
+  pub planned : IsPlanned IsKnown on_limit end (take count pages) batches bound sent
   pub within : batches ≤ most
 
 -- There is such a plan, and its outputs were put in these two places, behind those of the plans before it.
-pub record IsPlanPlaced (Tells : Type 0) (effort : Effort) (end : End) (tx cert : List ℕ) (pages : List Page) (batches bound : ℕ) (before after : List PlacedPlan) : Type 0 where
+pub record IsPlanPlaced (IsKnown : Type 0) (on_limit : OnLimit) (end : End) (tx cert : List ℕ) (pages : List Page) (batches bound : ℕ) (before after : List PlacedPlan) : Type 0 where
   pub sent : PlanBytes
-  pub planned : IsPlanned Tells effort end pages batches bound sent
-  pub placed : Tells → after ≡ before ++ placed_plan tx cert sent ∷ []
+  pub planned : IsPlanned IsKnown on_limit end pages batches bound sent
+  pub placed : IsKnown → after ≡ before ++ placed_plan tx cert sent ∷ []
 
 -- There is such a plan of a front, and its outputs were put in these two places.
-pub record IsFrontPlaced (Tells : Type 0) (effort : Effort) (end : End) (most : ℕ) (tx cert : List ℕ) (pages : List Page) (count batches bound : ℕ) (before after : List PlacedPlan) : Type 0 where
+pub record IsFrontPlaced (IsKnown : Type 0) (on_limit : OnLimit) (end : End) (most : ℕ) (tx cert : List ℕ) (pages : List Page) (count batches bound : ℕ) (before after : List PlacedPlan) : Type 0 where
   pub sent : PlanBytes
-  pub planned : IsFrontPlanned Tells effort end most pages count batches bound sent
-  pub placed : Tells → after ≡ before ++ placed_plan tx cert sent ∷ []
+  pub planned : IsFrontPlanned IsKnown on_limit end most pages count batches bound sent
+  pub placed : IsKnown → after ≡ before ++ placed_plan tx cert sent ∷ []
 
 -- Why a plan is refused, and what is so of the pages then: there are none; or the search stopped at its limit between these
 -- two numbers of batches, which happens only where the fewest alone are an answer; or memory was wanting for a plan of a
 -- round.
-abbrev pub ExplainsUndone : Effort → End → List Page → UndoneFault → Type 0
-ExplainsUndone effort end pages undone.NoPages = pages ≡ []
-ExplainsUndone effort end pages (undone.SearchLimit least found) =
-    MayStop effort × IsRound pages × ((tree : BoundTree) × IsStopped end pages plan_limit least found tree)
-ExplainsUndone effort end pages (undone.FirstPage needed) = ⊥
-ExplainsUndone effort end pages undone.OutOfMemory = IsRound pages
-ExplainsUndone effort end pages (undone.File f) = Unit {0}
+abbrev pub ExplainsUndone : OnLimit → End → List Page → UndoneFault → Type 0
+ExplainsUndone on_limit end pages undone.NoPages = pages ≡ []
+ExplainsUndone on_limit end pages (undone.SearchLimit least found) =
+    MayStop on_limit × IsRound pages × ((tree : BoundTree) × IsStopped end pages plan_limit least found tree)
+ExplainsUndone on_limit end pages (undone.FirstPage needed) = ⊥
+ExplainsUndone on_limit end pages undone.OutOfMemory = IsRound pages
+ExplainsUndone on_limit end pages (undone.File f) = Unit {0}
 
 -- Some output failed.
 abbrev pub HasFailedOutput : {Output : Type 0} → (failures : Output → ℕ) → Type 0
@@ -120,17 +120,17 @@ ExplainsFiles places before after last output_failed _ = Unit {0}
 
 -- Why the plan of a front for so many batches is refused: the first page alone needs more; or the search stopped at some first
 -- pages; or for the same reason as a plan of all pages.
-abbrev pub ExplainsFrontUndone : Effort → End → (most : ℕ) → List Page → UndoneFault → Type 0
-ExplainsFrontUndone effort end most pages (undone.FirstPage needed) =
-    IsRound pages × FirstNeeds (plan_search effort end) pages most needed
-ExplainsFrontUndone effort end most pages (undone.SearchLimit least found) =
-    MayStop effort × IsRound pages × ((tree : BoundTree) × StopsAtFront (plan_search effort end) pages least found tree)
-ExplainsFrontUndone effort end most pages f = ExplainsUndone effort end pages f
+abbrev pub ExplainsFrontUndone : OnLimit → End → (most : ℕ) → List Page → UndoneFault → Type 0
+ExplainsFrontUndone on_limit end most pages (undone.FirstPage needed) =
+    IsRound pages × FirstNeeds (plan_search on_limit end) pages most needed
+ExplainsFrontUndone on_limit end most pages (undone.SearchLimit least found) =
+    MayStop on_limit × IsRound pages × ((tree : BoundTree) × StopsAtFront (plan_search on_limit end) pages least found tree)
+ExplainsFrontUndone on_limit end most pages f = ExplainsUndone on_limit end pages f
 
 -- Why a plan is refused that a line asks for, of all pages or of a front.
-abbrev pub ExplainsPlanUndone : Effort → End → (at_most : Option ℕ) → List Page → UndoneFault → Type 0
-ExplainsPlanUndone effort end None pages f = ExplainsUndone effort end pages f
-ExplainsPlanUndone effort end (Some most) pages f = ExplainsFrontUndone effort end most pages f
+abbrev pub ExplainsPlanUndone : OnLimit → End → (at_most : Option ℕ) → List Page → UndoneFault → Type 0
+ExplainsPlanUndone on_limit end None pages f = ExplainsUndone on_limit end pages f
+ExplainsPlanUndone on_limit end (Some most) pages f = ExplainsFrontUndone on_limit end most pages f
 
 -- Which reason the fault of a stream is. The limit of an open round is never a bad one.
 abbrev pub undone_of : StreamFault → UndoneFault

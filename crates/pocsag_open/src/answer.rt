@@ -17,13 +17,13 @@ use crate::round_plan::Planned;
 use csv::ByteRecord;
 use pocsag_journal::{Keeper, edit_row};
 use pocsag_plan::Book;
-use pocsag_shell::{FileFault, tell_numbers};
+use pocsag_shell::{FileFault, print_numbers};
 use pocsag_words::Sink;
 use std::alloc::Global;
 
 /// An open round: its pages, and what keeps its edits.
 #[derive(Drop)]
-pub struct OpenRound<K: Keeper + Drop> {
+pub struct KeptRound<K: Keeper + Drop> {
     pub book: Book,
     pub keeper: K,
 }
@@ -32,34 +32,34 @@ pub struct OpenRound<K: Keeper + Drop> {
 /// before it is judged, and it is not answered before it is kept.
 pub fn answer_edit<K: Keeper + Drop, O: Sink>(
     alloc: Global,
-    round: &mut OpenRound<K>,
+    round: &mut KeptRound<K>,
     row: &ByteRecord,
     out: &mut O,
 ) -> Result<(), FileFault>
-    ensures answered { K.tells → O.tells → K.stands_for round.old.keeper round.old.book →
+    ensures answered { K.is_known → O.is_known → K.represents round.old.keeper round.old.book →
         OnOk result (IsAnswered (fields_of row.now) round.old.book round.new.book
         (K.taken round.old.keeper) (K.taken round.new.keeper) (K.may_leave round.new.keeper)
         (O.taken out.old) (O.taken out.new)) }
-    ensures unanswered { K.tells → O.tells → K.stands_for round.old.keeper round.old.book →
+    ensures unanswered { K.is_known → O.is_known → K.represents round.old.keeper round.old.book →
         OnErr result (IsLost (fields_of row.now) round.old.book round.new.book
         (K.taken round.old.keeper) (K.taken round.new.keeper) (K.may_leave round.new.keeper)
         (O.taken out.old) (O.taken out.new)) }
-    ensures replied { O.tells → OnOk result (TookMore (O.taken out.old) (O.taken out.new)
+    ensures replied { O.is_known → OnOk result (TookMore (O.taken out.old) (O.taken out.new)
         (IsEditReply (fields_of row.now) round.old.book round.new.book)) }
-    ensures stands { K.stands_for round.old.keeper round.old.book →
-        OnOk result (K.stands_for round.new.keeper round.new.book) }
+    ensures stands { K.represents round.old.keeper round.old.book →
+        OnOk result (K.represents round.new.keeper round.new.book) }
 
     // Where the answer is cut short, a crash leaves what is read as the pages before the edit, or as those after it; and those
     // after it where any of the answer was told. So it is at any moment.
-    ensures cut { K.tells → O.tells → K.stands_for round.old.keeper round.old.book → OnErr result
+    ensures cut { K.is_known → O.is_known → K.represents round.old.keeper round.old.book → OnErr result
         (IsCutShort (IsEditReply (fields_of row.now)) round.old.book
         (O.taken out.old) (O.taken out.new) K.reads_as (K.may_leave round.new.keeper)) }
-    ensures any_moment { K.tells → K.stands_for round.old.keeper round.old.book →
+    ensures any_moment { K.is_known → K.represents round.old.keeper round.old.book →
         LeavesOnly K.moment K.left_since round.old.keeper round.new.keeper
         (ReadsOrReplied K.reads_as (IsEditReply (fields_of row.now)) round.old.book) }
 
     // It fails for want of memory, or where the output or what keeps the edits failed or takes no more.
-    ensures explained { K.counts → K.stands_for round.old.keeper round.old.book → IfErr result
+    ensures explained { K.counts → K.represents round.old.keeper round.old.book → IfErr result
         (ExplainsUnanswered (HasFailed (O.failures out.old) (O.failures out.new))
         (IsEdit (fields_of row.now) round.old.book round.new.book)
         (ExplainsKeeping K.most (K.taken round.old.keeper) (K.taken round.new.keeper)
@@ -73,39 +73,39 @@ pub fn answer_edit<K: Keeper + Drop, O: Sink>(
         Err(refusal) => return refuse(refusal, out),
     }
     round.keeper.keep(alloc, row)?;
-    tell_pages(&round.book, out)
+    print_pages(&round.book, out)
 }
 
 /// How many pages there are now.
 #[tactic(auto, unfolding(crate::specs::Answers::pages_answer))]
-pub(crate) fn tell_pages<O: Sink>(book: &Book, out: &mut O) -> Result<(), FileFault>
-    ensures told { O.tells → Delivers result (O.taken out.old) (O.taken out.new) (pages_answer (length book.now)) }
+pub(crate) fn print_pages<O: Sink>(book: &Book, out: &mut O) -> Result<(), FileFault>
+    ensures printed { O.is_known → Delivers result (O.taken out.old) (O.taken out.new) (pages_answer (length book.now)) }
     ensures lost { IfErr result (λ e. e ≡ FileFault.Write) }
     ensures failures { CountsFailures result (O.failures out.old) (O.failures out.new) }
 {
-    tell_numbers(out, &[("ok ", book.len() as u64)], "\n")
+    print_numbers(out, &[("ok ", book.len() as u64)], "\n")
 }
 
 /// The batches of a plan, and the bound where it is below them.
 #[tactic(auto, unfolding(crate::specs::Answers::plan_answer))]
-pub(crate) fn tell_planned<O: Sink>(planned: Planned, out: &mut O) -> Result<(), FileFault>
-    ensures told { O.tells → Delivers result (O.taken out.old) (O.taken out.new)
+pub(crate) fn print_planned<O: Sink>(planned: Planned, out: &mut O) -> Result<(), FileFault>
+    ensures printed { O.is_known → Delivers result (O.taken out.old) (O.taken out.new)
         (plan_answer planned.batches planned.bound) }
     ensures lost { IfErr result (λ e. e ≡ FileFault.Write) }
     ensures failures { CountsFailures result (O.failures out.old) (O.failures out.new) }
 {
     let batches = ("batches ", planned.batches as u64);
     if planned.bound < planned.batches {
-        tell_numbers(out, &[batches, (", at least ", planned.bound as u64)], "\n")
+        print_numbers(out, &[batches, (", at least ", planned.bound as u64)], "\n")
     } else {
-        tell_numbers(out, &[batches], "\n")
+        print_numbers(out, &[batches], "\n")
     }
 }
 
 /// The batches of the plan of a front, how many pages it sends, and the bound where it is below the batches.
 #[tactic(auto, unfolding(crate::specs::Answers::front_answer))]
-pub(crate) fn tell_sent<O: Sink>(front: SentFront, out: &mut O) -> Result<(), FileFault>
-    ensures told { O.tells → Delivers result (O.taken out.old) (O.taken out.new)
+pub(crate) fn print_sent<O: Sink>(front: SentFront, out: &mut O) -> Result<(), FileFault>
+    ensures printed { O.is_known → Delivers result (O.taken out.old) (O.taken out.new)
         (front_answer front.batches front.pages front.bound) }
     ensures lost { IfErr result (λ e. e ≡ FileFault.Write) }
     ensures failures { CountsFailures result (O.failures out.old) (O.failures out.new) }
@@ -114,8 +114,8 @@ pub(crate) fn tell_sent<O: Sink>(front: SentFront, out: &mut O) -> Result<(), Fi
     let sent = (", sent ", front.pages as u64);
     if front.bound < front.batches {
         let bound = (", at least ", front.bound as u64);
-        tell_numbers(out, &[batches, sent, bound], "\n")
+        print_numbers(out, &[batches, sent, bound], "\n")
     } else {
-        tell_numbers(out, &[batches, sent], "\n")
+        print_numbers(out, &[batches, sent], "\n")
     }
 }

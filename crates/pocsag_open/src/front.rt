@@ -7,14 +7,14 @@ ghost use Rattle.pocsag_journal.specs.Moments.{LeavesOnly};
 ghost use Rattle.pocsag_journal.specs.Runs.{sent_record};
 ghost use Rattle.pocsag_open.specs.Ends.{ExplainsEnd, HasGivenUp};
 ghost use Rattle.pocsag_open.specs.Plans.{ExplainsFiles, ExplainsFrontUndone, HasFailedOutput, IsFrontPlaced, IsFrontPlanned};
-ghost use Rattle.pocsag_open.specs.Replies.{IsFrontReply, TellsAndPlaces};
+ghost use Rattle.pocsag_open.specs.Replies.{IsFrontReply, PrintsAndPlaces};
 ghost use Rattle.pocsag_open.specs.Survival.{FrontRepliesAndPlaces, FrontRepliesTo, IsCutShort, ReadsOrReplied};
 
-use crate::answer::{OpenRound, tell_sent};
-use crate::outputs::Places;
+use crate::answer::{KeptRound, print_sent};
+use crate::outputs::OutputStore;
 use crate::refused::refuse;
 use crate::round_plan::{PLAN_LIMIT, undone};
-use crate::session::Planner;
+use crate::session::PlanSettings;
 use csv::ByteRecord;
 use pocsag_journal::{Keeper, Refusal, UndoneFault, sent_row};
 use pocsag_plan::{Book, Search, UnsentFront};
@@ -24,7 +24,7 @@ use std::alloc::Global;
 
 /// What a line asks for that asks for the plan of a front.
 #[derive(Clone, Copy)]
-pub(crate) struct FrontOrder<'a> {
+pub(crate) struct FrontRequest<'a> {
     pub tx: &'a str,
     pub cert: &'a str,
     pub end: End,
@@ -42,111 +42,111 @@ pub(crate) struct SentFront {
 
 /// Puts the plan of the longest front in its places, takes the pages of the front out, has that kept, and answers it; or
 /// tells why the plan is refused. It is not answered before it is kept.
-pub(crate) fn answer_front<P: Places + Drop, K: Keeper + Drop, O: Sink>(
+pub(crate) fn answer_front<P: OutputStore + Drop, K: Keeper + Drop, O: Sink>(
     alloc: Global,
-    planner: &mut Planner<P>,
-    round: &mut OpenRound<K>,
-    asked: FrontOrder<'_>,
+    settings: &mut PlanSettings<P>,
+    round: &mut KeptRound<K>,
+    asked: FrontRequest<'_>,
     out: &mut O,
 ) -> Result<(), FileFault>
-    ensures replied { O.tells → OnOk result (TellsAndPlaces P.tells
-        (O.taken out.old) (O.taken out.new) (P.placed planner.old.places) (P.placed planner.new.places)
-        (IsFrontReply P.tells planner.old.effort asked.entry.end asked.entry.batches
+    ensures replied { O.is_known → OnOk result (PrintsAndPlaces P.is_known
+        (O.taken out.old) (O.taken out.new) (P.placed settings.old.store) (P.placed settings.new.store)
+        (IsFrontReply P.is_known settings.old.on_limit asked.entry.end asked.entry.batches
         asked.entry.tx.now asked.entry.cert.now round.old.book round.new.book)) }
-    ensures effort { planner.new.effort ≡ planner.old.effort }
-    ensures none_left { P.tells → P.made_for planner.new.places ≡ None }
-    ensures stands { K.stands_for round.old.keeper round.old.book →
-        OnOk result (K.stands_for round.new.keeper round.new.book) }
-    ensures cut { K.tells → O.tells → K.stands_for round.old.keeper round.old.book → OnErr result
-        (IsCutShort (FrontRepliesAndPlaces P.tells planner.old.effort asked.entry.end asked.entry.batches
-        asked.entry.tx.now asked.entry.cert.now (P.placed planner.old.places) (P.placed planner.new.places))
+    ensures on_limit { settings.new.on_limit ≡ settings.old.on_limit }
+    ensures none_left { P.is_known → P.made_for settings.new.store ≡ None }
+    ensures stands { K.represents round.old.keeper round.old.book →
+        OnOk result (K.represents round.new.keeper round.new.book) }
+    ensures cut { K.is_known → O.is_known → K.represents round.old.keeper round.old.book → OnErr result
+        (IsCutShort (FrontRepliesAndPlaces P.is_known settings.old.on_limit asked.entry.end asked.entry.batches
+        asked.entry.tx.now asked.entry.cert.now (P.placed settings.old.store) (P.placed settings.new.store))
         round.old.book
         (O.taken out.old) (O.taken out.new) K.reads_as (K.may_leave round.new.keeper)) }
-    ensures any_moment { K.tells → K.stands_for round.old.keeper round.old.book →
+    ensures any_moment { K.is_known → K.represents round.old.keeper round.old.book →
         LeavesOnly K.moment K.left_since round.old.keeper round.new.keeper
         (ReadsOrReplied K.reads_as
-        (FrontRepliesTo P.tells planner.old.effort asked.entry.end asked.entry.batches
+        (FrontRepliesTo P.is_known settings.old.on_limit asked.entry.end asked.entry.batches
         asked.entry.tx.now asked.entry.cert.now)
         round.old.book) }
-    ensures explained { K.counts → K.stands_for round.old.keeper round.old.book → IfErr result
+    ensures explained { K.counts → K.represents round.old.keeper round.old.book → IfErr result
         (ExplainsEnd ⊥ (HasFailed (O.failures out.old) (O.failures out.new))
         (HasGivenUp K.most (K.taken round.new.keeper) (K.failures round.old.keeper) (K.failures round.new.keeper))) }
     ensures output { OnOk result (O.failures out.new ≡ O.failures out.old) }
     ensures keeper { K.counts → OnOk result (K.failures round.new.keeper ≡ K.failures round.old.keeper) }
     ensures lost { IfErr result (λ e. file_status e ≡ 3) }
 {
-    let (front, row) = match place_front(alloc, planner, &round.book, asked) {
+    let (front, row) = match place_front(alloc, settings, &round.book, asked) {
         Ok(sent) => sent,
         Err(fault) => return refuse(Refusal::Undone(fault), out),
     };
     round.book.drop_first(front.pages as usize);
     round.keeper.keep(alloc, &row)?;
-    tell_sent(front, out)
+    print_sent(front, out)
 }
 
 // Plans the front, writes its two outputs, and puts them in their places once both are whole. It answers the record too of
 // the edit that takes its pages out.
-fn place_front<P: Places + Drop>(
+fn place_front<P: OutputStore + Drop>(
     alloc: Global,
-    planner: &mut Planner<P>,
+    settings: &mut PlanSettings<P>,
     book: &Book,
-    asked: FrontOrder<'_>,
+    asked: FrontRequest<'_>,
 ) -> Result<(SentFront, ByteRecord), UndoneFault>
-    ensures planned { IfOk result (λ both. IsFrontPlaced P.tells planner.old.effort asked.entry.end asked.entry.batches
+    ensures planned { IfOk result (λ both. IsFrontPlaced P.is_known settings.old.on_limit asked.entry.end asked.entry.batches
         asked.entry.tx.now asked.entry.cert.now book.now both.0.pages both.0.batches both.0.bound
-        (P.placed planner.old.places) (P.placed planner.new.places)) }
+        (P.placed settings.old.store) (P.placed settings.new.store)) }
     ensures edit { IfOk result (λ both. fields_of both.1 ≡ sent_record both.0.pages) }
     ensures explained { IfErr result
-        (ExplainsFrontUndone planner.old.effort asked.entry.end asked.entry.batches book.now) }
-    ensures files { P.tells → IfErr result (ExplainsFiles (asked.entry.tx.now, asked.entry.cert.now)
-        (P.failures planner.old.places) (P.failures planner.new.places) (P.last_fault planner.new.places)
+        (ExplainsFrontUndone settings.old.on_limit asked.entry.end asked.entry.batches book.now) }
+    ensures files { P.is_known → IfErr result (ExplainsFiles (asked.entry.tx.now, asked.entry.cert.now)
+        (P.failures settings.old.store) (P.failures settings.new.store) (P.last_fault settings.new.store)
         (HasFailedOutput P.Output.failures)) }
-    ensures same { P.tells → OnErr result (P.placed planner.new.places ≡ P.placed planner.old.places) }
-    ensures none_left { P.tells → P.made_for planner.new.places ≡ None }
-    ensures effort { planner.new.effort ≡ planner.old.effort }
+    ensures same { P.is_known → OnErr result (P.placed settings.new.store ≡ P.placed settings.old.store) }
+    ensures none_left { P.is_known → P.made_for settings.new.store ≡ None }
+    ensures on_limit { settings.new.on_limit ≡ settings.old.on_limit }
 {
-    let (front, outputs) = match send_front(planner, book, asked) {
+    let (front, outputs) = match send_front(settings, book, asked) {
         Ok(sent) => sent,
         Err(fault) => {
-            planner.places.leave(asked.tx, asked.cert);
+            settings.store.leave(asked.tx, asked.cert);
             return Err(fault);
         }
     };
     let Ok(row) = sent_row(alloc, front.pages) else {
-        planner.places.leave(asked.tx, asked.cert);
+        settings.store.leave(asked.tx, asked.cert);
         return Err(UndoneFault::OutOfMemory);
     };
-    match planner.places.put(asked.tx, asked.cert, outputs) {
+    match settings.store.put(asked.tx, asked.cert, outputs) {
         Ok(()) => Ok((front, row)),
         Err(fault) => Err(UndoneFault::File(fault)),
     }
 }
 
 // Makes both outputs, and writes them whole.
-fn send_front<P: Places + Drop>(
-    planner: &mut Planner<P>,
+fn send_front<P: OutputStore + Drop>(
+    settings: &mut PlanSettings<P>,
     book: &Book,
-    asked: FrontOrder<'_>,
+    asked: FrontRequest<'_>,
 ) -> Result<(SentFront, Outputs<P::Output>), UndoneFault>
-    ensures planned { IfOk result (λ both. IsFrontPlanned P.tells planner.old.effort
+    ensures planned { IfOk result (λ both. IsFrontPlanned P.is_known settings.old.on_limit
         asked.entry.end asked.entry.batches book.now both.0.pages both.0.batches both.0.bound
         (P.Output.taken both.1.tx, P.Output.taken both.1.cert)) }
     ensures explained { IfErr result
-        (ExplainsFrontUndone planner.old.effort asked.entry.end asked.entry.batches book.now) }
-    ensures files { P.tells → IfErr result (ExplainsFiles (asked.entry.tx.now, asked.entry.cert.now)
-        (P.failures planner.old.places) (P.failures planner.new.places) (P.last_fault planner.new.places)
+        (ExplainsFrontUndone settings.old.on_limit asked.entry.end asked.entry.batches book.now) }
+    ensures files { P.is_known → IfErr result (ExplainsFiles (asked.entry.tx.now, asked.entry.cert.now)
+        (P.failures settings.old.store) (P.failures settings.new.store) (P.last_fault settings.new.store)
         (HasFailedOutput P.Output.failures)) }
-    ensures made { P.tells → P.made_for planner.new.places ≡ Some (asked.entry.tx.now, asked.entry.cert.now) }
-    ensures failures { P.tells → OnOk result (P.failures planner.new.places ≡ P.failures planner.old.places) }
-    ensures same { P.tells → P.placed planner.new.places ≡ P.placed planner.old.places }
-    ensures effort { planner.new.effort ≡ planner.old.effort }
+    ensures made { P.is_known → P.made_for settings.new.store ≡ Some (asked.entry.tx.now, asked.entry.cert.now) }
+    ensures failures { P.is_known → OnOk result (P.failures settings.new.store ≡ P.failures settings.old.store) }
+    ensures same { P.is_known → P.placed settings.new.store ≡ P.placed settings.old.store }
+    ensures on_limit { settings.new.on_limit ≡ settings.old.on_limit }
 {
     let search = Search {
         limit: PLAN_LIMIT,
         end: asked.end,
-        effort: planner.effort,
+        on_limit: settings.on_limit,
     };
-    let mut outputs = match planner.places.make(asked.tx, asked.cert) {
+    let mut outputs = match settings.store.make(asked.tx, asked.cert) {
         Ok(outputs) => outputs,
         Err(fault) => return Err(UndoneFault::File(fault)),
     };

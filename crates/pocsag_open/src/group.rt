@@ -1,11 +1,11 @@
 use crate::fault::OpenFault;
 use crate::kept_round::open_journal;
-use crate::round_files::{OpenOrder, RoundFiles, open_pages};
-use crate::session::{Planner, run_open, run_open_pages};
+use crate::round_files::{OpenArgs, RoundFiles, open_pages};
+use crate::session::{PlanSettings, run_open, run_open_pages};
 use crate::words::{JOURNAL, READ_ONLY, ROUND, ROUND_SHAPES};
 use clap::{ArgMatches, Error};
-use pocsag_plan::Effort;
-use pocsag_shell::{ALWAYS, Call, Desk, Group, KEEP, Names, PAGES, ReaderSource, Role, Tables};
+use pocsag_plan::OnLimit;
+use pocsag_shell::{ALWAYS, Call, Context, Group, KEEP, Names, PAGES, ReaderSource, Role, Tables};
 use std::alloc::AllocError;
 
 /// The group of the open round: the command `open`.
@@ -20,47 +20,53 @@ impl Group for RoundGroup {
         None
     }
 
-    fn obey(&self, desk: Desk<'_>, call: Call<'_, '_>) -> Option<Result<u8, Error>> {
+    fn run(&self, context: Context<'_>, call: Call<'_, '_>) -> Option<Result<u8, Error>> {
         if call.name != Some(ROUND) {
             return None;
         }
-        let order = OpenOrder {
+        let args = OpenArgs {
             pages: call.found.get_str(PAGES),
             journal: call.found.get_str(JOURNAL),
             read_only: call.found.get_flag(READ_ONLY),
-            effort: if call.found.get_flag(ALWAYS) {
-                Effort::Always
+            on_limit: if call.found.get_flag(ALWAYS) {
+                OnLimit::Always
             } else {
-                Effort::Fewest
+                OnLimit::Fewest
             },
             keep: call.found.get_flag(KEEP),
         };
         let names = Names {
-            pages: order.pages,
-            journal: order.journal,
+            pages: args.pages,
+            journal: args.journal,
             ..Names::NONE
         };
-        let done = match order.journal {
-            Some(path) => open_journal(desk, order, path),
-            None => open_round(desk, order),
+        let done = match args.journal {
+            Some(path) => open_journal(context, args, path),
+            None => open_round(context, args),
         };
-        Some(Ok(desk.end(names, done)))
+        Some(Ok(context.end(names, done)))
     }
 }
 
-// Keeps an open round in memory alone. Answers the exit status.
-fn open_round(desk: Desk<'_>, order: OpenOrder<'_>) -> Result<u8, OpenFault> {
-    let mut planner = Planner {
-        places: RoundFiles { desk, order },
-        effort: order.effort,
+// Keeps an open round in memory alone. Returns the exit status.
+fn open_round(context: Context<'_>, args: OpenArgs<'_>) -> Result<u8, OpenFault> {
+    let mut settings = PlanSettings {
+        store: RoundFiles { context, args },
+        on_limit: args.on_limit,
     };
-    let mut input = ReaderSource::new(desk.rt.stdin(), Role::Lines, desk.watch);
-    let mut out = desk.out();
-    let Some(path) = order.pages else {
-        run_open(desk.alloc, &mut planner, &mut input, &mut out)?;
+    let mut input = ReaderSource::new(context.rt.stdin(), Role::Lines, context.diagnostics);
+    let mut out = context.out();
+    let Some(path) = args.pages else {
+        run_open(context.alloc, &mut settings, &mut input, &mut out)?;
         return Ok(0);
     };
-    let mut pages = open_pages(desk, path)?;
-    run_open_pages(desk.alloc, &mut planner, &mut pages, &mut input, &mut out)?;
+    let mut pages = open_pages(context, path)?;
+    run_open_pages(
+        context.alloc,
+        &mut settings,
+        &mut pages,
+        &mut input,
+        &mut out,
+    )?;
     Ok(0)
 }

@@ -4,7 +4,7 @@ use crate::fault::OpenFault;
 use crate::round_files::open_pages;
 use pocsag_journal::Disk;
 use pocsag_pages::{WholeFault, read_whole};
-use pocsag_shell::{Beside, Desk, FileFault, Input, Named, ReaderSource, Role, WriterSink};
+use pocsag_shell::{Context, FileFault, Input, Named, ReaderSource, Role, StagedFile, WriterSink};
 use pocsag_words::{DeviceFault, Source, write_all};
 use std::alloc::Global;
 use std::cell::Cell;
@@ -16,7 +16,7 @@ const ROLE: Role = Role::Journal;
 /// Where a journal stands.
 #[derive(Clone, Copy)]
 pub(crate) struct JournalPlace<'a, 'w> {
-    pub desk: Desk<'a>,
+    pub context: Context<'a>,
     pub path: &'a str,
     /// Why the journal could not be written, where that is known better than that it could not.
     pub why: &'w Cell<Option<OpenFault>>,
@@ -51,15 +51,15 @@ impl<'a, 'w> JournalFile<'a, 'w> {
     /// Opens or makes the file, and locks it, unless another program holds it. The lock goes with the file, so what stands at
     /// the path must still be the file that is locked.
     pub fn hold(place: JournalPlace<'a, 'w>) -> Result<JournalFile<'a, 'w>, OpenFault> {
-        let JournalPlace { desk, path, .. } = place;
-        let is_new = Named::at(desk.rt, path).is_none();
+        let JournalPlace { context, path, .. } = place;
+        let is_new = Named::at(context.rt, path).is_none();
         let mut options = OpenOptions::new();
         options.read(true).append(true).create(true);
-        let file = desk.opened(ROLE, options.open(desk.rt, path))?;
-        lock(desk, &file, OpenFault::HeldByAnother)?;
-        let metadata = desk.opened(ROLE, file.metadata())?;
+        let file = context.opened(ROLE, options.open(context.rt, path))?;
+        lock(context, &file, OpenFault::HeldByAnother)?;
+        let metadata = context.opened(ROLE, file.metadata())?;
         let named = Named::of(&metadata);
-        if Named::at(desk.rt, path) != Some(named) {
+        if Named::at(context.rt, path) != Some(named) {
             return Err(OpenFault::HeldByAnother);
         }
         Ok(JournalFile {
@@ -76,14 +76,14 @@ impl<'a, 'w> JournalFile<'a, 'w> {
         if !self.is_new {
             return Ok(None);
         }
-        Ok(Some(self.place.desk.opened(ROLE, self.file.try_clone())?))
+        Ok(Some(self.place.context.opened(ROLE, self.file.try_clone())?))
     }
 
     // That what stands at the path is the file that is held, with the bytes that it should have: another program may
     // have moved it, deleted it or written to it.
     fn stands(&self) -> Result<(), OpenFault> {
-        let JournalPlace { desk, path, .. } = self.place;
-        match fs::metadata(desk.rt, path) {
+        let JournalPlace { context, path, .. } = self.place;
+        match fs::metadata(context.rt, path) {
             Ok(found) if Named::of(&found) == self.named && found.len() == self.len => Ok(()),
             _ => Err(OpenFault::NotHeld),
         }
@@ -91,9 +91,9 @@ impl<'a, 'w> JournalFile<'a, 'w> {
 
     // Puts a file of the text at the path, and holds it.
     fn put(&mut self, text: &[u8]) -> Result<(), OpenFault> {
-        let desk = self.place.desk;
-        let beside = Beside::make(desk, ROLE, self.place.path)?;
-        match self.put_beside(&beside, text) {
+        let context = self.place.context;
+        let staged_file = StagedFile::make(context, ROLE, self.place.path)?;
+        match self.put_staged(&staged_file, text) {
             Ok((file, named)) => {
                 self.file = file;
                 self.named = named;
@@ -101,46 +101,55 @@ impl<'a, 'w> JournalFile<'a, 'w> {
                 Ok(())
             }
             Err(fault) => {
-                beside.remove(desk);
+                staged_file.remove(context);
                 Err(fault)
             }
         }
     }
 
     // Writes the text to the file beside the path, and puts it there once it is on the disk. It is locked before.
-    fn put_beside(&self, beside: &Beside<'_>, text: &[u8]) -> Result<(File, Named), OpenFault> {
+    fn put_staged(
+        &self,
+        staged_file: &StagedFile<'_>,
+        text: &[u8],
+    ) -> Result<(File, Named), OpenFault> {
         let mut options = OpenOptions::new();
         options.append(true);
-        let desk = self.place.desk;
-        let mut file = desk.opened(ROLE, options.open(desk.rt, beside.path()))?;
-        let named = self.fill(&mut file, beside, text)?;
+        let context = self.place.context;
+        let mut file = context.opened(ROLE, options.open(context.rt, staged_file.path()))?;
+        let named = self.fill(&mut file, staged_file, text)?;
         Ok((file, named))
     }
 
     // The same of the file that was opened.
-    fn fill(&self, file: &mut File, beside: &Beside<'_>, text: &[u8]) -> Result<Named, OpenFault> {
-        let desk = self.place.desk;
-        lock(desk, file, OpenFault::File(FileFault::Device))?;
-        let named = Named::of(&desk.opened(ROLE, file.metadata())?);
-        desk.written(ROLE, file.write_all(text))?;
-        beside.sync(desk)?;
+    fn fill(
+        &self,
+        file: &mut File,
+        staged_file: &StagedFile<'_>,
+        text: &[u8],
+    ) -> Result<Named, OpenFault> {
+        let context = self.place.context;
+        lock(context, file, OpenFault::File(FileFault::Device))?;
+        let named = Named::of(&context.opened(ROLE, file.metadata())?);
+        context.written(ROLE, file.write_all(text))?;
+        staged_file.sync(context)?;
         self.stands()?;
-        beside.put(desk)?;
+        staged_file.put(context)?;
         Ok(named)
     }
 }
 
 // Locks the file, unless another program holds it.
-fn lock(desk: Desk<'_>, file: &File, where_held: OpenFault) -> Result<(), OpenFault> {
+fn lock(context: Context<'_>, file: &File, where_held: OpenFault) -> Result<(), OpenFault> {
     match file.try_lock() {
         Ok(()) => Ok(()),
         Err(TryLockError::WouldBlock) => Err(where_held),
-        Err(TryLockError::Error(error)) => Ok(desk.opened(ROLE, Err(error))?),
+        Err(TryLockError::Error(error)) => Ok(context.opened(ROLE, Err(error))?),
     }
 }
 
 impl Disk for JournalFile<'_, '_> {
-    ghost tells = { ⊥ };
+    ghost is_known = { ⊥ };
 
     ghost held = { λ _. [] };
 
@@ -154,25 +163,25 @@ impl Disk for JournalFile<'_, '_> {
 
     ghost is_sound = { λ _. ⊥ };
 
-    ghost counts_now = { λ file t left tells le now. absurd tells };
+    ghost counts_now = { λ file t left is_known le now. absurd is_known };
 
-    ghost only_now = { λ file left tells since. absurd tells };
+    ghost only_now = { λ file left is_known since. absurd is_known };
 
     fn read(&mut self, alloc: Global, most: usize) -> Result<Vec<u8>, WholeFault> {
-        let mut source = ReaderSource::new(&self.file, ROLE, self.place.desk.watch);
+        let mut source = ReaderSource::new(&self.file, ROLE, self.place.context.diagnostics);
         read_whole(alloc, &mut source, most)
     }
 
     fn append(&mut self, line: &[u8]) -> Result<(), DeviceFault> {
         self.place.by_disk(self.stands())?;
-        let mut sink = WriterSink::new(&self.file, ROLE, self.place.desk.watch);
+        let mut sink = WriterSink::new(&self.file, ROLE, self.place.context.diagnostics);
         write_all(&mut sink, line)?;
         self.len = self.len.saturating_add(line.len() as u64);
         Ok(())
     }
 
     fn sync(&mut self) -> Result<(), DeviceFault> {
-        let synced = self.place.desk.written(ROLE, self.file.sync_data());
+        let synced = self.place.context.written(ROLE, self.file.sync_data());
         let done = match synced {
             Ok(()) => self.stands(),
             Err(fault) => Err(OpenFault::File(fault)),
@@ -216,7 +225,7 @@ impl<'a, 'w> FirstPages<'a, 'w> {
         if let Some(file) = &mut self.file {
             return file.read(buffer);
         }
-        match open_pages(self.place.desk, self.path) {
+        match open_pages(self.place.context, self.path) {
             Ok(mut file) => {
                 let count = file.read(buffer);
                 self.file = Some(file);
@@ -231,7 +240,7 @@ impl<'a, 'w> FirstPages<'a, 'w> {
 }
 
 impl Source for FirstPages<'_, '_> {
-    ghost tells = { ⊥ };
+    ghost is_known = { ⊥ };
 
     ghost held = { λ _. [] };
 

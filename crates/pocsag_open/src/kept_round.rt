@@ -1,46 +1,46 @@
-use crate::answer::OpenRound;
+use crate::answer::KeptRound;
 use crate::fault::OpenFault;
 use crate::journal_file::{FirstPages, JournalFile, JournalPlace};
-use crate::opening::{KeptStreams, open_kept, tell_read};
-use crate::round_files::{OpenOrder, RoundFiles};
-use crate::session::Planner;
+use crate::opening::{KeptStreams, open_kept, print_read};
+use crate::round_files::{OpenArgs, RoundFiles};
+use crate::session::PlanSettings;
 use pocsag_journal::{Journal, Replayed, list_journal};
 use pocsag_pages::RoundFault;
 use pocsag_plan::Book;
 use pocsag_shell::{
-    Desk, FileFault, Named, ReaderSource, Role, STANDARD, is_regular_or_none, open_source, path_of,
-    refuse_equal, refuse_one_file,
+    Context, FileFault, Named, ReaderSource, Role, STANDARD, is_regular_or_none, open_source,
+    path_of, refuse_equal, refuse_one_file,
 };
 use std::cell::Cell;
 use std::fs::{self, File};
 
 /// `open --journal`: keeps an open round whose edits are in the file of a journal before they are answered, or lists the
-/// pages of a journal. Answers the exit status.
+/// pages of a journal. Returns the exit status.
 pub(crate) fn open_journal(
-    desk: Desk<'_>,
-    order: OpenOrder<'_>,
+    context: Context<'_>,
+    args: OpenArgs<'_>,
     path: &str,
 ) -> Result<u8, OpenFault> {
     // It is neither a standard stream nor the page file.
-    let pages = match order.pages {
+    let pages = match args.pages {
         Some(word) => path_of(word),
         None => None,
     };
     refuse_equal(pages, path, STANDARD)?;
-    refuse_one_file(desk.rt, pages, path, STANDARD)?;
-    if !is_regular_or_none(desk.rt, path) {
+    refuse_one_file(context.rt, pages, path, STANDARD)?;
+    if !is_regular_or_none(context.rt, path) {
         return Err(OpenFault::File(FileFault::Device));
     }
     let why = Cell::new(None);
     let place = JournalPlace {
-        desk,
+        context,
         path,
         why: &why,
     };
-    let done = if order.read_only {
+    let done = if args.read_only {
         list_on(place)
     } else {
-        keep_on(place, order)
+        keep_on(place, args)
     };
     match (done, why.get()) {
         (
@@ -56,37 +56,41 @@ pub(crate) fn open_journal(
 
 // `--read-only`: lists the pages of the journal, which is neither held nor changed.
 fn list_on(place: JournalPlace<'_, '_>) -> Result<u8, OpenFault> {
-    let desk = place.desk;
-    let mut source = open_source(desk, Role::Journal, Some(place.path))?;
-    let Replayed { book, edits, torn } = list_journal(desk.alloc, &mut source, &mut desk.out())?;
-    tell_read(&mut desk.err(), torn, "passed over", edits, book.len());
+    let context = place.context;
+    let mut source = open_source(context, Role::Journal, Some(place.path))?;
+    let Replayed { book, edits, torn } = list_journal(
+        context.alloc,
+        &mut source,
+        &mut context.out(),
+    )?;
+    print_read(&mut context.err(), torn, "passed over", edits, book.len());
     Ok(0)
 }
 
 // Keeps a round, where no other program holds the journal, and answers the lines of standard input. Where the round does not
 // begin, a file that was made for the journal is taken away, while it is still locked.
-fn keep_on(place: JournalPlace<'_, '_>, order: OpenOrder<'_>) -> Result<u8, OpenFault> {
-    let desk = place.desk;
+fn keep_on(place: JournalPlace<'_, '_>, args: OpenArgs<'_>) -> Result<u8, OpenFault> {
+    let context = place.context;
     let file = JournalFile::hold(place)?;
     let made = file.made()?;
-    let mut round = OpenRound {
-        book: Book::new(desk.alloc),
+    let mut round = KeptRound {
+        book: Book::new(context.alloc),
         keeper: Journal::on(file),
     };
-    let mut planner = Planner {
-        places: RoundFiles { desk, order },
-        effort: order.effort,
+    let mut settings = PlanSettings {
+        store: RoundFiles { context, args },
+        on_limit: args.on_limit,
     };
     let mut streams = KeptStreams {
-        pages: match order.pages {
+        pages: match args.pages {
             Some(path) => Some(FirstPages::new(place, path)),
             None => None,
         },
-        input: ReaderSource::new(desk.rt.stdin(), Role::Lines, desk.watch),
-        out: desk.out(),
-        err: desk.err(),
+        input: ReaderSource::new(context.rt.stdin(), Role::Lines, context.diagnostics),
+        out: context.out(),
+        err: context.err(),
     };
-    match open_kept(desk.alloc, &mut planner, &mut round, &mut streams) {
+    match open_kept(context.alloc, &mut settings, &mut round, &mut streams) {
         Ok(()) => Ok(0),
         Err(fault) => {
             if let Some(made) = made {
@@ -100,7 +104,7 @@ fn keep_on(place: JournalPlace<'_, '_>, order: OpenOrder<'_>) -> Result<u8, Open
 // Takes a file away that was made, if it still stands at the path: a journal that was written is another. That it cannot be taken
 // away changes nothing.
 fn remove_made(place: JournalPlace<'_, '_>, made: &File) {
-    let rt = place.desk.rt;
+    let rt = place.context.rt;
     let Ok(metadata) = made.metadata() else {
         return;
     };

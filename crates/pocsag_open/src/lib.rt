@@ -18,12 +18,12 @@ mod round_plan;
 mod session;
 mod words;
 
-pub use answer::{OpenRound, answer_edit};
+pub use answer::{KeptRound, answer_edit};
 pub use fault::OpenFault;
 pub use group::RoundGroup;
 pub use lines::LINE_LIMIT;
 pub use opening::{KeptStreams, open_kept};
-pub use outputs::Places;
+pub use outputs::OutputStore;
 pub use pocsag_journal::{Keeper, NoKeeper, Refusal, UndoneFault, edit_row};
 pub use refused::refuse;
-pub use session::{Planner, run_open, run_open_kept, run_open_pages};
+pub use session::{PlanSettings, run_open, run_open_kept, run_open_pages};

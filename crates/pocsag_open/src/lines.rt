@@ -52,7 +52,7 @@ impl Lines {
     // The next byte, unless the source has ended. It reads the next bytes of the source in place of those that are used up.
     fn next_byte<S: Source>(&mut self, source: &mut S) -> Result<Option<u8>, DeviceFault>
         ensures read { CountsFailures result (S.failures source.old) (S.failures source.new) }
-        ensures next { S.tells → IfOk result (λ next. IsNextByte next
+        ensures next { S.is_known → IfOk result (λ next. IsNextByte next
             (between_places self.old.piece self.old.start self.old.end ++ S.held source.old)
             (between_places self.new.piece self.new.start self.new.end ++ S.held source.new)) }
         ensures kept { self.new.line.items ≡ self.old.line.items }
@@ -73,12 +73,12 @@ impl Lines {
     /// Reads the next line of the source. The last line may lack its line feed. A line of more bytes than a count
     /// holds is taken for a fault of the source.
     pub fn read_line<S: Source>(&mut self, source: &mut S) -> Result<LineRead, FileFault>
-        ensures found { S.tells → IfOk result (λ found. IsLineFound found
+        ensures found { S.is_known → IfOk result (λ found. IsLineFound found
             (between_places self.old.piece self.old.start self.old.end ++ S.held source.old)
             self.new.line.items (between_places self.new.piece self.new.start self.new.end ++ S.held source.new)) }
         ensures short { length self.new.line.items ≤ line_limit }
         ensures read { OnOk result (S.failures source.new ≡ S.failures source.old) }
-        ensures explained { S.tells →
+        ensures explained { S.is_known →
             IfErr result (ExplainsEnd (HasFailed (S.failures source.old) (S.failures source.new)
             ⊎ AreCountless (between_places self.old.piece self.old.start self.old.end ++ S.held source.old)) ⊥ ⊥) }
         ensures lost { IfErr result (λ e. file_status e ≡ 3) }

@@ -7,15 +7,15 @@ ghost use Rattle.pocsag_journal.specs.Moments.{LeavesOnly};
 ghost use Rattle.pocsag_journal.specs.Views.{disk_of};
 ghost use Rattle.pocsag_open.specs.Ends.{AreCountless, ExplainsEnd, HasGivenUp};
 ghost use Rattle.pocsag_open.specs.KeptRounds.{ExplainsKept, HasFileFailed, IsBeginning, IsKeptRound, ReadsKept};
-ghost use Rattle.pocsag_open.specs.Replies.{IsSession, TellsAndPlaces};
+ghost use Rattle.pocsag_open.specs.Replies.{IsSession, PrintsAndPlaces};
 
-use crate::answer::OpenRound;
+use crate::answer::KeptRound;
 use crate::fault::OpenFault;
-use crate::outputs::Places;
-use crate::session::{Planner, book_of, run_open_kept};
+use crate::outputs::OutputStore;
+use crate::session::{PlanSettings, book_of, run_open_kept};
 use pocsag_journal::{Disk, Journal, Replayed};
 use pocsag_plan::Book;
-use pocsag_shell::tell;
+use pocsag_shell::print;
 use pocsag_words::{Sink, Source};
 use std::alloc::Global;
 
@@ -35,7 +35,7 @@ pub struct KeptStreams<F: Source + Drop, I: Source + Drop, O: Sink + Drop, E: Si
 /// `open --journal`: reads the journal of a round, or its page file where the journal holds no edit, writes the journal anew,
 /// and answers the lines of the input up to its end, each edit once it is kept. The book of the round is not looked at.
 pub fn open_kept<
-    P: Places + Drop,
+    P: OutputStore + Drop,
     D: Disk + Drop,
     F: Source + Drop,
     I: Source + Drop,
@@ -43,36 +43,36 @@ pub fn open_kept<
     E: Sink + Drop,
 >(
     alloc: Global,
-    planner: &mut Planner<P>,
-    round: &mut OpenRound<Journal<D>>,
+    settings: &mut PlanSettings<P>,
+    round: &mut KeptRound<Journal<D>>,
     streams: &mut KeptStreams<F, I, O, E>,
 ) -> Result<(), OpenFault>
     // What is told are the replies to the lines of the input, one by one, from the beginning on; and what is placed are the
     // outputs of the plans that they tell.
-    ensures session { D.tells → F.tells → I.tells → O.tells → OnOk result ((before : List Page) ×
+    ensures session { D.is_known → F.is_known → I.is_known → O.is_known → OnOk result ((before : List Page) ×
         IsBeginning (D.held (disk_of round.old.keeper)) (option_map F.held streams.old.pages) before ×
-        TellsAndPlaces P.tells (O.taken streams.old.out) (O.taken streams.new.out)
-        (P.placed planner.old.places) (P.placed planner.new.places)
-        (IsSession P.tells planner.old.effort (I.held streams.old.input) before round.new.book)) }
+        PrintsAndPlaces P.is_known (O.taken streams.old.out) (O.taken streams.new.out)
+        (P.placed settings.old.store) (P.placed settings.new.store)
+        (IsSession P.is_known settings.old.on_limit (I.held streams.old.input) before round.new.book)) }
 
     // However it ends, whatever a crash leaves then is read as the pages after the lines that were answered, or as those after
     // one line more; or no line was answered, and it might have been left before, or is read as the beginning.
-    ensures survives { D.tells → F.tells → I.tells → O.tells →
-        IsKeptRound P.tells planner.old.effort (I.held streams.old.input)
+    ensures survives { D.is_known → F.is_known → I.is_known → O.is_known →
+        IsKeptRound P.is_known settings.old.on_limit (I.held streams.old.input)
         (D.held (disk_of round.old.keeper)) (option_map F.held streams.old.pages)
-        (O.taken streams.old.out) (O.taken streams.new.out) (P.placed planner.old.places) (P.placed planner.new.places)
+        (O.taken streams.old.out) (O.taken streams.new.out) (P.placed settings.old.store) (P.placed settings.new.store)
         (D.may_leave (disk_of round.old.keeper)) (D.may_leave (disk_of round.new.keeper)) }
 
     // What a crash leaves at any moment of it, while it starts and while the journal is written anew too, might have been left
     // before, or is read as the pages after some of the first lines.
-    ensures any_moment { D.tells → F.tells → I.tells → O.tells →
+    ensures any_moment { D.is_known → F.is_known → I.is_known → O.is_known →
         LeavesOnly D.moment D.left_since (disk_of round.old.keeper) (disk_of round.new.keeper)
-        (ReadsKept P.tells planner.old.effort (I.held streams.old.input)
+        (ReadsKept P.is_known settings.old.on_limit (I.held streams.old.input)
         (D.held (disk_of round.old.keeper)) (option_map F.held streams.old.pages)
         (D.may_leave (disk_of round.old.keeper))) }
 
     // Why it does not begin, or ends before its input.
-    ensures explained { D.tells → F.tells → I.tells → IfErr result (ExplainsKept
+    ensures explained { D.is_known → F.is_known → I.is_known → IfErr result (ExplainsKept
         (D.held (disk_of round.old.keeper)) (option_map F.held streams.old.pages)
         (HasFileFailed (option_map F.failures streams.old.pages) (option_map F.failures streams.new.pages))
         (ExplainsEnd
@@ -84,14 +84,14 @@ pub fn open_kept<
         (D.failures (disk_of round.old.keeper)) (D.failures (disk_of round.new.keeper))))) }
 
     // No output that a plan made is left over, whatever is answered.
-    ensures none_left { P.tells → P.made_for planner.old.places ≡ None → P.made_for planner.new.places ≡ None }
+    ensures none_left { P.is_known → P.made_for settings.old.store ≡ None → P.made_for settings.new.store ≡ None }
 {
     let replayed = round.keeper.read(alloc)?;
     let (edits, torn) = (replayed.edits, replayed.torn);
     round.book = first_book(alloc, replayed, &mut streams.pages)?;
-    round.keeper.write_anew(alloc, &round.book)?;
-    tell_read(&mut streams.err, torn, "cut off", edits, round.book.len());
-    match run_open_kept(alloc, planner, round, &mut streams.input, &mut streams.out) {
+    round.keeper.compact(alloc, &round.book)?;
+    print_read(&mut streams.err, torn, "cut off", edits, round.book.len());
+    match run_open_kept(alloc, settings, round, &mut streams.input, &mut streams.out) {
         Ok(()) => Ok(()),
         Err(fault) => Err(OpenFault::File(fault)),
     }
@@ -103,10 +103,10 @@ fn first_book<F: Source>(
     replayed: Replayed,
     pages: &mut Option<F>,
 ) -> Result<Book, OpenFault>
-    ensures begins { F.tells → IfOk result (λ book. (bytes : List ℕ) →
+    ensures begins { F.is_known → IfOk result (λ book. (bytes : List ℕ) →
         Replays bytes replayed.edits replayed.torn replayed.book → length bytes ≤ journal_limit →
         IsBeginning bytes (option_map F.held pages.old) book) }
-    ensures explained { F.tells → IfErr result (λ e. (bytes : List ℕ) →
+    ensures explained { F.is_known → IfErr result (λ e. (bytes : List ℕ) →
         Replays bytes replayed.edits replayed.torn replayed.book →
         ExplainsKept bytes (option_map F.held pages.old)
         (HasFileFailed (option_map F.failures pages.old) (option_map F.failures pages.new)) (ExplainsEnd ⊥ ⊥ ⊥) e) }
@@ -119,16 +119,22 @@ fn first_book<F: Source>(
 }
 
 /// Tells what was read of a journal, and what became of a torn line. That it cannot be told changes nothing.
-pub(crate) fn tell_read<E: Sink>(err: &mut E, torn: usize, fate: &str, edits: usize, pages: usize) {
+pub(crate) fn print_read<E: Sink>(
+    err: &mut E,
+    torn: usize,
+    fate: &str,
+    edits: usize,
+    pages: usize,
+) {
     if torn > 0 {
         let ending = ending(torn);
-        let _ = tell(
+        let _ = print(
             err,
             format_args!("pocsag: a torn line of {torn} byte{ending} is {fate}\n"),
         );
     }
     let (of_edits, of_pages) = (ending(edits), ending(pages));
-    let _ = tell(
+    let _ = print(
         err,
         format_args!("pocsag: {edits} edit{of_edits} read, {pages} page{of_pages}\n"),
     );

@@ -6,11 +6,11 @@ use pocsag_shell::{FileFault, Outputs};
 use pocsag_words::Sink;
 
 /// What makes the outputs of the plans of an open round, as files of a folder are, and puts them in their places.
-pub trait Places {
+pub trait OutputStore {
     type Output: Sink + Drop;
 
     // Whether contracts know what is put in its place.
-    ghost tells: { Type 0 };
+    ghost is_known: { Type 0 };
 
     // What was put there, plan by plan.
     ghost placed: { Self → List PlacedPlan };
@@ -26,28 +26,28 @@ pub trait Places {
 
     /// Makes the two outputs that a line names, which are empty, or answers why there are none.
     fn make(&mut self, tx: &str, cert: &str) -> Result<Outputs<Self::Output>, FileFault>
-        ensures known { tells → IfOk result (λ outputs. Self.Output.tells) }
-        ensures empty { tells → IfOk result (λ outputs.
+        ensures known { is_known → IfOk result (λ outputs. Self.Output.is_known) }
+        ensures empty { is_known → IfOk result (λ outputs.
             (Self.Output.taken outputs.tx ≡ []) × (Self.Output.taken outputs.cert ≡ [])) }
-        ensures made { tells → made_for self.new ≡ Some (tx.now, cert.now) }
-        ensures same { tells → placed self.new ≡ placed self.old }
-        ensures fault { tells → IfErr result (λ fault. last_fault self.new ≡ Some ((tx.now, cert.now), fault)) }
-        ensures failures { tells → CountsFailures result (failures self.old) (failures self.new) };
+        ensures made { is_known → made_for self.new ≡ Some (tx.now, cert.now) }
+        ensures same { is_known → placed self.new ≡ placed self.old }
+        ensures fault { is_known → IfErr result (λ fault. last_fault self.new ≡ Some ((tx.now, cert.now), fault)) }
+        ensures failures { is_known → CountsFailures result (failures self.old) (failures self.new) };
 
     /// Puts both outputs of a plan, which are whole, in the places for which they were made.
     fn put(&mut self, tx: &str, cert: &str, outputs: Outputs<Self::Output>) -> Result<(), FileFault>
-        ensures placed { tells → made_for self.old ≡ Some (tx.now, cert.now) → OnOk result (placed self.new ≡
+        ensures placed { is_known → made_for self.old ≡ Some (tx.now, cert.now) → OnOk result (placed self.new ≡
             placed self.old ++ placed_plan tx.now cert.now
             (Self.Output.taken outputs.tx, Self.Output.taken outputs.cert) ∷ []) }
-        ensures same { tells → OnErr result (placed self.new ≡ placed self.old) }
-        ensures none_left { tells → made_for self.old ≡ Some (tx.now, cert.now) → made_for self.new ≡ None }
-        ensures fault { tells → IfErr result (λ fault. last_fault self.new ≡ Some ((tx.now, cert.now), fault)) }
-        ensures failures { tells → CountsFailures result (failures self.old) (failures self.new) };
+        ensures same { is_known → OnErr result (placed self.new ≡ placed self.old) }
+        ensures none_left { is_known → made_for self.old ≡ Some (tx.now, cert.now) → made_for self.new ≡ None }
+        ensures fault { is_known → IfErr result (λ fault. last_fault self.new ≡ Some ((tx.now, cert.now), fault)) }
+        ensures failures { is_known → CountsFailures result (failures self.old) (failures self.new) };
 
     /// Leaves the places as they are, and removes what was made for them, if the outputs were not made or are not whole.
     fn leave<'n>(&mut self, tx: &'n str, cert: &'n str)
-        ensures same { tells → placed self.new ≡ placed self.old }
-        ensures none_left { tells → made_for self.old ≡ Some (tx.now, cert.now) → made_for self.new ≡ None }
-        ensures fault { tells → last_fault self.new ≡ last_fault self.old }
-        ensures failures { tells → failures self.new ≡ failures self.old };
+        ensures same { is_known → placed self.new ≡ placed self.old }
+        ensures none_left { is_known → made_for self.old ≡ Some (tx.now, cert.now) → made_for self.new ≡ None }
+        ensures fault { is_known → last_fault self.new ≡ last_fault self.old }
+        ensures failures { is_known → failures self.new ≡ failures self.old };
 }

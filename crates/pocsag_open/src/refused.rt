@@ -7,25 +7,25 @@ ghost use Rattle.pocsag_open.specs.Words.{HaveNumber};
 use pocsag_journal::{Refusal, UndoneFault};
 use pocsag_pages::{FieldFault, PageFault};
 use pocsag_plan::AddFault;
-use pocsag_shell::{FileFault, put_whole, tell_numbers};
+use pocsag_shell::{FileFault, print_numbers, put_whole};
 use pocsag_words::Sink;
 
 /// Tells why a line is refused, by one line.
 pub fn refuse<O: Sink>(refusal: Refusal, out: &mut O) -> Result<(), FileFault>
-    ensures told { O.tells → Delivers result (O.taken out.old) (O.taken out.new) (refusal_answer refusal) }
+    ensures printed { O.is_known → Delivers result (O.taken out.old) (O.taken out.new) (refusal_answer refusal) }
     ensures lost { IfErr result (λ e. e ≡ FileFault.Write) }
     ensures failures { CountsFailures result (O.failures out.old) (O.failures out.new) }
 {
     match refusal {
         Refusal::Field(FieldFault::BadCharacter(place)) => {
-            tell_numbers(out, &[("refused: bad character at ", place as u64)], "\n")
+            print_numbers(out, &[("refused: bad character at ", place as u64)], "\n")
         }
         Refusal::Undone(UndoneFault::SearchLimit { least, found }) => {
             let least = ("refused: search limit reached: at least ", least as u64);
-            tell_numbers(out, &[least, (" batches, ", found as u64)], " would do\n")
+            print_numbers(out, &[least, (" batches, ", found as u64)], " would do\n")
         }
         Refusal::Undone(UndoneFault::FirstPage(needed)) => {
-            tell_numbers(
+            print_numbers(
                 out,
                 &[("refused: page 1 needs ", needed as u64)],
                 " batches\n",

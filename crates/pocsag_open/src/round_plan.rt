@@ -1,8 +1,8 @@
 ghost use Rattle.std.specs.Prelude.{◌≡◌, ◌≢◌, None, Some, IfErr, IfOk, OnErr, OnOk};
 ghost use Rattle.pocsag_open.specs.Plans.{ExplainsFiles, ExplainsUndone, HasFailedOutput, IsPlanned, IsPlanPlaced, undone_of};
 
-use crate::outputs::Places;
-use crate::session::Planner;
+use crate::outputs::OutputStore;
+use crate::session::PlanSettings;
 use pocsag_journal::UndoneFault;
 use pocsag_plan::{Book, PlanFault, Search, StreamFault};
 use pocsag_shell::{FileFault, Outputs};
@@ -19,58 +19,58 @@ pub(crate) struct Planned {
 }
 
 /// Plans the pages for the end, writes the two outputs that a line names, and puts them in their places once both are whole.
-pub(crate) fn put_plan<P: Places + Drop>(
-    planner: &mut Planner<P>,
+pub(crate) fn put_plan<P: OutputStore + Drop>(
+    settings: &mut PlanSettings<P>,
     book: &Book,
     tx: &str,
     cert: &str,
     end: End,
 ) -> Result<Planned, UndoneFault>
-    ensures planned { IfOk result (λ planned. IsPlanPlaced P.tells planner.old.effort end tx.now cert.now book.now
-        planned.batches planned.bound (P.placed planner.old.places) (P.placed planner.new.places)) }
-    ensures explained { IfErr result (ExplainsUndone planner.old.effort end book.now) }
-    ensures files { P.tells → IfErr result (ExplainsFiles (tx.now, cert.now) (P.failures planner.old.places)
-        (P.failures planner.new.places) (P.last_fault planner.new.places) (HasFailedOutput P.Output.failures)) }
-    ensures same { P.tells → OnErr result (P.placed planner.new.places ≡ P.placed planner.old.places) }
-    ensures none_left { P.tells → P.made_for planner.new.places ≡ None }
-    ensures effort { planner.new.effort ≡ planner.old.effort }
+    ensures planned { IfOk result (λ planned. IsPlanPlaced P.is_known settings.old.on_limit end tx.now cert.now book.now
+        planned.batches planned.bound (P.placed settings.old.store) (P.placed settings.new.store)) }
+    ensures explained { IfErr result (ExplainsUndone settings.old.on_limit end book.now) }
+    ensures files { P.is_known → IfErr result (ExplainsFiles (tx.now, cert.now) (P.failures settings.old.store)
+        (P.failures settings.new.store) (P.last_fault settings.new.store) (HasFailedOutput P.Output.failures)) }
+    ensures same { P.is_known → OnErr result (P.placed settings.new.store ≡ P.placed settings.old.store) }
+    ensures none_left { P.is_known → P.made_for settings.new.store ≡ None }
+    ensures on_limit { settings.new.on_limit ≡ settings.old.on_limit }
 {
-    match send_plan(planner, book, tx, cert, end) {
-        Ok((planned, outputs)) => match planner.places.put(tx, cert, outputs) {
+    match send_plan(settings, book, tx, cert, end) {
+        Ok((planned, outputs)) => match settings.store.put(tx, cert, outputs) {
             Ok(()) => Ok(planned),
             Err(fault) => Err(UndoneFault::File(fault)),
         },
         Err(fault) => {
-            planner.places.leave(tx, cert);
+            settings.store.leave(tx, cert);
             Err(fault)
         }
     }
 }
 
 // Makes both outputs, and writes them whole.
-fn send_plan<P: Places + Drop>(
-    planner: &mut Planner<P>,
+fn send_plan<P: OutputStore + Drop>(
+    settings: &mut PlanSettings<P>,
     book: &Book,
     tx: &str,
     cert: &str,
     end: End,
 ) -> Result<(Planned, Outputs<P::Output>), UndoneFault>
-    ensures planned { IfOk result (λ both. IsPlanned P.tells planner.old.effort end book.now
+    ensures planned { IfOk result (λ both. IsPlanned P.is_known settings.old.on_limit end book.now
         both.0.batches both.0.bound (P.Output.taken both.1.tx, P.Output.taken both.1.cert)) }
-    ensures explained { IfErr result (ExplainsUndone planner.old.effort end book.now) }
-    ensures files { P.tells → IfErr result (ExplainsFiles (tx.now, cert.now) (P.failures planner.old.places)
-        (P.failures planner.new.places) (P.last_fault planner.new.places) (HasFailedOutput P.Output.failures)) }
-    ensures made { P.tells → P.made_for planner.new.places ≡ Some (tx.now, cert.now) }
-    ensures failures { P.tells → OnOk result (P.failures planner.new.places ≡ P.failures planner.old.places) }
-    ensures same { P.tells → P.placed planner.new.places ≡ P.placed planner.old.places }
-    ensures effort { planner.new.effort ≡ planner.old.effort }
+    ensures explained { IfErr result (ExplainsUndone settings.old.on_limit end book.now) }
+    ensures files { P.is_known → IfErr result (ExplainsFiles (tx.now, cert.now) (P.failures settings.old.store)
+        (P.failures settings.new.store) (P.last_fault settings.new.store) (HasFailedOutput P.Output.failures)) }
+    ensures made { P.is_known → P.made_for settings.new.store ≡ Some (tx.now, cert.now) }
+    ensures failures { P.is_known → OnOk result (P.failures settings.new.store ≡ P.failures settings.old.store) }
+    ensures same { P.is_known → P.placed settings.new.store ≡ P.placed settings.old.store }
+    ensures on_limit { settings.new.on_limit ≡ settings.old.on_limit }
 {
     let search = Search {
         limit: PLAN_LIMIT,
         end,
-        effort: planner.effort,
+        on_limit: settings.on_limit,
     };
-    let mut outputs = match planner.places.make(tx, cert) {
+    let mut outputs = match settings.store.make(tx, cert) {
         Ok(outputs) => outputs,
         Err(fault) => return Err(UndoneFault::File(fault)),
     };

@@ -5,7 +5,7 @@ use Rattle.std.proofs.lemmas.List.{take-append-drop}
 use Rattle.pocsag_words.specs.declared.codeword.Kind.TheVariants.{Idle, Address, Message}
 use Rattle.pocsag_pages.proofs.Lengths.{unsynced_more}
 use Rattle.pocsag_pager.specs.Shown.{HoldsOnceMended, ShowsSome}
-use Rattle.pocsag_pager.specs.States.{Continues, IsOver, Stands}
+use Rattle.pocsag_pager.specs.States.{Continues, IsOver, HasFollowed}
 use Rattle.pocsag_pager.specs.declared.fault.PagerFault.{PagerFault}
 use Rattle.pocsag_pager.specs.declared.fault.PagerFault.TheVariants as fault
 use Rattle.pocsag_pager.specs.declared.pager.Pager.{Pager}
@@ -91,11 +91,11 @@ pub shows_last : (words : List ℕ) (a : ℕ) (qs : List Page) (o : Option Page)
 shows_last words a qs o some h ps shown none =
     some_there qs o some (one_list words a (qs ++ option_to_list o) ps h shown ∙ none)
 
-not_over : (p : Pager) (words : List ℕ) → Stands p words → IsOver p → ⊥
+not_over : (p : Pager) (words : List ℕ) → HasFollowed p words → IsOver p → ⊥
 not_over p words s over = let listens = s.open_page.holds in cc
 
 -- where hearing a word is refused, it continues a page that is open
-pub wanted : (p : Pager) (words : List ℕ) (w : ℕ) (e : PagerFault) → Stands p words → (e ≡ fault.OutOfMemory) ⊎ IsOver p →
+pub wanted : (p : Pager) (words : List ℕ) (w : ℕ) (e : PagerFault) → HasFollowed p words → (e ≡ fault.OutOfMemory) ⊎ IsOver p →
     (e ≡ fault.OutOfMemory → Continues words (pager_address p) w) → ShowsSome words (pager_address p)
 wanted p words w e s (inl memory) f = shows_open words (pager_address p) (f memory).open_page
 wanted p words w e s (inr over) f = absurd (not_over p words s over)

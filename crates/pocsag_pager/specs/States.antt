@@ -51,7 +51,7 @@ IsOver p = p.state ≡ Failed
 
 -- *Standing*: the pager has heard these words. Of them it holds their number modulo 17 and the page
 -- that is still open.
-pub record Stands (p : Pager) (words : List ℕ) : Type 0 where
+pub record HasFollowed (p : Pager) (words : List ℕ) : Type 0 where
   pub place : p.place ≡ length words % 17
   pub open_page : HoldsOnceMended words (λ ms. p.state ≡ Listening (open_from p.address 0 ms))
 
@@ -65,7 +65,7 @@ pub record Continues (words : List ℕ) (a word : ℕ) : Type 0 where
 
 -- The pager has heard these words, and these are the pages that have ended.
 pub record HasHeard (p : Pager) (words : List ℕ) (ps : List Page) : Type 0 where
-  pub stands : Stands p words
+  pub stands : HasFollowed p words
   pub ended : HaveEnded words (pager_address p) ps
 
 -- Where the call answers, the pager has heard the words of the bytes more, and their pages were kept behind the others;

@@ -44,13 +44,13 @@ impl Pager {
     ghost use Rattle.pocsag_pages.specs.Bytes.{words_of};
     ghost use Rattle.pocsag_pager.specs.Faults.{address_fault};
     ghost use Rattle.pocsag_pager.specs.Shown.{AreShown};
-    ghost use Rattle.pocsag_pager.specs.States.{Continues, HasHeard, HaveEnded, IsElsewhere, IsOver, Stands, pager_address};
+    ghost use Rattle.pocsag_pager.specs.States.{Continues, HasHeard, HaveEnded, IsElsewhere, IsOver, HasFollowed, pager_address};
 
     /// A pager that has heard nothing yet, which takes no memory. It refuses an address above
     /// 2,097,151 (`BadAddress`) and then a reserved one (`ReservedAddress`).
     #[tactic(auto, unfolding(crate::specs::Faults::address_fault))]
     pub fn new(alloc: Global, address: u32) -> Result<Pager, PagerFault>
-        ensures stands { IfOk result (λ p. Stands p []) }
+        ensures stands { IfOk result (λ p. HasFollowed p []) }
         ensures address { IfOk result (λ p. pager_address p ≡ address) }
         ensures ok { OnOk result (address_fault address ≡ None) }
         ensures err { IfErr result (λ e. address_fault address ≡ Some e) }
@@ -73,11 +73,11 @@ impl Pager {
     /// synchronisation word, whatever it holds; any other is repaired. The page that this word ends
     /// is answered. After `OutOfMemory` and after `end` the pager answers `Failed`.
     pub fn hear(&mut self, word: u32) -> Result<Option<Page>, PagerFault>
-        ensures stands { (words : List ℕ) → Stands self.old words → OnOk result (Stands self.new (words ++ word ∷ [])) }
+        ensures stands { (words : List ℕ) → HasFollowed self.old words → OnOk result (HasFollowed self.new (words ++ word ∷ [])) }
 
         // Where these are the pages of *Shown* that had ended, with the answer they are those that
         // have ended now.
-        ensures ended { (words : List ℕ) (ps : List Page) → Stands self.old words →
+        ensures ended { (words : List ℕ) (ps : List Page) → HasFollowed self.old words →
             HaveEnded words (pager_address self.old) ps →
             IfOk result (λ page. HaveEnded (words ++ word ∷ []) (pager_address self.old) (ps ++ option_to_list page)) }
         ensures address { pager_address self.new ≡ pager_address self.old }
@@ -85,7 +85,7 @@ impl Pager {
         ensures err { IfErr result (λ e. (e ≡ PagerFault.OutOfMemory) ⊎ IsOver self.old) }
 
         // Memory is wanted only by a message codeword that continues a page.
-        ensures memory { (words : List ℕ) → Stands self.old words → result ≡ Err PagerFault.OutOfMemory →
+        ensures memory { (words : List ℕ) → HasFollowed self.old words → result ≡ Err PagerFault.OutOfMemory →
             Continues words (pager_address self.old) word }
         ensures over { OnErr result (IsOver self.new) }
     {
@@ -109,10 +109,10 @@ impl Pager {
 
     /// The page that is still open, which takes no memory. From then on the pager answers `Failed`.
     pub fn end(&mut self) -> Result<Option<Page>, PagerFault>
-        ensures shown { (words : List ℕ) (ps : List Page) → Stands self.old words →
+        ensures shown { (words : List ℕ) (ps : List Page) → HasFollowed self.old words →
             HaveEnded words (pager_address self.old) ps →
             IfOk result (λ page. AreShown words (pager_address self.old) (ps ++ option_to_list page)) }
-        ensures ok { (words : List ℕ) → Stands self.old words → IsOk result }
+        ensures ok { (words : List ℕ) → HasFollowed self.old words → IsOk result }
         ensures failed { IsOver self.old → result ≡ Err PagerFault.Failed }
         ensures err { IfErr result (λ e. (e ≡ PagerFault.Failed) × IsOver self.old) }
         ensures over { IsOver self.new }
@@ -181,7 +181,7 @@ impl Pager {
     }
 
     // Passes over the next words, so many, unheard.
-    pub(crate) fn pass(&mut self, count: usize)
+    pub(crate) fn skip(&mut self, count: usize)
         requires open_page { self.old.state ≡ State.Listening None }
         requires places { IsElsewhere (pager_address self.old) self.old.place count }
         ensures heard { (words more : List ℕ) (ps : List Page) → HasHeard self.old words ps →

@@ -8,12 +8,12 @@ ghost use Rattle.pocsag_pager.specs.Damage.{IsDamaged};
 ghost use Rattle.pocsag_pager.specs.Faults.{address_fault, bytes_fault, hearing_fault};
 ghost use Rattle.pocsag_pages.specs.Listable.{IsListable};
 ghost use Rattle.pocsag_pager.specs.Shown.{AreShown, ShowsSome};
-ghost use Rattle.pocsag_pager.specs.States.{Hears, Stands, WantsForPage, pager_address};
+ghost use Rattle.pocsag_pager.specs.States.{Hears, HasFollowed, WantsForPage, pager_address};
 
 use crate::fault::PagerFault;
 use crate::laws::{damage_is_repaired, shown_pages_are_one_list};
 use crate::pager::Pager;
-use pocsag_pages::{Page, leading_len};
+use pocsag_pages::{Page, preamble_len};
 use pocsag_words::{BATCH_BYTES, PREAMBLE_BYTES};
 use std::alloc::{AllocError, Global};
 
@@ -25,7 +25,7 @@ fn whole_batches(bytes: &[u8]) -> Result<&[u8], PagerFault>
     ensures fine { OnOk result (bytes_fault bytes.now ≡ None) }
     ensures err { IfErr result (λ e. bytes_fault bytes.now ≡ Some e) }
 {
-    let count = leading_len(bytes);
+    let count = preamble_len(bytes);
     let (_, rest) = bytes.split_at(count);
     if count < PREAMBLE_BYTES {
         return Err(PagerFault::ShortPreamble);
@@ -71,7 +71,7 @@ fn hear_part(pager: &mut Pager, pages: &mut Vec<Page>, bytes: &[u8]) -> Result<(
 {
     let count = bytes.len() / 4;
     if pager.passes(count) {
-        pager.pass(count);
+        pager.skip(count);
         return Ok(());
     }
     hear_each(pager, pages, bytes)
@@ -97,7 +97,7 @@ fn hear_batch(pager: &mut Pager, pages: &mut Vec<Page>, batch: &[u8]) -> Result<
 
 // What a pager that has heard nothing shows of the words of these whole batches.
 fn hear_batches(alloc: Global, mut pager: Pager, bytes: &[u8]) -> Result<Vec<Page>, PagerFault>
-    requires pager { Stands pager [] }
+    requires pager { HasFollowed pager [] }
     requires whole { length bytes.now % 68 ≡ 0 }
     ensures shown { IfOk result (λ pages. AreShown (words_of bytes.now) (pager_address pager) pages.items) }
     ensures err { IfErr result (λ e. e ≡ PagerFault.OutOfMemory) }

@@ -152,9 +152,9 @@ short_front n (x ∷ []) h w = same_text n (x ∷ []) h refl w
 short_front n (x ∷ y ∷ []) h w = same_text n (x ∷ y ∷ []) h refl w
 short_front n (x ∷ y ∷ z ∷ rest) h w = short_by (is_bom x y z) n x y z rest refl h w
 
-pub front_rows : (n : ℕ) (file : List ℕ) → has_wide (rows_of (take n file)) ≡ true →
+pub head_rows : (n : ℕ) (file : List ℕ) → has_wide (rows_of (take n file)) ≡ true →
     up_to_wide (rows_of (take n file)) ≡ up_to_wide (rows_of file)
-front_rows n file w = elim (dec_lt n 3) [
+head_rows n file w = elim (dec_lt n 3) [
   | yes short ↦ short_front n file short w
   | no long ↦
       let whole = unmarked n file (omega (arith, long)) in

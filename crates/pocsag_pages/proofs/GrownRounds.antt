@@ -12,7 +12,7 @@ use Rattle.std.proofs.lemmas.Map.Keys.{IsDistinct-push}
 use Rattle.std.proofs.lemmas.Map.Made.{IsDistinct-from_count}
 use Rattle.pocsag_pages.specs.declared.page.Page.{Page}
 use Rattle.pocsag_pages.specs.Pages.{AreGood, addresses_of, has_address, page_fault_of}
-use Rattle.pocsag_pages.specs.Drafts.{IsDraft}
+use Rattle.pocsag_pages.specs.RoundBuilders.{IsRoundBuilder}
 use Rattle.std.specs.Prelude.{None}
 use Rattle.std.proofs.lemmas.Bool.{not-false, not-true}
 use Rattle.pocsag_words.proofs.TruthValues.{or_false}
@@ -45,19 +45,19 @@ pub same_test : (a b : ℕ) → is_at (nat_cmp a) b ≡ nat_eq b a
 same_test a b = grind (arith, nat_tests)
 
 -- what the answer of `insert` says of the pages so far
-module _ (ps : List Page) (seen : BTreeSet ℕ) (a : ℕ) (added : Bool) (d : IsDraft ps seen) (e : added ≡ not (contains nat_cmp seen a)) where
+module _ (ps : List Page) (seen : BTreeSet ℕ) (a : ℕ) (added : Bool) (d : IsRoundBuilder ps seen) (e : added ≡ not (contains nat_cmp seen a)) where
   pub was_new : added ≡ true → has_address ps a ≡ false
   was_new h = sym (d.addresses a) ∙ not-true (contains nat_cmp seen a) (sym e ∙ h)
 
   pub was_there : added ≡ false → has_address ps a ≡ true
   was_there h = sym (d.addresses a) ∙ not-false (contains nat_cmp seen a) (sym e ∙ h)
 
-pub draft_none : (seen : BTreeSet ℕ) → seen.keys ≡ [] → IsDraft [] seen
-draft_none seen e = record { good = good_none; addresses = λ a. rw e refl }
+pub builder_none : (seen : BTreeSet ℕ) → seen.keys ≡ [] → IsRoundBuilder [] seen
+builder_none seen e = record { good = good_none; addresses = λ a. rw e refl }
 
-pub draft_push : (ps : List Page) (seen more : BTreeSet ℕ) (p : Page) → IsDraft ps seen → page_fault_of p ≡ None →
-    has_address ps p.address ≡ false → Updates nat_cmp seen more p.address true → IsDraft (ps ++ p ∷ []) more
-draft_push ps seen more p d fine another u = record {
+pub builder_push : (ps : List Page) (seen more : BTreeSet ℕ) (p : Page) → IsRoundBuilder ps seen → page_fault_of p ≡ None →
+    has_address ps p.address ≡ false → Updates nat_cmp seen more p.address true → IsRoundBuilder (ps ++ p ∷ []) more
+builder_push ps seen more p d fine another u = record {
   good = good_push ps p d.good fine another;
   addresses = λ a. u.0 a ∙ (rw (same_test p.address a, d.addresses a, has_push ps p a) (either (nat_eq a p.address) (has_address ps a)));
 }

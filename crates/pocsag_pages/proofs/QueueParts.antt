@@ -32,26 +32,26 @@ unfolding firsts_after
 firsts_none before = refl
 
 -- the first pages so far, and those of the pages to come
-module _ (Q draft : List Page) (i : ℕ) (p : Page) (within : i < length Q) (here : p ≡ get_or Q i p)
-    (so_far : firsts Q ≡ draft ++ firsts_after draft (drop i Q)) where
-  next_first : firsts Q ≡ draft ++ firsts_after draft (p ∷ drop (i + 1) Q)
-  next_first = so_far ∙ ap (λ (v : List Page). draft ++ firsts_after draft v) (left Q i p within here)
+module _ (Q builder : List Page) (i : ℕ) (p : Page) (within : i < length Q) (here : p ≡ get_or Q i p)
+    (so_far : firsts Q ≡ builder ++ firsts_after builder (drop i Q)) where
+  next_first : firsts Q ≡ builder ++ firsts_after builder (p ∷ drop (i + 1) Q)
+  next_first = so_far ∙ ap (λ (v : List Page). builder ++ firsts_after builder v) (left Q i p within here)
 
-  pub firsts_same : has_address draft p.address ≡ true → firsts Q ≡ draft ++ firsts_after draft (drop (i + 1) Q)
-  firsts_same h = next_first ∙ ap (λ (v : List Page). draft ++ v) (first_again draft (drop (i + 1) Q) p h)
+  pub firsts_same : has_address builder p.address ≡ true → firsts Q ≡ builder ++ firsts_after builder (drop (i + 1) Q)
+  firsts_same h = next_first ∙ ap (λ (v : List Page). builder ++ v) (first_again builder (drop (i + 1) Q) p h)
 
-  pub firsts_longer : (longer : List Page) → has_address draft p.address ≡ false → longer ≡ draft ++ p ∷ [] →
+  pub firsts_longer : (longer : List Page) → has_address builder p.address ≡ false → longer ≡ builder ++ p ∷ [] →
       firsts Q ≡ longer ++ firsts_after longer (drop (i + 1) Q)
   firsts_longer longer h is =
       next_first
-      ∙ ap (λ (v : List Page). draft ++ v) (first_new draft (drop (i + 1) Q) p h)
-      ∙ sym (append_assoc draft (p ∷ []) (firsts_after (draft ++ p ∷ []) (drop (i + 1) Q)))
+      ∙ ap (λ (v : List Page). builder ++ v) (first_new builder (drop (i + 1) Q) p h)
+      ∙ sym (append_assoc builder (p ∷ []) (firsts_after (builder ++ p ∷ []) (drop (i + 1) Q)))
       ∙ ap (λ (v : List Page). v ++ firsts_after v (drop (i + 1) Q)) (sym is)
 
-pub firsts_over : (Q draft : List Page) (i : ℕ) → length Q ≤ i → firsts Q ≡ draft ++ firsts_after draft (drop i Q) → draft ≡ firsts Q
-firsts_over Q draft i over so_far =
-    sym (so_far ∙ ap (λ (v : List Page). draft ++ firsts_after draft v) (drop_all i Q over)
-    ∙ ap (λ (v : List Page). draft ++ v) (firsts_none draft) ∙ append-nil draft)
+pub firsts_over : (Q builder : List Page) (i : ℕ) → length Q ≤ i → firsts Q ≡ builder ++ firsts_after builder (drop i Q) → builder ≡ firsts Q
+firsts_over Q builder i over so_far =
+    sym (so_far ∙ ap (λ (v : List Page). builder ++ firsts_after builder v) (drop_all i Q over)
+    ∙ ap (λ (v : List Page). builder ++ v) (firsts_none builder) ∙ append-nil builder)
 
 some_refused : (ps : List Page) (f : RoundFault) → 0 < length ps → unless_empty ps ≡ Err f → ⊥
 some_refused [] f some h = absurd (omega arith)
@@ -63,12 +63,12 @@ unfolding firsts_after
 some_first [] h = absurd (omega arith)
 some_first (p ∷ ps) h = omega arith
 
-pub never_empty : (Q draft : List Page) (i : ℕ) (f : RoundFault) → 0 < length Q → length Q ≤ i →
-    firsts Q ≡ draft ++ firsts_after draft (drop i Q) → unless_empty draft ≡ Err f → ⊥
-never_empty Q draft i f some over so_far h =
-    some_refused draft f (rw (firsts_over Q draft i over so_far) (some_first Q some)) h
+pub never_empty : (Q builder : List Page) (i : ℕ) (f : RoundFault) → 0 < length Q → length Q ≤ i →
+    firsts Q ≡ builder ++ firsts_after builder (drop i Q) → unless_empty builder ≡ Err f → ⊥
+never_empty Q builder i f some over so_far h =
+    some_refused builder f (rw (firsts_over Q builder i over so_far) (some_first Q some)) h
 
-pub value_is : (draft R : List Page) → unless_empty draft ≡ Ok R → R ≡ draft
+pub value_is : (builder R : List Page) → unless_empty builder ≡ Ok R → R ≡ builder
 value_is [] R h = absurd (cc)
 value_is (p ∷ ps) R h = cc
 

@@ -1,5 +1,5 @@
 pub mod Bytes
-pub mod Drafts
+pub mod RoundBuilders
 pub mod Listable
 pub mod PageFile
 pub mod PageList

@@ -22,7 +22,7 @@ pages_from i (Message bits ∷ ws) = pages_from (i + 1) ws
 
 -- Each message codeword continues a page; whether one may stand first is told.
 abbrev pub HasNoOrphan : Bool → List Kind → Type 0
-HasNoOrphan may [] = Unit {0}
-HasNoOrphan may (Idle ∷ ws) = HasNoOrphan false ws
-HasNoOrphan may (Address high function ∷ ws) = HasNoOrphan true ws
-HasNoOrphan may (Message bits ∷ ws) = IsTrue may × HasNoOrphan true ws
+HasNoOrphan in_page [] = Unit {0}
+HasNoOrphan in_page (Idle ∷ ws) = HasNoOrphan false ws
+HasNoOrphan in_page (Address high function ∷ ws) = HasNoOrphan true ws
+HasNoOrphan in_page (Message bits ∷ ws) = IsTrue in_page × HasNoOrphan true ws

@@ -20,7 +20,7 @@ abbrev pub rows_left : Reader (Bor (List ℕ)) → List (List (List ℕ))
 rows_left reader = rows_known (reader_state reader) (source_of bytes_left reader)
 
 -- A reader of the default dialect, which stands before a record or at the end and knows its bytes.
-pub record StandsAt (reader : Reader (Bor (List ℕ))) : Type 0 where
+pub record IsAtRecord (reader : Reader (Bor (List ℕ))) : Type 0 where
   pub config : reader_config reader ≡ default_config
   pub trim : reader_trim reader ≡ trim.None
   pub flexible : is_flexible reader ≡ true

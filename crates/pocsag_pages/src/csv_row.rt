@@ -2,7 +2,7 @@ ghost use Rattle.std.specs.Prelude.{◌≡◌, ◌∷◌, [], true, false, IfOk,
 ghost use Rattle.csv.specs.Reading.{default_config, records, strip_bom};
 ghost use Rattle.csv.specs.Records.{fields_of};
 ghost use Rattle.pocsag_pages.specs.PageFile.{only_row, rows_of};
-ghost use Rattle.pocsag_pages.specs.Rows.{StandsAt, rows_left};
+ghost use Rattle.pocsag_pages.specs.Rows.{IsAtRecord, rows_left};
 
 use csv::{ByteRecord, ErrorKind, Reader, ReaderBuilder};
 use pocsag_words::OutOfMemory;
@@ -10,7 +10,7 @@ use std::alloc::Global;
 
 // A reader of all the records of these bytes, the first like the others.
 pub(crate) fn rows_reader(alloc: Global, bytes: &[u8]) -> Reader<&[u8]>
-    ensures stands { StandsAt result }
+    ensures stands { IsAtRecord result }
     ensures rows { rows_left result ≡ records default_config (strip_bom bytes.now) }
 {
     ReaderBuilder::new()
@@ -25,10 +25,10 @@ pub(crate) fn next_row(
     reader: &mut Reader<&[u8]>,
     row: &mut ByteRecord,
 ) -> Result<bool, OutOfMemory>
-    requires { StandsAt reader.old }
+    requires { IsAtRecord reader.old }
     ensures found { IfOk result
         (λ found. found ≡ true → rows_left reader.old ≡ fields_of row.new ∷ rows_left reader.new) }
-    ensures stands { IfOk result (λ found. found ≡ true → StandsAt reader.new) }
+    ensures stands { IfOk result (λ found. found ≡ true → IsAtRecord reader.new) }
     ensures none { IfOk result (λ found. found ≡ false → rows_left reader.old ≡ []) }
 {
     match reader.read_byte_record(row) {

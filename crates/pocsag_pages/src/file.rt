@@ -4,10 +4,10 @@ ghost use Rattle.pocsag_words.specs.Devices.{HasFailed};
 ghost use Rattle.pocsag_pages.specs.Pages.{page_limit};
 ghost use Rattle.pocsag_pages.specs.PageFile.{fault_after, page_of, pages_of, round_of_rows, verdict, verdict_of_rows};
 
-use crate::draft::Draft;
 use crate::fault::{FieldFault, RecordFault, RoundFault};
 use crate::record::{is_header_row, page_of_row};
 use crate::round::{PAGE_LIMIT, Round};
+use crate::round_builder::RoundBuilder;
 use crate::row_reader::RowReader;
 use crate::whole::read_whole;
 use csv::ByteRecord;
@@ -20,30 +20,30 @@ pub const FILE_LIMIT: usize = INPUT_LIMIT;
 // The pages so far, one for each of the earlier records, and that of one record more.
 fn with_row(
     alloc: Global,
-    draft: Draft,
+    builder: RoundBuilder,
     earlier: u32,
     row: &ByteRecord,
-) -> Result<Draft, RecordFault>
-    ensures fine { IfOk result (λ d. fault_after earlier draft (page_of (fields_of row.now)) ≡ None) }
-    ensures longer { IfOk result (λ d. d ≡ draft ++ pages_of (fields_of row.now ∷ [])) }
-    ensures one { IfOk result (λ d. length d ≡ length draft + 1) }
+) -> Result<RoundBuilder, RecordFault>
+    ensures fine { IfOk result (λ d. fault_after earlier builder (page_of (fields_of row.now)) ≡ None) }
+    ensures longer { IfOk result (λ d. d ≡ builder ++ pages_of (fields_of row.now ∷ [])) }
+    ensures one { IfOk result (λ d. length d ≡ length builder + 1) }
     ensures few { IfOk result (λ d. earlier + 1 ≤ page_limit) }
     ensures err { IfErr result
         (λ e. (e ≡ RecordFault.Field FieldFault.OutOfMemory)
-        ⊎ (fault_after earlier draft (page_of (fields_of row.now)) ≡ Some e)) }
+        ⊎ (fault_after earlier builder (page_of (fields_of row.now)) ≡ Some e)) }
 
     // Memory is wanted only by a record that is a page.
     ensures memory { result ≡ Err (RecordFault.Field FieldFault.OutOfMemory) → IsOk (page_of (fields_of row.now)) }
 {
     let page = page_of_row(alloc, row)?;
     if earlier as usize >= PAGE_LIMIT {
-        return Err(if draft.has(page.address) {
+        return Err(if builder.has(page.address) {
             RecordFault::DuplicateAddress
         } else {
             RecordFault::TooManyPages
         });
     }
-    match draft.with(page) {
+    match builder.with(page) {
         Ok(Some(longer)) => Ok(longer),
         Ok(None) => Err(RecordFault::DuplicateAddress),
         Err(OutOfMemory) => Err(RecordFault::Field(FieldFault::OutOfMemory)),
@@ -60,14 +60,14 @@ fn judge_rows(
     ensures err { IfErr result
         (λ e. (e ≡ RoundFault.OutOfMemory) ⊎ (round_of_rows reader.old ≡ Err e)) }
 {
-    let mut draft = Draft::new(alloc);
+    let mut builder = RoundBuilder::new(alloc);
     let mut earlier = 0;
     loop {
         let found = reader.read(row)?;
         if !found {
-            return draft.into_round();
+            return builder.into_round();
         }
-        draft = match with_row(alloc, draft, earlier, row) {
+        builder = match with_row(alloc, builder, earlier, row) {
             Ok(longer) => longer,
             Err(fault) => return Err(fault.numbered(earlier + 1)),
         };
@@ -111,8 +111,8 @@ pub fn round_of(alloc: Global, bytes: &[u8]) -> Result<Round, RoundFault>
 /// The round of the page file that a reader holds up to its end, or the file's first fault. What the reader lends is judged where
 /// it stands, and let go once it has given the round.
 pub fn read_round<S: Source>(alloc: Global, source: &mut S) -> Result<Round, RoundFault>
-    ensures ok { S.tells → IfOk result (λ r. verdict (S.held source.old) ≡ Ok r) }
-    ensures err { S.tells → IfErr result
+    ensures ok { S.is_known → IfOk result (λ r. verdict (S.held source.old) ≡ Ok r) }
+    ensures err { S.is_known → IfErr result
         (λ e. (e ≡ RoundFault.OutOfMemory) ⊎ (e ≡ RoundFault.ReadFault) ⊎ (verdict (S.held source.old) ≡ Err e)) }
     ensures succeeded { OnOk result (S.failures source.new ≡ S.failures source.old) }
     ensures unfailed { IfErr result

@@ -3,10 +3,9 @@
 //! legal transmissions and their bytes (Recommendation ITU-R M.584-2, Annex 1).
 
 mod csv_row;
-mod draft;
 mod fault;
 mod file;
-mod front;
+mod file_head;
 mod laws;
 mod list;
 mod page;
@@ -16,6 +15,7 @@ mod queue;
 mod quotes;
 mod record;
 mod round;
+mod round_builder;
 mod row_reader;
 mod rule;
 mod whole;
@@ -26,7 +26,7 @@ pub use file::{FILE_LIMIT, read_round, round_of};
 pub use laws::{queues_keep_order, readings_are_plain, rounds_are_apart};
 pub use page::{LAST_ADDRESS, Page, Payload};
 pub use pocsag_words::{BATCH_BITS, PREAMBLE_BITS, SYNC_WORD};
-pub use preamble::leading_len;
+pub use preamble::preamble_len;
 pub use queue::{first_pages, held_pages, left_pages, read_pages};
 pub use quotes::quote_fault;
 pub use record::{page_of_fields, parse_address};

@@ -4,7 +4,7 @@ ghost use Rattle.pocsag_pages.specs.Bytes.{leading};
 use pocsag_words::PREAMBLE_BYTE;
 
 /// How many bytes AA stand first.
-pub fn leading_len(bytes: &[u8]) -> usize
+pub fn preamble_len(bytes: &[u8]) -> usize
     ensures value { result ≡ leading bytes.now }
     ensures within { result ≤ length bytes.now }
 {

@@ -6,12 +6,12 @@ ghost use Rattle.pocsag_pages.specs.Pages.{AreGood, page_fault_of, page_limit};
 ghost use Rattle.pocsag_pages.specs.PageFile.{fault_after, numbered, page_of};
 ghost use Rattle.pocsag_pages.specs.Queues.{IsQueue, firsts, held_pages, left_of, queue_of_rows, queue_verdict};
 
-use crate::draft::Draft;
 use crate::fault::{RecordFault, RoundFault};
 use crate::file::{FILE_LIMIT, round_of};
 use crate::page::Page;
 use crate::record::{is_header_row, page_of_row};
 use crate::round::{PAGE_LIMIT, Round};
+use crate::round_builder::RoundBuilder;
 use crate::row_reader::RowReader;
 use crate::whole::read_whole;
 use csv::ByteRecord;
@@ -113,10 +113,10 @@ pub fn read_pages<S: Source>(
     may_wait: bool,
     source: &mut S,
 ) -> Result<Vec<Page>, RoundFault>
-    ensures ok { S.tells → IfOk result (λ q. held_pages may_wait (S.held source.old) ≡ Ok q.items) }
+    ensures ok { S.is_known → IfOk result (λ q. held_pages may_wait (S.held source.old) ≡ Ok q.items) }
     ensures queue { IfOk result (λ q. IsQueue q.items) }
     ensures apart { may_wait ≡ false → IfOk result (λ q. AreGood q.items) }
-    ensures err { S.tells → IfErr result
+    ensures err { S.is_known → IfErr result
         (λ e. (e ≡ RoundFault.OutOfMemory) ⊎ (e ≡ RoundFault.ReadFault)
         ⊎ (held_pages may_wait (S.held source.old) ≡ Err e)) }
     ensures succeeded { OnOk result (S.failures source.new ≡ S.failures source.old) }
@@ -142,17 +142,17 @@ pub fn first_pages(alloc: Global, queue: &[Page]) -> Result<Round, OutOfMemory>
     requires { IsQueue queue.now }
     ensures { IfOk result (λ round. round ≡ firsts queue.now) }
 {
-    let mut draft = Draft::new(alloc);
+    let mut builder = RoundBuilder::new(alloc);
     for page in queue {
-        if draft.has(page.address) {
+        if builder.has(page.address) {
             continue;
         }
-        draft = match draft.with(page.copy(alloc)?)? {
+        builder = match builder.with(page.copy(alloc)?)? {
             Some(longer) => longer,
             None => unreachable!(),
         };
     }
-    match draft.into_round() {
+    match builder.into_round() {
         Ok(round) => Ok(round),
         Err(_) => unreachable!(),
     }

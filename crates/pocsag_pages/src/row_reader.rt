@@ -4,7 +4,7 @@ ghost use Rattle.pocsag_pages.specs.PageFile.{rows_of};
 ghost use Rattle.pocsag_pages.specs.WideRecords.{up_to_wide};
 
 use crate::csv_row::{next_row, rows_reader};
-use crate::front::{PAGE_FIELDS, judged_front};
+use crate::file_head::{PAGE_FIELDS, judged_head};
 use csv::{ByteRecord, Reader};
 use pocsag_words::OutOfMemory;
 use std::alloc::Global;
@@ -20,14 +20,14 @@ pub(crate) struct RowReader<'a> {
 impl<'a> Model for RowReader<'a> {
     ghost use Rattle.std.specs.Prelude.{List, ◌≡◌, false};
     ghost use Rattle.pocsag_pages.specs.PageFile.{Row};
-    ghost use Rattle.pocsag_pages.specs.Rows.{StandsAt, rows_ahead};
+    ghost use Rattle.pocsag_pages.specs.Rows.{IsAtRecord, rows_ahead};
     ghost use Rattle.pocsag_pages.specs.WideRecords.{up_to_wide};
 
     ghost Value = { List Row };
 
     ghost view = { λ r. up_to_wide (rows_ahead r.is_over r.reader) };
 
-    ghost invariant = { λ r. r.is_over ≡ false → StandsAt r.reader };
+    ghost invariant = { λ r. r.is_over ≡ false → IsAtRecord r.reader };
 }
 
 impl<'a> RowReader<'a> {
@@ -35,7 +35,7 @@ impl<'a> RowReader<'a> {
         ensures { result ≡ up_to_wide (rows_of file.now) }
     {
         RowReader {
-            reader: rows_reader(alloc, judged_front(alloc, file)),
+            reader: rows_reader(alloc, judged_head(alloc, file)),
             is_over: false,
         }
     }

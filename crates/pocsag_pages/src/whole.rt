@@ -15,9 +15,9 @@ pub fn read_whole<S: Source>(
     source: &mut S,
     max: usize,
 ) -> Result<Vec<u8>, WholeFault>
-    ensures whole { S.tells → IfOk result (λ v. v.items ≡ S.held source.old) }
+    ensures whole { S.is_known → IfOk result (λ v. v.items ≡ S.held source.old) }
     ensures fits { IfOk result (λ v. length v.items ≤ max) }
-    ensures too_large { S.tells → result ≡ Err WholeFault.TooLarge → max < length (S.held source.old) }
+    ensures too_large { S.is_known → result ≡ Err WholeFault.TooLarge → max < length (S.held source.old) }
     ensures succeeded { OnOk result (S.failures source.new ≡ S.failures source.old) }
     ensures unfailed { IfErr result
         (λ e. (e ≡ WholeFault.ReadFault) ⊎ (S.failures source.new ≡ S.failures source.old)) }

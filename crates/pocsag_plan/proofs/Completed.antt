@@ -12,10 +12,10 @@ use Rattle.pocsag_slots.proofs.LoadLemmas.{load_few}
 use Rattle.pocsag_tree.specs.BoundTrees.{all_nodes, closed_nodes}
 use Rattle.pocsag_tree.specs.Views.{bound_tree_of}
 use Rattle.pocsag_branch.specs.declared.answer.Found.{Found}
-use Rattle.pocsag_branch.specs.declared.within_one.Near.{Near}
+use Rattle.pocsag_branch.specs.declared.within_one.FallbackPlan.{FallbackPlan}
 use Rattle.pocsag_branch.specs.declared.within_one.FreeFault.{FreeFault}
 use Rattle.pocsag_branch.specs.declared.within_one.FreeFault.TheVariants.{SearchLimit as AtLimit}
-use Rattle.pocsag_branch.specs.declared.stop.SearchLimit.{SearchLimit}
+use Rattle.pocsag_branch.specs.declared.fault.SearchLimit.{SearchLimit}
 use Rattle.pocsag_branch.specs.Found.{IsNodeLimit}
 use Rattle.pocsag_branch.specs.Freely.{IsFreeFault, IsNearlyFewest}
 use Rattle.pocsag_plan.specs.Within.{IsWithinOne}
@@ -27,11 +27,11 @@ least_few k least choice is among =
     is.least 1760000 (record { choice = choice; among = among; loads = λ slot h. load_few k choice slot h among })
 
 -- the bound that the free search leaves at its limit
-pub near_few : (k : Classes) (end : End) (limit : ℕ) (e : FreeFault) (near : Near) (stop : SearchLimit) → e ≡ AtLimit near stop →
-    IsFreeFault k end limit e → near.least ≤ 1760000
-near_few k end limit e near stop same said =
-    let is : IsNearlyFewest k end near = (subst (IsFreeFault k end limit) same said).0 in
-    least_few k near.least (slice_index near.choice.early) is.is_least is.choice
+pub fallback_few : (k : Classes) (end : End) (limit : ℕ) (e : FreeFault) (fallback : FallbackPlan) (stop : SearchLimit) → e ≡ AtLimit fallback stop →
+    IsFreeFault k end limit e → fallback.least ≤ 1760000
+fallback_few k end limit e fallback stop same said =
+    let is : IsNearlyFewest k end fallback = (subst (IsFreeFault k end limit) same said).0 in
+    least_few k fallback.least (slice_index fallback.choice.early) is.is_least is.choice
 
 -- What is known of a tour that is within one batch of its bound.
 module _ (k : Classes) (end : End) (limit bound : ℕ) (found : Found) (is : IsWithinOne k end limit bound found) where
@@ -46,7 +46,7 @@ module _ (k : Classes) (end : End) (limit bound : ℕ) (found : Found) (is : IsW
 
   pub tour_for : (R : List Page) → AreClassesOf k end R → IsTourFor end R found.steps.items
   tour_for R classes =
-      let near = most in
+      let fallback = most in
       record {
         table = k;
         choice = slice_index found.choice.early;

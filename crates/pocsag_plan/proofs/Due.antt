@@ -17,7 +17,7 @@ use Rattle.pocsag_batch.specs.Meanings.{Say}
 use Rattle.pocsag_batch.proofs.OrderLaws.{order_lays}
 use Rattle.pocsag_batch.proofs.Orders.{order_has_places}
 use Rattle.pocsag_plan.specs.declared.bounded.Bounded.{Bounded}
-use Rattle.pocsag_plan.specs.declared.search.Effort.TheVariants.{Fewest}
+use Rattle.pocsag_plan.specs.declared.search.OnLimit.TheVariants.{Fewest}
 use Rattle.pocsag_plan.specs.declared.search.Search.{Search}
 use Rattle.pocsag_plan.specs.BoundedHeadline.{BoundedHeadline, IsHeadlineWhereTight}
 use Rattle.pocsag_plan.specs.Fronts.{IsFrontFor, IsLongestFront}
@@ -100,7 +100,7 @@ tight_stream file end batches bound tree tx tx' cert cert' same is =
     all_as _ _ (λ sent certificate h. (tight file end batches tree sent certificate).0
     (subst (λ (n : ℕ). BoundedHeadline file end batches n tree sent certificate) same h)) tx tx' cert cert' is
 
-pub tight_plan : (search : Search) (R : List Page) (bounded : Bounded) → search.effort ≡ Fewest → IsPlanFor search R bounded →
+pub tight_plan : (search : Search) (R : List Page) (bounded : Bounded) → search.on_limit ≡ Fewest → IsPlanFor search R bounded →
     IsPlan search.end R bounded.plan
 tight_plan search R bounded fewest is = record {
   bounded = subst (λ (n : ℕ). IsBounded search.end R bounded.plan n) (is.fewest fewest) is.plan_of;
@@ -116,7 +116,7 @@ module _ (search : Search) (R : List Page) (bounded : Bounded) (is : IsPlanFor s
       is.plan_of.asked h
 
   pub has_headline : (sent certificate : List ℕ) → HeadlineOf R bounded sent certificate →
-      HasHeadline search.effort R search.end sent certificate
+      HasHeadline search.on_limit R search.end sent certificate
   has_headline sent certificate h = record {
     batches = bounded.plan.batches;
     bound = bounded.bound;

@@ -6,15 +6,15 @@ use Rattle.pocsag_pages.specs.Pages.{IsRound}
 use Rattle.pocsag_pages.proofs.GoodPages.{apart_pages}
 use Rattle.pocsag_slots.specs.declared.class.Classes.{Classes}
 use Rattle.pocsag_slots.specs.Loads.{AreClassesOf}
-use Rattle.pocsag_branch.specs.declared.stop.SearchFault.{SearchFault}
-use Rattle.pocsag_branch.specs.declared.stop.SearchLimit.{SearchLimit}
-use Rattle.pocsag_branch.specs.declared.stop.SearchFault.TheVariants as searching
+use Rattle.pocsag_branch.specs.declared.fault.SearchFault.{SearchFault}
+use Rattle.pocsag_branch.specs.declared.fault.SearchLimit.{SearchLimit}
+use Rattle.pocsag_branch.specs.declared.fault.SearchFault.TheVariants as searching
 use Rattle.pocsag_branch.specs.Found.{IsNodeLimit, IsSearchFault}
 use Rattle.pocsag_plan.specs.FaultChains.{fault_of_search}
 use Rattle.pocsag_plan.specs.declared.answer.Plan.{Plan}
 use Rattle.pocsag_plan.specs.Plans.{ExplainsPlan, IsNoWorse}
 use Rattle.pocsag_plan.specs.Within.{IsTightOrStopped}
-use Rattle.pocsag_plan.specs.declared.search.Effort.TheVariants.{Fewest}
+use Rattle.pocsag_plan.specs.declared.search.OnLimit.TheVariants.{Fewest}
 use Rattle.std.proofs.Common.{ℕ}
 
 pub explained : (k : Classes) (end : End) (R : List Page) (limit : ℕ) (fault : SearchFault) → IsRound R → AreClassesOf k end R

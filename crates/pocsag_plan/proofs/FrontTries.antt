@@ -14,8 +14,8 @@ use Rattle.pocsag_tree.specs.Limits.{second_ranges}
 use Rattle.pocsag_tree.specs.CertificateText.{HasText}
 use Rattle.pocsag_tree.specs.Views.{bound_tree_of}
 use Rattle.pocsag_tree.specs.declared.shape.Certificate.{Certificate}
-use Rattle.pocsag_branch.specs.declared.stop.SearchLimit.{SearchLimit}
-use Rattle.pocsag_branch.specs.declared.stop.SearchFault.TheVariants as searching
+use Rattle.pocsag_branch.specs.declared.fault.SearchLimit.{SearchLimit}
+use Rattle.pocsag_branch.specs.declared.fault.SearchFault.TheVariants as searching
 use Rattle.pocsag_check.specs.Acceptance.{IsAccepted}
 use Rattle.pocsag_branch.specs.Found.{HasPage, IsBound, IsLimit, IsNodeLimit}
 use Rattle.pocsag_plan.specs.declared.fault.NoFront.{NoFront}
@@ -24,8 +24,8 @@ use Rattle.pocsag_plan.specs.declared.fault.PlanFault.{PlanFault}
 use Rattle.pocsag_plan.specs.declared.fault.PlanFault.TheVariants as planning
 use Rattle.pocsag_plan.specs.declared.front.FrontCut.{FrontCut}
 use Rattle.pocsag_plan.specs.declared.outcome.Outcome.{Outcome}
-use Rattle.pocsag_plan.specs.declared.search.Effort.{Effort}
-use Rattle.pocsag_plan.specs.declared.search.Effort.TheVariants.{Fewest, Always}
+use Rattle.pocsag_plan.specs.declared.search.OnLimit.{OnLimit}
+use Rattle.pocsag_plan.specs.declared.search.OnLimit.TheVariants.{Fewest, Always}
 use Rattle.pocsag_plan.specs.declared.search.Search.{Search}
 use Rattle.pocsag_plan.specs.declared.attempt.Bracket.{Bracket}
 use Rattle.pocsag_plan.specs.Attempts.{ExceedsPages, HasSpare, IsBracket, IsCut, IsExcess, IsUndecidedAt, IsUpper}
@@ -36,11 +36,11 @@ use Rattle.pocsag_plan.proofs.Counted.{has_page}
 use Rattle.pocsag_plan.proofs.Explained.{explained}
 
 -- the bound of the batches that were found, where these are one more than so many: more than these, or the search stopped there
-pub bound_beyond : (k : Classes) (search : Search) (batches bound found : ℕ) (effort : Effort) (stopped : Option SearchLimit) → search.effort ≡ effort →
-    found ≡ batches + 1 → IsBound k search.end bound → (search.effort ≡ Fewest → bound ≡ found) →
+pub bound_beyond : (k : Classes) (search : Search) (batches bound found : ℕ) (on_limit : OnLimit) (stopped : Option SearchLimit) → search.on_limit ≡ on_limit →
+    found ≡ batches + 1 → IsBound k search.end bound → (search.on_limit ≡ Fewest → bound ≡ found) →
     IsTightOrStopped k search.end search.limit bound found stopped →
     IsBound k search.end (batches + 1) ⊎ IsUndecidedAt k search batches
-bound_beyond k search batches bound found effort None same more is fewest left =
+bound_beyond k search batches bound found on_limit None same more is fewest left =
     inl (subst (IsBound k search.end) (left.tight ∙ more) is)
 bound_beyond k search batches bound found Fewest (Some stop) same more is fewest left =
     inl (subst (IsBound k search.end) (fewest same ∙ more) is)
@@ -94,7 +94,7 @@ module _ (k : Classes) (search : Search) (batches : ℕ) where
         text = text;
         at_least = omega (arith, is.within.within_one);
         more = λ fewest. omega (arith, is.fewest fewest);
-        beyond = bound_beyond k search batches outcome.bound outcome.found.batches search.effort outcome.stopped refl found is.within.bounded
+        beyond = bound_beyond k search batches outcome.bound outcome.found.batches search.on_limit outcome.stopped refl found is.within.bounded
             is.fewest is.stopped;
       }
 
@@ -144,7 +144,7 @@ module _ (search : Search) (R : List Page) (batches count : ℕ) (round : IsRoun
 
   -- a fault for some first pages explains that there is no front
   pub front_explained : 0 < count → count ≤ length R → (f : PlanFault) →
-      ExplainsPlan search.effort search.end (take count R) search.limit f → ExplainsFront search R batches (front.Plan f)
+      ExplainsPlan search.on_limit search.end (take count R) search.limit f → ExplainsFront search R batches (front.Plan f)
   front_explained some among planning.BadLimit said = said
   front_explained some among (planning.SearchLimit stop) said =
       (said.0, said.1, record { count = count; some = some; among = among; stopped = said.2 })
@@ -201,7 +201,7 @@ module _ (search : Search) (R : List Page) (batches : ℕ) (cut : FrontCut) (F :
   pub why_of : IsWhyNoMore search R batches (length F) cut.why
   why_of = subst (λ (n : ℕ). IsWhyNoMore search R batches n cut.why) (sym long) (why_no_more search R batches cut.count round limited cut.why is.upper)
 
-pub longest_of : (search : Search) (R : List Page) (batches count : ℕ) → IsFrontFor search R batches count → search.effort ≡ Fewest →
+pub longest_of : (search : Search) (R : List Page) (batches count : ℕ) → IsFrontFor search R batches count → search.on_limit ≡ Fewest →
     IsLongestFront search.end R batches count
 longest_of search R batches count is fewest = record {
   among = is.among;

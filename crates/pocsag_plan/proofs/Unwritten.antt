@@ -21,8 +21,8 @@ use Rattle.pocsag_plan.specs.declared.fault.StreamFault.TheVariants as streaming
 use Rattle.pocsag_plan.specs.declared.fault.UnsentFront.TheVariants as unsent
 use Rattle.pocsag_plan.specs.declared.refusal.BookFault.{BookFault}
 use Rattle.pocsag_plan.specs.declared.refusal.BookFault.TheVariants as book
-use Rattle.pocsag_plan.specs.declared.search.Effort.{Effort}
-use Rattle.pocsag_plan.specs.declared.search.Effort.TheVariants.{Always}
+use Rattle.pocsag_plan.specs.declared.search.OnLimit.{OnLimit}
+use Rattle.pocsag_plan.specs.declared.search.OnLimit.TheVariants.{Always}
 use Rattle.pocsag_plan.specs.declared.search.Search.{Search}
 use Rattle.pocsag_plan.specs.Fronts.{ExplainsFront, FirstNeeds, StopsAtFront}
 use Rattle.pocsag_plan.specs.Plans.{ExplainsPlan, IsBounded, MayStop}
@@ -66,12 +66,12 @@ before book.NoPages = tt
 before (book.Plan f) = tt
 
 -- and says the same of a stream
-pub stream_explained : (effort : Effort) (end : End) (R : List Page) (limit : ℕ) (e : BookFault) → ExplainsBook effort end R limit e →
-    ExplainsBookStream effort end R limit (stream_fault_of e)
-stream_explained effort end R limit (book.Plan planning.BadLimit) h = h
-stream_explained effort end R limit book.NoPages h = (h.0, h.1, refl)
-stream_explained effort end R limit (book.Plan (planning.SearchLimit stop)) h = h
-stream_explained effort end R limit (book.Plan planning.OutOfMemory) h = h
+pub stream_explained : (on_limit : OnLimit) (end : End) (R : List Page) (limit : ℕ) (e : BookFault) → ExplainsBook on_limit end R limit e →
+    ExplainsBookStream on_limit end R limit (stream_fault_of e)
+stream_explained on_limit end R limit (book.Plan planning.BadLimit) h = h
+stream_explained on_limit end R limit book.NoPages h = (h.0, h.1, refl)
+stream_explained on_limit end R limit (book.Plan (planning.SearchLimit stop)) h = h
+stream_explained on_limit end R limit (book.Plan planning.OutOfMemory) h = h
 
 pub same_bad_limit : {A B : Type 0} (N : Type 0) (e : BookFault) → (IsErrOf {T = A} (Err e) (book.Plan planning.BadLimit) ↔ (¬ N)) →
     IsErrOf {T = B} (Err (stream_fault_of e)) (streaming.Plan planning.BadLimit) ↔ (¬ N)
@@ -97,12 +97,12 @@ unsent_bad_limit N (streaming.Round f) u is = absurd u
 unsent_bad_limit N (streaming.Transmission f) u is = (λ b. absurd (cc), λ no. absurd (no is))
 unsent_bad_limit N (streaming.Certificate f) u is = (λ b. absurd (cc), λ no. absurd (no is))
 
-pub unsent_explained : (effort : Effort) (end : End) (R : List Page) (limit : ℕ) (e : StreamFault) → IsUnsent e → IsNodeLimit limit → IsRound R →
-    ExplainsBookStream effort end R limit e
-unsent_explained effort end R limit (streaming.Plan f) u within round = absurd u
-unsent_explained effort end R limit (streaming.Round f) u within round = absurd u
-unsent_explained effort end R limit (streaming.Transmission f) u within round = (within, round)
-unsent_explained effort end R limit (streaming.Certificate f) u within round = (within, round)
+pub unsent_explained : (on_limit : OnLimit) (end : End) (R : List Page) (limit : ℕ) (e : StreamFault) → IsUnsent e → IsNodeLimit limit → IsRound R →
+    ExplainsBookStream on_limit end R limit e
+unsent_explained on_limit end R limit (streaming.Plan f) u within round = absurd u
+unsent_explained on_limit end R limit (streaming.Round f) u within round = absurd u
+unsent_explained on_limit end R limit (streaming.Transmission f) u within round = (within, round)
+unsent_explained on_limit end R limit (streaming.Certificate f) u within round = (within, round)
 
 -- a plan is one for its own end, of the same round
 pub its_own : (end : End) (R R' : List Page) (plan : Plan) (bound : ℕ) → R' ≡ R → IsBounded end R plan bound → IsBounded plan.end R' plan bound
@@ -143,17 +143,17 @@ round_bad_limit N f is = (λ b. absurd (cc), λ no. absurd (no is))
 read_ok : (file : List ℕ) (R : List Page) → verdict file ≡ Ok R → IsOk (verdict file)
 read_ok file R read = subst (λ (v : Result (List Page) RoundFault). IsOk v) (sym read) (search rules)
 
-pub plan_explained : (effort : Effort) (file : List ℕ) (end : End) (R : List Page) (limit : ℕ) (f : PlanFault) → verdict file ≡ Ok R →
-    ExplainsPlan effort end R limit f → ExplainsStream effort file end limit (streaming.Plan f)
-plan_explained effort file end R limit planning.BadLimit read said = said
-plan_explained effort file end R limit (planning.SearchLimit stop) read said = (said.0, said.1, record { round = R; read = read; holds = said.2 })
-plan_explained effort file end R limit planning.OutOfMemory read said = (said, read_ok file R read)
+pub plan_explained : (on_limit : OnLimit) (file : List ℕ) (end : End) (R : List Page) (limit : ℕ) (f : PlanFault) → verdict file ≡ Ok R →
+    ExplainsPlan on_limit end R limit f → ExplainsStream on_limit file end limit (streaming.Plan f)
+plan_explained on_limit file end R limit planning.BadLimit read said = said
+plan_explained on_limit file end R limit (planning.SearchLimit stop) read said = (said.0, said.1, record { round = R; read = read; holds = said.2 })
+plan_explained on_limit file end R limit planning.OutOfMemory read said = (said, read_ok file R read)
 
-pub plan_answered : (effort : Effort) (end : End) (R : List Page) (limit : ℕ) (f : PlanFault) → ExplainsPlan effort end R limit f →
-    effort ≡ Always → IsSearchLimit (streaming.Plan f) → ⊥
-plan_answered effort end R limit planning.BadLimit said always h = h
-plan_answered effort end R limit (planning.SearchLimit stop) said always h = subst MayStop always said.0
-plan_answered effort end R limit planning.OutOfMemory said always h = h
+pub plan_answered : (on_limit : OnLimit) (end : End) (R : List Page) (limit : ℕ) (f : PlanFault) → ExplainsPlan on_limit end R limit f →
+    on_limit ≡ Always → IsSearchLimit (streaming.Plan f) → ⊥
+plan_answered on_limit end R limit planning.BadLimit said always h = h
+plan_answered on_limit end R limit (planning.SearchLimit stop) said always h = subst MayStop always said.0
+plan_answered on_limit end R limit planning.OutOfMemory said always h = h
 
 pub book_answered : (end : End) (R : List Page) (limit : ℕ) (e : StreamFault) → ExplainsBookStream Always end R limit e → IsSearchLimit e → ⊥
 book_answered end R limit (streaming.Plan planning.BadLimit) said h = h
@@ -164,12 +164,12 @@ book_answered end R limit (streaming.Transmission f) said h = h
 book_answered end R limit (streaming.Certificate f) said h = h
 
 -- a fault of a writer
-pub sent_explained : (effort : Effort) (file : List ℕ) (end : End) (R : List Page) (limit : ℕ) (e : StreamFault) → IsUnsent e →
-    IsNodeLimit limit → verdict file ≡ Ok R → ExplainsStream effort file end limit e
-sent_explained effort file end R limit (streaming.Plan f) u within read = absurd u
-sent_explained effort file end R limit (streaming.Round f) u within read = absurd u
-sent_explained effort file end R limit (streaming.Transmission f) u within read = (within, read_ok file R read)
-sent_explained effort file end R limit (streaming.Certificate f) u within read = (within, read_ok file R read)
+pub sent_explained : (on_limit : OnLimit) (file : List ℕ) (end : End) (R : List Page) (limit : ℕ) (e : StreamFault) → IsUnsent e →
+    IsNodeLimit limit → verdict file ≡ Ok R → ExplainsStream on_limit file end limit e
+sent_explained on_limit file end R limit (streaming.Plan f) u within read = absurd u
+sent_explained on_limit file end R limit (streaming.Round f) u within read = absurd u
+sent_explained on_limit file end R limit (streaming.Transmission f) u within read = (within, read_ok file R read)
+sent_explained on_limit file end R limit (streaming.Certificate f) u within read = (within, read_ok file R read)
 
 pub sent_answered : (e : StreamFault) → IsUnsent e → IsSearchLimit e → ⊥
 sent_answered (streaming.Plan f) u h = u

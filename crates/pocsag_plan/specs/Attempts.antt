@@ -9,13 +9,13 @@ use Rattle.pocsag_tree.specs.Views.{bound_tree_of}
 use Rattle.pocsag_tree.specs.declared.shape.Certificate.{Certificate}
 use Rattle.pocsag_check.specs.Acceptance.{IsAccepted}
 use Rattle.pocsag_branch.specs.Found.{CanBeSent, IsBound, IsLimit}
-use Rattle.pocsag_branch.specs.declared.stop.SearchLimit.{SearchLimit}
+use Rattle.pocsag_branch.specs.declared.fault.SearchLimit.{SearchLimit}
 use Rattle.pocsag_plan.specs.declared.attempt.Tried.{Tried}
 use Rattle.pocsag_plan.specs.declared.attempt.Tried.TheVariants.{Fits, Exceeds}
 use Rattle.pocsag_plan.specs.declared.attempt.Bracket.{Bracket}
 use Rattle.pocsag_plan.specs.declared.front.FrontCut.{FrontCut}
 use Rattle.pocsag_plan.specs.declared.outcome.Outcome.{Outcome}
-use Rattle.pocsag_plan.specs.declared.search.Effort.TheVariants.{Fewest, Always}
+use Rattle.pocsag_plan.specs.declared.search.OnLimit.TheVariants.{Fewest, Always}
 use Rattle.pocsag_plan.specs.declared.search.Search.{Search}
 use Rattle.pocsag_plan.specs.Within.{IsOutcome, IsOutcomeFor}
 
@@ -33,7 +33,7 @@ IsFit k search batches (Some outcome) = IsOutcome k search outcome × (outcome.f
 
 -- The search for the fewest stopped between so many batches and one more.
 pub record IsUndecidedAt (k : Classes) (search : Search) (batches : ℕ) : Type 0 where
-  pub always : search.effort ≡ Always
+  pub always : search.on_limit ≡ Always
   pub stop : SearchLimit
   pub limit : IsLimit k search.end search.limit batches (batches + 1) (bound_tree_of stop.tree)
 
@@ -43,7 +43,7 @@ pub record IsExcess (k : Classes) (search : Search) (batches : ℕ) (certificate
   pub accepted : IsAccepted false k search.end certificate.batches (bound_tree_of certificate.tree)
   pub text : HasText second_ranges certificate.batches (bound_tree_of certificate.tree)
   pub at_least : batches ≤ certificate.batches
-  pub more : search.effort ≡ Fewest → batches < certificate.batches
+  pub more : search.on_limit ≡ Fewest → batches < certificate.batches
   pub beyond : IsBound k search.end (batches + 1) ⊎ IsUndecidedAt k search batches
 
 abbrev pub IsTried : Classes → Search → (batches : ℕ) → Tried → Type 0

@@ -1,7 +1,7 @@
 -- A fault passed up: it keeps its name and what it carries.
 use Rattle.pocsag_pages.specs.declared.fault.RoundFault.TheVariants as round
-use Rattle.pocsag_branch.specs.declared.stop.SearchFault.{SearchFault}
-use Rattle.pocsag_branch.specs.declared.stop.SearchFault.TheVariants as searching
+use Rattle.pocsag_branch.specs.declared.fault.SearchFault.{SearchFault}
+use Rattle.pocsag_branch.specs.declared.fault.SearchFault.TheVariants as searching
 use Rattle.pocsag_plan.specs.declared.fault.PlanFault.{PlanFault}
 use Rattle.pocsag_plan.specs.declared.fault.PlanFault.TheVariants as planning
 use Rattle.pocsag_plan.specs.declared.fault.StreamFault.{StreamFault}

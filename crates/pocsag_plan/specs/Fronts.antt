@@ -14,7 +14,7 @@ use Rattle.pocsag_branch.specs.Found.{IsNodeLimit}
 use Rattle.pocsag_plan.specs.declared.fault.NoFront.{NoFront}
 use Rattle.pocsag_plan.specs.declared.fault.NoFront.TheVariants as fault
 use Rattle.pocsag_plan.specs.declared.fault.PlanFault.TheVariants as planning
-use Rattle.pocsag_plan.specs.declared.search.Effort.TheVariants.{Fewest, Always}
+use Rattle.pocsag_plan.specs.declared.search.OnLimit.TheVariants.{Fewest, Always}
 use Rattle.pocsag_plan.specs.declared.search.Search.{Search}
 use Rattle.pocsag_plan.specs.Plans.{IsStopped, MayStop, NoneHasFewer}
 
@@ -40,7 +40,7 @@ pub record IsUndecidedFor (search : Search) (R : List Page) (batches : ℕ) : Ty
 -- The pages need more batches; or, by a planner that refuses no round, they were not found to be sent in so many.
 abbrev pub AreBeyond : Search → List Page → ℕ → Type 0
 AreBeyond search R batches =
-    NoneHasFewer search.end R (batches + 1) ⊎ ((search.effort ≡ Always) × IsUndecidedFor search R batches)
+    NoneHasFewer search.end R (batches + 1) ⊎ ((search.on_limit ≡ Always) × IsUndecidedFor search R batches)
 
 -- The front that is owed for what is asked of a planner: the longest, where only the fewest batches are an answer.
 pub record IsFrontFor (search : Search) (R : List Page) (batches count : ℕ) : Type 0 where
@@ -56,7 +56,7 @@ pub record ShowsBeyond (search : Search) (R : List Page) (batches : ℕ) (certif
   pub accepted : IsAcceptedFor false search.end R certificate.batches (bound_tree_of certificate.tree)
   pub text : HasText second_ranges certificate.batches (bound_tree_of certificate.tree)
   pub at_least : batches ≤ certificate.batches
-  pub more : search.effort ≡ Fewest → batches < certificate.batches
+  pub more : search.on_limit ≡ Fewest → batches < certificate.batches
 
 -- Why a front is no longer: it has all pages, or a certificate is one for one page more.
 abbrev pub IsWhyNoMore : Search → List Page → (batches count : ℕ) → Option Certificate → Type 0
@@ -70,7 +70,7 @@ pub record FirstNeeds (search : Search) (R : List Page) (batches needed : ℕ) :
   pub codewords : List ℕ
   pub legal : IsLegalList search.end codewords needed (take 1 R)
   pub within_one : NoneHasFewer search.end (take 1 R) (needed - 1)
-  pub fewest : search.effort ≡ Fewest → NoneHasFewer search.end (take 1 R) needed
+  pub fewest : search.on_limit ≡ Fewest → NoneHasFewer search.end (take 1 R) needed
   pub more : batches < needed
 
 -- The search stopped at some first pages of the round.
@@ -84,6 +84,6 @@ pub record StopsAtFront (search : Search) (R : List Page) (least found : ℕ) (t
 abbrev pub ExplainsFront : Search → List Page → (batches : ℕ) → NoFront → Type 0
 ExplainsFront search R batches (fault.Plan planning.BadLimit) = ¬ IsNodeLimit search.limit
 ExplainsFront search R batches (fault.Plan (planning.SearchLimit stop)) =
-    MayStop search.effort × IsNodeLimit search.limit × StopsAtFront search R stop.least stop.found (bound_tree_of stop.tree)
+    MayStop search.on_limit × IsNodeLimit search.limit × StopsAtFront search R stop.least stop.found (bound_tree_of stop.tree)
 ExplainsFront search R batches (fault.Plan planning.OutOfMemory) = IsNodeLimit search.limit
 ExplainsFront search R batches (fault.FirstPage needed) = IsNodeLimit search.limit × FirstNeeds search R batches needed

@@ -21,8 +21,8 @@ use Rattle.pocsag_plan.specs.declared.answer.Plan.{Plan}
 use Rattle.pocsag_plan.specs.declared.bounded.Bounded.{Bounded}
 use Rattle.pocsag_plan.specs.declared.fault.PlanFault.{PlanFault}
 use Rattle.pocsag_plan.specs.declared.fault.PlanFault.TheVariants as fault
-use Rattle.pocsag_plan.specs.declared.search.Effort.{Effort}
-use Rattle.pocsag_plan.specs.declared.search.Effort.TheVariants.{Fewest, Always}
+use Rattle.pocsag_plan.specs.declared.search.OnLimit.{OnLimit}
+use Rattle.pocsag_plan.specs.declared.search.OnLimit.TheVariants.{Fewest, Always}
 use Rattle.pocsag_plan.specs.declared.search.Search.{Search}
 
 -- Each list of codewords that is legal for the round and the end has at least so many batches.
@@ -30,10 +30,10 @@ abbrev pub NoneHasFewer : End → List Page → ℕ → Type 0
 NoneHasFewer end R batches = (T : List ℕ) (n : ℕ) → IsLegalList end T n R → batches ≤ n
 
 -- The batches are the least that some choice of starts needs, or one more.
-pub record IsNearLeast (k : Classes) (batches : ℕ) : Type 0 where
+pub record IsFallbackLeast (k : Classes) (batches : ℕ) : Type 0 where
   pub least : ℕ
   pub is_least : IsLeast k least
-  pub near : (batches ≡ least) ⊎ (batches ≡ least + 1)
+  pub fallback : (batches ≡ least) ⊎ (batches ≡ least + 1)
 
 -- A plan of the round for the end, and a bound for which its tree is.
 pub record IsBounded (end : End) (R : List Page) (plan : Plan) (bound : ℕ) : Type 0 where
@@ -51,7 +51,7 @@ pub record IsBounded (end : End) (R : List Page) (plan : Plan) (bound : ℕ) : T
   pub order : IsOrder end R plan.steps.items plan.order.items
   -- The codewords of the pages fit into the batches, of which there are few.
   pub room : plan.codewords ≤ 16 * plan.batches
-  pub near_least : IsNearLeast table plan.batches
+  pub fallback_least : IsFallbackLeast table plan.batches
   pub most : plan.batches ≤ 1760001
   -- No transmission has fewer batches than the bound, and the plan has so many, or one more.
   pub fewest : NoneHasFewer end R bound
@@ -113,17 +113,17 @@ pub record IsPlanFor (search : Search) (R : List Page) (bounded : Bounded) : Typ
   pub no_worse : IsNoWorse search.end R search.limit bounded
   -- and where only the fewest batches are an answer, the bound is the batches, and the tree has the promised
   -- shape.
-  pub fewest : search.effort ≡ Fewest → bounded.bound ≡ bounded.plan.batches
-  pub shaped : search.effort ≡ Fewest → IsSearchTreeFor search.end R bounded.plan.batches (bound_tree_of bounded.plan.tree)
+  pub fewest : search.on_limit ≡ Fewest → bounded.bound ≡ bounded.plan.batches
+  pub shaped : search.on_limit ≡ Fewest → IsSearchTreeFor search.end R bounded.plan.batches (bound_tree_of bounded.plan.tree)
 
 -- A planner stops at its limit only where the fewest batches alone are an answer.
-abbrev pub MayStop : Effort → Type 0
+abbrev pub MayStop : OnLimit → Type 0
 MayStop Fewest = Unit {0}
 MayStop Always = ⊥
 
 -- When each fault of a planner comes, and what it says.
-abbrev pub ExplainsPlan : Effort → End → List Page → ℕ → PlanFault → Type 0
-ExplainsPlan effort end R limit fault.BadLimit = ¬ IsNodeLimit limit
-ExplainsPlan effort end R limit (fault.SearchLimit stop) =
-    MayStop effort × IsNodeLimit limit × IsStopped end R limit stop.least stop.found (bound_tree_of stop.tree)
-ExplainsPlan effort end R limit fault.OutOfMemory = IsNodeLimit limit
+abbrev pub ExplainsPlan : OnLimit → End → List Page → ℕ → PlanFault → Type 0
+ExplainsPlan on_limit end R limit fault.BadLimit = ¬ IsNodeLimit limit
+ExplainsPlan on_limit end R limit (fault.SearchLimit stop) =
+    MayStop on_limit × IsNodeLimit limit × IsStopped end R limit stop.least stop.found (bound_tree_of stop.tree)
+ExplainsPlan on_limit end R limit fault.OutOfMemory = IsNodeLimit limit

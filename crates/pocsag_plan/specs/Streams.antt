@@ -15,8 +15,8 @@ use Rattle.pocsag_plan.specs.declared.fault.UnsentFront.TheVariants as front
 use Rattle.pocsag_plan.specs.declared.fault.PlanFault.TheVariants as planning
 use Rattle.pocsag_plan.specs.declared.fault.StreamFault.{StreamFault}
 use Rattle.pocsag_plan.specs.declared.fault.StreamFault.TheVariants as fault
-use Rattle.pocsag_plan.specs.declared.search.Effort.{Effort}
-use Rattle.pocsag_plan.specs.declared.search.Effort.TheVariants.{Fewest}
+use Rattle.pocsag_plan.specs.declared.search.OnLimit.{OnLimit}
+use Rattle.pocsag_plan.specs.declared.search.OnLimit.TheVariants.{Fewest}
 use Rattle.pocsag_plan.specs.BoundedHeadline.{BoundedHeadline}
 use Rattle.pocsag_plan.specs.Headline.{Headline, RoundHeadline}
 use Rattle.pocsag_plan.specs.Plans.{IsBounded, IsPlan, IsStopped, MayStop}
@@ -68,14 +68,14 @@ HeadlineOf round bounded =
 
 -- With some number of batches, some tree, and a bound that the batches are, or exceed by one, the headline of
 -- the round holds; where only the fewest batches are an answer, they are the bound.
-pub record HasHeadline (effort : Effort) (round : List Page) (end : End) (sent certificate : List ℕ) : Type 0 where
+pub record HasHeadline (on_limit : OnLimit) (round : List Page) (end : End) (sent certificate : List ℕ) : Type 0 where
   pub batches : ℕ
   pub bound : ℕ
   pub tree : BoundTree
   pub headline : RoundHeadline round end batches bound tree sent certificate
   pub at_least : bound ≤ batches
   pub within_one : batches ≤ bound + 1
-  pub fewest : effort ≡ Fewest → bound ≡ batches
+  pub fewest : on_limit ≡ Fewest → bound ≡ batches
 
 -- What both writers took more is the transmission and the certificate of the headline of a page file, or of the
 -- headline with a bound.
@@ -86,25 +86,25 @@ abbrev pub WritesBounded : List ℕ → End → ℕ → ℕ → BoundTree → Li
 WritesBounded file end batches bound tree = WritesAllOf (BoundedHeadline file end batches bound tree)
 
 -- What was taken more is a prefix of the transmission of such a headline.
-abbrev pub WritesPart : Effort → List ℕ → End → List ℕ → List ℕ → Type 0
-WritesPart effort file end tx_before tx_after =
-    IsOfRound file (λ round. WritesPartOf (HasHeadline effort round end) tx_before tx_after)
+abbrev pub WritesPart : OnLimit → List ℕ → End → List ℕ → List ℕ → Type 0
+WritesPart on_limit file end tx_before tx_after =
+    IsOfRound file (λ round. WritesPartOf (HasHeadline on_limit round end) tx_before tx_after)
 
 -- The transmission of such a headline was taken whole, and a prefix of its certificate.
-abbrev pub WritesCertificatePart : Effort → List ℕ → End → List ℕ → List ℕ → List ℕ → List ℕ → Type 0
-WritesCertificatePart effort file end tx_before tx_after cert_before cert_after =
-    IsOfRound file (λ round. WritesCertificatePartOf (HasHeadline effort round end) tx_before tx_after cert_before cert_after)
+abbrev pub WritesCertificatePart : OnLimit → List ℕ → End → List ℕ → List ℕ → List ℕ → List ℕ → Type 0
+WritesCertificatePart on_limit file end tx_before tx_after cert_before cert_after =
+    IsOfRound file (λ round. WritesCertificatePartOf (HasHeadline on_limit round end) tx_before tx_after cert_before cert_after)
 
 -- When each fault of a stream comes, and what it says.
-abbrev pub ExplainsStream : Effort → List ℕ → End → ℕ → StreamFault → Type 0
-ExplainsStream effort file end limit (fault.Plan planning.BadLimit) = ¬ IsNodeLimit limit
-ExplainsStream effort file end limit (fault.Round f) =
+abbrev pub ExplainsStream : OnLimit → List ℕ → End → ℕ → StreamFault → Type 0
+ExplainsStream on_limit file end limit (fault.Plan planning.BadLimit) = ¬ IsNodeLimit limit
+ExplainsStream on_limit file end limit (fault.Round f) =
     IsNodeLimit limit × ((f ≡ round.OutOfMemory) ⊎ (f ≡ round.ReadFault) ⊎ (verdict file ≡ Err f))
-ExplainsStream effort file end limit (fault.Plan (planning.SearchLimit stop)) =
-    MayStop effort × IsNodeLimit limit × IsStoppedAt file end limit stop.least stop.found (bound_tree_of stop.tree)
-ExplainsStream effort file end limit (fault.Plan planning.OutOfMemory) = IsNodeLimit limit × IsOk (verdict file)
-ExplainsStream effort file end limit (fault.Transmission f) = IsNodeLimit limit × IsOk (verdict file)
-ExplainsStream effort file end limit (fault.Certificate f) = IsNodeLimit limit × IsOk (verdict file)
+ExplainsStream on_limit file end limit (fault.Plan (planning.SearchLimit stop)) =
+    MayStop on_limit × IsNodeLimit limit × IsStoppedAt file end limit stop.least stop.found (bound_tree_of stop.tree)
+ExplainsStream on_limit file end limit (fault.Plan planning.OutOfMemory) = IsNodeLimit limit × IsOk (verdict file)
+ExplainsStream on_limit file end limit (fault.Transmission f) = IsNodeLimit limit × IsOk (verdict file)
+ExplainsStream on_limit file end limit (fault.Certificate f) = IsNodeLimit limit × IsOk (verdict file)
 
 -- The fault of a search that stopped at its limit.
 abbrev pub IsSearchLimit : StreamFault → Type 0

@@ -11,9 +11,9 @@ use Rattle.pocsag_check.specs.Acceptance.{IsAccepted}
 use Rattle.pocsag_branch.specs.declared.answer.Found.{Found}
 use Rattle.pocsag_branch.specs.Found.{IsBound, IsLimit}
 use Rattle.pocsag_branch.specs.Shape.{IsSearchTree}
-use Rattle.pocsag_branch.specs.declared.stop.SearchLimit.{SearchLimit}
+use Rattle.pocsag_branch.specs.declared.fault.SearchLimit.{SearchLimit}
 use Rattle.pocsag_plan.specs.declared.outcome.Outcome.{Outcome}
-use Rattle.pocsag_plan.specs.declared.search.Effort.TheVariants.{Fewest}
+use Rattle.pocsag_plan.specs.declared.search.OnLimit.TheVariants.{Fewest}
 use Rattle.pocsag_plan.specs.declared.search.Search.{Search}
 
 -- A tour of the least that some choice of starts needs, or of one batch more, and a tree for a bound that
@@ -41,8 +41,8 @@ pub record IsOutcome (k : Classes) (search : Search) (outcome : Outcome) : Type 
   pub within : IsWithinOne k search.end search.limit outcome.bound outcome.found
   pub stopped : IsTightOrStopped k search.end search.limit outcome.bound outcome.found.batches outcome.stopped
   -- Where only the fewest batches are an answer, the bound is the batches, and the tree has the promised shape.
-  pub fewest : search.effort ≡ Fewest → outcome.bound ≡ outcome.found.batches
-  pub shaped : search.effort ≡ Fewest → IsSearchTree k search.end within.least outcome.found.batches (bound_tree_of outcome.found.tree)
+  pub fewest : search.on_limit ≡ Fewest → outcome.bound ≡ outcome.found.batches
+  pub shaped : search.on_limit ≡ Fewest → IsSearchTree k search.end within.least outcome.found.batches (bound_tree_of outcome.found.tree)
 
 -- The same for a round of these classes.
 pub record IsOutcomeFor (search : Search) (R : List Page) (outcome : Outcome) : Type 0 where

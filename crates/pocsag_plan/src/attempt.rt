@@ -38,7 +38,7 @@ pub(crate) fn attempt(
     ensures attempt { IfOk result (IsTried classes.now search batches) }
     ensures limit { ¬ IsErrOf result PlanFault.BadLimit }
     ensures fault { IfErr result (λ e. (R : List Page) → IsRound R → AreClassesOf classes.now search.end R →
-        ExplainsPlan search.effort search.end R search.limit e) }
+        ExplainsPlan search.on_limit search.end R search.limit e) }
 {
     let by_loads = least_certificate(classes, search.end);
     if by_loads.batches < batches {

@@ -17,7 +17,7 @@ use crate::fault::{NoFront, PlanFault, StreamFault, UnsentFront};
 use crate::front::longest_front;
 use crate::plans::{counted_plan, is_node_limit};
 use crate::refusal::BookFault;
-use crate::search::{Effort, Search};
+use crate::search::{OnLimit, Search};
 use crate::streams::send;
 use pocsag_pages::{Round, RoundFault};
 use pocsag_words::{End, OutOfMemory, Sink};
@@ -43,7 +43,7 @@ impl Book {
         ensures plan { IfOk result (λ both. IsPlanFor search self.now both.1) }
         ensures bad_limit { IsErrOf result (BookFault.Plan PlanFault.BadLimit) ↔ (¬ IsNodeLimit search.limit) }
         ensures no_pages { IsErrOf result BookFault.NoPages ↔ (IsNodeLimit search.limit × (self.now ≡ [])) }
-        ensures fault { IfErr result (ExplainsBook search.effort search.end self.now search.limit) }
+        ensures fault { IfErr result (ExplainsBook search.on_limit search.end self.now search.limit) }
     {
         if !is_node_limit(search.limit) {
             return Err(BookFault::Plan(PlanFault::BadLimit));
@@ -69,10 +69,14 @@ impl Book {
         ensures small { IfOk result (λ plan. closed_nodes (bound_tree_of plan.tree) ≤ limit) }
         ensures bad_limit { IsErrOf result (BookFault.Plan PlanFault.BadLimit) ↔ (¬ IsNodeLimit limit) }
         ensures no_pages { IsErrOf result BookFault.NoPages ↔ (IsNodeLimit limit × (self.now ≡ [])) }
-        ensures fault { IfErr result (ExplainsBook Effort.Fewest end self.now limit) }
+        ensures fault { IfErr result (ExplainsBook OnLimit.Fewest end self.now limit) }
     {
-        let effort = Effort::Fewest;
-        let (_round, bounded) = self.planned(Search { limit, end, effort })?;
+        let on_limit = OnLimit::Fewest;
+        let (_round, bounded) = self.planned(Search {
+            limit,
+            end,
+            on_limit,
+        })?;
         Ok(bounded.plan)
     }
 
@@ -89,10 +93,14 @@ impl Book {
         ensures small { IfOk result (λ bounded. closed_nodes (bound_tree_of bounded.plan.tree) ≤ limit) }
         ensures bad_limit { IsErrOf result (BookFault.Plan PlanFault.BadLimit) ↔ (¬ IsNodeLimit limit) }
         ensures no_pages { IsErrOf result BookFault.NoPages ↔ (IsNodeLimit limit × (self.now ≡ [])) }
-        ensures fault { IfErr result (ExplainsBook Effort.Always end self.now limit) }
+        ensures fault { IfErr result (ExplainsBook OnLimit.Always end self.now limit) }
     {
-        let effort = Effort::Always;
-        let (_round, bounded) = self.planned(Search { limit, end, effort })?;
+        let on_limit = OnLimit::Always;
+        let (_round, bounded) = self.planned(Search {
+            limit,
+            end,
+            on_limit,
+        })?;
         Ok(bounded)
     }
 
@@ -107,24 +115,32 @@ impl Book {
         end: End,
     ) -> Result<Plan, StreamFault>
         // The headline of these pages.
-        ensures headline { T.tells → C.tells → IfOk result (λ plan.
+        ensures headline { T.is_known → C.is_known → IfOk result (λ plan.
             WritesAllOf (RoundHeadline self.now end plan.batches plan.batches (bound_tree_of plan.tree))
             (T.taken tx.old) (T.taken tx.new) (C.taken cert.old) (C.taken cert.new)) }
         ensures plan { IfOk result (IsPlan end self.now) }
         ensures small { IfOk result (λ plan. closed_nodes (bound_tree_of plan.tree) ≤ limit) }
 
         // When each fault comes, and what it leaves.
-        ensures explained { IfErr result (ExplainsBookStream Effort.Fewest end self.now limit) }
+        ensures explained { IfErr result (ExplainsBookStream OnLimit.Fewest end self.now limit) }
         ensures bad_limit { IsErrOf result (StreamFault.Plan PlanFault.BadLimit) ↔ (¬ IsNodeLimit limit) }
         ensures writers { WritesInTurn T.failures C.failures tx.old tx.new cert.old cert.new (fault_in result) }
-        ensures part { T.tells → IfErr result (λ e. IsTransmission e →
-            WritesPartOf (HasHeadline Effort.Fewest self.now end) (T.taken tx.old) (T.taken tx.new)) }
-        ensures certificate_part { T.tells → C.tells → IfErr result (λ e. IsCertificate e →
-            WritesCertificatePartOf (HasHeadline Effort.Fewest self.now end)
+        ensures part { T.is_known → IfErr result (λ e. IsTransmission e →
+            WritesPartOf (HasHeadline OnLimit.Fewest self.now end) (T.taken tx.old) (T.taken tx.new)) }
+        ensures certificate_part { T.is_known → C.is_known → IfErr result (λ e. IsCertificate e →
+            WritesCertificatePartOf (HasHeadline OnLimit.Fewest self.now end)
             (T.taken tx.old) (T.taken tx.new) (C.taken cert.old) (C.taken cert.new)) }
     {
-        let effort = Effort::Fewest;
-        let bounded = self.bounded_stream(tx, cert, Search { limit, end, effort })?;
+        let on_limit = OnLimit::Fewest;
+        let bounded = self.bounded_stream(
+            tx,
+            cert,
+            Search {
+                limit,
+                end,
+                on_limit,
+            },
+        )?;
         Ok(bounded.plan)
     }
 
@@ -139,11 +155,11 @@ impl Book {
         end: End,
     ) -> Result<Bounded, StreamFault>
         // The headline of these pages with the bound; the batches are the bound, or one more, by `plan`.
-        ensures headline { T.tells → C.tells → IfOk result (λ bounded.
+        ensures headline { T.is_known → C.is_known → IfOk result (λ bounded.
             WritesAllOf
             (RoundHeadline self.now end bounded.plan.batches bounded.bound (bound_tree_of bounded.plan.tree))
             (T.taken tx.old) (T.taken tx.new) (C.taken cert.old) (C.taken cert.new)) }
-        ensures fewest { T.tells → C.tells → IfOk result (λ bounded. bounded.bound ≡ bounded.plan.batches →
+        ensures fewest { T.is_known → C.is_known → IfOk result (λ bounded. bounded.bound ≡ bounded.plan.batches →
             WritesAllOf
             (RoundHeadline self.now end bounded.plan.batches bounded.plan.batches (bound_tree_of bounded.plan.tree))
             (T.taken tx.old) (T.taken tx.new) (C.taken cert.old) (C.taken cert.new)) }
@@ -152,18 +168,26 @@ impl Book {
         ensures small { IfOk result (λ bounded. closed_nodes (bound_tree_of bounded.plan.tree) ≤ limit) }
 
         // When each fault comes, and what it leaves.
-        ensures explained { IfErr result (ExplainsBookStream Effort.Always end self.now limit) }
+        ensures explained { IfErr result (ExplainsBookStream OnLimit.Always end self.now limit) }
         ensures answered { IfErr result (λ e. ¬ IsSearchLimit e) }
         ensures bad_limit { IsErrOf result (StreamFault.Plan PlanFault.BadLimit) ↔ (¬ IsNodeLimit limit) }
         ensures writers { WritesInTurn T.failures C.failures tx.old tx.new cert.old cert.new (fault_in result) }
-        ensures part { T.tells → IfErr result (λ e. IsTransmission e →
-            WritesPartOf (HasHeadline Effort.Always self.now end) (T.taken tx.old) (T.taken tx.new)) }
-        ensures certificate_part { T.tells → C.tells → IfErr result (λ e. IsCertificate e →
-            WritesCertificatePartOf (HasHeadline Effort.Always self.now end)
+        ensures part { T.is_known → IfErr result (λ e. IsTransmission e →
+            WritesPartOf (HasHeadline OnLimit.Always self.now end) (T.taken tx.old) (T.taken tx.new)) }
+        ensures certificate_part { T.is_known → C.is_known → IfErr result (λ e. IsCertificate e →
+            WritesCertificatePartOf (HasHeadline OnLimit.Always self.now end)
             (T.taken tx.old) (T.taken tx.new) (C.taken cert.old) (C.taken cert.new)) }
     {
-        let effort = Effort::Always;
-        self.bounded_stream(tx, cert, Search { limit, end, effort })
+        let on_limit = OnLimit::Always;
+        self.bounded_stream(
+            tx,
+            cert,
+            Search {
+                limit,
+                end,
+                on_limit,
+            },
+        )
     }
 
     /// Plans the round of the pages and writes both as is asked: `plan_stream` with the bound of its plan,
@@ -174,19 +198,19 @@ impl Book {
         cert: &mut C,
         search: Search,
     ) -> Result<Bounded, StreamFault>
-        ensures headline { T.tells → C.tells → IfOk result (λ bounded. WritesAllOf
+        ensures headline { T.is_known → C.is_known → IfOk result (λ bounded. WritesAllOf
             (RoundHeadline self.now search.end bounded.plan.batches bounded.bound (bound_tree_of bounded.plan.tree))
             (T.taken tx.old) (T.taken tx.new) (C.taken cert.old) (C.taken cert.new)) }
         ensures plan { IfOk result (IsPlanFor search self.now) }
 
         // When each fault comes, and what it leaves.
-        ensures explained { IfErr result (ExplainsBookStream search.effort search.end self.now search.limit) }
+        ensures explained { IfErr result (ExplainsBookStream search.on_limit search.end self.now search.limit) }
         ensures bad_limit { IsErrOf result (StreamFault.Plan PlanFault.BadLimit) ↔ (¬ IsNodeLimit search.limit) }
         ensures writers { WritesInTurn T.failures C.failures tx.old tx.new cert.old cert.new (fault_in result) }
-        ensures part { T.tells → IfErr result (λ e. IsTransmission e →
-            WritesPartOf (HasHeadline search.effort self.now search.end) (T.taken tx.old) (T.taken tx.new)) }
-        ensures certificate_part { T.tells → C.tells → IfErr result (λ e. IsCertificate e →
-            WritesCertificatePartOf (HasHeadline search.effort self.now search.end)
+        ensures part { T.is_known → IfErr result (λ e. IsTransmission e →
+            WritesPartOf (HasHeadline search.on_limit self.now search.end) (T.taken tx.old) (T.taken tx.new)) }
+        ensures certificate_part { T.is_known → C.is_known → IfErr result (λ e. IsCertificate e →
+            WritesCertificatePartOf (HasHeadline search.on_limit self.now search.end)
             (T.taken tx.old) (T.taken tx.new) (C.taken cert.old) (C.taken cert.new)) }
     {
         let (round, bounded) = self.planned(search)?;
@@ -207,11 +231,11 @@ impl Book {
     ) -> Result<Bounded, UnsentFront>
         ensures round { OnOk result (IsRound self.now) }
         ensures front { IfOk result (λ bounded. IsFrontFor search self.now batches bounded.plan.pages) }
-        ensures longest { search.effort ≡ Effort.Fewest → IfOk result (λ bounded.
+        ensures longest { search.on_limit ≡ OnLimit.Fewest → IfOk result (λ bounded.
             IsLongestFront search.end self.now batches bounded.plan.pages) }
 
         // The headline of these first pages.
-        ensures headline { T.tells → C.tells → IfOk result (λ bounded. WritesAllOf
+        ensures headline { T.is_known → C.is_known → IfOk result (λ bounded. WritesAllOf
             (RoundHeadline (take bounded.plan.pages self.now) search.end bounded.plan.batches bounded.bound
             (bound_tree_of bounded.plan.tree))
             (T.taken tx.old) (T.taken tx.new) (C.taken cert.old) (C.taken cert.new)) }

@@ -12,7 +12,7 @@ use crate::bounded::Bounded;
 use crate::fault::{NoFront, PlanFault};
 use crate::outcome::{Outcome, outcome_of};
 use crate::plans::{completed, is_node_limit};
-use crate::search::{Effort, Search};
+use crate::search::{OnLimit, Search};
 use crate::tally::{count_page, discount_page, no_classes};
 use pocsag_pages::{Page, Round};
 use pocsag_slots::Classes;
@@ -52,7 +52,7 @@ pub fn longest_front(
 ) -> Result<FrontPlan, NoFront>
     ensures parts { IfOk result (λ front. front.round ++ front.rest.items ≡ round) }
     ensures front { IfOk result (λ front. IsFrontFor search round batches (length front.round)) }
-    ensures longest { search.effort ≡ Effort.Fewest → IfOk result (λ front.
+    ensures longest { search.on_limit ≡ OnLimit.Fewest → IfOk result (λ front.
         IsLongestFront search.end round batches (length front.round)) }
     ensures plan { IfOk result (λ front. IsPlanFor search front.round front.bounded) }
     ensures within { IfOk result (λ front. front.bounded.plan.batches ≤ batches) }

@@ -30,6 +30,6 @@ pub use front::{FrontPlan, longest_front};
 pub use plans::{bounded_plan, is_node_limit, plan, plan_always};
 pub use refusal::{AddFault, BookFault, NotThere, Refused};
 pub use reports::{most_batches, report};
-pub use search::{Effort, Search};
+pub use search::{OnLimit, Search};
 pub use streams::{bounded_stream, plan_stream, plan_stream_always, send};
 pub use verdict::{CheckVerdict, verdict_on};

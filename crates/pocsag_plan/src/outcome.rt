@@ -7,7 +7,7 @@ ghost use Rattle.pocsag_plan.specs.Plans.{ExplainsPlan};
 ghost use Rattle.pocsag_plan.specs.Within.{IsOutcome, IsTightOrStopped, IsWithinOne};
 
 use crate::fault::PlanFault;
-use crate::search::{Effort, Search};
+use crate::search::{OnLimit, Search};
 use pocsag_branch::{Found, FreeFault, SearchLimit, search_freely};
 use pocsag_slots::Classes;
 use pocsag_words::OutOfMemory;
@@ -33,10 +33,10 @@ pub(crate) fn outcome_of(
     ensures outcome { IfOk result (IsOutcome classes.now search) }
     ensures limit { ¬ IsErrOf result PlanFault.BadLimit }
     ensures fault { IfErr result (λ e. (R : List Page) → IsRound R → AreClassesOf classes.now search.end R →
-        ExplainsPlan search.effort search.end R search.limit e) }
+        ExplainsPlan search.on_limit search.end R search.limit e) }
 {
-    match search.effort {
-        Effort::Fewest => {
+    match search.on_limit {
+        OnLimit::Fewest => {
             let found = pocsag_branch::search(alloc, classes, search.limit, search.end)?;
             let bound = found.batches;
             Ok(Outcome {
@@ -45,7 +45,7 @@ pub(crate) fn outcome_of(
                 stopped: None,
             })
         }
-        Effort::Always => Ok(within_one(alloc, classes, search)?),
+        OnLimit::Always => Ok(within_one(alloc, classes, search)?),
     }
 }
 
@@ -67,16 +67,16 @@ fn within_one(alloc: Global, classes: &Classes, search: Search) -> Result<Outcom
                 stopped: None,
             })
         }
-        Err(FreeFault::SearchLimit { near, stop }) => {
+        Err(FreeFault::SearchLimit { fallback, stop }) => {
             let found = Found {
-                batches: near.least + 1,
-                choice: near.choice,
-                steps: near.steps,
-                tree: near.tree,
+                batches: fallback.least + 1,
+                choice: fallback.choice,
+                steps: fallback.steps,
+                tree: fallback.tree,
             };
             Ok(Outcome {
                 found,
-                bound: near.least,
+                bound: fallback.least,
                 stopped: Some(stop),
             })
         }

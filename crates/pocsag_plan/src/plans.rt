@@ -11,7 +11,7 @@ use crate::answer::Plan;
 use crate::bounded::Bounded;
 use crate::fault::PlanFault;
 use crate::outcome::{Outcome, outcome_of};
-use crate::search::{Effort, Search};
+use crate::search::{OnLimit, Search};
 use pocsag_batch::{in_order_batches, order_of};
 use pocsag_pages::Round;
 use pocsag_slots::{Classes, classes_of};
@@ -26,10 +26,18 @@ pub fn plan(alloc: Global, round: &Round, limit: u32, end: End) -> Result<Plan, 
     ensures plan { IfOk result (IsPlan end round.now) }
     ensures small { IfOk result (λ plan. closed_nodes (bound_tree_of plan.tree) ≤ limit) }
     ensures bad_limit { IsErrOf result PlanFault.BadLimit ↔ (¬ IsNodeLimit limit) }
-    ensures fault { IfErr result (ExplainsPlan Effort.Fewest end round.now limit) }
+    ensures fault { IfErr result (ExplainsPlan OnLimit.Fewest end round.now limit) }
 {
-    let effort = Effort::Fewest;
-    let bounded = bounded_plan(alloc, round, Search { limit, end, effort })?;
+    let on_limit = OnLimit::Fewest;
+    let bounded = bounded_plan(
+        alloc,
+        round,
+        Search {
+            limit,
+            end,
+            on_limit,
+        },
+    )?;
     Ok(bounded.plan)
 }
 
@@ -45,17 +53,25 @@ pub fn plan_always(alloc: Global, round: &Round, limit: u32, end: End) -> Result
     ensures no_worse { IfOk result (IsNoWorse end round.now limit) }
     ensures small { IfOk result (λ bounded. closed_nodes (bound_tree_of bounded.plan.tree) ≤ limit) }
     ensures bad_limit { IsErrOf result PlanFault.BadLimit ↔ (¬ IsNodeLimit limit) }
-    ensures fault { IfErr result (ExplainsPlan Effort.Always end round.now limit) }
+    ensures fault { IfErr result (ExplainsPlan OnLimit.Always end round.now limit) }
 {
-    let effort = Effort::Always;
-    bounded_plan(alloc, round, Search { limit, end, effort })
+    let on_limit = OnLimit::Always;
+    bounded_plan(
+        alloc,
+        round,
+        Search {
+            limit,
+            end,
+            on_limit,
+        },
+    )
 }
 
 /// Plans the round as is asked: `plan` with its bound, which is its batches, or `plan_always`.
 pub fn bounded_plan(alloc: Global, round: &Round, search: Search) -> Result<Bounded, PlanFault>
     ensures plan { IfOk result (IsPlanFor search round.now) }
     ensures bad_limit { IsErrOf result PlanFault.BadLimit ↔ (¬ IsNodeLimit search.limit) }
-    ensures fault { IfErr result (ExplainsPlan search.effort search.end round.now search.limit) }
+    ensures fault { IfErr result (ExplainsPlan search.on_limit search.end round.now search.limit) }
 {
     if !is_node_limit(search.limit) {
         return Err(PlanFault::BadLimit);
@@ -81,7 +97,7 @@ pub(crate) fn counted_plan(
     requires counted { AreClassesOf classes.now search.end round.now }
     ensures plan { IfOk result (IsPlanFor search round.now) }
     ensures limit { ¬ IsErrOf result PlanFault.BadLimit }
-    ensures fault { IfErr result (ExplainsPlan search.effort search.end round.now search.limit) }
+    ensures fault { IfErr result (ExplainsPlan search.on_limit search.end round.now search.limit) }
 {
     round.keeps_rules();
     let outcome = outcome_of(alloc, classes, search)?;

@@ -2,7 +2,7 @@ use pocsag_words::End;
 
 /// How a planner answers where its nodes do not decide between two numbers of batches.
 #[derive(Clone, Copy, PartialEq, Eq, Debug)]
-pub enum Effort {
+pub enum OnLimit {
     /// Not at all: it answers with the fewest batches, or with `SearchLimit`.
     Fewest,
     /// With one batch more than its bound: it refuses no round.
@@ -16,5 +16,5 @@ pub struct Search {
     pub limit: u32,
     /// The end of the transmission.
     pub end: End,
-    pub effort: Effort,
+    pub on_limit: OnLimit,
 }

@@ -12,7 +12,7 @@ use crate::answer::Plan;
 use crate::bounded::Bounded;
 use crate::fault::{PlanFault, StreamFault};
 use crate::plans::{bounded_plan, is_node_limit};
-use crate::search::{Effort, Search};
+use crate::search::{OnLimit, Search};
 use pocsag_batch::{Slots, write_slots};
 use pocsag_pages::{Round, read_round};
 use pocsag_tree::write_text;
@@ -32,21 +32,21 @@ pub fn plan_stream<S: Source, T: Sink, C: Sink>(
     end: End,
 ) -> Result<Plan, StreamFault>
     // The headline.
-    ensures headline { S.tells → T.tells → C.tells → IfOk result (λ plan.
+    ensures headline { S.is_known → T.is_known → C.is_known → IfOk result (λ plan.
         Writes (S.held source.old) end plan.batches (bound_tree_of plan.tree)
         (T.taken tx.old) (T.taken tx.new) (C.taken cert.old) (C.taken cert.new)) }
-    ensures plan { S.tells → IfOk result (IsPlanOf (S.held source.old) end) }
+    ensures plan { S.is_known → IfOk result (IsPlanOf (S.held source.old) end) }
     ensures small { IfOk result (λ plan. closed_nodes (bound_tree_of plan.tree) ≤ limit) }
 
     // When each fault comes, and what it leaves.
-    ensures explained { S.tells → IfErr result (ExplainsStream Effort.Fewest (S.held source.old) end limit) }
+    ensures explained { S.is_known → IfErr result (ExplainsStream OnLimit.Fewest (S.held source.old) end limit) }
     ensures bad_limit { IsErrOf result (StreamFault.Plan PlanFault.BadLimit) ↔ (¬ IsNodeLimit limit) }
     ensures unread { IsErrOf result (StreamFault.Plan PlanFault.BadLimit) → source.new ≡ source.old }
     ensures writers { WritesInTurn T.failures C.failures tx.old tx.new cert.old cert.new (fault_in result) }
-    ensures part { S.tells → T.tells → IfErr result (λ e. IsTransmission e →
-        WritesPart Effort.Fewest (S.held source.old) end (T.taken tx.old) (T.taken tx.new)) }
-    ensures certificate_part { S.tells → T.tells → C.tells → IfErr result (λ e. IsCertificate e →
-        WritesCertificatePart Effort.Fewest (S.held source.old) end
+    ensures part { S.is_known → T.is_known → IfErr result (λ e. IsTransmission e →
+        WritesPart OnLimit.Fewest (S.held source.old) end (T.taken tx.old) (T.taken tx.new)) }
+    ensures certificate_part { S.is_known → T.is_known → C.is_known → IfErr result (λ e. IsCertificate e →
+        WritesCertificatePart OnLimit.Fewest (S.held source.old) end
         (T.taken tx.old) (T.taken tx.new) (C.taken cert.old) (C.taken cert.new)) }
 
     // The reader's fault is answered only where it failed.
@@ -54,8 +54,18 @@ pub fn plan_stream<S: Source, T: Sink, C: Sink>(
         HasFailed (S.failures source.old) (S.failures source.new) }
     ensures read_succeeded { OnOk result (S.failures source.new ≡ S.failures source.old) }
 {
-    let effort = Effort::Fewest;
-    match bounded_stream(alloc, source, tx, cert, Search { limit, end, effort }) {
+    let on_limit = OnLimit::Fewest;
+    match bounded_stream(
+        alloc,
+        source,
+        tx,
+        cert,
+        Search {
+            limit,
+            end,
+            on_limit,
+        },
+    ) {
         Ok(bounded) => Ok(bounded.plan),
         Err(fault) => Err(fault),
     }
@@ -74,28 +84,28 @@ pub fn plan_stream_always<S: Source, T: Sink, C: Sink>(
     end: End,
 ) -> Result<Bounded, StreamFault>
     // The headline with a bound; and where the bound is the batches, the headline.
-    ensures headline { S.tells → T.tells → C.tells → IfOk result (λ bounded.
+    ensures headline { S.is_known → T.is_known → C.is_known → IfOk result (λ bounded.
         WritesBounded (S.held source.old) end bounded.plan.batches bounded.bound (bound_tree_of bounded.plan.tree)
         (T.taken tx.old) (T.taken tx.new) (C.taken cert.old) (C.taken cert.new)) }
-    ensures fewest { S.tells → T.tells → C.tells → IfOk result (λ bounded. bounded.bound ≡ bounded.plan.batches →
+    ensures fewest { S.is_known → T.is_known → C.is_known → IfOk result (λ bounded. bounded.bound ≡ bounded.plan.batches →
         Writes (S.held source.old) end bounded.plan.batches (bound_tree_of bounded.plan.tree)
         (T.taken tx.old) (T.taken tx.new) (C.taken cert.old) (C.taken cert.new)) }
-    ensures plan { S.tells → IfOk result (IsBoundedOf (S.held source.old) end) }
+    ensures plan { S.is_known → IfOk result (IsBoundedOf (S.held source.old) end) }
     // Where the bound is below the batches, `plan_stream` stops at the same limit, and all that it says then is so.
-    ensures no_worse { S.tells →
+    ensures no_worse { S.is_known →
         IfOk result (λ bounded. IsOfRound (S.held source.old) (λ round. IsNoWorse end round limit bounded)) }
     ensures small { IfOk result (λ bounded. closed_nodes (bound_tree_of bounded.plan.tree) ≤ limit) }
 
     // When each fault comes, and what it leaves.
-    ensures explained { S.tells → IfErr result (ExplainsStream Effort.Always (S.held source.old) end limit) }
+    ensures explained { S.is_known → IfErr result (ExplainsStream OnLimit.Always (S.held source.old) end limit) }
     ensures answered { IfErr result (λ e. ¬ IsSearchLimit e) }
     ensures bad_limit { IsErrOf result (StreamFault.Plan PlanFault.BadLimit) ↔ (¬ IsNodeLimit limit) }
     ensures unread { IsErrOf result (StreamFault.Plan PlanFault.BadLimit) → source.new ≡ source.old }
     ensures writers { WritesInTurn T.failures C.failures tx.old tx.new cert.old cert.new (fault_in result) }
-    ensures part { S.tells → T.tells → IfErr result (λ e. IsTransmission e →
-        WritesPart Effort.Always (S.held source.old) end (T.taken tx.old) (T.taken tx.new)) }
-    ensures certificate_part { S.tells → T.tells → C.tells → IfErr result (λ e. IsCertificate e →
-        WritesCertificatePart Effort.Always (S.held source.old) end
+    ensures part { S.is_known → T.is_known → IfErr result (λ e. IsTransmission e →
+        WritesPart OnLimit.Always (S.held source.old) end (T.taken tx.old) (T.taken tx.new)) }
+    ensures certificate_part { S.is_known → T.is_known → C.is_known → IfErr result (λ e. IsCertificate e →
+        WritesCertificatePart OnLimit.Always (S.held source.old) end
         (T.taken tx.old) (T.taken tx.new) (C.taken cert.old) (C.taken cert.new)) }
 
     // The reader's fault is answered only where it failed.
@@ -103,8 +113,18 @@ pub fn plan_stream_always<S: Source, T: Sink, C: Sink>(
         HasFailed (S.failures source.old) (S.failures source.new) }
     ensures read_succeeded { OnOk result (S.failures source.new ≡ S.failures source.old) }
 {
-    let effort = Effort::Always;
-    bounded_stream(alloc, source, tx, cert, Search { limit, end, effort })
+    let on_limit = OnLimit::Always;
+    bounded_stream(
+        alloc,
+        source,
+        tx,
+        cert,
+        Search {
+            limit,
+            end,
+            on_limit,
+        },
+    )
 }
 
 /// Reads a page file up to its end, plans its round and writes both as is asked: `plan_stream` with the bound
@@ -116,25 +136,25 @@ pub fn bounded_stream<S: Source, T: Sink, C: Sink>(
     cert: &mut C,
     search: Search,
 ) -> Result<Bounded, StreamFault>
-    ensures headline { S.tells → T.tells → C.tells → IfOk result (λ bounded.
+    ensures headline { S.is_known → T.is_known → C.is_known → IfOk result (λ bounded.
         WritesBounded (S.held source.old) search.end bounded.plan.batches bounded.bound
         (bound_tree_of bounded.plan.tree)
         (T.taken tx.old) (T.taken tx.new) (C.taken cert.old) (C.taken cert.new)) }
-    ensures plan { S.tells →
+    ensures plan { S.is_known →
         IfOk result (λ bounded. IsOfRound (S.held source.old) (λ round. IsPlanFor search round bounded)) }
     ensures small { IfOk result (λ bounded. closed_nodes (bound_tree_of bounded.plan.tree) ≤ search.limit) }
 
     // When each fault comes, and what it leaves.
-    ensures explained { S.tells →
-        IfErr result (ExplainsStream search.effort (S.held source.old) search.end search.limit) }
-    ensures answered { search.effort ≡ Effort.Always → IfErr result (λ e. ¬ IsSearchLimit e) }
+    ensures explained { S.is_known →
+        IfErr result (ExplainsStream search.on_limit (S.held source.old) search.end search.limit) }
+    ensures answered { search.on_limit ≡ OnLimit.Always → IfErr result (λ e. ¬ IsSearchLimit e) }
     ensures bad_limit { IsErrOf result (StreamFault.Plan PlanFault.BadLimit) ↔ (¬ IsNodeLimit search.limit) }
     ensures unread { IsErrOf result (StreamFault.Plan PlanFault.BadLimit) → source.new ≡ source.old }
     ensures writers { WritesInTurn T.failures C.failures tx.old tx.new cert.old cert.new (fault_in result) }
-    ensures part { S.tells → T.tells → IfErr result (λ e. IsTransmission e →
-        WritesPart search.effort (S.held source.old) search.end (T.taken tx.old) (T.taken tx.new)) }
-    ensures certificate_part { S.tells → T.tells → C.tells → IfErr result (λ e. IsCertificate e →
-        WritesCertificatePart search.effort (S.held source.old) search.end
+    ensures part { S.is_known → T.is_known → IfErr result (λ e. IsTransmission e →
+        WritesPart search.on_limit (S.held source.old) search.end (T.taken tx.old) (T.taken tx.new)) }
+    ensures certificate_part { S.is_known → T.is_known → C.is_known → IfErr result (λ e. IsCertificate e →
+        WritesCertificatePart search.on_limit (S.held source.old) search.end
         (T.taken tx.old) (T.taken tx.new) (C.taken cert.old) (C.taken cert.new)) }
 
     // The reader's fault is answered only where it failed.
@@ -168,11 +188,11 @@ pub fn send<T: Sink, C: Sink>(
     cert: &mut C,
 ) -> Result<(), StreamFault>
     requires { IsBounded bounded.now.plan.end round.now bounded.now.plan bounded.now.bound }
-    ensures whole { T.tells → C.tells → OnOk result (WritesAllOf (HeadlineOf round.now bounded.now)
+    ensures whole { T.is_known → C.is_known → OnOk result (WritesAllOf (HeadlineOf round.now bounded.now)
         (T.taken tx.old) (T.taken tx.new) (C.taken cert.old) (C.taken cert.new)) }
-    ensures part { T.tells → IfErr result (λ e. IsTransmission e →
+    ensures part { T.is_known → IfErr result (λ e. IsTransmission e →
         WritesPartOf (HeadlineOf round.now bounded.now) (T.taken tx.old) (T.taken tx.new)) }
-    ensures certificate_part { T.tells → C.tells → IfErr result (λ e. IsCertificate e →
+    ensures certificate_part { T.is_known → C.is_known → IfErr result (λ e. IsCertificate e →
         WritesCertificatePartOf (HeadlineOf round.now bounded.now)
         (T.taken tx.old) (T.taken tx.new) (C.taken cert.old) (C.taken cert.new)) }
     ensures writers { WritesInTurn T.failures C.failures tx.old tx.new cert.old cert.new (fault_in result) }

@@ -7,9 +7,9 @@ use Rattle.pocsag_words.specs.Devices.{TookPrefix}
 use Rattle.pocsag_words.specs.Frame.{input_limit}
 use Rattle.pocsag_pages.specs.declared.page.Page.{Page}
 use Rattle.pocsag_pages.specs.Bytes.{Sent, after_preamble, body_bytes, leading, words_of}
-use Rattle.pocsag_capture.specs.LiftedBytes.{LiftsAll, LiftsOne}
-use Rattle.pocsag_capture.specs.declared.lift.Lifted.{Lifted}
-use Rattle.pocsag_capture.specs.declared.reception.Heard.{Heard}
+use Rattle.pocsag_capture.specs.ExtractedBytes.{LiftsAll, LiftsOne}
+use Rattle.pocsag_capture.specs.declared.lift.Extracted.{Extracted}
+use Rattle.pocsag_capture.specs.declared.reception.ReceptionStats.{ReceptionStats}
 use Rattle.pocsag_decode.specs.Faults.{IsFaultless, ReadsAs}
 use Rattle.pocsag_decode.specs.Listing.{listing}
 use Rattle.pocsag_decode.proofs.Preambles.{leading_is}
@@ -58,7 +58,7 @@ hear_explained a capture bytes (fault.File file.OutOfMemory) few fine said = few
 hear_explained a capture bytes (fault.File file.Write) few fine said = few
 hear_explained a capture bytes _ few fine said = absurd said
 
-pub show_explained : (view : View) (capture bytes : List ℕ) (nth : ℕ) (heard : List Heard) (e : ReceiverFault) → length capture ≤ input_limit
+pub show_explained : (view : View) (capture bytes : List ℕ) (nth : ℕ) (heard : List ReceptionStats) (e : ReceiverFault) → length capture ≤ input_limit
     → LiftsOne capture nth heard bytes → IsFaultless bytes → ExplainsShowing view bytes e → ExplainsOne view capture nth e
 show_explained view capture bytes nth heard (fault.Transmission f) few lifts none said = absurd (none f said)
 show_explained view capture bytes nth heard (fault.NoSuchRows rows batches) few lifts none said =
@@ -73,19 +73,19 @@ show_explained view capture bytes nth heard _ few lifts none said = absurd said
 abbrev pub ReadingsAreOne : Type 0
 ReadingsAreOne = (X : List ℕ) (ps qs : List Page) → ReadsAs X ps → ReadsAs X qs → ps ≡ qs
 
-pub decodes_caught : ReadingsAreOne → (capture : List ℕ) (l : Lifted) (bytes out out' : List ℕ) → bytes ≡ l.bytes.items → LiftsAll capture l
+pub decodes_caught : ReadingsAreOne → (capture : List ℕ) (l : Extracted) (bytes out out' : List ℕ) → bytes ≡ l.bytes.items → LiftsAll capture l
     → Decoded bytes out out' → ListsCaught capture (λ (ps : List Page). ps) l.heard.items out out'
 decodes_caught law capture l bytes out out' same f d = record {
   pages = f.pages;
   caught = f.caught;
-  told = f.told;
+  printed = f.printed;
   listed = listed_as_sent l.bytes.items bytes f.pages out out' (λ qs h. law l.bytes.items qs f.pages h f.reads) same d;
 }
 
-pub decodes_part : ReadingsAreOne → (capture : List ℕ) (l : Lifted) (bytes out out' : List ℕ) → bytes ≡ l.bytes.items → LiftsAll capture l
+pub decodes_part : ReadingsAreOne → (capture : List ℕ) (l : Extracted) (bytes out out' : List ℕ) → bytes ≡ l.bytes.items → LiftsAll capture l
     → DecodedPart bytes out out' → ListsCaughtPart capture (λ (ps : List Page). ps) out out'
 decodes_part law capture l bytes out out' same f d = record {
-  receptions = map (λ (h : Heard). h.reception) l.heard.items;
+  receptions = map (λ (h : ReceptionStats). h.reception) l.heard.items;
   pages = f.pages;
   caught = f.caught;
   part = subst (λ (ps : List Page). TookPrefix out out' (listing ps))
@@ -102,19 +102,19 @@ hears_as_sent a X bytes ps out out' one same d =
     d.listed ∙ ap (λ (qs : List Page). out ++ listing qs)
     (one d.pages (subst (λ (l : List ℕ). AreShown (words_of (after_preamble l)) a d.pages) same d.shown))
 
-pub hears_caught : (a : ℕ) (capture : List ℕ) (l : Lifted) (bytes out out' : List ℕ) → bytes ≡ l.bytes.items → (f : LiftsAll capture l)
+pub hears_caught : (a : ℕ) (capture : List ℕ) (l : Extracted) (bytes out out' : List ℕ) → bytes ≡ l.bytes.items → (f : LiftsAll capture l)
     → ShownAre l.bytes.items a f.pages → HeardAndListed a bytes out out' → ListsCaught capture (of_address a) l.heard.items out out'
 hears_caught a capture l bytes out out' same f one d = record {
   pages = f.pages;
   caught = f.caught;
-  told = f.told;
+  printed = f.printed;
   listed = hears_as_sent a l.bytes.items bytes f.pages out out' one same d;
 }
 
-pub hears_part : (a : ℕ) (capture : List ℕ) (l : Lifted) (bytes out out' : List ℕ) → bytes ≡ l.bytes.items → (f : LiftsAll capture l)
+pub hears_part : (a : ℕ) (capture : List ℕ) (l : Extracted) (bytes out out' : List ℕ) → bytes ≡ l.bytes.items → (f : LiftsAll capture l)
     → ShownAre l.bytes.items a f.pages → HeardPart a bytes out out' → ListsCaughtPart capture (of_address a) out out'
 hears_part a capture l bytes out out' same f one d = record {
-  receptions = map (λ (h : Heard). h.reception) l.heard.items;
+  receptions = map (λ (h : ReceptionStats). h.reception) l.heard.items;
   pages = f.pages;
   caught = f.caught;
   part = subst (λ (ps : List Page). TookPrefix out out' (listing ps))

@@ -5,9 +5,9 @@ use Rattle.pocsag_words.specs.Frame.{input_limit}
 use Rattle.pocsag_pages.specs.declared.page.Page.{Page}
 use Rattle.pocsag_capture.specs.Bits.{capture_bits}
 use Rattle.pocsag_capture.specs.Caught.{HasCaught}
-use Rattle.pocsag_capture.specs.LiftedBytes.{ExplainsNone, ExplainsUnlifted, TellsHeard, LiftsOne}
+use Rattle.pocsag_capture.specs.ExtractedBytes.{ExplainsNone, ExplainsUnlifted, IsStatsOf, LiftsOne}
 use Rattle.pocsag_capture.specs.Sent.{StandAmong}
-use Rattle.pocsag_capture.specs.declared.reception.Heard.{Heard}
+use Rattle.pocsag_capture.specs.declared.reception.ReceptionStats.{ReceptionStats}
 use Rattle.pocsag_capture.specs.declared.reception.Reception.{Reception}
 use Rattle.pocsag_decode.specs.Listing.{listing}
 use Rattle.pocsag_pager.specs.Faults.{address_fault}
@@ -23,10 +23,10 @@ abbrev pub of_address : (address : ℕ) → List Page → List Page
 of_address address ps = filter (λ p. p.address == address) ps
 
 -- Of the pages that are caught of a capture those that are kept were listed, and how each transmission was received is told.
-pub record ListsCaught (capture : List ℕ) (kept : List Page → List Page) (heard : List Heard) (out_before out_after : List ℕ) : Type 0 where
+pub record ListsCaught (capture : List ℕ) (kept : List Page → List Page) (heard : List ReceptionStats) (out_before out_after : List ℕ) : Type 0 where
   pub pages : List Page
-  pub caught : HasCaught capture (map (λ (h : Heard). h.reception) heard) pages
-  pub told : All (TellsHeard (capture_bits capture)) heard
+  pub caught : HasCaught capture (map (λ (h : ReceptionStats). h.reception) heard) pages
+  pub printed : All (IsStatsOf (capture_bits capture)) heard
   pub listed : out_after ≡ out_before ++ listing (kept pages)
 
 -- Pages were listed among which these stand, one behind the other: of all of them those that are kept.
@@ -55,7 +55,7 @@ ExplainsCaptureFor address capture (fault.Pager f) = (address_fault address ≡ 
 ExplainsCaptureFor address capture e = ExplainsCapture capture e
 
 -- The transmission of this number was lifted, and it was shown.
-pub record ViewsOne (view : View) (capture : List ℕ) (nth : ℕ) (heard : List Heard) (out_before out_after : List ℕ) : Type 0 where
+pub record ViewsOne (view : View) (capture : List ℕ) (nth : ℕ) (heard : List ReceptionStats) (out_before out_after : List ℕ) : Type 0 where
   pub bytes : List ℕ
   pub lifts : LiftsOne capture nth heard bytes
   pub rows : HasRows view bytes
@@ -63,14 +63,14 @@ pub record ViewsOne (view : View) (capture : List ℕ) (nth : ℕ) (heard : List
 
 -- A prefix of it was taken.
 pub record ViewsOnePart (view : View) (capture : List ℕ) (nth : ℕ) (out_before out_after : List ℕ) : Type 0 where
-  pub heard : List Heard
+  pub heard : List ReceptionStats
   pub bytes : List ℕ
   pub lifts : LiftsOne capture nth heard bytes
   pub viewed : ViewedPart view bytes out_before out_after
 
 -- These are the bytes of the transmission of this number, as it is lifted.
 pub record IsSoOfOne (capture : List ℕ) (nth : ℕ) (P : List ℕ → Type 0) : Type 0 where
-  pub heard : List Heard
+  pub heard : List ReceptionStats
   pub bytes : List ℕ
   pub lifts : LiftsOne capture nth heard bytes
   pub holds : P bytes

@@ -4,7 +4,7 @@ ghost use Rattle.pocsag_words.specs.Devices.{HasFailed};
 ghost use Rattle.pocsag_pages.specs.declared.page.Page.{Page};
 ghost use Rattle.pocsag_capture.specs.Bits.{capture_bits};
 ghost use Rattle.pocsag_capture.specs.Sent.{HoldsSent};
-ghost use Rattle.pocsag_shell.specs.ErrorStreams.{stream_of, told_by};
+ghost use Rattle.pocsag_shell.specs.ErrorStreams.{stream_of, printed_by};
 ghost use Rattle.pocsag_shell.specs.declared.fault.FileFault.TheVariants as file;
 ghost use Rattle.pocsag_receiver.specs.Captures.{ExplainsCapture, ExplainsCaptureFor, ExplainsOne, ListsAmong, ListsCaught, ListsCaughtPart, ViewsOne, ViewsOnePart, of_address};
 ghost use Rattle.pocsag_receiver.specs.Faults.{receiver_status};
@@ -16,7 +16,7 @@ use crate::fault::ReceiverFault;
 use crate::hear::list_heard;
 use crate::show::show_bytes;
 use crate::transmission::{read_transmission, refuse_long};
-use pocsag_capture::{Heard, Lifted, caught_pages_are_shown, lift_all, lift_one};
+use pocsag_capture::{Extracted, ReceptionStats, caught_pages_are_shown, lift_all, lift_one};
 use pocsag_decode::{readings_have_no_fault, readings_of_bytes_are_one};
 use pocsag_shell::ErrorStream;
 use pocsag_show::View;
@@ -27,7 +27,7 @@ use std::alloc::Global;
 #[derive(Drop)]
 pub struct Listening {
     pub address: u32,
-    pub heard: Vec<Heard>,
+    pub heard: Vec<ReceptionStats>,
 }
 
 /// Which transmission of a capture is shown, counted from 1, and how, and how it was received.
@@ -35,22 +35,22 @@ pub struct Listening {
 pub struct Viewing {
     pub view: View,
     pub nth: u64,
-    pub heard: Vec<Heard>,
+    pub heard: Vec<ReceptionStats>,
 }
 
 // Lists the pages of all transmissions of the bytes of a capture, one behind the other.
 fn list_caught<O: Sink>(
     alloc: Global,
-    heard: &mut Vec<Heard>,
+    heard: &mut Vec<ReceptionStats>,
     capture: &[u8],
     out: &mut O,
 ) -> Result<u8, ReceiverFault>
     ensures status { IfOk result (λ status. status ≡ 0) }
-    ensures listed { O.tells → OnOk result
+    ensures listed { O.is_known → OnOk result
         (ListsCaught capture.now (λ pages. pages) heard.new.items (O.taken out.old) (O.taken out.new)) }
-    ensures sent { O.tells → (pages : List Page) → HoldsSent (capture_bits capture.now) pages →
+    ensures sent { O.is_known → (pages : List Page) → HoldsSent (capture_bits capture.now) pages →
         OnOk result (ListsAmong (λ ps. ps) pages (O.taken out.old) (O.taken out.new)) }
-    ensures part { O.tells → IsErrOf result (fault.File file.Write) →
+    ensures part { O.is_known → IsErrOf result (fault.File file.Write) →
         ListsCaughtPart capture.now (λ pages. pages) (O.taken out.old) (O.taken out.new) }
     ensures explained { IfErr result (ExplainsCapture capture.now) }
     ensures refused { IfErr result (λ e. receiver_status e ≡ 1 → out.new ≡ out.old) }
@@ -59,8 +59,11 @@ fn list_caught<O: Sink>(
 {
     readings_of_bytes_are_one();
     readings_have_no_fault();
-    let Lifted { bytes, heard: told } = lift_all(alloc, capture)?;
-    *heard = told;
+    let Extracted {
+        bytes,
+        heard: printed,
+    } = lift_all(alloc, capture)?;
+    *heard = printed;
     match list_decoded(alloc, bytes.as_slice(), out) {
         Ok(status) => Ok(status),
         Err(fault) => Err(fault),
@@ -71,29 +74,29 @@ fn list_caught<O: Sink>(
 /// received. Returns the exit status.
 pub fn run_decode_capture<T: Source, O: Sink, E: Sink + Drop>(
     alloc: Global,
-    heard: &mut Vec<Heard>,
+    heard: &mut Vec<ReceptionStats>,
     tx: &mut T,
     out: &mut O,
     err: &mut ErrorStream<ReceiverFault, E>,
 ) -> u8
-    ensures done { IfNone (told_by err.new) ((result ≡ 0) × (stream_of err.new ≡ stream_of err.old)) }
-    ensures status { IfSome (told_by err.new) (λ e. result ≡ receiver_status e) }
-    ensures listed { T.tells → O.tells → IfNone (told_by err.new)
+    ensures done { IfNone (printed_by err.new) ((result ≡ 0) × (stream_of err.new ≡ stream_of err.old)) }
+    ensures status { IfSome (printed_by err.new) (λ e. result ≡ receiver_status e) }
+    ensures listed { T.is_known → O.is_known → IfNone (printed_by err.new)
         (ListsCaught (T.held tx.old) (λ pages. pages) heard.new.items (O.taken out.old) (O.taken out.new)) }
 
     // *A capture that holds a sent transmission shows its pages*, one behind the other, whatever else it holds.
-    ensures sent { T.tells → O.tells → (pages : List Page) → HoldsSent (capture_bits (T.held tx.old)) pages →
-        IfNone (told_by err.new) (ListsAmong (λ ps. ps) pages (O.taken out.old) (O.taken out.new)) }
-    ensures part { T.tells → O.tells → told_by err.new ≡ Some (fault.File file.Write) →
+    ensures sent { T.is_known → O.is_known → (pages : List Page) → HoldsSent (capture_bits (T.held tx.old)) pages →
+        IfNone (printed_by err.new) (ListsAmong (λ ps. ps) pages (O.taken out.old) (O.taken out.new)) }
+    ensures part { T.is_known → O.is_known → printed_by err.new ≡ Some (fault.File file.Write) →
         ListsCaughtPart (T.held tx.old) (λ pages. pages) (O.taken out.old) (O.taken out.new) }
-    ensures explained { T.tells → IfSome (told_by err.new) (λ e. ExplainsUnread (T.held tx.old) e
+    ensures explained { T.is_known → IfSome (printed_by err.new) (λ e. ExplainsUnread (T.held tx.old) e
         ⊎ ExplainsCapture (T.held tx.old) e) }
-    ensures refused { IfSome (told_by err.new) (λ e. receiver_status e ≡ 1 → out.new ≡ out.old) }
+    ensures refused { IfSome (printed_by err.new) (λ e. receiver_status e ≡ 1 → out.new ≡ out.old) }
 
     // A device's fault is told only where that device failed.
-    ensures read_failed { told_by err.new ≡ Some (fault.File file.Device) →
+    ensures read_failed { printed_by err.new ≡ Some (fault.File file.Device) →
         HasFailed (T.failures tx.old) (T.failures tx.new) }
-    ensures write_failed { told_by err.new ≡ Some (fault.File file.Write) →
+    ensures write_failed { printed_by err.new ≡ Some (fault.File file.Write) →
         HasFailed (O.failures out.old) (O.failures out.new) }
 {
     // What the device lends is read where it stands; otherwise it is read whole.
@@ -122,12 +125,12 @@ fn hear_caught<O: Sink>(
     out: &mut O,
 ) -> Result<u8, ReceiverFault>
     ensures status { IfOk result (λ status. status ≡ 0) }
-    ensures listed { O.tells → OnOk result
+    ensures listed { O.is_known → OnOk result
         (ListsCaught capture.now (of_address listening.old.address) listening.new.heard.items (O.taken out.old)
         (O.taken out.new)) }
-    ensures sent { O.tells → (pages : List Page) → HoldsSent (capture_bits capture.now) pages →
+    ensures sent { O.is_known → (pages : List Page) → HoldsSent (capture_bits capture.now) pages →
         OnOk result (ListsAmong (of_address listening.old.address) pages (O.taken out.old) (O.taken out.new)) }
-    ensures part { O.tells → IsErrOf result (fault.File file.Write) →
+    ensures part { O.is_known → IsErrOf result (fault.File file.Write) →
         ListsCaughtPart capture.now (of_address listening.old.address) (O.taken out.old) (O.taken out.new) }
     ensures explained { IfErr result (ExplainsCaptureFor listening.old.address capture.now) }
     ensures refused { IfErr result (λ e. receiver_status e ≡ 1 → out.new ≡ out.old) }
@@ -135,7 +138,7 @@ fn hear_caught<O: Sink>(
         HasFailed (O.failures out.old) (O.failures out.new) }
 {
     caught_pages_are_shown();
-    let Lifted { bytes, heard } = lift_all(alloc, capture)?;
+    let Extracted { bytes, heard } = lift_all(alloc, capture)?;
     listening.heard = heard;
     match list_heard(alloc, listening.address, bytes.as_slice(), out) {
         Ok(status) => Ok(status),
@@ -152,26 +155,26 @@ pub fn run_hear_capture<T: Source, O: Sink, E: Sink + Drop>(
     out: &mut O,
     err: &mut ErrorStream<ReceiverFault, E>,
 ) -> u8
-    ensures done { IfNone (told_by err.new) ((result ≡ 0) × (stream_of err.new ≡ stream_of err.old)) }
-    ensures status { IfSome (told_by err.new) (λ e. result ≡ receiver_status e) }
-    ensures listed { T.tells → O.tells → IfNone (told_by err.new)
+    ensures done { IfNone (printed_by err.new) ((result ≡ 0) × (stream_of err.new ≡ stream_of err.old)) }
+    ensures status { IfSome (printed_by err.new) (λ e. result ≡ receiver_status e) }
+    ensures listed { T.is_known → O.is_known → IfNone (printed_by err.new)
         (ListsCaught (T.held tx.old) (of_address listening.old.address) listening.new.heard.items (O.taken out.old)
         (O.taken out.new)) }
 
     // *A capture that holds a sent transmission shows its pages*, here those of the address.
-    ensures sent { T.tells → O.tells → (pages : List Page) → HoldsSent (capture_bits (T.held tx.old)) pages →
-        IfNone (told_by err.new) (ListsAmong (of_address listening.old.address) pages
+    ensures sent { T.is_known → O.is_known → (pages : List Page) → HoldsSent (capture_bits (T.held tx.old)) pages →
+        IfNone (printed_by err.new) (ListsAmong (of_address listening.old.address) pages
         (O.taken out.old) (O.taken out.new)) }
-    ensures part { T.tells → O.tells → told_by err.new ≡ Some (fault.File file.Write) →
+    ensures part { T.is_known → O.is_known → printed_by err.new ≡ Some (fault.File file.Write) →
         ListsCaughtPart (T.held tx.old) (of_address listening.old.address) (O.taken out.old) (O.taken out.new) }
-    ensures explained { T.tells → IfSome (told_by err.new) (λ e. ExplainsUnread (T.held tx.old) e
+    ensures explained { T.is_known → IfSome (printed_by err.new) (λ e. ExplainsUnread (T.held tx.old) e
         ⊎ ExplainsCaptureFor listening.old.address (T.held tx.old) e) }
-    ensures refused { IfSome (told_by err.new) (λ e. receiver_status e ≡ 1 → out.new ≡ out.old) }
+    ensures refused { IfSome (printed_by err.new) (λ e. receiver_status e ≡ 1 → out.new ≡ out.old) }
 
     // A device's fault is told only where that device failed.
-    ensures read_failed { told_by err.new ≡ Some (fault.File file.Device) →
+    ensures read_failed { printed_by err.new ≡ Some (fault.File file.Device) →
         HasFailed (T.failures tx.old) (T.failures tx.new) }
-    ensures write_failed { told_by err.new ≡ Some (fault.File file.Write) →
+    ensures write_failed { printed_by err.new ≡ Some (fault.File file.Write) →
         HasFailed (O.failures out.old) (O.failures out.new) }
 {
     // What the device lends is read where it stands; otherwise it is read whole.
@@ -200,10 +203,10 @@ fn show_caught<O: Sink>(
     out: &mut O,
 ) -> Result<u8, ReceiverFault>
     ensures status { IfOk result (λ status. status ≡ 0) }
-    ensures shown { O.tells → OnOk result
+    ensures shown { O.is_known → OnOk result
         (ViewsOne viewing.old.view capture.now viewing.old.nth viewing.new.heard.items (O.taken out.old)
         (O.taken out.new)) }
-    ensures part { O.tells → IsErrOf result (fault.File file.Write) →
+    ensures part { O.is_known → IsErrOf result (fault.File file.Write) →
         ViewsOnePart viewing.old.view capture.now viewing.old.nth (O.taken out.old) (O.taken out.new) }
     ensures explained { IfErr result (ExplainsOne viewing.old.view capture.now viewing.old.nth) }
     ensures untouched { IfErr result (λ e. e ≢ fault.File file.Write → out.new ≡ out.old) }
@@ -211,7 +214,7 @@ fn show_caught<O: Sink>(
         HasFailed (O.failures out.old) (O.failures out.new) }
 {
     readings_have_no_fault();
-    let Lifted { bytes, heard } = lift_one(alloc, capture, viewing.nth)?;
+    let Extracted { bytes, heard } = lift_one(alloc, capture, viewing.nth)?;
     viewing.heard = heard;
     match show_bytes(alloc, viewing.view, bytes.as_slice(), out) {
         Ok(status) => Ok(status),
@@ -227,21 +230,21 @@ pub fn run_show_capture<T: Source, O: Sink, E: Sink + Drop>(
     out: &mut O,
     err: &mut ErrorStream<ReceiverFault, E>,
 ) -> u8
-    ensures done { IfNone (told_by err.new) ((result ≡ 0) × (stream_of err.new ≡ stream_of err.old)) }
-    ensures status { IfSome (told_by err.new) (λ e. result ≡ receiver_status e) }
-    ensures shown { T.tells → O.tells → IfNone (told_by err.new)
+    ensures done { IfNone (printed_by err.new) ((result ≡ 0) × (stream_of err.new ≡ stream_of err.old)) }
+    ensures status { IfSome (printed_by err.new) (λ e. result ≡ receiver_status e) }
+    ensures shown { T.is_known → O.is_known → IfNone (printed_by err.new)
         (ViewsOne viewing.old.view (T.held tx.old) viewing.old.nth viewing.new.heard.items (O.taken out.old)
         (O.taken out.new)) }
-    ensures part { T.tells → O.tells → told_by err.new ≡ Some (fault.File file.Write) →
+    ensures part { T.is_known → O.is_known → printed_by err.new ≡ Some (fault.File file.Write) →
         ViewsOnePart viewing.old.view (T.held tx.old) viewing.old.nth (O.taken out.old) (O.taken out.new) }
-    ensures explained { T.tells → IfSome (told_by err.new) (λ e. ExplainsUnread (T.held tx.old) e
+    ensures explained { T.is_known → IfSome (printed_by err.new) (λ e. ExplainsUnread (T.held tx.old) e
         ⊎ ExplainsOne viewing.old.view (T.held tx.old) viewing.old.nth e) }
-    ensures untouched { IfSome (told_by err.new) (λ e. e ≢ fault.File file.Write → out.new ≡ out.old) }
+    ensures untouched { IfSome (printed_by err.new) (λ e. e ≢ fault.File file.Write → out.new ≡ out.old) }
 
     // A device's fault is told only where that device failed.
-    ensures read_failed { told_by err.new ≡ Some (fault.File file.Device) →
+    ensures read_failed { printed_by err.new ≡ Some (fault.File file.Device) →
         HasFailed (T.failures tx.old) (T.failures tx.new) }
-    ensures write_failed { told_by err.new ≡ Some (fault.File file.Write) →
+    ensures write_failed { printed_by err.new ≡ Some (fault.File file.Write) →
         HasFailed (O.failures out.old) (O.failures out.new) }
 {
     // What the device lends is read where it stands; otherwise it is read whole.

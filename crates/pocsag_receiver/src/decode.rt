@@ -5,7 +5,7 @@ ghost use Rattle.pocsag_pages.specs.declared.page.Page.{Page};
 ghost use Rattle.pocsag_decode.specs.Faults.{ReadsAs};
 ghost use Rattle.pocsag_decode.specs.Repairs.{Counts};
 ghost use Rattle.pocsag_pager.specs.Damage.{IsDamaged};
-ghost use Rattle.pocsag_shell.specs.ErrorStreams.{stream_of, told_by};
+ghost use Rattle.pocsag_shell.specs.ErrorStreams.{stream_of, printed_by};
 ghost use Rattle.pocsag_shell.specs.declared.fault.FileFault.TheVariants as file;
 ghost use Rattle.pocsag_receiver.specs.Faults.{receiver_status};
 ghost use Rattle.pocsag_receiver.specs.Files.{ExplainsUnread};
@@ -39,8 +39,8 @@ pub(crate) fn list_decoded<O: Sink>(
     out: &mut O,
 ) -> Result<u8, ReceiverFault>
     ensures status { IfOk result (λ status. status ≡ 0) }
-    ensures listed { O.tells → OnOk result (Decoded bytes.now (O.taken out.old) (O.taken out.new)) }
-    ensures part { O.tells → IsErrOf result (fault.File file.Write) →
+    ensures listed { O.is_known → OnOk result (Decoded bytes.now (O.taken out.old) (O.taken out.new)) }
+    ensures part { O.is_known → IsErrOf result (fault.File file.Write) →
         DecodedPart bytes.now (O.taken out.old) (O.taken out.new) }
     ensures explained { IfErr result (ExplainsDecoding bytes.now) }
     ensures refused { IfErr result (λ e. receiver_status e ≡ 1 → out.new ≡ out.old) }
@@ -60,8 +60,8 @@ fn list_decoded_in<O: Sink>(
     out: &mut O,
 ) -> Result<u8, ReceiverFault>
     ensures status { IfOk result (λ status. status ≡ 0) }
-    ensures listed { O.tells → OnOk result (DecodedIn form bytes.now (O.taken out.old) (O.taken out.new)) }
-    ensures part { O.tells → IsErrOf result (fault.File file.Write) →
+    ensures listed { O.is_known → OnOk result (DecodedIn form bytes.now (O.taken out.old) (O.taken out.new)) }
+    ensures part { O.is_known → IsErrOf result (fault.File file.Write) →
         DecodedPartIn form bytes.now (O.taken out.old) (O.taken out.new) }
     ensures explained { IfErr result (ExplainsDecoding bytes.now) }
     ensures refused { IfErr result (λ e. receiver_status e ≡ 1 → out.new ≡ out.old) }
@@ -91,13 +91,13 @@ fn decode_bytes<O: Sink>(
     ensures status { IfOk result (λ status. status ≡ 0) }
     ensures read { AreReadOf bytes.old decoding.old.repairing.is_asked bytes.new }
     ensures counted { Counts decoding.new.repairing.corrected bytes.old bytes.new }
-    ensures listed { O.tells → OnOk result (DecodedIn decoding.old.form bytes.new (O.taken out.old) (O.taken out.new)) }
-    ensures restored { O.tells → decoding.old.repairing.is_asked ≡ true → (X : List ℕ) (pages : List Page) →
+    ensures listed { O.is_known → OnOk result (DecodedIn decoding.old.form bytes.new (O.taken out.old) (O.taken out.new)) }
+    ensures restored { O.is_known → decoding.old.repairing.is_asked ≡ true → (X : List ℕ) (pages : List Page) →
         ReadsAs X pages →
         IsDamaged X bytes.old → OnOk result (O.taken out.new ≡ O.taken out.old ++ listed_in decoding.old.form pages) }
     ensures taken { decoding.old.repairing.is_asked ≡ true → (X : List ℕ) (pages : List Page) → ReadsAs X pages →
         IsDamaged X bytes.old → IfErr result (λ e. receiver_status e ≡ 3) }
-    ensures part { O.tells → IsErrOf result (fault.File file.Write) →
+    ensures part { O.is_known → IsErrOf result (fault.File file.Write) →
         DecodedPartIn decoding.old.form bytes.new (O.taken out.old) (O.taken out.new) }
     ensures explained { IfErr result (ExplainsDecoding bytes.new) }
     ensures refused { IfErr result (λ e. receiver_status e ≡ 1 → out.new ≡ out.old) }
@@ -122,35 +122,35 @@ pub fn run_decode<T: Source, O: Sink, E: Sink + Drop>(
     out: &mut O,
     err: &mut ErrorStream<ReceiverFault, E>,
 ) -> u8
-    ensures done { IfNone (told_by err.new) ((result ≡ 0) × (stream_of err.new ≡ stream_of err.old)) }
-    ensures status { IfSome (told_by err.new) (λ e. result ≡ receiver_status e) }
-    ensures counted { T.tells → IfNone (told_by err.new)
+    ensures done { IfNone (printed_by err.new) ((result ≡ 0) × (stream_of err.new ≡ stream_of err.old)) }
+    ensures status { IfSome (printed_by err.new) (λ e. result ≡ receiver_status e) }
+    ensures counted { T.is_known → IfNone (printed_by err.new)
         (IsSoOfRead (T.held tx.old) decoding.old.repairing.is_asked
         (Counts decoding.new.repairing.corrected (T.held tx.old))) }
-    ensures listed { T.tells → O.tells → IfNone (told_by err.new)
+    ensures listed { T.is_known → O.is_known → IfNone (printed_by err.new)
         (IsSoOfRead (T.held tx.old) decoding.old.repairing.is_asked
         (λ bytes. DecodedIn decoding.old.form bytes (O.taken out.old) (O.taken out.new))) }
 
     // *Repaired for all*: of a transmission with at most two wrong bits in each word just its pages are listed.
-    ensures restored { T.tells → O.tells → decoding.old.repairing.is_asked ≡ true → (X : List ℕ) (pages : List Page) →
+    ensures restored { T.is_known → O.is_known → decoding.old.repairing.is_asked ≡ true → (X : List ℕ) (pages : List Page) →
         ReadsAs X pages → IsDamaged X (T.held tx.old) →
-        IfNone (told_by err.new) (O.taken out.new ≡ O.taken out.old ++ listed_in decoding.old.form pages) }
+        IfNone (printed_by err.new) (O.taken out.new ≡ O.taken out.old ++ listed_in decoding.old.form pages) }
     // And it is refused only where it is larger than is read.
-    ensures taken { T.tells → decoding.old.repairing.is_asked ≡ true → (X : List ℕ) (pages : List Page) →
+    ensures taken { T.is_known → decoding.old.repairing.is_asked ≡ true → (X : List ℕ) (pages : List Page) →
         ReadsAs X pages →
         IsDamaged X (T.held tx.old) →
-        IfSome (told_by err.new) (λ e. receiver_status e ≡ 1 → input_limit < length (T.held tx.old)) }
-    ensures part { T.tells → O.tells → told_by err.new ≡ Some (fault.File file.Write) →
+        IfSome (printed_by err.new) (λ e. receiver_status e ≡ 1 → input_limit < length (T.held tx.old)) }
+    ensures part { T.is_known → O.is_known → printed_by err.new ≡ Some (fault.File file.Write) →
         IsSoOfRead (T.held tx.old) decoding.old.repairing.is_asked
         (λ bytes. DecodedPartIn decoding.old.form bytes (O.taken out.old) (O.taken out.new)) }
-    ensures explained { T.tells → IfSome (told_by err.new) (λ e. ExplainsUnread (T.held tx.old) e
+    ensures explained { T.is_known → IfSome (printed_by err.new) (λ e. ExplainsUnread (T.held tx.old) e
         ⊎ IsSoOfRead (T.held tx.old) decoding.old.repairing.is_asked (λ bytes. ExplainsDecoding bytes e)) }
-    ensures refused { IfSome (told_by err.new) (λ e. receiver_status e ≡ 1 → out.new ≡ out.old) }
+    ensures refused { IfSome (printed_by err.new) (λ e. receiver_status e ≡ 1 → out.new ≡ out.old) }
 
     // A device's fault is told only where that device failed.
-    ensures read_failed { told_by err.new ≡ Some (fault.File file.Device) →
+    ensures read_failed { printed_by err.new ≡ Some (fault.File file.Device) →
         HasFailed (T.failures tx.old) (T.failures tx.new) }
-    ensures write_failed { told_by err.new ≡ Some (fault.File file.Write) →
+    ensures write_failed { printed_by err.new ≡ Some (fault.File file.Write) →
         HasFailed (O.failures out.old) (O.failures out.new) }
 {
     // Without repair what the device lends is read where it stands; otherwise it is read whole.

@@ -6,12 +6,12 @@ ghost use Rattle.csv.specs.Writing.{default_writer, row_text};
 ghost use Rattle.pocsag_words.specs.Devices.{TookPrefix};
 ghost use Rattle.pocsag_text.specs.Bits.{AreItems};
 ghost use Rattle.pocsag_pages.specs.Listable.{IsListable};
-ghost use Rattle.pocsag_decode.specs.Faults.{TellsFailures};
+ghost use Rattle.pocsag_decode.specs.Faults.{NamesFailures};
 ghost use Rattle.pocsag_decode.specs.Lines.{IsReady, PutsRow, text_in};
 ghost use Rattle.pocsag_decode.specs.Listing.{header};
 ghost use Rattle.pocsag_receiver.specs.Forms.{is_text, json_line, json_lines, kind_read, listed_in, message_read, record_read, text_listing};
 
-use pocsag_decode::{ListFault, list_spent, message_of};
+use pocsag_decode::{ListFault, list_owned, message_of};
 use pocsag_pages::Page;
 use pocsag_text::{unpack_alpha, unpack_numeric};
 use pocsag_words::{OutOfMemory, Sink, write_all};
@@ -176,13 +176,13 @@ pub(crate) fn list_in<S: Sink>(
     sink: &mut S,
 ) -> Result<(), ListFault>
     requires { All IsListable pages.items }
-    ensures whole { S.tells → OnOk result (S.taken sink.new ≡ S.taken sink.old ++ listed_in form pages.items) }
-    ensures part { S.tells → OnErr result
+    ensures whole { S.is_known → OnOk result (S.taken sink.new ≡ S.taken sink.old ++ listed_in form pages.items) }
+    ensures part { S.is_known → OnErr result
         (TookPrefix (S.taken sink.old) (S.taken sink.new) (listed_in form pages.items)) }
-    ensures failures { TellsFailures result ListFault.WriteFault (S.failures sink.old) (S.failures sink.new) }
+    ensures failures { NamesFailures result ListFault.WriteFault (S.failures sink.old) (S.failures sink.new) }
 {
     let text = match form {
-        ListForm::Listing => return list_spent(alloc, pages, sink),
+        ListForm::Listing => return list_owned(alloc, pages, sink),
         ListForm::Texts(texts) => text_listing(alloc, texts, pages.as_slice())?,
         ListForm::Json(texts) => lines_of(alloc, texts, pages.as_slice())?,
     };

@@ -10,12 +10,12 @@ use crate::words::{
 };
 use clap::error::ErrorKind;
 use clap::{ArgMatches, Error};
-use pocsag_capture::{Heard, Polarity, Reception};
+use pocsag_capture::{Polarity, Reception, ReceptionStats};
 use pocsag_decode::{DecodeFault, Repaired};
 use pocsag_pager::PagerFault;
 use pocsag_shell::{
-    Call, Desk, ErrorStream, FileFault, Group, Loaded, MemoryStreams, Names, PAGES_READ, Role,
-    Shape, TX, Tables, command, load, open_source, path_of, tell,
+    Call, Context, ErrorStream, FileFault, Group, Loaded, MemoryStreams, Names, PAGES_READ, Role,
+    Shape, TX, Tables, command, load, open_source, path_of, print,
 };
 use pocsag_words::{Sink, Source};
 use std::alloc::{AllocError, Global};
@@ -33,7 +33,7 @@ enum Receiving {
     Decode(Decoding),
     Hear(Hearing),
     Show(Showing),
-    DecodeCapture(Vec<Heard>),
+    DecodeCapture(Vec<ReceptionStats>),
     HearCapture(Listening),
     ShowCapture(Viewing),
 }
@@ -47,19 +47,19 @@ impl Group for Receiver {
         None
     }
 
-    fn obey(&self, desk: Desk<'_>, call: Call<'_, '_>) -> Option<Result<u8, Error>> {
+    fn run(&self, context: Context<'_>, call: Call<'_, '_>) -> Option<Result<u8, Error>> {
         let (name, found) = (call.name?, call.found);
-        let Some(asked) = asked_of(desk.alloc, name, found) else {
-            return refused_words(desk.alloc, name);
+        let Some(asked) = asked_of(context.alloc, name, found) else {
+            return refused_words(context.alloc, name);
         };
         let tx = found.get_str(TX)?;
         let names = Names {
             tx: Some(tx),
             ..Names::NONE
         };
-        Some(Ok(match load_transmission(desk, tx) {
-            Ok(loaded) => receive(desk, asked, loaded, names),
-            Err(fault) => desk.end(names, Err(fault)),
+        Some(Ok(match load_transmission(context, tx) {
+            Ok(loaded) => receive(context, asked, loaded, names),
+            Err(fault) => context.end(names, Err(fault)),
         }))
     }
 }
@@ -120,31 +120,37 @@ fn words_error(
 }
 
 // Opens a transmission and reads it.
-fn load_transmission(desk: Desk<'_>, tx: &str) -> Result<Loaded, FileFault> {
-    let mut source = open_source(desk, Role::Transmission, path_of(tx))?;
-    Ok(load(desk, &mut source, PAGES_READ)?)
+fn load_transmission(context: Context<'_>, tx: &str) -> Result<Loaded, FileFault> {
+    let mut source = open_source(context, Role::Transmission, path_of(tx))?;
+    Ok(load(context, &mut source, PAGES_READ)?)
 }
 
-// Answers what is asked of a transmission. Returns the exit status.
-fn receive(desk: Desk<'_>, mut asked: Receiving, mut tx: Loaded, names: Names<'_>) -> u8 {
+// Returns what is asked of a transmission. Returns the exit status.
+fn receive(context: Context<'_>, mut asked: Receiving, mut tx: Loaded, names: Names<'_>) -> u8 {
     let status = if is_kept(&tx) {
-        let mut streams = MemoryStreams::new(desk.alloc);
+        let mut streams = MemoryStreams::new(context.alloc);
         let out = &mut streams.out;
-        let status = carry_out(desk.alloc, &mut asked, &mut tx, out, &mut streams.err);
-        note_capture(desk, names, &asked, streams.err.fault());
-        streams.end(desk, names, Ok(status))
+        let status = carry_out(context.alloc, &mut asked, &mut tx, out, &mut streams.err);
+        note_capture(context, names, &asked, streams.err.fault());
+        streams.end(context, names, Ok(status))
     } else {
-        let mut err = ErrorStream::new(desk.err());
-        let status = carry_out(desk.alloc, &mut asked, &mut tx, &mut desk.out(), &mut err);
+        let mut err = ErrorStream::new(context.err());
+        let status = carry_out(
+            context.alloc,
+            &mut asked,
+            &mut tx,
+            &mut context.out(),
+            &mut err,
+        );
         if err.fault().is_none() {
-            desk.forget_trouble();
+            context.forget_trouble();
         }
-        note_capture(desk, names, &asked, err.fault());
-        desk.tell_more(names);
+        note_capture(context, names, &asked, err.fault());
+        context.print_more(names);
         status
     };
     if status == 0 {
-        tell_received(desk, &asked, names);
+        print_received(context, &asked, names);
     }
     status
 }
@@ -176,21 +182,26 @@ fn carry_out<O: Sink, E: Sink + Drop>(
 }
 
 // With `--verbose` tells how a transmission was received.
-fn tell_received(desk: Desk<'_>, asked: &Receiving, names: Names<'_>) {
+fn print_received(context: Context<'_>, asked: &Receiving, names: Names<'_>) {
     match asked {
         Receiving::Hear(_) => {}
-        Receiving::Decode(decoding) => note_repair(desk, names, decoding.repairing),
-        Receiving::Show(showing) => note_repair(desk, names, showing.repairing),
-        Receiving::DecodeCapture(heard) => tell_heard(desk, 1, heard.as_slice()),
-        Receiving::HearCapture(listening) => tell_heard(desk, 1, listening.heard.as_slice()),
+        Receiving::Decode(decoding) => note_repair(context, names, decoding.repairing),
+        Receiving::Show(showing) => note_repair(context, names, showing.repairing),
+        Receiving::DecodeCapture(heard) => print_heard(context, 1, heard.as_slice()),
+        Receiving::HearCapture(listening) => print_heard(context, 1, listening.heard.as_slice()),
         Receiving::ShowCapture(viewing) => {
-            tell_heard(desk, viewing.nth, viewing.heard.as_slice());
+            print_heard(context, viewing.nth, viewing.heard.as_slice());
         }
     }
 }
 
 // Where the preamble is too short for what reads damaged bytes, keeps the note that names `--capture`.
-fn note_capture(desk: Desk<'_>, names: Names<'_>, asked: &Receiving, fault: Option<ReceiverFault>) {
+fn note_capture(
+    context: Context<'_>,
+    names: Names<'_>,
+    asked: &Receiving,
+    fault: Option<ReceiverFault>,
+) {
     let is_short = match fault {
         Some(ReceiverFault::Transmission(DecodeFault::ShortPreamble)) => true,
         Some(ReceiverFault::Pager(PagerFault::ShortPreamble)) => true,
@@ -203,35 +214,35 @@ fn note_capture(desk: Desk<'_>, names: Names<'_>, asked: &Receiving, fault: Opti
     };
     if is_short && reads_damage {
         let place = names.place(Role::Transmission);
-        desk.note(format_args!(
+        context.note(format_args!(
             "{place}: for bits off the air that begin anywhere, give --capture"
         ));
     }
 }
 
 // With `--repair` tells how much was corrected.
-fn note_repair(desk: Desk<'_>, names: Names<'_>, repairing: Repairing) {
+fn note_repair(context: Context<'_>, names: Names<'_>, repairing: Repairing) {
     if repairing.is_asked {
         let Repaired { words, bits } = repairing.corrected;
         let place = names.place(Role::Transmission);
-        desk.note(format_args!("{place}: corrected bits {bits}, words {words}"));
-        desk.tell_more(names);
+        context.note(format_args!("{place}: corrected bits {bits}, words {words}"));
+        context.print_more(names);
     }
 }
 
 // With `--verbose` tells how transmissions of a capture were received, of which the first has this number.
-fn tell_heard(desk: Desk<'_>, first: u64, heard: &[Heard]) {
-    if !desk.watch.is_asked() {
+fn print_heard(context: Context<'_>, first: u64, heard: &[ReceptionStats]) {
+    if !context.diagnostics.is_asked() {
         return;
     }
     let mut number = first;
-    for told in heard {
-        let Heard {
+    for printed in heard {
+        let ReceptionStats {
             reception,
             corrected,
             lost,
             cut,
-        } = *told;
+        } = *printed;
         let Reception {
             bit,
             polarity,
@@ -245,7 +256,7 @@ fn tell_heard(desk: Desk<'_>, first: u64, heard: &[Heard]) {
         let line = format_args!(
             "pocsag: transmission {number}: bit {bit}, {polarity}, batches {batches}, corrected bits {corrected}, lost words {lost}, cut pages {cut}\n"
         );
-        let _ = tell(&mut desk.err(), line);
+        let _ = print(&mut context.err(), line);
         number = number.saturating_add(1);
     }
 }

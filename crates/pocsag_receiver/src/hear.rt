@@ -1,6 +1,6 @@
 ghost use Rattle.std.specs.Prelude.{◌≡◌, ◌⊎◌, None, Some, IfErr, IfNone, IfOk, IfSome, IsErrOf, OnOk};
 ghost use Rattle.pocsag_words.specs.Devices.{HasFailed};
-ghost use Rattle.pocsag_shell.specs.ErrorStreams.{stream_of, told_by};
+ghost use Rattle.pocsag_shell.specs.ErrorStreams.{stream_of, printed_by};
 ghost use Rattle.pocsag_shell.specs.declared.fault.FileFault.TheVariants as file;
 ghost use Rattle.pocsag_receiver.specs.Faults.{receiver_status};
 ghost use Rattle.pocsag_receiver.specs.Files.{ExplainsUnread};
@@ -10,7 +10,7 @@ ghost use Rattle.pocsag_receiver.specs.declared.fault.ReceiverFault.TheVariants 
 use crate::fault::ReceiverFault;
 use crate::form::{ListForm, list_in};
 use crate::transmission::{read_transmission, refuse_long};
-use pocsag_decode::list_spent;
+use pocsag_decode::list_owned;
 use pocsag_pager::hear_all;
 use pocsag_shell::ErrorStream;
 use pocsag_words::{Sink, Source};
@@ -31,9 +31,9 @@ pub(crate) fn list_heard<O: Sink>(
     out: &mut O,
 ) -> Result<u8, ReceiverFault>
     ensures status { IfOk result (λ status. status ≡ 0) }
-    ensures listed { O.tells → OnOk result
+    ensures listed { O.is_known → OnOk result
         (HeardAndListed address bytes.now (O.taken out.old) (O.taken out.new)) }
-    ensures part { O.tells → IsErrOf result (fault.File file.Write) →
+    ensures part { O.is_known → IsErrOf result (fault.File file.Write) →
         HeardPart address bytes.now (O.taken out.old) (O.taken out.new) }
     ensures explained { IfErr result (ExplainsHearing address bytes.now) }
     ensures refused { IfErr result (λ e. receiver_status e ≡ 1 → out.new ≡ out.old) }
@@ -41,7 +41,7 @@ pub(crate) fn list_heard<O: Sink>(
         HasFailed (O.failures out.old) (O.failures out.new) }
 {
     let pages = hear_all(alloc, bytes, address)?;
-    list_spent(alloc, pages, out)?;
+    list_owned(alloc, pages, out)?;
     Ok(0)
 }
 
@@ -53,9 +53,9 @@ fn list_heard_in<O: Sink>(
     out: &mut O,
 ) -> Result<u8, ReceiverFault>
     ensures status { IfOk result (λ status. status ≡ 0) }
-    ensures listed { O.tells → OnOk result
+    ensures listed { O.is_known → OnOk result
         (HeardIn hearing.form hearing.address bytes.now (O.taken out.old) (O.taken out.new)) }
-    ensures part { O.tells → IsErrOf result (fault.File file.Write) →
+    ensures part { O.is_known → IsErrOf result (fault.File file.Write) →
         HeardPartIn hearing.form hearing.address bytes.now (O.taken out.old) (O.taken out.new) }
     ensures explained { IfErr result (ExplainsHearing hearing.address bytes.now) }
     ensures refused { IfErr result (λ e. receiver_status e ≡ 1 → out.new ≡ out.old) }
@@ -75,20 +75,20 @@ pub fn run_hear<T: Source, O: Sink, E: Sink + Drop>(
     out: &mut O,
     err: &mut ErrorStream<ReceiverFault, E>,
 ) -> u8
-    ensures done { IfNone (told_by err.new) ((result ≡ 0) × (stream_of err.new ≡ stream_of err.old)) }
-    ensures status { IfSome (told_by err.new) (λ e. result ≡ receiver_status e) }
-    ensures listed { T.tells → O.tells → IfNone (told_by err.new)
+    ensures done { IfNone (printed_by err.new) ((result ≡ 0) × (stream_of err.new ≡ stream_of err.old)) }
+    ensures status { IfSome (printed_by err.new) (λ e. result ≡ receiver_status e) }
+    ensures listed { T.is_known → O.is_known → IfNone (printed_by err.new)
         (HeardIn hearing.form hearing.address (T.held tx.old) (O.taken out.old) (O.taken out.new)) }
-    ensures part { T.tells → O.tells → told_by err.new ≡ Some (fault.File file.Write) →
+    ensures part { T.is_known → O.is_known → printed_by err.new ≡ Some (fault.File file.Write) →
         HeardPartIn hearing.form hearing.address (T.held tx.old) (O.taken out.old) (O.taken out.new) }
-    ensures explained { T.tells → IfSome (told_by err.new) (λ e. ExplainsUnread (T.held tx.old) e
+    ensures explained { T.is_known → IfSome (printed_by err.new) (λ e. ExplainsUnread (T.held tx.old) e
         ⊎ ExplainsHearing hearing.address (T.held tx.old) e) }
-    ensures refused { IfSome (told_by err.new) (λ e. receiver_status e ≡ 1 → out.new ≡ out.old) }
+    ensures refused { IfSome (printed_by err.new) (λ e. receiver_status e ≡ 1 → out.new ≡ out.old) }
 
     // A device's fault is told only where that device failed.
-    ensures read_failed { told_by err.new ≡ Some (fault.File file.Device) →
+    ensures read_failed { printed_by err.new ≡ Some (fault.File file.Device) →
         HasFailed (T.failures tx.old) (T.failures tx.new) }
-    ensures write_failed { told_by err.new ≡ Some (fault.File file.Write) →
+    ensures write_failed { printed_by err.new ≡ Some (fault.File file.Write) →
         HasFailed (O.failures out.old) (O.failures out.new) }
 {
     // What the device lends is read where it stands; otherwise it is read whole.

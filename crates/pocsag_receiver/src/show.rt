@@ -3,7 +3,7 @@ ghost use Rattle.pocsag_words.specs.Devices.{HasFailed};
 ghost use Rattle.pocsag_pages.specs.Bytes.{Sent};
 ghost use Rattle.pocsag_decode.specs.Repairs.{Counts};
 ghost use Rattle.pocsag_pager.specs.Damage.{IsDamaged};
-ghost use Rattle.pocsag_shell.specs.ErrorStreams.{stream_of, told_by};
+ghost use Rattle.pocsag_shell.specs.ErrorStreams.{stream_of, printed_by};
 ghost use Rattle.pocsag_shell.specs.declared.fault.FileFault.TheVariants as file;
 ghost use Rattle.pocsag_receiver.specs.Faults.{receiver_status};
 ghost use Rattle.pocsag_receiver.specs.Files.{ExplainsUnread};
@@ -15,7 +15,7 @@ use crate::fault::ReceiverFault;
 use crate::repair::{NOTHING, Repairing, repair_asked};
 use crate::transmission::{read_transmission, refuse_long};
 use pocsag_decode::judge_bytes;
-use pocsag_pages::leading_len;
+use pocsag_pages::preamble_len;
 use pocsag_shell::ErrorStream;
 use pocsag_show::{View, show};
 use pocsag_words::{BATCH_BYTES, Sink, Source};
@@ -37,7 +37,7 @@ fn refuse_rows(view: View, bytes: &[u8]) -> Result<(), ReceiverFault>
     let Some(rows) = view.rows() else {
         return Ok(());
     };
-    let (_, rest) = bytes.split_at(leading_len(bytes));
+    let (_, rest) = bytes.split_at(preamble_len(bytes));
     let batches = (rest.len() / BATCH_BYTES) as u64;
     if rows.first <= batches {
         return Ok(());
@@ -54,10 +54,10 @@ pub(crate) fn show_bytes<O: Sink>(
     out: &mut O,
 ) -> Result<u8, ReceiverFault>
     ensures status { IfOk result (λ status. status ≡ 0) }
-    ensures shown { O.tells → OnOk result (Viewed view bytes.now (O.taken out.old) (O.taken out.new)) }
+    ensures shown { O.is_known → OnOk result (Viewed view bytes.now (O.taken out.old) (O.taken out.new)) }
     ensures rows { OnOk result (HasRows view bytes.now) }
     ensures explained { IfErr result (ExplainsShowing view bytes.now) }
-    ensures part { O.tells → IsErrOf result (fault.File file.Write) →
+    ensures part { O.is_known → IsErrOf result (fault.File file.Write) →
         ViewedPart view bytes.now (O.taken out.old) (O.taken out.new) }
     ensures untouched { IfErr result (λ e. e ≢ fault.File file.Write → out.new ≡ out.old) }
     ensures write_failed { IsErrOf result (fault.File file.Write) →
@@ -78,12 +78,12 @@ fn show_read<O: Sink>(
     ensures status { IfOk result (λ status. status ≡ 0) }
     ensures read { AreReadOf bytes.old showing.old.repairing.is_asked bytes.new }
     ensures counted { Counts showing.new.repairing.corrected bytes.old bytes.new }
-    ensures shown { O.tells → OnOk result (Viewed showing.old.view bytes.new (O.taken out.old) (O.taken out.new)) }
+    ensures shown { O.is_known → OnOk result (Viewed showing.old.view bytes.new (O.taken out.old) (O.taken out.new)) }
     ensures rows { OnOk result (HasRows showing.old.view bytes.new) }
-    ensures restored { O.tells → showing.old.repairing.is_asked ≡ true → (X codewords : List ℕ) → Sent X codewords →
+    ensures restored { O.is_known → showing.old.repairing.is_asked ≡ true → (X codewords : List ℕ) → Sent X codewords →
         IsDamaged X bytes.old → OnOk result (Viewed showing.old.view X (O.taken out.old) (O.taken out.new)) }
     ensures explained { IfErr result (ExplainsShowing showing.old.view bytes.new) }
-    ensures part { O.tells → IsErrOf result (fault.File file.Write) →
+    ensures part { O.is_known → IsErrOf result (fault.File file.Write) →
         ViewedPart showing.old.view bytes.new (O.taken out.old) (O.taken out.new) }
     ensures untouched { IfErr result (λ e. e ≢ fault.File file.Write → out.new ≡ out.old) }
     ensures write_failed { IsErrOf result (fault.File file.Write) →
@@ -102,33 +102,33 @@ pub fn run_show<T: Source, O: Sink, E: Sink + Drop>(
     out: &mut O,
     err: &mut ErrorStream<ReceiverFault, E>,
 ) -> u8
-    ensures done { IfNone (told_by err.new) ((result ≡ 0) × (stream_of err.new ≡ stream_of err.old)) }
-    ensures status { IfSome (told_by err.new) (λ e. result ≡ receiver_status e) }
-    ensures counted { T.tells → IfNone (told_by err.new) (IsSoOfRead (T.held tx.old) showing.old.repairing.is_asked
+    ensures done { IfNone (printed_by err.new) ((result ≡ 0) × (stream_of err.new ≡ stream_of err.old)) }
+    ensures status { IfSome (printed_by err.new) (λ e. result ≡ receiver_status e) }
+    ensures counted { T.is_known → IfNone (printed_by err.new) (IsSoOfRead (T.held tx.old) showing.old.repairing.is_asked
         (Counts showing.new.repairing.corrected (T.held tx.old))) }
-    ensures shown { T.tells → O.tells → IfNone (told_by err.new)
+    ensures shown { T.is_known → O.is_known → IfNone (printed_by err.new)
         (IsSoOfRead (T.held tx.old) showing.old.repairing.is_asked
         (λ bytes. Viewed showing.old.view bytes (O.taken out.old) (O.taken out.new))) }
-    ensures rows { T.tells → IfNone (told_by err.new)
+    ensures rows { T.is_known → IfNone (printed_by err.new)
         (IsSoOfRead (T.held tx.old) showing.old.repairing.is_asked (HasRows showing.old.view)) }
 
     // *Repaired for all*: of a transmission with at most two wrong bits in each word it shows what it shows of the
     // transmission itself.
-    ensures restored { T.tells → O.tells → showing.old.repairing.is_asked ≡ true → (X codewords : List ℕ) →
+    ensures restored { T.is_known → O.is_known → showing.old.repairing.is_asked ≡ true → (X codewords : List ℕ) →
         Sent X codewords → IsDamaged X (T.held tx.old) →
-        IfNone (told_by err.new) (Viewed showing.old.view X (O.taken out.old) (O.taken out.new)) }
-    ensures explained { T.tells → IfSome (told_by err.new) (λ e. ExplainsUnread (T.held tx.old) e
+        IfNone (printed_by err.new) (Viewed showing.old.view X (O.taken out.old) (O.taken out.new)) }
+    ensures explained { T.is_known → IfSome (printed_by err.new) (λ e. ExplainsUnread (T.held tx.old) e
         ⊎ IsSoOfRead (T.held tx.old) showing.old.repairing.is_asked
         (λ bytes. ExplainsShowing showing.old.view bytes e)) }
-    ensures part { T.tells → O.tells → told_by err.new ≡ Some (fault.File file.Write) →
+    ensures part { T.is_known → O.is_known → printed_by err.new ≡ Some (fault.File file.Write) →
         IsSoOfRead (T.held tx.old) showing.old.repairing.is_asked
         (λ bytes. ViewedPart showing.old.view bytes (O.taken out.old) (O.taken out.new)) }
-    ensures untouched { IfSome (told_by err.new) (λ e. e ≢ fault.File file.Write → out.new ≡ out.old) }
+    ensures untouched { IfSome (printed_by err.new) (λ e. e ≢ fault.File file.Write → out.new ≡ out.old) }
 
     // A device's fault is told only where that device failed.
-    ensures read_failed { told_by err.new ≡ Some (fault.File file.Device) →
+    ensures read_failed { printed_by err.new ≡ Some (fault.File file.Device) →
         HasFailed (T.failures tx.old) (T.failures tx.new) }
-    ensures write_failed { told_by err.new ≡ Some (fault.File file.Write) →
+    ensures write_failed { printed_by err.new ≡ Some (fault.File file.Write) →
         HasFailed (O.failures out.old) (O.failures out.new) }
 {
     // Without repair what the device lends is read where it stands; otherwise it is read whole.

@@ -11,8 +11,8 @@ use std::alloc::Global;
 
 /// Reads a whole transmission, and then lets go what the device lent.
 pub(crate) fn read_transmission<T: Source>(alloc: Global, tx: &mut T) -> Result<Vec<u8>, FileFault>
-    ensures whole { T.tells → IfOk result (λ bytes. bytes.items ≡ T.held tx.old) }
-    ensures explained { T.tells → IfErr result (λ e. ExplainsUnread (T.held tx.old) (fault.File e)) }
+    ensures whole { T.is_known → IfOk result (λ bytes. bytes.items ≡ T.held tx.old) }
+    ensures explained { T.is_known → IfErr result (λ e. ExplainsUnread (T.held tx.old) (fault.File e)) }
     ensures unwritten { IfErr result (λ e. e ≢ FileFault.Write) }
     ensures read_failed { result ≡ Err FileFault.Device → HasFailed (T.failures tx.old) (T.failures tx.new) }
 {

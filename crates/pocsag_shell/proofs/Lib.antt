@@ -1,3 +1,3 @@
-pub mod Besides
+pub mod StagedFiles
 pub mod Loads
-pub mod Told
+pub mod Printed

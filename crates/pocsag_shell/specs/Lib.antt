@@ -1,4 +1,4 @@
-pub mod Besides
+pub mod StagedFiles
 pub mod ErrorStreams
 pub mod Faults
 pub mod Loads

@@ -1,7 +1,7 @@
 ghost use Rattle.std.specs.Prelude.{◌≡◌, []};
 
+use crate::diagnostics::Diagnostics;
 use crate::role::Role;
-use crate::watch::Watch;
 use pocsag_words::{DeviceFault, Sink, Source};
 use std::io::{Read, Write};
 
@@ -11,18 +11,18 @@ use std::io::{Read, Write};
 pub struct ReaderSource<'a, R: Read> {
     reader: R,
     role: Role,
-    watch: &'a Watch,
+    diagnostics: &'a Diagnostics,
     calls: u64,
     failures: u64,
 }
 
 impl<'a, R: Read> ReaderSource<'a, R> {
     /// A source over the reader of a file with this role.
-    pub fn new(reader: R, role: Role, watch: &'a Watch) -> ReaderSource<'a, R> {
+    pub fn new(reader: R, role: Role, diagnostics: &'a Diagnostics) -> ReaderSource<'a, R> {
         ReaderSource {
             reader,
             role,
-            watch,
+            diagnostics,
             calls: 0,
             failures: 0,
         }
@@ -30,7 +30,7 @@ impl<'a, R: Read> ReaderSource<'a, R> {
 }
 
 impl<'a, R: Read> Source for ReaderSource<'a, R> {
-    ghost tells = { ⊥ };
+    ghost is_known = { ⊥ };
 
     ghost held = { λ _. [] };
 
@@ -43,7 +43,7 @@ impl<'a, R: Read> Source for ReaderSource<'a, R> {
         match self.reader.read(buffer) {
             Ok(count) => Ok(count),
             Err(error) => {
-                self.watch.meet(self.role, error.raw_os_error());
+                self.diagnostics.meet(self.role, error.raw_os_error());
                 self.failures = self.failures.saturating_add(1);
                 Err(DeviceFault)
             }
@@ -57,18 +57,18 @@ impl<'a, R: Read> Source for ReaderSource<'a, R> {
 pub struct WriterSink<'a, W: Write> {
     writer: W,
     role: Role,
-    watch: &'a Watch,
+    diagnostics: &'a Diagnostics,
     calls: u64,
     failures: u64,
 }
 
 impl<'a, W: Write> WriterSink<'a, W> {
     /// A sink over the writer of a file with this role.
-    pub fn new(writer: W, role: Role, watch: &'a Watch) -> WriterSink<'a, W> {
+    pub fn new(writer: W, role: Role, diagnostics: &'a Diagnostics) -> WriterSink<'a, W> {
         WriterSink {
             writer,
             role,
-            watch,
+            diagnostics,
             calls: 0,
             failures: 0,
         }
@@ -76,7 +76,7 @@ impl<'a, W: Write> WriterSink<'a, W> {
 }
 
 impl<'a, W: Write> Sink for WriterSink<'a, W> {
-    ghost tells = { ⊥ };
+    ghost is_known = { ⊥ };
 
     ghost taken = { λ _. [] };
 
@@ -88,8 +88,8 @@ impl<'a, W: Write> Sink for WriterSink<'a, W> {
         self.calls = self.calls.saturating_add(1);
         match self.writer.write(piece) {
             Ok(count) if count > 0 || piece.is_empty() => return Ok(count),
-            Ok(_) => self.watch.meet(self.role, None),
-            Err(error) => self.watch.meet(self.role, error.raw_os_error()),
+            Ok(_) => self.diagnostics.meet(self.role, None),
+            Err(error) => self.diagnostics.meet(self.role, error.raw_os_error()),
         }
         self.failures = self.failures.saturating_add(1);
         Err(DeviceFault)

@@ -1,5 +1,5 @@
 use crate::fault::Failure;
-use crate::lines::tell_fault;
+use crate::lines::print_fault;
 use pocsag_words::Sink;
 
 /// Standard error of a command. It takes the line of the fault that the command ends with, and keeps that fault.
@@ -12,13 +12,13 @@ pub struct ErrorStream<F: Failure + Drop, S: Sink + Drop> {
 impl<F: Failure + Drop, S: Sink + Drop> ErrorStream<F, S> {
     ghost use Rattle.std.specs.Prelude.{◌≡◌, ℕ, List, None, Some, IfErr, IfOk};
     ghost use Rattle.pocsag_words.specs.Devices.{TookPrefix};
-    ghost use Rattle.pocsag_shell.specs.ErrorStreams.{stream_of, told_by};
+    ghost use Rattle.pocsag_shell.specs.ErrorStreams.{stream_of, printed_by};
     ghost use Rattle.pocsag_shell.specs.Notes.{error_line};
 
     /// A stream without a fault over this writer.
     pub fn new(sink: S) -> ErrorStream<F, S>
         ensures stream { stream_of result ≡ sink }
-        ensures told { told_by result ≡ None }
+        ensures printed { printed_by result ≡ None }
     {
         ErrorStream { sink, fault: None }
     }
@@ -26,10 +26,10 @@ impl<F: Failure + Drop, S: Sink + Drop> ErrorStream<F, S> {
     /// Ends a command: writes the line of its fault, if there is one, and keeps the fault. If the writer fails the line is lost, or
     /// all but its front. Returns the exit status.
     pub fn end(&mut self, done: Result<u8, F>) -> u8
-        ensures done { IfOk done (λ status. (result ≡ status) × (told_by self.new ≡ None)
+        ensures done { IfOk done (λ status. (result ≡ status) × (printed_by self.new ≡ None)
             × (stream_of self.new ≡ stream_of self.old)) }
-        ensures fault { IfErr done (λ fault. (result ≡ F.status_is fault) × (told_by self.new ≡ Some fault)) }
-        ensures line { S.tells → IfErr done (λ fault. (text : List ℕ) → F.output fault ≡ Some text →
+        ensures fault { IfErr done (λ fault. (result ≡ F.status_is fault) × (printed_by self.new ≡ Some fault)) }
+        ensures line { S.is_known → IfErr done (λ fault. (text : List ℕ) → F.output fault ≡ Some text →
             TookPrefix (S.taken (stream_of self.old)) (S.taken (stream_of self.new)) (error_line text)) }
     {
         match done {
@@ -39,14 +39,14 @@ impl<F: Failure + Drop, S: Sink + Drop> ErrorStream<F, S> {
             }
             Err(fault) => {
                 self.fault = Some(fault);
-                tell_fault(&mut self.sink, fault)
+                print_fault(&mut self.sink, fault)
             }
         }
     }
 
     /// The fault that the command ended with, if it ended with one.
     pub fn fault(&self) -> Option<F>
-        ensures { result ≡ told_by self.now }
+        ensures { result ≡ printed_by self.now }
     {
         self.fault
     }

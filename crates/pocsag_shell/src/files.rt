@@ -1,4 +1,4 @@
-use crate::desk::Desk;
+use crate::context::Context;
 use crate::devices::{ReaderSource, WriterSink};
 use crate::fault::FileFault;
 use crate::lines::put_whole;
@@ -50,53 +50,57 @@ const BEHIND_INPUT: &str = "a file to write is the one behind standard input";
 
 /// Opens a file for reading, or standard input if there is no path. It refuses a folder.
 pub fn open_source<'a>(
-    desk: Desk<'a>,
+    context: Context<'a>,
     role: Role,
     path: Option<&str>,
 ) -> Result<ReaderSource<'a, Input<File>>, FileFault> {
     let input = match path {
         Some(path) => {
-            let file = desk.opened(role, fs::open(desk.rt, path))?;
-            if desk.opened(role, file.metadata())?.is_dir() {
-                desk.watch.meet(role, Some(IS_FOLDER));
+            let file = context.opened(role, fs::open(context.rt, path))?;
+            if context.opened(role, file.metadata())?.is_dir() {
+                context.diagnostics.meet(role, Some(IS_FOLDER));
                 return Err(FileFault::Device);
             }
             Input::File(file)
         }
-        None => Input::Standard(desk.rt.stdin()),
+        None => Input::Standard(context.rt.stdin()),
     };
-    Ok(ReaderSource::new(input, role, desk.watch))
+    Ok(ReaderSource::new(input, role, context.diagnostics))
 }
 
 /// Reads what a source holds up to its end, or up to where the system refuses to read on, and at most `limit` bytes.
 pub fn load<R: Read>(
-    desk: Desk<'_>,
+    context: Context<'_>,
     source: &mut ReaderSource<'_, R>,
     limit: usize,
 ) -> Result<Loaded, OutOfMemory> {
-    let mut bytes = Vec::new(desk.alloc);
+    let mut bytes = Vec::new(context.alloc);
     let mut piece = [0u8; PIECE];
     while bytes.len() < limit {
         let Ok(count) = source.read(&mut piece) else {
-            return Ok(Loaded::new(desk.alloc, bytes, true));
+            return Ok(Loaded::new(context.alloc, bytes, true));
         };
         if count == 0 {
             break;
         }
         bytes.extend_from_slice(&piece[..count])?;
     }
-    Ok(Loaded::new(desk.alloc, bytes, false))
+    Ok(Loaded::new(context.alloc, bytes, false))
 }
 
 /// Opens a page file and a certificate, of which one may be standard input, and then reads both.
-pub fn load_both(desk: Desk<'_>, pages: &str, cert: &str) -> Result<(Loaded, Loaded), FileFault> {
+pub fn load_both(
+    context: Context<'_>,
+    pages: &str,
+    cert: &str,
+) -> Result<(Loaded, Loaded), FileFault> {
     if pages == STANDARD && cert == STANDARD {
         return Err(FileFault::EqualPaths);
     }
-    let mut pages = open_source(desk, Role::PageFile, path_of(pages))?;
-    let mut cert = open_source(desk, Role::Certificate, path_of(cert))?;
-    let pages = load(desk, &mut pages, PAGES_READ)?;
-    Ok((pages, load(desk, &mut cert, CERT_READ)?))
+    let mut pages = open_source(context, Role::PageFile, path_of(pages))?;
+    let mut cert = open_source(context, Role::Certificate, path_of(cert))?;
+    let pages = load(context, &mut pages, PAGES_READ)?;
+    Ok((pages, load(context, &mut cert, CERT_READ)?))
 }
 
 /// The two files of a plan, opened with the bytes that they have.
@@ -110,54 +114,58 @@ impl Opened {
     /// Empties both.
     pub fn emptied<'a>(
         self,
-        desk: Desk<'a>,
+        context: Context<'a>,
     ) -> Result<Outputs<WriterSink<'a, Output<File>>>, FileFault> {
         let Opened { tx, cert } = self;
-        empty(desk, Role::Transmission, &tx)?;
-        empty(desk, Role::Certificate, &cert)?;
+        empty(context, Role::Transmission, &tx)?;
+        empty(context, Role::Certificate, &cert)?;
         Ok(Outputs {
-            tx: WriterSink::new(tx, Role::Transmission, desk.watch),
-            cert: WriterSink::new(cert, Role::Certificate, desk.watch),
+            tx: WriterSink::new(tx, Role::Transmission, context.diagnostics),
+            cert: WriterSink::new(cert, Role::Certificate, context.diagnostics),
         })
     }
 }
 
 /// Opens or makes a file for writing and keeps its bytes, or opens standard output.
-pub fn open_output(desk: Desk<'_>, role: Role, word: &str) -> Result<Output<File>, FileFault> {
+pub fn open_output(
+    context: Context<'_>,
+    role: Role,
+    word: &str,
+) -> Result<Output<File>, FileFault> {
     let Some(path) = path_of(word) else {
-        return Ok(Output::Standard(desk.rt.stdout()));
+        return Ok(Output::Standard(context.rt.stdout()));
     };
     let mut options = OpenOptions::new();
     options.write(true).create(true);
-    let file = desk.opened(role, options.open(desk.rt, path))?;
+    let file = context.opened(role, options.open(context.rt, path))?;
     Ok(Output::File(file))
 }
 
 // Empties a regular file. Other files keep no bytes.
-fn empty(desk: Desk<'_>, role: Role, output: &Output<File>) -> Result<(), FileFault> {
+fn empty(context: Context<'_>, role: Role, output: &Output<File>) -> Result<(), FileFault> {
     let Output::File(file) = output else {
         return Ok(());
     };
-    let metadata = desk.opened(role, file.metadata())?;
+    let metadata = context.opened(role, file.metadata())?;
     if metadata.is_file() {
-        return desk.opened(role, file.set_len(0));
+        return context.opened(role, file.set_len(0));
     }
     Ok(())
 }
 
 /// Opens or makes the two files of a plan. If two of the three words name one file it refuses them.
 pub fn open_outputs(
-    desk: Desk<'_>,
+    context: Context<'_>,
     pages: Option<&str>,
     tx: &str,
     cert: &str,
 ) -> Result<Opened, FileFault> {
-    refuse_shared(desk, pages, tx, cert)?;
-    let opened_tx = open_output(desk, Role::Transmission, tx)?;
+    refuse_shared(context, pages, tx, cert)?;
+    let opened_tx = open_output(context, Role::Transmission, tx)?;
     // A new file may have a second spelling among the paths. It may also stand behind a standard stream that was closed.
-    refuse_shared(desk, pages, tx, cert)?;
-    let opened_cert = open_output(desk, Role::Certificate, cert)?;
-    refuse_shared(desk, pages, tx, cert)?;
+    refuse_shared(context, pages, tx, cert)?;
+    let opened_cert = open_output(context, Role::Certificate, cert)?;
+    refuse_shared(context, pages, tx, cert)?;
     Ok(Opened {
         tx: opened_tx,
         cert: opened_cert,
@@ -166,46 +174,49 @@ pub fn open_outputs(
 
 /// Opens or makes the two files of a plan, and empties them once both are open.
 pub fn make_outputs<'a>(
-    desk: Desk<'a>,
+    context: Context<'a>,
     pages: Option<&str>,
     tx: &str,
     cert: &str,
 ) -> Result<Outputs<WriterSink<'a, Output<File>>>, FileFault> {
-    open_outputs(desk, pages, tx, cert)?.emptied(desk)
+    open_outputs(context, pages, tx, cert)?.emptied(context)
 }
 
 /// Writes the bytes in place of those that an open file has.
 pub fn write_over(
-    desk: Desk<'_>,
+    context: Context<'_>,
     role: Role,
     output: Output<File>,
     bytes: &[u8],
 ) -> Result<(), FileFault> {
-    empty(desk, role, &output)?;
-    put_whole(&mut WriterSink::new(output, role, desk.watch), bytes)
+    empty(context, role, &output)?;
+    put_whole(
+        &mut WriterSink::new(output, role, context.diagnostics),
+        bytes,
+    )
 }
 
 /// Refuses two words that name one file, whatever their spelling, a word that names the file behind standard output or standard
 /// error, and a word of an output that names the one behind standard input.
 pub fn refuse_shared(
-    desk: Desk<'_>,
+    context: Context<'_>,
     pages: Option<&str>,
     tx: &str,
     cert: &str,
 ) -> Result<(), FileFault> {
-    let rt = desk.rt;
+    let rt = context.rt;
     refuse_one_file(rt, pages, tx, cert)?;
     let output = Named::behind(rt, OUTPUT_STREAM);
     let errors = Named::behind(rt, ERROR_STREAM);
     for path in [pages, path_of(tx), path_of(cert)] {
         let named = named_at(rt, path);
         if are_one(named, output) || are_one(named, errors) {
-            desk.note(BEHIND_STREAM);
+            context.note(BEHIND_STREAM);
             return Err(FileFault::EqualPaths);
         }
     }
     for word in [tx, cert] {
-        refuse_input(desk, word)?;
+        refuse_input(context, word)?;
     }
     // If standard output takes a file, standard error takes the lines.
     if (tx == STANDARD || cert == STANDARD) && are_one(output, errors) {
@@ -215,10 +226,10 @@ pub fn refuse_shared(
 }
 
 /// Refuses the word of an output that names the file behind standard input.
-pub fn refuse_input(desk: Desk<'_>, word: &str) -> Result<(), FileFault> {
-    let rt = desk.rt;
+pub fn refuse_input(context: Context<'_>, word: &str) -> Result<(), FileFault> {
+    let rt = context.rt;
     if are_one(named_at(rt, path_of(word)), Named::behind(rt, INPUT_STREAM)) {
-        desk.note(BEHIND_INPUT);
+        context.note(BEHIND_INPUT);
         return Err(FileFault::EqualPaths);
     }
     Ok(())

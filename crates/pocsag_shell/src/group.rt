@@ -1,4 +1,4 @@
-use crate::desk::Desk;
+use crate::context::Context;
 use crate::words::{LineWord, Shape};
 use clap::{ArgMatches, Error};
 use std::alloc::AllocError;
@@ -32,7 +32,7 @@ pub trait Group {
 
     /// Carries out a call and answers the exit status, or an error in the words. `None` means that the call is not for this
     /// group.
-    fn obey(&self, desk: Desk<'_>, call: Call<'_, '_>) -> Option<Result<u8, Error>>;
+    fn run(&self, context: Context<'_>, call: Call<'_, '_>) -> Option<Result<u8, Error>>;
 }
 
 /// Two groups as one. Help lists the commands of the first in front.
@@ -51,10 +51,10 @@ impl<A: Group, B: Group> Group for Both<A, B> {
         }
     }
 
-    fn obey(&self, desk: Desk<'_>, call: Call<'_, '_>) -> Option<Result<u8, Error>> {
-        match self.0.obey(desk, call) {
+    fn run(&self, context: Context<'_>, call: Call<'_, '_>) -> Option<Result<u8, Error>> {
+        match self.0.run(context, call) {
             Some(done) => Some(done),
-            None => self.1.obey(desk, call),
+            None => self.1.run(context, call),
         }
     }
 }

@@ -1,8 +1,8 @@
 ghost use Rattle.std.specs.Prelude.{◌≡◌, ◌↔◌, ◌^◌, ◌<◌, ℕ, Some};
 ghost use Rattle.std.specs.Fmt.{decimal};
-ghost use Rattle.pocsag_shell.specs.Besides.{IsMadeBeside};
+ghost use Rattle.pocsag_shell.specs.StagedFiles.{IsStagedName};
 
-use crate::beside::parts_of;
+use crate::staged_file::parts_of;
 use std::fs;
 use std::io::ErrorKind;
 
@@ -31,7 +31,7 @@ pub(crate) fn remove_left_over(rt: &HostRuntime, place: &str) {
 
 // The number of the process that made the file beside the place of a name, if a process made it.
 fn process_of(name: &str, file: &str) -> Option<u32>
-    ensures { (number : ℕ) → (result ≡ Some number) ↔ IsMadeBeside name.now number file.now }
+    ensures { (number : ℕ) → (result ≡ Some number) ↔ IsStagedName name.now number file.now }
 {
     let rest = file.strip_prefix(name)?.strip_prefix('.')?;
     let digits = match rest.strip_suffix(".new") {

@@ -2,9 +2,9 @@
 //! What the groups of commands share: the faults of files, how a command opens and makes files, the lines on standard error,
 //! and how the words of the command line become a call of a command. The crate knows neither the commands nor the planner.
 
-mod beside;
-mod desk;
+mod context;
 mod devices;
+mod diagnostics;
 mod error_stream;
 mod fault;
 mod files;
@@ -17,14 +17,14 @@ mod note;
 mod paths;
 mod program;
 mod role;
+mod staged_file;
 mod streams;
 mod tables;
-mod watch;
 mod words;
 
-pub use beside::{Beside, put_files};
-pub use desk::Desk;
+pub use context::Context;
 pub use devices::{ReaderSource, WriterSink};
+pub use diagnostics::Diagnostics;
 pub use error_stream::ErrorStream;
 pub use fault::{Failure, FileFault};
 pub use files::{
@@ -33,15 +33,15 @@ pub use files::{
     refuse_shared, write_over,
 };
 pub use group::{Both, Call, Group, Tables};
-pub use lines::{put_whole, tell, tell_fault, tell_numbers};
+pub use lines::{print, print_fault, print_numbers, put_whole};
 pub use loaded::Loaded;
 pub use memory_streams::MemoryStreams;
 pub use paths::{Named, equal_paths, refuse_equal};
 pub use program::run;
 pub use role::{NamedFile, Names, Role};
+pub use staged_file::{StagedFile, put_files};
 pub use streams::{Input, Output};
 pub use tables::command;
-pub use watch::Watch;
 pub use words::{
     ALWAYS, ALWAYS_FLAG, CERT, CERT_PLACE, Content, FLAG, Given, KEEP, KEEP_FLAG, LineWord, PAGES,
     PAGES_PLACE, PLACE, STANDARD, SVG, Shape, TX, TX_PLACE, path_of,

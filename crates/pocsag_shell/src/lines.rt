@@ -14,7 +14,7 @@ pub(crate) const LONGEST: usize = 200;
 
 /// Writes the bytes whole. After a fault a prefix of them was taken.
 pub fn put_whole<S: Sink>(sink: &mut S, bytes: &[u8]) -> Result<(), FileFault>
-    ensures delivers { S.tells → Delivers result (S.taken sink.old) (S.taken sink.new) bytes.now }
+    ensures delivers { S.is_known → Delivers result (S.taken sink.old) (S.taken sink.new) bytes.now }
     ensures lost { IfErr result (λ e. e ≡ FileFault.Write) }
     ensures failures { CountsFailures result (S.failures sink.old) (S.failures sink.new) }
 {
@@ -25,11 +25,11 @@ pub fn put_whole<S: Sink>(sink: &mut S, bytes: &[u8]) -> Result<(), FileFault>
 }
 
 /// Writes a text of at most 200 bytes without allocating. A longer text is a fault.
-pub fn tell<S: Sink, D: Display + Drop>(sink: &mut S, text: D) -> Result<(), FileFault>
-    ensures told { S.tells → (told : List ℕ) → D.output text ≡ Some told →
-        OnOk result (S.taken sink.new ≡ S.taken sink.old ++ told) }
-    ensures part { S.tells → (told : List ℕ) → D.output text ≡ Some told →
-        OnErr result (TookPrefix (S.taken sink.old) (S.taken sink.new) told) }
+pub fn print<S: Sink, D: Display + Drop>(sink: &mut S, text: D) -> Result<(), FileFault>
+    ensures printed { S.is_known → (printed : List ℕ) → D.output text ≡ Some printed →
+        OnOk result (S.taken sink.new ≡ S.taken sink.old ++ printed) }
+    ensures part { S.is_known → (printed : List ℕ) → D.output text ≡ Some printed →
+        OnErr result (TookPrefix (S.taken sink.old) (S.taken sink.new) printed) }
     ensures lost { IfErr result (λ e. e ≡ FileFault.Write) }
 {
     let mut kept = ArrayString::<LONGEST>::new();
@@ -45,10 +45,10 @@ fn keep_text<S: Sink>(
     line: &mut ArrayString<LONGEST>,
     text: &str,
 ) -> Result<(), FileFault>
-    ensures whole { S.tells → OnOk result
+    ensures whole { S.is_known → OnOk result
         (S.taken sink.new ++ line.new.bytes ≡ S.taken sink.old ++ (line.old.bytes ++ text.now)) }
-    ensures more { S.tells → OnOk result (length (S.taken sink.old) ≤ length (S.taken sink.new)) }
-    ensures part { S.tells → OnErr result
+    ensures more { S.is_known → OnOk result (length (S.taken sink.old) ≤ length (S.taken sink.new)) }
+    ensures part { S.is_known → OnErr result
         (TookPrefix (S.taken sink.old) (S.taken sink.new) (line.old.bytes ++ text.now)) }
     ensures lost { IfErr result (λ e. e ≡ FileFault.Write) }
     ensures failures { CountsFailures result (S.failures sink.old) (S.failures sink.new) }
@@ -63,12 +63,12 @@ fn keep_text<S: Sink>(
 
 /// Writes each text with its number behind it, and then the last text. It does not allocate, and a text of at most 200
 /// bytes is one piece. After a fault a prefix was taken.
-pub fn tell_numbers<S: Sink>(
+pub fn print_numbers<S: Sink>(
     sink: &mut S,
     numbers: &[(&str, u64)],
     last: &str,
 ) -> Result<(), FileFault>
-    ensures delivers { S.tells → Delivers result (S.taken sink.old) (S.taken sink.new)
+    ensures delivers { S.is_known → Delivers result (S.taken sink.old) (S.taken sink.new)
         (numbered_text (map (λ pair. (pair.0.now, pair.1)) numbers.now) last.now) }
     ensures lost { IfErr result (λ e. e ≡ FileFault.Write) }
     ensures failures { CountsFailures result (S.failures sink.old) (S.failures sink.new) }
@@ -85,12 +85,12 @@ pub fn tell_numbers<S: Sink>(
 
 /// Writes the line of a fault to standard error and answers the exit status. If standard error fails the line is lost, or all
 /// but its front.
-pub fn tell_fault<S: Sink, F: Failure>(err: &mut S, fault: F) -> u8
-    ensures told { S.tells → (text : List ℕ) → F.output fault ≡ Some text →
+pub fn print_fault<S: Sink, F: Failure>(err: &mut S, fault: F) -> u8
+    ensures printed { S.is_known → (text : List ℕ) → F.output fault ≡ Some text →
         TookPrefix (S.taken err.old) (S.taken err.new) (error_line text) }
     ensures value { result ≡ F.status_is fault }
     ensures failure { IsFailure result }
 {
-    let _ = tell(err, format_args!("pocsag: {fault}\n"));
+    let _ = print(err, format_args!("pocsag: {fault}\n"));
     fault.status()
 }

@@ -42,7 +42,7 @@ impl Loaded {
 impl Source for Loaded {
     ghost use Rattle.pocsag_shell.specs.Loads.{left_in, loads_called, loads_failed};
 
-    ghost tells = { Unit {0} };
+    ghost is_known = { Unit {0} };
 
     ghost held = { left_in };
 

@@ -1,7 +1,7 @@
-use crate::desk::Desk;
+use crate::context::Context;
 use crate::error_stream::ErrorStream;
 use crate::fault::{Failure, FileFault};
-use crate::lines::{LONGEST, put_whole, tell_fault};
+use crate::lines::{LONGEST, print_fault, put_whole};
 use crate::role::Names;
 use pocsag_words::{GrowingSink, MemorySink};
 use std::alloc::Global;
@@ -25,27 +25,27 @@ impl<F: Failure + From<FileFault> + PartialEq + Drop> MemoryStreams<F> {
     /// Prints what the streams took, and behind it the line of `--verbose`. `done` is the exit status of the command, or a fault of
     /// the files that it was to run over or has to write. A writer over memory fails where memory is refused, and nowhere else, so
     /// its fault is told as want of memory. Returns the exit status.
-    pub fn end(self, desk: Desk<'_>, names: Names<'_>, done: Result<u8, F>) -> u8 {
+    pub fn end(self, context: Context<'_>, names: Names<'_>, done: Result<u8, F>) -> u8 {
         let MemoryStreams { out, err } = self;
-        let errors = &mut desk.err();
+        let errors = &mut context.err();
         let status = match (done, err.fault()) {
-            (Err(fault), _) => tell_fault(errors, fault),
+            (Err(fault), _) => print_fault(errors, fault),
             (Ok(_), Some(fault)) if fault == F::from(FileFault::Write) => {
-                tell_fault(errors, FileFault::OutOfMemory)
+                print_fault(errors, FileFault::OutOfMemory)
             }
             (Ok(status), Some(_)) => {
                 let _ = put_whole(errors, err.stream().bytes());
                 status
             }
-            (Ok(status), None) => match put_whole(&mut desk.out(), out.into_bytes().as_slice()) {
+            (Ok(status), None) => match put_whole(&mut context.out(), out.into_bytes().as_slice()) {
                 Ok(()) => {
-                    desk.forget_trouble();
+                    context.forget_trouble();
                     status
                 }
-                Err(fault) => tell_fault(errors, fault),
+                Err(fault) => print_fault(errors, fault),
             },
         };
-        desk.tell_more(names);
+        context.print_more(names);
         status
     }
 }

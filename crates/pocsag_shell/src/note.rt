@@ -9,8 +9,8 @@ use std::alloc::Global;
 /// Writes a note as one line that begins `pocsag: `, in a single write if the sink takes all of it. A question mark
 /// replaces each byte that would end the line or move a terminal's cursor.
 #[tactic(auto, unfolding(crate::specs::Notes::note_text, crate::specs::Notes::plain))]
-pub(crate) fn tell_note<S: Sink>(alloc: Global, err: &mut S, text: &str) -> Result<(), FileFault>
-    ensures told { S.tells → OnOk result (S.taken err.new ≡ S.taken err.old ++ note_text text.now) }
+pub(crate) fn print_note<S: Sink>(alloc: Global, err: &mut S, text: &str) -> Result<(), FileFault>
+    ensures printed { S.is_known → OnOk result (S.taken err.new ≡ S.taken err.old ++ note_text text.now) }
 {
     let mut line = Vec::new(alloc);
     line.extend_from_slice(b"pocsag: ")?;

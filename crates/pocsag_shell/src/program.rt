@@ -1,12 +1,12 @@
-use crate::desk::Desk;
+use crate::context::Context;
 use crate::devices::WriterSink;
+use crate::diagnostics::Diagnostics;
 use crate::fault::FileFault;
 use crate::group::{Call, Group};
-use crate::lines::tell_fault;
+use crate::lines::print_fault;
 use crate::role::Role;
 use crate::streams::hold_closed;
 use crate::tables::program;
-use crate::watch::Watch;
 use crate::words::{Shape, VERBOSE};
 use clap::error::ErrorKind;
 use clap::{ArgMatches, Command, Error};
@@ -18,19 +18,19 @@ use std::io::ErrorKind as IoErrorKind;
 const NOT_TEXT: &str = "invalid UTF-8 was detected in one or more arguments";
 
 /// Reads the words of the command line and has a group carry out what they ask for. `shape` holds the program's name and
-/// what help says of it. Answers the exit status.
+/// what help says of it. Returns the exit status.
 pub fn run<G: Group>(rt: &HostRuntime, shape: &Shape, group: &G) -> u8 {
     let _input = hold_closed(rt, "/proc/self/fd/0", true);
     let _output = hold_closed(rt, "/proc/self/fd/1", false);
     let _errors = hold_closed(rt, "/proc/self/fd/2", false);
     let done = match words_of(rt) {
-        Ok(words) => obey(rt, shape, group, Some(words.as_slice())),
-        Err(FileFault::Device) => obey(rt, shape, group, None),
+        Ok(words) => run_words(rt, shape, group, Some(words.as_slice())),
+        Err(FileFault::Device) => run_words(rt, shape, group, None),
         Err(_) => Err(Error::from(AllocError)),
     };
     match done {
         Ok(status) => status,
-        Err(error) => tell_clap_error(rt, &error),
+        Err(error) => print_clap_error(rt, &error),
     }
 }
 
@@ -44,7 +44,7 @@ fn words_of(rt: &HostRuntime) -> Result<Vec<String>, FileFault> {
 }
 
 // Parses the words, where all are texts, and has the group carry them out.
-fn obey<G: Group>(
+fn run_words<G: Group>(
     rt: &HostRuntime,
     shape: &Shape,
     group: &G,
@@ -74,20 +74,27 @@ fn answer<G: Group>(
             return Err(program.error(ErrorKind::ArgumentConflict, text)?);
         }
     }
-    let watch = &Watch::new(found.get_flag(VERBOSE));
+    let diagnostics = &Diagnostics::new(found.get_flag(VERBOSE));
     let alloc = rt.alloc();
-    match group.obey(Desk { rt, alloc, watch }, Call { name, found }) {
+    match group.run(
+        Context {
+            rt,
+            alloc,
+            diagnostics,
+        },
+        Call { name, found },
+    ) {
         Some(done) => done,
         None => Err(program.error(ErrorKind::MissingRequiredArgument, "a word is missing")?),
     }
 }
 
 // Prints an error of clap, which stands for help too, and answers the exit status.
-fn tell_clap_error(rt: &HostRuntime, error: &Error) -> u8 {
-    let watch = Watch::new(false);
-    let err = &mut WriterSink::new(rt.stderr(), Role::Output, &watch);
+fn print_clap_error(rt: &HostRuntime, error: &Error) -> u8 {
+    let diagnostics = Diagnostics::new(false);
+    let err = &mut WriterSink::new(rt.stderr(), Role::Output, &diagnostics);
     if error.kind() == ErrorKind::OutOfMemory {
-        return tell_fault(err, FileFault::OutOfMemory);
+        return print_fault(err, FileFault::OutOfMemory);
     }
     let printed = error.print(rt);
     if error.use_stderr() {
@@ -95,6 +102,6 @@ fn tell_clap_error(rt: &HostRuntime, error: &Error) -> u8 {
     }
     match printed {
         Ok(()) => 0,
-        Err(_) => tell_fault(err, FileFault::Write),
+        Err(_) => print_fault(err, FileFault::Write),
     }
 }

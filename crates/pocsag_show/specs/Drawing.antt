@@ -108,17 +108,17 @@ counted batches codewords idles =
     codes "<text x='12' y='40'>" ++ (counts_part batches codewords idles ++ (codes "</text>" ++ (10 ∷ [])))
 
 -- What stands before the rows: what is told, and what is seen.
-unfoldable pub told_before : (low high batches codewords idles lines : ℕ) → List ℕ
-told_before low high batches codewords idles lines =
+unfoldable pub text_before : (low high batches codewords idles lines : ℕ) → List ℕ
+text_before low high batches codewords idles lines =
     opening (height (high - low) lines) ++ (title low high batches ++ description batches codewords idles)
 
 unfoldable pub seen_before : (low high batches codewords idles lines : ℕ) → List ℕ
 seen_before low high batches codewords idles lines =
     style ++ (headed (height (high - low) lines) low high batches ++ (counted batches codewords idles ++ axes))
 
-unfoldable pub front : (low high batches codewords idles lines : ℕ) → List ℕ
-front low high batches codewords idles lines =
-    told_before low high batches codewords idles lines ++ seen_before low high batches codewords idles lines
+unfoldable pub heading : (low high batches codewords idles lines : ℕ) → List ℕ
+heading low high batches codewords idles lines =
+    text_before low high batches codewords idles lines ++ seen_before low high batches codewords idles lines
 
 -- The rows and the pages that lie on them.
 unfoldable pub rows_and_pages : (low high : ℕ) → List Placed → List ℕ
@@ -127,7 +127,7 @@ rows_and_pages low high pls =
 
 unfoldable pub drawing_text : (low high batches codewords idles : ℕ) → List Placed → List ℕ
 drawing_text low high batches codewords idles pls =
-    front low high batches codewords idles (legend_lines low high pls)
+    heading low high batches codewords idles (legend_lines low high pls)
     ++ (rows_and_pages low high pls ++ (key (high - low) ++ (legend low high pls ++ (codes "</svg>" ++ (10 ∷ [])))))
 
 -- The drawing of codewords that fill batches and of the pages that they read as: of the rows that are wanted.

@@ -5,7 +5,7 @@ ghost use Rattle.pocsag_show.specs.Drawing.{drawing_text, frame_lines, row_drawn
 ghost use Rattle.pocsag_show.specs.Rows.{end_row, first_row, rows_between};
 
 use crate::counts::Counts;
-use crate::front::put_front;
+use crate::heading::put_heading;
 use crate::judged::Judged;
 use crate::legend::{legend_lines, put_key, put_legend};
 use crate::page_lines::put_pages;
@@ -66,7 +66,7 @@ fn put_drawing(
     ensures { OnOk result (text.new.items ≡ text.old.items
         ++ drawing_text window.low window.high counts.batches counts.codewords counts.idles pages.now) }
 {
-    put_front(text, window, counts, legend_lines(window, pages))?;
+    put_heading(text, window, counts, legend_lines(window, pages))?;
     put_rows(text, window)?;
     put_pages(alloc, text, window, pages)?;
     put_frame_lines(text, window.count())?;

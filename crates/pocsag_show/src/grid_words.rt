@@ -5,7 +5,7 @@ ghost use Rattle.pocsag_pages.specs.Bytes.{codewords_in, unsynced};
 ghost use Rattle.pocsag_show.specs.Cells.{IsGridOf, Took};
 
 use crate::grid::Grid;
-use pocsag_pages::leading_len;
+use pocsag_pages::preamble_len;
 use pocsag_words::{BATCH_WORDS, from_raw, kind};
 use std::alloc::{AllocError, Global};
 
@@ -36,7 +36,7 @@ pub(crate) fn grid_of(alloc: Global, bytes: &[u8], numbers: &[usize]) -> Result<
         starts: Vec::new(alloc),
         idles: 0,
     };
-    let (_, mut rest) = bytes.split_at(leading_len(bytes));
+    let (_, mut rest) = bytes.split_at(preamble_len(bytes));
     let mut place = 0;
     while let [a, b, c, d, tail @ ..] = rest {
         let word = u32::from_be_bytes([*a, *b, *c, *d]);

@@ -5,9 +5,9 @@
 mod counts;
 mod drawing;
 mod fault;
-mod front;
 mod grid;
 mod grid_words;
+mod heading;
 mod judge;
 mod judged;
 mod legend;

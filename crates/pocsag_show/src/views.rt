@@ -1,6 +1,6 @@
 ghost use Rattle.std.specs.Prelude.{◌≡◌, ◌≢◌, ◌≤◌, ℕ, List, All, Err, IfErr, IfOk, MatchResult, OnOk, length};
 ghost use Rattle.pocsag_pages.specs.Listable.{IsListable};
-ghost use Rattle.pocsag_decode.specs.Faults.{TellsFailures};
+ghost use Rattle.pocsag_decode.specs.Faults.{NamesFailures};
 ghost use Rattle.pocsag_show.specs.Judged.{IsJudged};
 ghost use Rattle.pocsag_show.specs.Shows.{Explains, ExplainsReading, IsTextOf, Shows, ShowsPart};
 ghost use Rattle.pocsag_show.specs.Views.{view_text};
@@ -42,14 +42,14 @@ fn text_of(alloc: Global, view: View, bytes: &[u8]) -> Result<Vec<u8>, ShowFault
 /// as a drawing of the rows, which is SVG 1.1. Nothing is written before all bytes are judged. After `WriteFault` a
 /// prefix was written, and after the other faults nothing.
 pub fn show<S: Sink>(alloc: Global, view: View, bytes: &[u8], sink: &mut S) -> Result<(), ShowFault>
-    ensures shown { S.tells → OnOk result (Shows (view_text view) bytes.now (S.taken sink.old) (S.taken sink.new)) }
-    ensures part { S.tells → result ≡ Err ShowFault.WriteFault →
+    ensures shown { S.is_known → OnOk result (Shows (view_text view) bytes.now (S.taken sink.old) (S.taken sink.new)) }
+    ensures part { S.is_known → result ≡ Err ShowFault.WriteFault →
         ShowsPart (view_text view) bytes.now (S.taken sink.old) (S.taken sink.new) }
     ensures fault { IfErr result (Explains bytes.now) }
     ensures untouched { IfErr result (λ e. e ≢ ShowFault.WriteFault → sink.new ≡ sink.old) }
 
     // A device's fault is answered only where that device failed.
-    ensures failures { TellsFailures result ShowFault.WriteFault (S.failures sink.old) (S.failures sink.new) }
+    ensures failures { NamesFailures result ShowFault.WriteFault (S.failures sink.old) (S.failures sink.new) }
 {
     let text = text_of(alloc, view, bytes)?;
     match write_all(sink, text.as_slice()) {

@@ -3,7 +3,7 @@ use crate::wav::run_wav;
 use crate::words::{BIT_RATE, INVERT, LEAD, SAMPLES, SOUND_COMMANDS, WAV};
 use clap::{ArgMatches, Error};
 use pocsag_shell::{
-    Call, Desk, ErrorStream, Group, Loaded, MemoryStreams, Names, PAGES_READ, Role, TX, Tables,
+    Call, Context, ErrorStream, Group, Loaded, MemoryStreams, Names, PAGES_READ, Role, TX, Tables,
     load, open_source, path_of,
 };
 use pocsag_wav::{Keying, NoSound};
@@ -26,7 +26,7 @@ impl Group for Sound {
         None
     }
 
-    fn obey(&self, desk: Desk<'_>, call: Call<'_, '_>) -> Option<Result<u8, Error>> {
+    fn run(&self, context: Context<'_>, call: Call<'_, '_>) -> Option<Result<u8, Error>> {
         if call.name? != WAV {
             return None;
         }
@@ -40,46 +40,46 @@ impl Group for Sound {
         let samples = found.get_one::<u32>(SAMPLES)?;
         let preamble = found.get_one::<u32>(LEAD);
         let keying = Keying::new(rate, samples, preamble, found.get_flag(INVERT));
-        Some(Ok(match load_keyed(desk, keying, tx) {
-            Ok((keying, loaded)) => key(desk, keying, loaded, names),
-            Err(fault) => desk.end(names, Err(fault)),
+        Some(Ok(match load_keyed(context, keying, tx) {
+            Ok((keying, loaded)) => key(context, keying, loaded, names),
+            Err(fault) => context.end(names, Err(fault)),
         }))
     }
 }
 
 // The transmission that is to be keyed. A bad number is refused before the file is opened.
 fn load_keyed(
-    desk: Desk<'_>,
+    context: Context<'_>,
     keying: Result<Keying, NoSound>,
     tx: &str,
 ) -> Result<(Keying, Loaded), SoundFault> {
     let keying = keying?;
-    let mut source = open_source(desk, Role::Transmission, path_of(tx))?;
-    match load(desk, &mut source, PAGES_READ) {
+    let mut source = open_source(context, Role::Transmission, path_of(tx))?;
+    match load(context, &mut source, PAGES_READ) {
         Ok(loaded) => Ok((keying, loaded)),
         Err(refused) => Err(SoundFault::File(refused.into())),
     }
 }
 
 // Writes the sound of a transmission to standard output.
-fn key(desk: Desk<'_>, keying: Keying, mut tx: Loaded, names: Names<'_>) -> u8 {
+fn key(context: Context<'_>, keying: Keying, mut tx: Loaded, names: Names<'_>) -> u8 {
     if is_short(keying, &tx) {
-        let mut streams = MemoryStreams::new(desk.alloc);
+        let mut streams = MemoryStreams::new(context.alloc);
         let status = run_wav(
-            desk.alloc,
+            context.alloc,
             keying,
             &mut tx,
             &mut streams.out,
             &mut streams.err,
         );
-        return streams.end(desk, names, Ok(status));
+        return streams.end(context, names, Ok(status));
     }
-    let mut err = ErrorStream::new(desk.err());
-    let status = run_wav(desk.alloc, keying, &mut tx, &mut desk.out(), &mut err);
+    let mut err = ErrorStream::new(context.err());
+    let status = run_wav(context.alloc, keying, &mut tx, &mut context.out(), &mut err);
     if err.fault().is_none() {
-        desk.forget_trouble();
+        context.forget_trouble();
     }
-    desk.tell_more(names);
+    context.print_more(names);
     status
 }
 

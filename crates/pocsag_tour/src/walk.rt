@@ -134,7 +134,7 @@ fn take_laps(left: &mut [u32; 288], arcs: &[usize], times: u32)
 }
 
 // The steps over the arcs, at the head of sixteen.
-fn piece_of(arcs: &[usize]) -> [Step; 16]
+fn steps_of_batch(arcs: &[usize]) -> [Step; 16]
     requires few { length arcs.now ≤ 16 }
     requires known { (k : ℕ) → k < length arcs.now → slice_index arcs.now k < 288 }
     ensures length { length result ≡ 16 }
@@ -153,7 +153,7 @@ fn write_laps(steps: &mut Vec<Step>, arcs: &[usize], times: u32) -> Result<(), A
     requires known { (k : ℕ) → k < length arcs.now → slice_index arcs.now k < 288 }
     ensures { OnOk result (steps.new.items ≡ steps.old.items ++ repeat times (map step_of arcs.now)) }
 {
-    let piece = piece_of(arcs);
+    let piece = steps_of_batch(arcs);
     let lap = &piece[..arcs.len()];
     'laps: for _lap in 0..times {
         steps.extend_from_slice(lap)?;

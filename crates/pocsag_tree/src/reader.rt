@@ -21,10 +21,10 @@ use std::alloc::Global;
 fn read_byte<S: Source>(source: &mut S) -> Result<Option<u8>, CertificateFault>
     ensures failures { S.failures source.new ≡ failed_after result (S.failures source.old) }
     ensures refused { IfErr result (λ e. e ≡ CertificateFault.ReadFault) }
-    ensures told { S.tells → IfOk result (λ next. MatchOption next
+    ensures told { S.is_known → IfOk result (λ next. MatchOption next
         ((S.held source.old ≡ []) × (S.held source.new ≡ []))
         (λ byte. S.held source.old ≡ byte ∷ S.held source.new)) }
-    ensures kept { S.tells → OnErr result (S.held source.new ≡ S.held source.old) }
+    ensures kept { S.is_known → OnErr result (S.held source.new ≡ S.held source.old) }
 {
     let mut buffer = [0u8; 1];
     let count = source.read(&mut buffer)?;
@@ -38,7 +38,7 @@ fn read_byte<S: Source>(source: &mut S) -> Result<Option<u8>, CertificateFault>
 #[tactic(auto, using(crate::proofs::Fronts::but_last_cons, crate::proofs::Fronts::but_last_all))]
 fn next_byte<S: Source>(source: &mut S) -> Result<u8, CertificateFault>
     ensures failures { S.failures source.new ≡ failed_after result (S.failures source.old) }
-    ensures reads { S.tells → ReadsBy byte_at number_then result (S.held source.old) (S.held source.new) }
+    ensures reads { S.is_known → ReadsBy byte_at number_then result (S.held source.old) (S.held source.new) }
 {
     match read_byte(source)? {
         Some(byte) => Ok(byte),
@@ -50,7 +50,7 @@ fn next_byte<S: Source>(source: &mut S) -> Result<u8, CertificateFault>
 #[tactic(auto, unfolding(crate::specs::Parser::number_at))]
 fn next_number<S: Source>(source: &mut S) -> Result<u16, CertificateFault>
     ensures failures { S.failures source.new ≡ failed_after result (S.failures source.old) }
-    ensures reads { S.tells → ReadsBy number_at number_then result (S.held source.old) (S.held source.new) }
+    ensures reads { S.is_known → ReadsBy number_at number_then result (S.held source.old) (S.held source.new) }
 {
     let high = next_byte(source)?;
     let low = next_byte(source)?;
@@ -62,7 +62,7 @@ fn next_number<S: Source>(source: &mut S) -> Result<u16, CertificateFault>
 fn small<S: Source>(low: u8, high: u8, source: &mut S) -> Result<u8, CertificateFault>
     ensures in_range { IfOk result (λ n. (low ≤ n) × (n ≤ high)) }
     ensures failures { S.failures source.new ≡ failed_after result (S.failures source.old) }
-    ensures reads { S.tells → ReadsBy (small_at low high) number_then result
+    ensures reads { S.is_known → ReadsBy (small_at low high) number_then result
         (S.held source.old) (S.held source.new) }
 {
     let number = next_byte(source)?;
@@ -78,7 +78,7 @@ fn small<S: Source>(low: u8, high: u8, source: &mut S) -> Result<u8, Certificate
 fn large<S: Source>(low: u16, high: u16, source: &mut S) -> Result<u16, CertificateFault>
     ensures in_range { IfOk result (λ n. (low ≤ n) × (n ≤ high)) }
     ensures failures { S.failures source.new ≡ failed_after result (S.failures source.old) }
-    ensures reads { S.tells → ReadsBy (large_at low high) number_then result
+    ensures reads { S.is_known → ReadsBy (large_at low high) number_then result
         (S.held source.old) (S.held source.new) }
 {
     let number = next_number(source)?;
@@ -92,7 +92,7 @@ fn large<S: Source>(low: u16, high: u16, source: &mut S) -> Result<u16, Certific
 #[tactic(auto, unfolding(crate::specs::Parser::mark_at))]
 fn mark<S: Source>(wanted: u8, source: &mut S) -> Result<(), CertificateFault>
     ensures failures { S.failures source.new ≡ failed_after result (S.failures source.old) }
-    ensures reads { S.tells → ReadsBy (mark_at wanted) (λ _ rest. rest) result
+    ensures reads { S.is_known → ReadsBy (mark_at wanted) (λ _ rest. rest) result
         (S.held source.old) (S.held source.new) }
 {
     if next_byte(source)? == wanted {
@@ -113,7 +113,7 @@ fn end_from(byte: u8) -> End
 #[tactic(auto, unfolding(crate::specs::Parser::version_at))]
 fn version<S: Source>(source: &mut S) -> Result<(Ranges, End), CertificateFault>
     ensures failures { S.failures source.new ≡ failed_after result (S.failures source.old) }
-    ensures reads { S.tells → ReadsBy version_at (λ x rest. (x.0, x.1, rest)) result
+    ensures reads { S.is_known → ReadsBy version_at (λ x rest. (x.0, x.1, rest)) result
         (S.held source.old) (S.held source.new) }
 {
     match next_byte(source)? {
@@ -129,9 +129,9 @@ fn version<S: Source>(source: &mut S) -> Result<(Ranges, End), CertificateFault>
 
 // A number of four bytes.
 #[tactic(auto, unfolding(crate::specs::Parser::long_number_at))]
-fn next_long_number<S: Source>(source: &mut S) -> Result<u32, CertificateFault>
+fn read_u32<S: Source>(source: &mut S) -> Result<u32, CertificateFault>
     ensures failures { S.failures source.new ≡ failed_after result (S.failures source.old) }
-    ensures reads { S.tells → ReadsBy long_number_at number_then result
+    ensures reads { S.is_known → ReadsBy long_number_at number_then result
         (S.held source.old) (S.held source.new) }
 {
     let high = next_number(source)?;
@@ -142,9 +142,9 @@ fn next_long_number<S: Source>(source: &mut S) -> Result<u32, CertificateFault>
 #[tactic(auto, unfolding(crate::specs::Parser::batches_at))]
 fn batches<S: Source>(source: &mut S) -> Result<u32, CertificateFault>
     ensures failures { S.failures source.new ≡ failed_after result (S.failures source.old) }
-    ensures reads { S.tells → ReadsBy batches_at number_then result (S.held source.old) (S.held source.new) }
+    ensures reads { S.is_known → ReadsBy batches_at number_then result (S.held source.old) (S.held source.new) }
 {
-    let number = next_long_number(source)?;
+    let number = read_u32(source)?;
     if 1 <= number {
         Ok(number)
     } else {
@@ -155,9 +155,9 @@ fn batches<S: Source>(source: &mut S) -> Result<u32, CertificateFault>
 #[tactic(auto, unfolding(crate::specs::Parser::end_at))]
 fn end<S: Source>(source: &mut S) -> Result<(), CertificateFault>
     ensures failures { S.failures source.new ≡ failed_after result (S.failures source.old) }
-    ensures shrinks { S.tells → length (S.held source.new) ≤ length (S.held source.old) }
-    ensures bytes { S.tells → Gives (λ _. tt) ⊥ result (end_at (S.held source.old)) }
-    ensures kept { S.tells → IsErrOf result CertificateFault.ReadFault
+    ensures shrinks { S.is_known → length (S.held source.new) ≤ length (S.held source.old) }
+    ensures bytes { S.is_known → Gives (λ _. tt) ⊥ result (end_at (S.held source.old)) }
+    ensures kept { S.is_known → IsErrOf result CertificateFault.ReadFault
         → S.held source.new ≡ S.held source.old }
     ensures small { ¬ IsErrOf result CertificateFault.OutOfMemory }
 {
@@ -199,7 +199,7 @@ fn node<S: Source>(
     requires { made ≤ most_nodes }
     ensures counts { IfOk result (λ x. IsNodeRead depth made (bound_tree_of x.0) x.1) }
     ensures failures { S.failures source.new ≡ failed_after result (S.failures source.old) }
-    ensures reads { S.tells → ReadsBy (node_at builder.ranges depth made) node_then result
+    ensures reads { S.is_known → ReadsBy (node_at builder.ranges depth made) node_then result
         (S.held source.old) (S.held source.new) }
 {
     wanted(depth, made)?;
@@ -217,7 +217,7 @@ fn tagged<S: Source>(
     requires { made < most_nodes }
     ensures counts { IfOk result (λ x. IsNodeRead (depth + 1) made (bound_tree_of x.0) x.1) }
     ensures failures { S.failures source.new ≡ failed_after result (S.failures source.old) }
-    ensures reads { S.tells → ReadsBy (tagged_at builder.ranges (node_at builder.ranges depth) made) node_then result
+    ensures reads { S.is_known → ReadsBy (tagged_at builder.ranges (node_at builder.ranges depth) made) node_then result
         (S.held source.old) (S.held source.new) }
 {
     let tag = next_byte(source)?;
@@ -239,7 +239,7 @@ fn body<S: Source>(
     requires { made ≤ most_nodes }
     ensures counts { IfOk result (λ x. IsBodyRead depth made (bound_tree_of x.0) x.1) }
     ensures failures { S.failures source.new ≡ failed_after result (S.failures source.old) }
-    ensures reads { S.tells → ReadsBy (body_at builder.ranges (node_at builder.ranges depth) tag made) node_then result
+    ensures reads { S.is_known → ReadsBy (body_at builder.ranges (node_at builder.ranges depth) tag made) node_then result
         (S.held source.old) (S.held source.new) }
 {
     match tag {
@@ -256,7 +256,7 @@ fn overload<S: Source>(made: u32, source: &mut S) -> Result<(Tree, u32), Certifi
     requires { made ≤ most_nodes }
     ensures counts { IfOk result (λ x. IsBodyRead 0 made (bound_tree_of x.0) x.1) }
     ensures failures { S.failures source.new ≡ failed_after result (S.failures source.old) }
-    ensures reads { S.tells → ReadsBy (overload_at made) node_then result
+    ensures reads { S.is_known → ReadsBy (overload_at made) node_then result
         (S.held source.old) (S.held source.new) }
 {
     let set = large(1, u16::MAX, source)?;
@@ -283,7 +283,7 @@ fn split<S: Source>(
     requires { made ≤ most_nodes }
     ensures counts { IfOk result (λ x. IsBodyRead depth made (bound_tree_of x.0) x.1) }
     ensures failures { S.failures source.new ≡ failed_after result (S.failures source.old) }
-    ensures reads { S.tells → ReadsBy (split_at builder.ranges (node_at builder.ranges depth) made) node_then result
+    ensures reads { S.is_known → ReadsBy (split_at builder.ranges (node_at builder.ranges depth) made) node_then result
         (S.held source.old) (S.held source.new) }
 {
     let class = small(0, builder.ranges.class, source)?;
@@ -316,7 +316,7 @@ fn cut<S: Source>(
     requires { made ≤ most_nodes }
     ensures counts { IfOk result (λ x. IsBodyRead depth made (bound_tree_of x.0) x.1) }
     ensures failures { S.failures source.new ≡ failed_after result (S.failures source.old) }
-    ensures reads { S.tells → ReadsBy (cut_at builder.ranges (node_at builder.ranges depth) made) node_then result
+    ensures reads { S.is_known → ReadsBy (cut_at builder.ranges (node_at builder.ranges depth) made) node_then result
         (S.held source.old) (S.held source.new) }
 {
     let set = large(1, u16::MAX, source)?;
@@ -344,7 +344,7 @@ fn close<S: Source>(
     requires { made ≤ most_nodes }
     ensures counts { IfOk result (λ x. IsBodyRead depth made (bound_tree_of x.0) x.1) }
     ensures failures { S.failures source.new ≡ failed_after result (S.failures source.old) }
-    ensures reads { S.tells → ReadsBy (close_at (node_at builder.ranges depth) made) node_then result
+    ensures reads { S.is_known → ReadsBy (close_at (node_at builder.ranges depth) made) node_then result
         (S.held source.old) (S.held source.new) }
 {
     let count = small(1, 2, source)?;
@@ -365,7 +365,7 @@ fn row<S: Source>(
     requires some { 1 ≤ count }
     ensures counts { IfOk result (λ x. IsRowRead depth made (bounds_of x.0.items) x.1) }
     ensures failures { S.failures source.new ≡ failed_after result (S.failures source.old) }
-    ensures reads { S.tells →
+    ensures reads { S.is_known →
         ReadsBy (row_at (node_at builder.ranges depth) count made) (λ x rest. (bounds_of x.0.items, x.1, rest)) result
         (S.held source.old) (S.held source.new) }
 {
@@ -386,7 +386,7 @@ fn certificate<S: Source>(alloc: Global, source: &mut S) -> Result<Certificate, 
     ensures deep { IfOk result (λ c. depth_of (bound_tree_of c.tree) ≤ greatest_depth) }
     ensures few { IfOk result (λ c. all_nodes (bound_tree_of c.tree) ≤ most_nodes) }
     ensures failures { S.failures source.new ≡ failed_after result (S.failures source.old) }
-    ensures reads { S.tells → ReadsBy certificate_at (λ c rest. (c.end, c.batches, bound_tree_of c.tree, rest)) result
+    ensures reads { S.is_known → ReadsBy certificate_at (λ c rest. (c.end, c.batches, bound_tree_of c.tree, rest)) result
         (S.held source.old) (S.held source.new) }
 {
     mark(0x50, source)?;
@@ -404,11 +404,11 @@ fn all<S: Source>(alloc: Global, source: &mut S) -> Result<Certificate, Certific
     ensures deep { IfOk result (λ c. depth_of (bound_tree_of c.tree) ≤ greatest_depth) }
     ensures few { IfOk result (λ c. all_nodes (bound_tree_of c.tree) ≤ most_nodes) }
     ensures failures { S.failures source.new ≡ failed_after result (S.failures source.old) }
-    ensures bytes { S.tells → Gives (λ c. (c.end, c.batches, bound_tree_of c.tree)) ⊥ result
+    ensures bytes { S.is_known → Gives (λ c. (c.end, c.batches, bound_tree_of c.tree)) ⊥ result
         (all_of (S.held source.old)) }
-    ensures wanting { S.tells → IsErrOf result CertificateFault.ReadFault
+    ensures wanting { S.is_known → IsErrOf result CertificateFault.ReadFault
         → IsWanting (certificate_at (but_last (length (S.held source.new)) (S.held source.old))) }
-    ensures room { S.tells → IsErrOf result CertificateFault.OutOfMemory
+    ensures room { S.is_known → IsErrOf result CertificateFault.OutOfMemory
         → certificate_at (but_last (length (S.held source.new)) (S.held source.old)) ≡ Err fault.Truncated }
 {
     let certificate = certificate(alloc, source)?;
@@ -427,19 +427,19 @@ pub fn read_certificate<S: Source>(
     reader: &mut S,
 ) -> Result<Certificate, CertificateFault>
     // What is read is what all the bytes are a text of, and what they are a text of is read.
-    ensures found { S.tells → IfOk result (λ c.
+    ensures found { S.is_known → IfOk result (λ c.
         IsText c.end c.batches (bound_tree_of c.tree) (S.held reader.old)) }
-    ensures only { S.tells → (end : End) (batches : ℕ) (tree : BoundTree)
+    ensures only { S.is_known → (end : End) (batches : ℕ) (tree : BoundTree)
         → IsText end batches tree (S.held reader.old) → AnswersTriple result end batches tree }
     // A fault is the first of the bytes, and the first of the bytes is answered.
-    ensures fault { S.tells → IfErr result (λ e. IsFault e (S.held reader.old)) }
-    ensures first { S.tells → (f : CertificateFault)
+    ensures fault { S.is_known → IfErr result (λ e. IsFault e (S.held reader.old)) }
+    ensures first { S.is_known → (f : CertificateFault)
         → HasFirst f (S.held reader.old) → AnswersFault result f }
     // No fault stands in what the reader gave before it failed.
-    ensures in_place { S.tells → IsErrOf result CertificateFault.ReadFault
+    ensures in_place { S.is_known → IsErrOf result CertificateFault.ReadFault
         → HasNoFault (given_before (S.held reader.old) (S.held reader.new)) }
     // Memory is wanting only where a further byte is wanted, and no fault stands before it.
-    ensures room { S.tells → IsErrOf result CertificateFault.OutOfMemory
+    ensures room { S.is_known → IsErrOf result CertificateFault.OutOfMemory
         → HasFirst fault.Truncated (given_before (S.held reader.old) (S.held reader.new)) }
     // What is read is small enough to be read again, also where the reader tells nothing.
     ensures deep { IfOk result (λ c. depth_of (bound_tree_of c.tree) ≤ greatest_depth) }

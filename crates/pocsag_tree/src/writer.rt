@@ -120,7 +120,7 @@ fn measured_row(trees: &[Tree], depth: u32, nodes: u32) -> Option<u32>
 }
 
 fn write_split_head<S: Sink>(class: u8, m: u16, writer: &mut S) -> Result<(), DeviceFault>
-    ensures delivers { S.tells → Delivers result (S.taken writer.old) (S.taken writer.new)
+    ensures delivers { S.is_known → Delivers result (S.taken writer.old) (S.taken writer.new)
         (split_head class m) }
     ensures failures { CountsFailures result (S.failures writer.old) (S.failures writer.new) }
 {
@@ -135,7 +135,7 @@ fn write_cut_head<S: Sink>(
     writer: &mut S,
 ) -> Result<(), DeviceFault>
     requires { children ≤ second_ranges.children }
-    ensures delivers { S.tells → Delivers result (S.taken writer.old) (S.taken writer.new)
+    ensures delivers { S.is_known → Delivers result (S.taken writer.old) (S.taken writer.new)
         (cut_head set needed children) }
     ensures failures { CountsFailures result (S.failures writer.old) (S.failures writer.new) }
 {
@@ -146,7 +146,7 @@ fn write_cut_head<S: Sink>(
 
 fn write_close_head<S: Sink>(children: usize, writer: &mut S) -> Result<(), DeviceFault>
     requires { children ≤ 2 }
-    ensures delivers { S.tells → Delivers result (S.taken writer.old) (S.taken writer.new)
+    ensures delivers { S.is_known → Delivers result (S.taken writer.old) (S.taken writer.new)
         (close_head children) }
     ensures failures { CountsFailures result (S.failures writer.old) (S.failures writer.new) }
 {
@@ -154,7 +154,7 @@ fn write_close_head<S: Sink>(children: usize, writer: &mut S) -> Result<(), Devi
 }
 
 fn write_head<S: Sink>(end: End, batches: u32, writer: &mut S) -> Result<(), DeviceFault>
-    ensures delivers { S.tells → Delivers result (S.taken writer.old) (S.taken writer.new)
+    ensures delivers { S.is_known → Delivers result (S.taken writer.old) (S.taken writer.new)
         (written_head end batches) }
     ensures failures { CountsFailures result (S.failures writer.old) (S.failures writer.new) }
 {
@@ -185,7 +185,7 @@ fn write_head<S: Sink>(end: End, batches: u32, writer: &mut S) -> Result<(), Dev
 #[cycle(written)]
 fn write_node<S: Sink>(tree: &Tree, writer: &mut S) -> Result<(), DeviceFault>
     requires { IsInRange second_ranges (bound_tree_of tree.now) }
-    ensures delivers { S.tells → Delivers result (S.taken writer.old) (S.taken writer.new)
+    ensures delivers { S.is_known → Delivers result (S.taken writer.old) (S.taken writer.new)
         (node (bound_tree_of tree.now)) }
     ensures failures { CountsFailures result (S.failures writer.old) (S.failures writer.new) }
 {
@@ -223,7 +223,7 @@ fn write_node<S: Sink>(tree: &Tree, writer: &mut S) -> Result<(), DeviceFault>
 #[cycle(written)]
 fn write_row<S: Sink>(trees: &[Tree], writer: &mut S) -> Result<(), DeviceFault>
     requires { AreInRange second_ranges (bounds_of trees.now) }
-    ensures delivers { S.tells → Delivers result (S.taken writer.old) (S.taken writer.new)
+    ensures delivers { S.is_known → Delivers result (S.taken writer.old) (S.taken writer.new)
         (row (bounds_of trees.now)) }
     ensures failures { CountsFailures result (S.failures writer.old) (S.failures writer.new) }
 {
@@ -242,7 +242,7 @@ pub fn write_text<S: Sink>(
     writer: &mut S,
 ) -> Result<(), DeviceFault>
     requires { HasText second_ranges batches (bound_tree_of tree.now) }
-    ensures delivers { S.tells → Delivers result (S.taken writer.old) (S.taken writer.new)
+    ensures delivers { S.is_known → Delivers result (S.taken writer.old) (S.taken writer.new)
         (written_text end batches (bound_tree_of tree.now)) }
     ensures failures { CountsFailures result (S.failures writer.old) (S.failures writer.new) }
 {
@@ -279,7 +279,7 @@ pub fn write_certificate<S: Sink>(
         → HasText second_ranges batches (bound_tree_of tree.now) }
     ensures untouched { IsErrOf result TreeWriteFault.BadTree → writer.new ≡ writer.old }
     // The text is written whole, or a prefix of it where the writer failed.
-    ensures delivers { S.tells → Delivers result (S.taken writer.old) (S.taken writer.new)
+    ensures delivers { S.is_known → Delivers result (S.taken writer.old) (S.taken writer.new)
         (written_text end batches (bound_tree_of tree.now)) }
     ensures succeeded { ¬ IsErrOf result TreeWriteFault.WriteFault
         → S.failures writer.new ≡ S.failures writer.old }

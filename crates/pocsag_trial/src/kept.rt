@@ -26,7 +26,7 @@ impl Kept {
 impl Sink for Kept {
     ghost use Rattle.std.specs.Prelude.{[]};
 
-    ghost tells = { ⊥ };
+    ghost is_known = { ⊥ };
 
     ghost taken = { λ _. [] };
 

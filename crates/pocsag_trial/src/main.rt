@@ -111,7 +111,7 @@ const TRIALS: [Trial; 58] = [
     Trial::Search(Search::FreelyFourPages),
     Trial::Search(Search::FreelyEightPages),
     Trial::Search(Search::FreelyToOneNode),
-    Trial::Search(Search::Near),
+    Trial::Search(Search::FallbackPlan),
     Trial::Planning(Planning::PlanTight),
     Trial::Planning(Planning::PlanFourPages),
     Trial::Planning(Planning::AlwaysFourPages),

@@ -3,7 +3,7 @@ ghost use Rattle.pocsag_branch.specs.Found.{IsNodeLimit};
 
 use crate::line::Line;
 use crate::pages::show_no_round;
-use pocsag_branch::{Found, FreeFault, Near, SearchFault, near, search, search_freely};
+use pocsag_branch::{FallbackPlan, Found, FreeFault, SearchFault, fallback, search, search_freely};
 use pocsag_check::{check, check_open};
 use pocsag_core_cases::{THREE_PAGES_TIGHT, has_page, round_of};
 use pocsag_pages::Round;
@@ -24,7 +24,7 @@ pub enum Search {
     FreelyFourPages,
     FreelyEightPages,
     FreelyToOneNode,
-    Near,
+    FallbackPlan,
 }
 
 const LIMIT: u32 = 100_000;
@@ -58,7 +58,7 @@ pub fn name_of(search: Search) -> &'static str {
         Search::FreelyFourPages => "search_freely of four pages",
         Search::FreelyEightPages => "search_freely of eight pages",
         Search::FreelyToOneNode => "search_freely of loops-apart to 1 node",
-        Search::Near => "near of loops-apart",
+        Search::FallbackPlan => "near of loops-apart",
     }
 }
 
@@ -73,7 +73,7 @@ pub fn run(alloc: Global, search: Search, line: &mut Line) -> Result<(), OutOfMe
         Search::FreelyFourPages => show_free_search(alloc, &FOUR_PAGES, LIMIT, line),
         Search::FreelyEightPages => show_free_search(alloc, &EIGHT_PAGES, LIMIT, line),
         Search::FreelyToOneNode => show_free_search(alloc, &LOOPS_APART, 1, line),
-        Search::Near => show_near(alloc, &LOOPS_APART, line),
+        Search::FallbackPlan => show_near(alloc, &LOOPS_APART, line),
     }
 }
 
@@ -130,11 +130,11 @@ fn show_search(
 
 // The fewest batches that are shown, how many steps and nodes there are, and whether the checker accepts the
 // tree for them.
-fn put_near(round: &Round, near: &Near, line: &mut Line) {
-    line.put(near.least);
-    line.put(near.steps.len());
-    line.put(nodes(&near.tree));
-    line.put(check(round, near.least, &near.tree, End::Open));
+fn put_near(round: &Round, fallback: &FallbackPlan, line: &mut Line) {
+    line.put(fallback.least);
+    line.put(fallback.steps.len());
+    line.put(nodes(&fallback.tree));
+    line.put(check(round, fallback.least, &fallback.tree, End::Open));
 }
 
 /// What the free search answers for the round, with the open end.
@@ -153,9 +153,9 @@ pub fn put_free_search(
     }
     match search_freely(alloc, &classes, limit, End::Open) {
         Ok(found) => put_found(round, &found, End::Open, line),
-        Err(FreeFault::SearchLimit { near, stop }) => {
+        Err(FreeFault::SearchLimit { fallback, stop }) => {
             line.put("near");
-            put_near(round, &near, line);
+            put_near(round, &fallback, line);
             line.put(nodes(&stop.tree));
             line.put(check_open(round, stop.found, &stop.tree, End::Open));
         }
@@ -188,8 +188,8 @@ fn show_near(alloc: Global, pages: &[(u32, usize)], line: &mut Line) -> Result<(
         line.put("no pages");
         return Ok(());
     }
-    match near(alloc, &classes, End::Open) {
-        Ok(near) => put_near(&round, &near, line),
+    match fallback(alloc, &classes, End::Open) {
+        Ok(fallback) => put_near(&round, &fallback, line),
         Err(_) => return Err(OutOfMemory),
     }
     Ok(())

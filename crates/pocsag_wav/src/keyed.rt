@@ -1,4 +1,4 @@
-use pocsag_pages::leading_len;
+use pocsag_pages::preamble_len;
 use pocsag_words::PREAMBLE_BYTE;
 use std::marker::Model;
 
@@ -34,7 +34,7 @@ impl<'a> Keyed<'a> {
     pub(crate) fn new(preamble: Option<u32>, bytes: &'a [u8]) -> Keyed<'a>
         ensures { result ≡ keyed_bytes preamble bytes.now }
     {
-        let own = leading_len(bytes);
+        let own = preamble_len(bytes);
         let (_, batches) = bytes.split_at(own);
         let preamble = match preamble {
             Some(bits) => bits as usize / 8,

@@ -62,9 +62,9 @@ fn header(a_second: u32, count: u32) -> [[u8; 4]; 11]
 // Writes the piece if it has no room for another sample.
 fn spill<O: Sink>(piece: &mut ArrayVec<u8, PIECE>, out: &mut O) -> Result<(), DeviceFault>
     ensures room { OnOk result (array_vec_len piece.new ≤ 8190) }
-    ensures same { O.tells → OnOk result (O.taken out.new ++ piece.new.items ≡ O.taken out.old ++ piece.old.items) }
-    ensures grown { O.tells → OnOk result (length (O.taken out.old) ≤ length (O.taken out.new)) }
-    ensures part { O.tells → OnErr result (TookPrefix (O.taken out.old) (O.taken out.new) piece.old.items) }
+    ensures same { O.is_known → OnOk result (O.taken out.new ++ piece.new.items ≡ O.taken out.old ++ piece.old.items) }
+    ensures grown { O.is_known → OnOk result (length (O.taken out.old) ≤ length (O.taken out.new)) }
+    ensures part { O.is_known → OnErr result (TookPrefix (O.taken out.old) (O.taken out.new) piece.old.items) }
     ensures failures { CountsFailures result (O.failures out.old) (O.failures out.new) }
 {
     if piece.len() > PIECE - 2 {
@@ -81,7 +81,7 @@ fn put_samples<O: Sink>(
     count: u32,
     out: &mut O,
 ) -> Result<(), DeviceFault>
-    ensures delivers { O.tells → Delivers result (O.taken out.old) (O.taken out.new)
+    ensures delivers { O.is_known → Delivers result (O.taken out.old) (O.taken out.new)
         (flat_map sample_bytes (samples_of keying keyed.now count)) }
     ensures failures { CountsFailures result (O.failures out.old) (O.failures out.new) }
 {
@@ -99,8 +99,8 @@ fn put_samples<O: Sink>(
 /// Writes the sound of the bytes of a transmission as a WAV file. Its length is known before the first byte is written, and no
 /// more than a piece of it is held. Nothing is written before the bytes are judged; after `WriteFault` a prefix was.
 pub fn write_wav<O: Sink>(keying: Keying, bytes: &[u8], out: &mut O) -> Result<(), NoSound>
-    ensures sounded { O.tells → OnOk result (Sounded keying bytes.now (O.taken out.old) (O.taken out.new)) }
-    ensures part { O.tells → IsErrOf result NoSound.WriteFault →
+    ensures sounded { O.is_known → OnOk result (Sounded keying bytes.now (O.taken out.old) (O.taken out.new)) }
+    ensures part { O.is_known → IsErrOf result NoSound.WriteFault →
         SoundedPart keying bytes.now (O.taken out.old) (O.taken out.new) }
     ensures explained { IfErr result (ExplainsWav keying bytes.now) }
     ensures untouched { IfErr result (λ e. e ≢ NoSound.WriteFault → out.new ≡ out.old) }

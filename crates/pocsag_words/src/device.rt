@@ -12,7 +12,7 @@ pub struct DeviceFault;
 /// is 0 for a non-empty buffer only at the end.
 pub trait Source {
     // Whether contracts know the bytes.
-    ghost tells: { Type 0 };
+    ghost is_known: { Type 0 };
 
     // The bytes that are still held, up to the end.
     ghost held: { Self → List ℕ };
@@ -24,9 +24,9 @@ pub trait Source {
 
     fn read(&mut self, buffer: &mut [u8]) -> Result<usize, DeviceFault>
         ensures within { IfOk result (λ n. n ≤ length buffer.old) }
-        ensures moved { tells → IfOk result (λ n. held self.old ≡ take n buffer.new ++ held self.new) }
-        ensures end { tells → IfOk result (λ n. n ≡ 0 → 0 < length buffer.old → held self.old ≡ []) }
-        ensures kept { tells → OnErr result (held self.new ≡ held self.old) }
+        ensures moved { is_known → IfOk result (λ n. held self.old ≡ take n buffer.new ++ held self.new) }
+        ensures end { is_known → IfOk result (λ n. n ≡ 0 → 0 < length buffer.old → held self.old ≡ []) }
+        ensures kept { is_known → OnErr result (held self.new ≡ held self.old) }
         ensures called { calls self.new ≡ one_more (calls self.old) }
         ensures succeeded { OnOk result (failures self.new ≡ failures self.old) }
         ensures failed { OnErr result (failures self.new ≡ one_more (failures self.old)) };
@@ -34,7 +34,7 @@ pub trait Source {
     /// The bytes that are held, where all of them are in memory and no call fails before their end. Whoever takes them in
     /// place of reads says so by `release`.
     fn lent(&self) -> Option<&[u8]>
-        ensures lent { tells → IfSome result (λ bytes. bytes.now ≡ held self.now) }
+        ensures lent { is_known → IfSome result (λ bytes. bytes.now ≡ held self.now) }
     {
         None
     }
@@ -50,7 +50,7 @@ pub trait Source {
 /// and answers how many.
 pub trait Sink {
     // Whether contracts know the bytes.
-    ghost tells: { Type 0 };
+    ghost is_known: { Type 0 };
 
     // The bytes that were taken.
     ghost taken: { Self → List ℕ };
@@ -63,8 +63,8 @@ pub trait Sink {
     fn write(&mut self, piece: &[u8]) -> Result<usize, DeviceFault>
         ensures within { IfOk result (λ n. n ≤ length piece.now) }
         ensures some { IfOk result (λ n. 0 < length piece.now → 0 < n) }
-        ensures moved { tells → IfOk result (λ n. taken self.new ≡ taken self.old ++ take n piece.now) }
-        ensures kept { tells → OnErr result (taken self.new ≡ taken self.old) }
+        ensures moved { is_known → IfOk result (λ n. taken self.new ≡ taken self.old ++ take n piece.now) }
+        ensures kept { is_known → OnErr result (taken self.new ≡ taken self.old) }
         ensures called { calls self.new ≡ one_more (calls self.old) }
         ensures succeeded { OnOk result (failures self.new ≡ failures self.old) }
         ensures failed { OnErr result (failures self.new ≡ one_more (failures self.old)) };
@@ -73,7 +73,7 @@ pub trait Sink {
 /// Writes the bytes whole, by as many single writes as it takes. After a fault a prefix of them was
 /// taken.
 pub fn write_all<S: Sink>(sink: &mut S, bytes: &[u8]) -> Result<(), DeviceFault>
-    ensures delivers { S.tells → Delivers result (S.taken sink.old) (S.taken sink.new) bytes.now }
+    ensures delivers { S.is_known → Delivers result (S.taken sink.old) (S.taken sink.new) bytes.now }
 
     // No call of the writer is without a byte to write.
     ensures calls { CallsPerByte (S.calls sink.old) (S.calls sink.new) bytes.now }

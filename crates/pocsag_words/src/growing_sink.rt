@@ -37,7 +37,7 @@ impl GrowingSink {
 impl Sink for GrowingSink {
     ghost use Rattle.pocsag_words.specs.GrowingSink.{growing_calls, growing_failures, kept_by};
 
-    ghost tells = { Unit {0} };
+    ghost is_known = { Unit {0} };
 
     ghost taken = { kept_by };
 

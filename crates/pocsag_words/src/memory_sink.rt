@@ -52,7 +52,7 @@ impl<const N: usize> Sink for MemorySink<N> {
     ghost use Rattle.pocsag_words.specs.Devices.{one_more};
     ghost use Rattle.pocsag_words.specs.MemorySink.{taken_of, sink_calls, sink_failures, sink_step, sink_left};
 
-    ghost tells = { Unit {0} };
+    ghost is_known = { Unit {0} };
 
     ghost taken = { taken_of };
 

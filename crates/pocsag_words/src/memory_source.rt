@@ -42,7 +42,7 @@ impl<'a> Source for MemorySource<'a> {
     ghost use Rattle.pocsag_words.specs.Devices.{one_more};
     ghost use Rattle.pocsag_words.specs.MemorySource.{held_of, source_calls, source_failures, source_step, source_left};
 
-    ghost tells = { Unit {0} };
+    ghost is_known = { Unit {0} };
 
     ghost held = { held_of };
 

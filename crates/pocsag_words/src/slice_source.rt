@@ -26,7 +26,7 @@ impl<'a> SliceSource<'a> {
 impl<'a> Source for SliceSource<'a> {
     ghost use Rattle.pocsag_words.specs.SliceSource.{rest_of, slice_calls};
 
-    ghost tells = { Unit {0} };
+    ghost is_known = { Unit {0} };
 
     ghost held = { rest_of };
 

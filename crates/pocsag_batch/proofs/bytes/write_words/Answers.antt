@@ -8,7 +8,7 @@ pub loop-word-init : goal.loop-word-init
 loop-word-init g c = (
   rw (c.into_iter-word-iterator.ensures.into_iter_gives) c.requires.can,
   rw (c.into_iter-word-iterator.ensures.into_iter_gives) c.requires.ends,
-  sent_first g.S.Sink.tells (g.S.Sink.taken c.args.sink.now) c.new-piece.result c.new-piece.ensures,
+  sent_first g.S.Sink.is_known (g.S.Sink.taken c.args.sink.now) c.new-piece.result c.new-piece.ensures,
   refl,
   All-nil IsCodeword,
   called_first (g.S.Sink.calls c.args.sink.now) c.new-piece.result c.new-piece.ensures,
@@ -21,7 +21,7 @@ loop-word-preserved g c =
     let goes = c.in-Some.ensures.goes.on c.loop-word.invariant.1 in (
       goes.0,
       goes.1,
-      sent_more g.S.Sink.tells (g.S.Sink.taken c.args.sink.now)
+      sent_more g.S.Sink.is_known (g.S.Sink.taken c.args.sink.now)
           (g.S.Sink.taken c.loop-word.sink) c.loop-word.piece came c.loop-word.slot c.in-Some.word
           (g.S.Sink.taken c.put_word.new.sink) c.put_word.new.piece c.loop-word.invariant.3 c.loop-word.invariant.2
           (λ t. c.in_ok-put_word.ensures.grown t) (λ t. c.in_ok-put_word.ensures.same t),

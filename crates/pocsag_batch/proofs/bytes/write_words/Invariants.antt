@@ -6,6 +6,6 @@ use Rattle.pocsag_batch.proofs.bytes.write_words.Given as goal
 abbrev pub invariant-loop-word : goal.invariant-loop-word
 invariant-loop-word g l =
     (goal.iterator-loop-word g).can_next l.word-iterator × (goal.iterator-loop-word g).is_finite l.word-iterator
-    × IsSent g.S.Sink.tells (g.S.Sink.taken l.fn.sink) (g.S.Sink.taken l.sink) l.piece l.yielded
+    × IsSent g.S.Sink.is_known (g.S.Sink.taken l.fn.sink) (g.S.Sink.taken l.sink) l.piece l.yielded
     × (l.slot ≡ length l.yielded % 16) × All IsCodeword l.yielded × (g.S.Sink.calls l.sink + length l.piece ≤ g.S.Sink.calls l.fn.sink + length (bytes_of l.yielded))
     × (g.S.Sink.failures l.sink ≡ g.S.Sink.failures l.fn.sink)

@@ -1,29 +1,29 @@
 use Rattle.std.proofs.Common.{◌∙◌, ℕ, Bool, true, false, List, subst, sym, inl, inr}
-use Rattle.pocsag_findings.specs.Beginnings.{TellsVerdict}
+use Rattle.pocsag_findings.specs.Beginnings.{GivesVerdict}
 use Rattle.pocsag_c.specs.Explain.{IsTextOfVerdict, IsVerdictText}
 use Rattle.pocsag_c.specs.declared.check.CheckInfo.{CheckInfo}
 use Rattle.pocsag_c.proofs.explain.pocsag_explain.Goals as goal
 
 either : (form depth : ℕ) (info : CheckInfo) (is_shown : Bool) (text : List ℕ) → IsVerdictText form depth info is_shown text →
     IsTextOfVerdict form depth info text
-either form depth info true text tells = inl tells
-either form depth info false text tells = inr tells
+either form depth info true text is_known = inl is_known
+either form depth info false text is_known = inr is_known
 
 pub returns-in-Ok-explanation-clause-no_room : goal.returns-in-Ok-explanation-clause-no_room
 returns-in-Ok-explanation-clause-no_room c = λ _.
     let verdict = c.in-Ok.verdict in
-    let telling = c.in-Some.telling in
+    let format = c.in-Some.format in
     let bytes = c.as_bytes.result.now in
     record {
       text = bytes;
       is = either c.args.form c.args.depth verdict.info verdict.is_shown bytes
           (record {
-            telling = telling;
+            format = format;
             same_form = c.in-Some.ensures.form;
             end = verdict.certificate.end;
             same_end = c.in-Ok.ensures.end;
-            tells = subst (λ (n : ℕ). TellsVerdict telling verdict.is_shown verdict.certificate.end n bytes) (sym c.in-Ok.ensures.batches)
-                (subst (TellsVerdict telling verdict.is_shown verdict.certificate.end verdict.certificate.batches)
+            is_known = subst (λ (n : ℕ). GivesVerdict format verdict.is_shown verdict.certificate.end n bytes) (sym c.in-Ok.ensures.batches)
+                (subst (GivesVerdict format verdict.is_shown verdict.certificate.end verdict.certificate.batches)
                 (sym (c.as_bytes.ensures.value ∙ c.as_str.ensures.value)) c.in-Ok-explanation.ensures.told);
           });
       too_small = c.hand_out.ensures.too_small (λ yes. cc);

@@ -1,5 +1,5 @@
 use Rattle.std.proofs.Common.{inl, inr, refl, subst}
-use Rattle.pocsag_plan.specs.declared.search.Effort.{Effort}
+use Rattle.pocsag_plan.specs.declared.search.OnLimit.{OnLimit}
 use Rattle.pocsag_c.specs.Answers.{IsNoEnd}
 use Rattle.pocsag_c.specs.Fronts.{IsTextOfWhy}
 use Rattle.pocsag_c.proofs.Fronts.{front_is, given, is_an_end}
@@ -28,9 +28,9 @@ returns-in-Ok-clause-why c = λ done.
       end = c.in-Some.end;
       same_end = c.in-Some.ensures;
       of_why = subst
-          (λ (effort : Effort). IsTextOfWhy (record { limit = c.args.limit; end = c.in-Some.end; effort = effort }) c.args.pages.now c.args.batches
+          (λ (on_limit : OnLimit). IsTextOfWhy (record { limit = c.args.limit; end = c.in-Some.end; on_limit = on_limit }) c.args.pages.now c.args.batches
           c.in-Ok.front.first.bounded.plan.pages c.in-Ok.front.why.items c.in-Ok.front.beyond)
-          c.effort_of-effort.ensures.value c.in-Ok.ensures.why;
+          c.on_limit_of-on_limit.ensures.value c.in-Ok.ensures.why;
     }) (c.hand_out_front.ensures.why done)
 
 pub returns-in-Ok-clause-bad_end : goal.returns-in-Ok-clause-bad_end

@@ -8,9 +8,9 @@ pub returns-in-Err-clause-of_bytes : goal.returns-in-Err-clause-of_bytes
 returns-in-Err-clause-of_bytes c =
     c.refused_hearing.ensures.of_bytes (never_failed c.args.address c.args.tx.now c.in-Err.fault c.in-Err.ensures.err)
 
-pub returns-in-Err-list_spent-clause-fault : goal.returns-in-Err-list_spent-clause-fault
-returns-in-Err-list_spent-clause-fault c =
-    let refused = c.refused_hearing-in-Err-list_spent.ensures.value in
+pub returns-in-Err-list_owned-clause-fault : goal.returns-in-Err-list_owned-clause-fault
+returns-in-Err-list_owned-clause-fault c =
+    let refused = c.refused_hearing-in-Err-list_owned.ensures.value in
     record {
       fault = hearing.OutOfMemory;
       why = inr (c.in-Ok.ensures.ok, refl);

@@ -11,5 +11,5 @@ pub returns : goal.returns
 returns c =
     let same = c.in_ok-put_lift.ensures.same in
     lifts_all c.args.capture.now _ c.in_ok-bytes.bytes.items c.put_lift.new.bytes.items c.in_ok-put_lift.field-0 c.args.found.now c.in_ok-bytes.ensures
-    (ap (λ (r : Reception). r.words) same) (ap (λ (r : Reception). r.batches) same) c.in_ok-put_lift.ensures.lifted
+    (ap (λ (r : Reception). r.words) same) (ap (λ (r : Reception). r.batches) same) c.in_ok-put_lift.ensures.extracted
     c.in_ok-heard.ensures c.requires.found

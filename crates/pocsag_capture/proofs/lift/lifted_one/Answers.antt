@@ -6,5 +6,5 @@ returns c = (
   c.in_ok-heard.heard,
   c.in_ok-from_slice.ensures.items,
   lifts_reception c.args.capture.now c.args.reception c.in_ok-bytes.bytes.items c.put_lift.new.bytes.items c.in_ok-heard.heard c.in_ok-bytes.ensures
-      c.requires.some c.in_ok-heard.ensures.same c.in_ok-heard.ensures.lifted,
+      c.requires.some c.in_ok-heard.ensures.same c.in_ok-heard.ensures.extracted,
 )

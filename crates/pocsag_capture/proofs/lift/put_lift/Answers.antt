@@ -25,7 +25,7 @@ loop-place-preserved c =
     let here : length (first_words bits r place) % 17 ≡ place % 17 = ap (λ (n : ℕ). n % 17) long in
     subst (λ (l : List ℕ). IsSettling l c.take-word.new.self c.args.bytes.now.items c.extend_from_slice.new.self.items)
     (ap (λ (w : ℕ). first_words bits r place ++ w ∷ []) c.received_word.ensures ∙ sym (first_more bits r place))
-    (settling_more (first_words bits r place) c.loop-place.settler c.take-word.new.self c.args.bytes.now.items c.loop-place.bytes.items
+    (settling_more (first_words bits r place) c.loop-place.corrector c.take-word.new.self c.args.bytes.now.items c.loop-place.bytes.items
     c.extend_from_slice.new.self.items c.received_word.result c.loop-place.invariant c.take-word.result
     (λ e. c.take-word.ensures.sync (sym here ∙ e))
     (λ e. c.take-word.ensures.sync_bits (sym here ∙ e))
@@ -39,12 +39,12 @@ pub overflow_add-cut : goal.overflow_add-cut
 overflow_add-cut c =
     omega (arith, c.loop-place.invariant.few_cuts, first_long (capture_bits c.args.capture.now) c.args.reception c.loop-place.place)
 
-pub returns-then-settler-clause-lifted : goal.returns-then-settler-clause-lifted
-returns-then-settler-clause-lifted c =
-    lift_all_words (capture_bits c.args.capture.now) _ c.loop-place.settler c.args.bytes.now.items c.loop-place.bytes.items c.loop-place.place
-    (omega arith) refl refl (rw c.if-settler.true refl) c.loop-place.invariant
+pub returns-then-corrector-clause-extracted : goal.returns-then-corrector-clause-extracted
+returns-then-corrector-clause-extracted c =
+    lift_all_words (capture_bits c.args.capture.now) _ c.loop-place.corrector c.args.bytes.now.items c.loop-place.bytes.items c.loop-place.place
+    (omega arith) refl refl (rw c.if-corrector.true refl) c.loop-place.invariant
 
-pub returns-else-settler-clause-lifted : goal.returns-else-settler-clause-lifted
-returns-else-settler-clause-lifted c =
-    lift_all_words (capture_bits c.args.capture.now) _ c.loop-place.settler c.args.bytes.now.items c.loop-place.bytes.items c.loop-place.place
-    (omega arith) refl refl (rw c.if-settler.false (omega arith)) c.loop-place.invariant
+pub returns-else-corrector-clause-extracted : goal.returns-else-corrector-clause-extracted
+returns-else-corrector-clause-extracted c =
+    lift_all_words (capture_bits c.args.capture.now) _ c.loop-place.corrector c.args.bytes.now.items c.loop-place.bytes.items c.loop-place.place
+    (omega arith) refl refl (rw c.if-corrector.false (omega arith)) c.loop-place.invariant

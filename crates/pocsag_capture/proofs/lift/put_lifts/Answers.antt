@@ -7,5 +7,5 @@ use Rattle.pocsag_capture.proofs.lift.put_lifts.Goals as goal
 pub loop-reception-preserved : goal.loop-reception-preserved
 loop-reception-preserved c =
     lifts_more (capture_bits c.args.capture.now) _ _ _ c.push.new.self.items c.in_ok-put_lift.field-0 c.args.bytes.now.items c.loop-reception.bytes.items
-    c.put_lift.new.bytes.items c.loop-reception.invariant c.in_ok-put_lift.ensures.lifted c.in_ok-push.ensures.items
+    c.put_lift.new.bytes.items c.loop-reception.invariant c.in_ok-put_lift.ensures.extracted c.in_ok-push.ensures.items
     (rw c.in_ok-put_lift.ensures.same (search (rules, take_more)))

@@ -1,6 +1,6 @@
 use Rattle.std.proofs.Common.{take}
 use Rattle.pocsag_capture.specs.Bits.{capture_bits}
-use Rattle.pocsag_capture.specs.LiftedBytes.{PutsLifts}
+use Rattle.pocsag_capture.specs.ExtractedBytes.{PutsLifts}
 use Rattle.pocsag_capture.proofs.lift.put_lifts.Given as goal
 
 abbrev pub invariant-loop-reception : goal.invariant-loop-reception

@@ -1,7 +1,7 @@
 use Rattle.pocsag_centre.proofs.Plans.{told_plan, where_none}
 use Rattle.pocsag_centre.proofs.plan.run_input.Goals as goal
 
-pub returns-in-Ok-tell_plan-clause-told : goal.returns-in-Ok-tell_plan-clause-told
-returns-in-Ok-tell_plan-clause-told g c = λ t u.
+pub returns-in-Ok-print_plan-clause-printed : goal.returns-in-Ok-print_plan-clause-printed
+returns-in-Ok-print_plan-clause-printed g c = λ t u.
     where_none _ _
-    (told_plan _ c.in-Ok.found.round c.in-Ok.found.bounded (c.in-Ok.ensures.read t) c.in-Ok.ensures.plan _ _ (c.in-Ok-tell_plan.ensures.told u))
+    (told_plan _ c.in-Ok.found.round c.in-Ok.found.bounded (c.in-Ok.ensures.read t) c.in-Ok.ensures.plan _ _ (c.in-Ok-print_plan.ensures.printed u))

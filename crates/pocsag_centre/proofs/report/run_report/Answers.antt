@@ -6,14 +6,14 @@ use Rattle.pocsag_centre.specs.declared.frames.FrameRoom.{FrameRoom}
 use Rattle.pocsag_centre.specs.Frames.{frame_text}
 use Rattle.pocsag_centre.specs.Lines.{below_text}
 use Rattle.pocsag_centre.specs.Commands.{Reported}
-use Rattle.pocsag_centre.specs.FramesTold.{ReportedFrames}
+use Rattle.pocsag_centre.specs.FramesPrinted.{ReportedFrames}
 use Rattle.pocsag_centre.specs.Reports.{ExplainsReporting}
 use Rattle.pocsag_centre.specs.declared.fault.CentreFault.TheVariants as fault
 use Rattle.pocsag_centre.proofs.Plans.{where_none}
 use Rattle.pocsag_centre.proofs.report.run_report.Goals as goal
 
-pub returns-in-Ok-tell_frames-clause-told : goal.returns-in-Ok-tell_frames-clause-told
-returns-in-Ok-tell_frames-clause-told g c = λ t u no.
+pub returns-in-Ok-print_frames-clause-printed : goal.returns-in-Ok-print_frames-clause-printed
+returns-in-Ok-print_frames-clause-printed g c = λ t u no.
     let found = c.in-Ok.found in
     let report = c.in-Ok-report.report in
     let none = c.as_slice.ensures.value ∙ c.in-Ok-rooms_asked.ensures.none no in
@@ -26,13 +26,13 @@ returns-in-Ok-tell_frames-clause-told g c = λ t u no.
         same_bound = refl;
         report_of = c.in-Ok-report.ensures.report;
       };
-      told = c.in-Ok-tell_frames.ensures.told u
+      printed = c.in-Ok-print_frames.ensures.printed u
           ∙ ap (λ (rooms : List FrameRoom). g.O.Sink.taken c.args.out.now ++ report_text report ++ below_text report.batches found.bounded.bound ++ flat_map frame_text rooms) none
           ∙ append-nil (g.O.Sink.taken c.args.out.now ++ report_text report ++ below_text report.batches found.bounded.bound);
     })
 
-pub returns-in-Ok-tell_frames-clause-told_frames : goal.returns-in-Ok-tell_frames-clause-told_frames
-returns-in-Ok-tell_frames-clause-told_frames g c = λ t u yes.
+pub returns-in-Ok-print_frames-clause-told_frames : goal.returns-in-Ok-print_frames-clause-told_frames
+returns-in-Ok-print_frames-clause-told_frames g c = λ t u yes.
     let found = c.in-Ok.found in
     let report = c.in-Ok-report.report in
     where_none _ (ReportedFrames (g.P.Source.held c.args.pages.now) c.args.asked.search c.args.asked.rate (g.O.Sink.taken c.args.out.now) _)
@@ -45,7 +45,7 @@ returns-in-Ok-tell_frames-clause-told_frames g c = λ t u yes.
       report_of = c.in-Ok-report.ensures.report;
       rooms = c.in-Ok-rooms_asked.rooms.items;
       rooms_of = c.in-Ok-rooms_asked.ensures.all yes;
-      told = c.in-Ok-tell_frames.ensures.told u
+      printed = c.in-Ok-print_frames.ensures.printed u
           ∙ ap (λ (rooms : List FrameRoom). g.O.Sink.taken c.args.out.now ++ report_text report ++ below_text report.batches found.bounded.bound ++ flat_map frame_text rooms)
           c.as_slice.ensures.value;
     })

@@ -19,7 +19,7 @@ pub returns-then-eq : goal.returns-then-eq
 returns-then-eq c =
     let same : words_of c.args.batch.now ≡ sync_word ∷ replicate 16 idle_word =
     ap words_of ((bytes_eq-Decides _ _).0 (sym c.if-eq.ensures) ∙ c.as_slice.ensures) in
-    subst (JudgesMore (Ok false) c.args.place c.args.may) (sym same) (fine_idles c.args.place c.args.may c.requires.first)
+    subst (JudgesMore (Ok false) c.args.place c.args.in_page) (sym same) (fine_idles c.args.place c.args.in_page c.requires.first)
 
 pub judge_kinds-requires-clause-codewords : goal.judge_kinds-requires-clause-codewords
 judge_kinds-requires-clause-codewords c = λ k d h.
@@ -39,5 +39,5 @@ returns c =
     let rest : take 16 (drop 1 words) ≡ drop 1 words = take_all 16 (drop 1 words) (omega (arith, length-drop 1 words)) in
     let all : words_of batch ≡ get_or words 0 0 ∷ take 16 (drop 1 words) =
     sym is ∙ drop_more words 0 0 (omega arith) ∙ ap (λ (l : List ℕ). get_or words 0 0 ∷ l) (sym rest) in
-    fine_after_sync c.args.place c.args.may (get_or words 0 0) (take 16 (drop 1 words)) (words_of batch) c.judge_kinds.result
+    fine_after_sync c.args.place c.args.in_page (get_or words 0 0) (take 16 (drop 1 words)) (words_of batch) c.judge_kinds.result
     c.requires.first c.if-words-ne-SYNC_WORD.false all c.judge_kinds.ensures

@@ -9,20 +9,20 @@ use Rattle.pocsag_decode.proofs.judge.judge_batches.Goals as goal
 pub loop-i-init : goal.loop-i-init
 loop-i-init c = none_fine
 
-pub returns-in_err-may : goal.returns-in_err-may
-returns-in_err-may c =
+pub returns-in_err-in_page : goal.returns-in_err-in_page
+returns-in_err-in_page c =
     let loop = c.loop-i in
     let bytes = c.args.bytes.now in
     let p = err_from_is_err_and c.from_residual.result c.from_residual.ensures.1 in
     let within : 68 * loop.i + 68 ≤ length bytes = omega arith in
-    rw (p.1, p.2) (next_judged loop.i loop.may bytes (Err c.in_err-may.field-0.0) within loop.invariant c.in_err-may.ensures)
+    rw (p.1, p.2) (next_judged loop.i loop.in_page bytes (Err c.in_err-in_page.field-0.0) within loop.invariant c.in_err-in_page.ensures)
 
 pub loop-i-preserved : goal.loop-i-preserved
 loop-i-preserved c =
     let loop = c.loop-i in
     let bytes = c.args.bytes.now in
     let within : 68 * loop.i + 68 ≤ length bytes = omega arith in
-    next_judged loop.i loop.may bytes (Ok c.in_ok-may.may) within loop.invariant c.in_ok-may.ensures
+    next_judged loop.i loop.in_page bytes (Ok c.in_ok-in_page.in_page) within loop.invariant c.in_ok-in_page.ensures
 
 -- what is behind the whole batches
 tail_is : (at : ℕ) (bytes : List ℕ) → take (length bytes - at) (drop at bytes) ≡ drop at bytes
@@ -37,9 +37,9 @@ returns-in_err-judge_words c =
     let p = err_from_is_err_and c.from_residual-in_err-judge_words.result c.from_residual-in_err-judge_words.ensures.1 in
     let f = c.in_err-judge_words.field-0.0 in
     rw (p.1, p.2)
-    (last_judged n loop.may bytes (Err f) (omega arith)
-    (subst (λ (k : ℕ). AreFine (17 * k) loop.may (words_of (take (68 * k) bytes))) is loop.invariant)
-    (subst (λ (l : List ℕ). JudgesMore (Err f) (17 * n) loop.may (words_of l)) (tail_is (68 * n) bytes) c.in_err-judge_words.ensures))
+    (last_judged n loop.in_page bytes (Err f) (omega arith)
+    (subst (λ (k : ℕ). AreFine (17 * k) loop.in_page (words_of (take (68 * k) bytes))) is loop.invariant)
+    (subst (λ (l : List ℕ). JudgesMore (Err f) (17 * n) loop.in_page (words_of l)) (tail_is (68 * n) bytes) c.in_err-judge_words.ensures))
 
 pub returns : goal.returns
 returns c =
@@ -47,7 +47,7 @@ returns c =
     let bytes = c.args.bytes.now in
     let n = length bytes / 68 in
     let is : loop.i ≡ n = omega arith in
-    last_judged n loop.may bytes (Ok c.in_ok-judge_words.field-0) (omega arith)
-    (subst (λ (k : ℕ). AreFine (17 * k) loop.may (words_of (take (68 * k) bytes))) is loop.invariant)
-    (subst (λ (l : List ℕ). JudgesMore (Ok c.in_ok-judge_words.field-0) (17 * n) loop.may (words_of l)) (tail_is (68 * n) bytes)
+    last_judged n loop.in_page bytes (Ok c.in_ok-judge_words.field-0) (omega arith)
+    (subst (λ (k : ℕ). AreFine (17 * k) loop.in_page (words_of (take (68 * k) bytes))) is loop.invariant)
+    (subst (λ (l : List ℕ). JudgesMore (Ok c.in_ok-judge_words.field-0) (17 * n) loop.in_page (words_of l)) (tail_is (68 * n) bytes)
     c.in_ok-judge_words.ensures)

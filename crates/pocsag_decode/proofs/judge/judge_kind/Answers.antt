@@ -7,21 +7,21 @@ use Rattle.pocsag_decode.proofs.judge.judge_kind.Goals as goal
 
 pub returns-in-Idle : goal.returns-in-Idle
 returns-in-Idle c =
-    fine_kind c.args.place c.args.may c.args.codeword c.requires.other c.requires.codeword Idle c.in-Idle.ensures.kind
+    fine_kind c.args.place c.args.in_page c.args.codeword c.requires.other c.requires.codeword Idle c.in-Idle.ensures.kind
     (λ m. absurd (true≢false (sym m)))
 
 pub returns-in-Address : goal.returns-in-Address
 returns-in-Address c =
-    fine_kind c.args.place c.args.may c.args.codeword c.requires.other c.requires.codeword
+    fine_kind c.args.place c.args.in_page c.args.codeword c.requires.other c.requires.codeword
     (Address c.in-Address.high c.in-Address.function) c.in-Address.ensures.kind (λ m. absurd (true≢false (sym m)))
 
 pub returns-in-Message : goal.returns-in-Message
 returns-in-Message c =
-    fine_kind c.args.place c.args.may c.args.codeword c.requires.other c.requires.codeword (Message c.in-Message.field-0)
-    c.in-Message.ensures.kind (λ m. c.if-may.true)
+    fine_kind c.args.place c.args.in_page c.args.codeword c.requires.other c.requires.codeword (Message c.in-Message.field-0)
+    c.in-Message.ensures.kind (λ m. c.if-in_page.true)
 
 pub returns-in-Message-2 : goal.returns-in-Message-2
 returns-in-Message-2 c = λ ws h.
     rw c.index_at.ensures
-    (no_page c.args.place c.args.may c.args.codeword c.requires.other c.requires.codeword (sym (ap is_message c.in-Message.ensures.kind))
-    c.if-may.false ws h)
+    (no_page c.args.place c.args.in_page c.args.codeword c.requires.other c.requires.codeword (sym (ap is_message c.in-Message.ensures.kind))
+    c.if-in_page.false ws h)

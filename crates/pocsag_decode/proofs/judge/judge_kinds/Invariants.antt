@@ -5,5 +5,5 @@ use Rattle.pocsag_decode.proofs.judge.judge_kinds.Given as goal
 abbrev pub invariant-loop-codeword : goal.invariant-loop-codeword
 invariant-loop-codeword l = record {
   at : l.place ≡ l.fn.place + l.codeword-index;
-  judged : JudgesMore (Ok l.may) l.fn.place l.fn.may (take l.codeword-index l.codewords);
+  judged : JudgesMore (Ok l.in_page) l.fn.place l.fn.in_page (take l.codeword-index l.codewords);
 }

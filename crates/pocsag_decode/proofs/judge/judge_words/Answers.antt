@@ -9,7 +9,7 @@ use Rattle.pocsag_decode.proofs.Fine.{bad_among, fine_none, word_judged}
 use Rattle.pocsag_decode.proofs.judge.judge_words.Goals as goal
 
 pub loop-word-init : goal.loop-word-init
-loop-word-init c = record { at = omega arith; judged = fine_none c.args.place c.args.may }
+loop-word-init c = record { at = omega arith; judged = fine_none c.args.place c.args.in_page }
 
 pub overflow_add-place : goal.overflow_add-place
 overflow_add-place c =
@@ -24,23 +24,23 @@ loop-word-preserved c =
     record {
       at = let at = loop.invariant.at in omega arith;
       judged =
-          word_judged c.args.place loop.place loop.word-index c.args.may loop.may c.as_chunks.result.0.now c.from_be_bytes.result
-          (Ok c.in_ok-may.may) loop.invariant.at (omega arith) c.from_be_bytes.ensures loop.invariant.judged c.in_ok-may.ensures;
+          word_judged c.args.place loop.place loop.word-index c.args.in_page loop.in_page c.as_chunks.result.0.now c.from_be_bytes.result
+          (Ok c.in_ok-in_page.in_page) loop.invariant.at (omega arith) c.from_be_bytes.ensures loop.invariant.judged c.in_ok-in_page.ensures;
     }
 
-pub returns-in_err-may : goal.returns-in_err-may
-returns-in_err-may c =
+pub returns-in_err-in_page : goal.returns-in_err-in_page
+returns-in_err-in_page c =
     let loop = c.loop-word in
     let chunks = c.as_chunks.result.0.now in
     let all : map (from_be_bytes w32) chunks ≡ words_of c.args.bytes.now =
     ap (map (from_be_bytes w32)) c.as_chunks.ensures.front ∙ chunk_words (length c.args.bytes.now / 4) c.args.bytes.now refl in
     let p = err_from_is_err_and c.from_residual.result c.from_residual.ensures.1 in
-    let f = c.in_err-may.field-0.0 in
+    let f = c.in_err-in_page.field-0.0 in
     rw (p.1, p.2)
-    (subst (JudgesMore (Err f) c.args.place c.args.may) all
-    (bad_among c.args.place (loop.word-index + 1) c.args.may chunks f
-    (word_judged c.args.place loop.place loop.word-index c.args.may loop.may chunks c.from_be_bytes.result (Err f) loop.invariant.at
-    (omega arith) c.from_be_bytes.ensures loop.invariant.judged c.in_err-may.ensures)))
+    (subst (JudgesMore (Err f) c.args.place c.args.in_page) all
+    (bad_among c.args.place (loop.word-index + 1) c.args.in_page chunks f
+    (word_judged c.args.place loop.place loop.word-index c.args.in_page loop.in_page chunks c.from_be_bytes.result (Err f) loop.invariant.at
+    (omega arith) c.from_be_bytes.ensures loop.invariant.judged c.in_err-in_page.ensures)))
 
 pub returns : goal.returns
 returns c =
@@ -50,4 +50,4 @@ returns c =
     let whole : map (from_be_bytes w32) (take loop.word-index chunks) ≡ words_of c.args.bytes.now =
     ap (map (from_be_bytes w32)) (take_all loop.word-index chunks (omega arith) ∙ c.as_chunks.ensures.front)
     ∙ chunk_words (length c.args.bytes.now / 4) c.args.bytes.now refl in
-    subst (JudgesMore (Ok loop.may) c.args.place c.args.may) whole loop.invariant.judged
+    subst (JudgesMore (Ok loop.in_page) c.args.place c.args.in_page) whole loop.invariant.judged

@@ -7,8 +7,8 @@ use Rattle.pocsag_decode.proofs.lister.list_batches.Goals as goal
 pub loop-i-init : goal.loop-i-init
 loop-i-init g c = record {
   can = c.requires.can;
-  told = λ tells. none_listed (g.S.Sink.taken c.args.sink.now) c.args.lister.now c.args.bytes.now c.requires.fresh c.requires.begun;
-  grown = λ tells. omega arith;
+  told = λ is_known. none_listed (g.S.Sink.taken c.args.sink.now) c.args.lister.now c.args.bytes.now c.requires.fresh c.requires.begun;
+  grown = λ is_known. omega arith;
   failures = refl;
 }
 
@@ -19,60 +19,60 @@ loop-i-preserved g c =
     let within : 68 * loop.i + 68 ≤ length bytes = omega arith in
     record {
       can = record { ready = c.in_ok-pour_many.ensures.ready; listable = c.in_ok-take_batch.ensures.can.listable };
-      told = λ tells.
+      told = λ is_known.
           poured (g.S.Sink.taken c.args.sink.now) (g.S.Sink.taken loop.sink) (g.S.Sink.taken c.pour_many.new.sink) c.take_batch.new.self
-          (record (c.take_batch.new.self) { records = c.pour_many.new.writer }) (loop.i + 1) bytes refl (c.in_ok-pour_many.ensures.told tells)
+          (record (c.take_batch.new.self) { records = c.pour_many.new.writer }) (loop.i + 1) bytes refl (c.in_ok-pour_many.ensures.told is_known)
           (more_listed (g.S.Sink.taken c.args.sink.now) (g.S.Sink.taken loop.sink) loop.lister c.take_batch.new.self loop.i bytes within
-          (loop.invariant.told tells) c.in_ok-take_batch.ensures.reads);
-      grown = λ tells. omega (arith, loop.invariant.grown tells, c.in_ok-pour_many.ensures.grown tells);
+          (loop.invariant.told is_known) c.in_ok-take_batch.ensures.reads);
+      grown = λ is_known. omega (arith, loop.invariant.grown is_known, c.in_ok-pour_many.ensures.grown is_known);
       failures = c.in_ok-pour_many.ensures.failures.0 ∙ loop.invariant.failures;
     }
 
 pub returns-clause-whole : goal.returns-clause-whole
-returns-clause-whole g c = λ tells.
+returns-clause-whole g c = λ is_known.
     let loop = c.loop-i in
     let bytes = c.args.bytes.now in
     let long : length bytes ≡ 68 * loop.i = let whole = c.requires.long in omega arith in
     on_ok_weaker c.pour.result
     (λ written. all_listed (g.S.Sink.taken c.args.sink.now) (g.S.Sink.taken loop.sink) (g.S.Sink.taken c.pour.new.sink) loop.lister
-    c.close.new.self loop.i bytes long c.in_ok-close.ensures.text written (loop.invariant.told tells))
-    (c.pour.ensures.whole tells)
+    c.close.new.self loop.i bytes long c.in_ok-close.ensures.text written (loop.invariant.told is_known))
+    (c.pour.ensures.whole is_known)
 
 pub returns-in_err-take_batch-clause-part : goal.returns-in_err-take_batch-clause-part
-returns-in_err-take_batch-clause-part g c = λ tells.
+returns-in_err-take_batch-clause-part g c = λ is_known.
     let loop = c.loop-i in
-    let due = still_due (g.S.Sink.taken c.args.sink.now) (g.S.Sink.taken loop.sink) loop.lister loop.i c.args.bytes.now (omega arith) (loop.invariant.told tells) in
+    let due = still_due (g.S.Sink.taken c.args.sink.now) (g.S.Sink.taken loop.sink) loop.lister loop.i c.args.bytes.now (omega arith) (loop.invariant.told is_known) in
     after_fault c.from_residual.result
-    (took_so_far (g.S.Sink.taken c.args.sink.now) (g.S.Sink.taken loop.sink) _ _ (loop.invariant.grown tells) due.1)
+    (took_so_far (g.S.Sink.taken c.args.sink.now) (g.S.Sink.taken loop.sink) _ _ (loop.invariant.grown is_known) due.1)
 
 pub returns-in_err-pour_many-clause-part : goal.returns-in_err-pour_many-clause-part
-returns-in_err-pour_many-clause-part g c = λ tells.
+returns-in_err-pour_many-clause-part g c = λ is_known.
     let loop = c.loop-i in
     let bytes = c.args.bytes.now in
     let within : 68 * loop.i + 68 ≤ length bytes = omega arith in
     let due =
     still_due (g.S.Sink.taken c.args.sink.now) (g.S.Sink.taken loop.sink) c.take_batch.new.self (loop.i + 1) bytes (omega arith)
     (more_listed (g.S.Sink.taken c.args.sink.now) (g.S.Sink.taken loop.sink) loop.lister c.take_batch.new.self loop.i bytes within
-    (loop.invariant.told tells) c.in_ok-take_batch.ensures.reads) in
+    (loop.invariant.told is_known) c.in_ok-take_batch.ensures.reads) in
     after_fault c.from_residual-in_err-pour_many.result
     (took_on (g.S.Sink.taken c.args.sink.now) (g.S.Sink.taken loop.sink) (g.S.Sink.taken c.pour_many.new.sink) _ _ _
-    (loop.invariant.grown tells) due.1 (c.in_err-pour_many.ensures.part tells))
+    (loop.invariant.grown is_known) due.1 (c.in_err-pour_many.ensures.part is_known))
 
 pub returns-in_err-close-clause-part : goal.returns-in_err-close-clause-part
-returns-in_err-close-clause-part g c = λ tells.
+returns-in_err-close-clause-part g c = λ is_known.
     let loop = c.loop-i in
-    let due = still_due (g.S.Sink.taken c.args.sink.now) (g.S.Sink.taken loop.sink) loop.lister loop.i c.args.bytes.now (omega arith) (loop.invariant.told tells) in
+    let due = still_due (g.S.Sink.taken c.args.sink.now) (g.S.Sink.taken loop.sink) loop.lister loop.i c.args.bytes.now (omega arith) (loop.invariant.told is_known) in
     after_fault c.from_residual-in_err-close.result
-    (took_so_far (g.S.Sink.taken c.args.sink.now) (g.S.Sink.taken loop.sink) _ _ (loop.invariant.grown tells) due.1)
+    (took_so_far (g.S.Sink.taken c.args.sink.now) (g.S.Sink.taken loop.sink) _ _ (loop.invariant.grown is_known) due.1)
 
 pub returns-clause-part : goal.returns-clause-part
-returns-clause-part g c = λ tells.
+returns-clause-part g c = λ is_known.
     let loop = c.loop-i in
     let bytes = c.args.bytes.now in
     let long : length bytes ≡ 68 * loop.i = let whole = c.requires.long in omega arith in
     on_err_weaker c.pour.result
     (took_on (g.S.Sink.taken c.args.sink.now) (g.S.Sink.taken loop.sink) (g.S.Sink.taken c.pour.new.sink) _ [] _
-    (loop.invariant.grown tells)
+    (loop.invariant.grown is_known)
     (all_due (g.S.Sink.taken c.args.sink.now) (g.S.Sink.taken loop.sink) loop.lister c.close.new.self loop.i bytes long
-    c.in_ok-close.ensures.text (loop.invariant.told tells)))
-    (c.pour.ensures.part tells)
+    c.in_ok-close.ensures.text (loop.invariant.told is_known)))
+    (c.pour.ensures.part is_known)

@@ -27,7 +27,7 @@ put_four at l part w is room =
     ∙ (append_assoc (take at l) part (drop (at + 4) l) ∙ ap (λ (m : List ℕ). take at l ++ (m ++ drop (at + 4) l)) is))
 
 pub loop-bytes-init : goal.loop-bytes-init
-loop-bytes-init c = repairing_first _ _ c.leading_len-at.ensures.value c.leading_len-at.ensures.within
+loop-bytes-init c = repairing_first _ _ c.preamble_len-at.ensures.value c.preamble_len-at.ensures.within
 
 pub overflow_add-told : goal.overflow_add-told
 overflow_add-told c =

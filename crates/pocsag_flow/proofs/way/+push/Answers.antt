@@ -10,7 +10,7 @@ enter-returns-else-load-cap t c =
           (record c.args.search.now { reached = c.with_member-search.result }) c.leave.new.search
           c.args.slot c.args.most c.leave.result refl c.with_member-search.ensures.held c.with_member-search.ensures.others c.requires.apart
           (c.with_member-search.ensures.grows c.requires.apart)
-          (omega (arith, c.requires.may.network.loads c.args.slot c.requires.slot))
+          (omega (arith, c.requires.has_room.network.loads c.args.slot c.requires.slot))
           c.leave.ensures.pushes c.leave.ensures.closed;
     }
 
@@ -58,13 +58,13 @@ leave-loop-number-preserved t c =
 pub to_early-returns-clause-pushes : goal.to_early-returns-clause-pushes
 to_early-returns-clause-pushes t c =
     moved_early c.args.network.now c.args.search.now c.enter-moved.new.search c.args.class.number c.args.most c.min.result c.enter-moved.result
-    c.args.class.known c.requires.may.network c.requires.reached c.requires.apart
+    c.args.class.known c.requires.has_room.network c.requires.reached c.requires.apart
     (omega (arith, c.min.ensures, c.requires.room)) (omega (arith, c.min.ensures))
     (rw c.start.ensures.value at c.enter-moved.ensures.pushes)
 
 pub to_late-returns-clause-pushes : goal.to_late-returns-clause-pushes
 to_late-returns-clause-pushes t c =
     moved_late c.args.network.now c.args.search.now c.enter-moved.new.search c.args.class.number c.args.most c.min.result c.enter-moved.result
-    c.args.class.known c.requires.may.network c.requires.reached c.requires.apart
+    c.args.class.known c.requires.has_room.network c.requires.reached c.requires.apart
     (omega (arith, c.min.ensures, c.requires.room)) (omega (arith, c.min.ensures))
     (rw c.finish.ensures.value at c.enter-moved.ensures.pushes)

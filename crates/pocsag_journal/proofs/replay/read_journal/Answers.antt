@@ -3,20 +3,20 @@ use Rattle.std.specs.Prelude.{IfErr, IfOk, MatchResult, Result, Ok, Err}
 use Rattle.pocsag_pages.specs.PageFile.{Row}
 use Rattle.pocsag_pages.specs.declared.page.Page.{Page}
 use Rattle.pocsag_journal.specs.Runs.{IsRun}
-use Rattle.pocsag_journal.specs.Faults.{IsTold, IsToldOf}
+use Rattle.pocsag_journal.specs.Faults.{IsPrinted, IsPrintedOf}
 use Rattle.pocsag_journal.specs.Journals.{IsRead, Replays, ReplaysAs}
 use Rattle.pocsag_journal.specs.declared.fault.JournalFault.{JournalFault}
 use Rattle.pocsag_journal.specs.declared.fault.JournalFault.TheVariants as fault
 use Rattle.pocsag_journal.specs.declared.replay.Replayed.{Replayed}
 use Rattle.pocsag_journal.proofs.EditRuns.{run_once}
 use Rattle.pocsag_journal.proofs.Readings.{begun, no_bad_line, one_reading}
-use Rattle.pocsag_journal.proofs.ToldReplays.{told_of}
+use Rattle.pocsag_journal.proofs.PrintedReplays.{told_of}
 use Rattle.pocsag_journal.proofs.replay.read_journal.Goals as goal
 
 -- whatever edits the bytes are the text of: these were read
 these : (bytes held : List ℕ) → bytes ≡ held → (r : Result Replayed JournalFault) →
-    IfOk r (λ x. Replays bytes x.edits x.torn x.book) → IfErr r (IsTold bytes) → (rows : List Row) (torn : List ℕ) (pages : List Page) →
-    IsRead held rows torn → IsRun rows [] pages → MatchResult r (λ x. ReplaysAs x.book x.edits x.torn pages rows torn) IsToldOf
+    IfOk r (λ x. Replays bytes x.edits x.torn x.book) → IfErr r (IsPrinted bytes) → (rows : List Row) (torn : List ℕ) (pages : List Page) →
+    IsRead held rows torn → IsRun rows [] pages → MatchResult r (λ x. ReplaysAs x.book x.edits x.torn pages rows torn) IsPrintedOf
 these bytes held e (Ok x) read told rows torn pages is run =
     let here = subst (λ (b : List ℕ). IsRead b rows torn) (sym e) is in
     let one = one_reading bytes rows read.rows torn read.rest here read.read in (
@@ -37,11 +37,11 @@ these bytes held e (Err fault.TooLarge) read told rows torn pages is run = tt
 these bytes held e (Err fault.OutOfMemory) read told rows torn pages is run = tt
 
 pub returns-in-Ok-clause-told : goal.returns-in-Ok-clause-told
-returns-in-Ok-clause-told g c = λ tells.
-    told_of c.as_slice.result.now (g.S.Source.held c.args.source.now) _ _ (c.as_slice.ensures.value ∙ c.in-Ok.ensures.whole tells)
+returns-in-Ok-clause-told g c = λ is_known.
+    told_of c.as_slice.result.now (g.S.Source.held c.args.source.now) _ _ (c.as_slice.ensures.value ∙ c.in-Ok.ensures.whole is_known)
     c.replay.result c.replay.ensures.told
 
 pub returns-in-Ok-clause-replay : goal.returns-in-Ok-clause-replay
-returns-in-Ok-clause-replay g c = λ tells rows torn pages is run.
-    these c.as_slice.result.now (g.S.Source.held c.args.source.now) (c.as_slice.ensures.value ∙ c.in-Ok.ensures.whole tells) c.replay.result
+returns-in-Ok-clause-replay g c = λ is_known rows torn pages is run.
+    these c.as_slice.result.now (g.S.Source.held c.args.source.now) (c.as_slice.ensures.value ∙ c.in-Ok.ensures.whole is_known) c.replay.result
     c.replay.ensures.read c.replay.ensures.told rows torn pages is run

@@ -8,32 +8,32 @@ use Rattle.pocsag_journal.proofs.Moments.{named}
 use Rattle.pocsag_journal.specs.declared.refusal.Refusal.TheVariants as refusal
 use Rattle.pocsag_open.specs.Answers.{front_answer}
 use Rattle.pocsag_open.specs.Plans.{placed_plan}
-use Rattle.pocsag_open.specs.Replies.{IsRefusalTold, front_refused, front_sent}
+use Rattle.pocsag_open.specs.Replies.{IsRefusalPrinted, front_refused, front_sent}
 use Rattle.pocsag_open.specs.Survival.{FrontRepliesAndPlaces, untold}
 use Rattle.pocsag_open.proofs.Fronts.{front_edit, front_placed, front_read, front_read_placed, if_err, if_ok}
 use Rattle.pocsag_open.proofs.Survival.{cut_part, cut_told, on_err, told_part, took_part}
-use Rattle.pocsag_open.proofs.Told.{on_ok, told_as, told_more}
+use Rattle.pocsag_open.proofs.Printed.{on_ok, told_as, told_more}
 use Rattle.pocsag_open.proofs.front.answer_front.Goals as goal
 
 pub returns-in-Err-clause-replied : goal.returns-in-Err-clause-replied
-returns-in-Err-clause-replied g c = λ tells.
+returns-in-Err-clause-replied g c = λ is_known.
     told_as c.refuse.result _ _ _ _ _ _ _ c.in-Err.ensures.same
-    (λ told is. front_refused c.in-Err.fault c.in-Err.ensures.explained refl is refl)
-    (told_more c.refuse.result _ _ _ (IsRefusalTold (refusal.Undone c.in-Err.fault)) refl (c.refuse.ensures.told tells))
+    (λ printed is. front_refused c.in-Err.fault c.in-Err.ensures.explained refl is refl)
+    (told_more c.refuse.result _ _ _ (IsRefusalPrinted (refusal.Undone c.in-Err.fault)) refl (c.refuse.ensures.printed is_known))
 
 pub returns-in-Err-clause-cut : goal.returns-in-Err-clause-cut
-returns-in-Err-clause-cut g c = λ keeps tells stands.
+returns-in-Err-clause-cut g c = λ keeps is_known stands.
     cut_told c.refuse.result
-    (FrontRepliesAndPlaces g.P.Places.tells c.args.planner.now.effort c.args.asked.end c.args.asked.batches c.args.asked.tx.now c.args.asked.cert.now
-    (g.P.Places.placed c.args.planner.now.places) (g.P.Places.placed c.place_front.new.planner.places))
+    (FrontRepliesAndPlaces g.P.OutputStore.is_known c.args.settings.now.on_limit c.args.asked.end c.args.asked.batches c.args.asked.tx.now c.args.asked.cert.now
+    (g.P.OutputStore.placed c.args.settings.now.store) (g.P.OutputStore.placed c.place_front.new.settings.store))
     c.args.round.now.book (g.O.Sink.taken c.args.out.now) (g.O.Sink.taken c.refuse.new.out) g.K.Keeper.reads_as
-    (g.K.Keeper.may_leave c.args.round.now.keeper) (IsRefusalTold (refusal.Undone c.in-Err.fault))
-    (λ told is. ([], front_refused c.in-Err.fault c.in-Err.ensures.explained refl is refl, λ known. c.in-Err.ensures.same known ∙ sym (append-nil _)))
+    (g.K.Keeper.may_leave c.args.round.now.keeper) (IsRefusalPrinted (refusal.Undone c.in-Err.fault))
+    (λ printed is. ([], front_refused c.in-Err.fault c.in-Err.ensures.explained refl is refl, λ known. c.in-Err.ensures.same known ∙ sym (append-nil _)))
     (λ left now. g.K.Keeper.restarts c.args.round.now.keeper c.args.round.now.book left keeps stands now)
-    (told_part c.refuse.result _ _ _ (IsRefusalTold (refusal.Undone c.in-Err.fault)) refl (c.refuse.ensures.told tells))
+    (told_part c.refuse.result _ _ _ (IsRefusalPrinted (refusal.Undone c.in-Err.fault)) refl (c.refuse.ensures.printed is_known))
 
 pub returns-in_err-keep-clause-cut : goal.returns-in_err-keep-clause-cut
-returns-in_err-keep-clause-cut g c = λ keeps tells stands.
+returns-in_err-keep-clause-cut g c = λ keeps is_known stands.
     let done = c.in-Ok.ensures.planned in
     let edit = front_edit _ _ _ _ c.args.asked.tx.now c.args.asked.cert.now _ _ _ _ _ _ done.planned c.drop_first.ensures _ c.in-Ok.ensures.edit in
     let only = c.keep.ensures.any_moment keeps c.args.round.now.book c.drop_first.new.self stands edit in
@@ -41,7 +41,7 @@ returns-in_err-keep-clause-cut g c = λ keeps tells stands.
     (untold refl
     (λ left now.
     front_read_placed _ _ _ _ c.args.asked.tx.now c.args.asked.cert.now _ _ _ _ _ _ done.planned c.drop_first.ensures
-    (g.P.Places.placed c.args.planner.now.places) (g.P.Places.placed c.place_front.new.planner.places) done.placed g.K.Keeper.reads_as left
+    (g.P.OutputStore.placed c.args.settings.now.store) (g.P.OutputStore.placed c.place_front.new.settings.store) done.placed g.K.Keeper.reads_as left
     (only.each left (g.K.Keeper.counts_now c.keep.new.self (g.K.Keeper.moment c.args.round.now.keeper) left keeps only.later now))))
 
 pub returns-in_err-keep-clause-any_moment : goal.returns-in_err-keep-clause-any_moment
@@ -54,50 +54,50 @@ returns-in_err-keep-clause-any_moment g c = λ keeps stands.
     front_read _ _ _ _ c.args.asked.tx.now c.args.asked.cert.now _ _ _ _ _ _ done.planned c.drop_first.ensures g.K.Keeper.reads_as left is)
 
 pub returns-clause-replied : goal.returns-clause-replied
-returns-clause-replied g c = λ tells.
+returns-clause-replied g c = λ is_known.
     let done = c.in-Ok.ensures.planned in
     let front = c.in-Ok.sent.0 in
-    on_ok c.tell_sent.result _ _
-    (λ (told : g.O.Sink.taken c.tell_sent.new.out ≡ g.O.Sink.taken c.args.out.now ++ front_answer front.batches front.pages front.bound). record {
-      told = front_answer front.batches front.pages front.bound;
+    on_ok c.print_sent.result _ _
+    (λ (printed : g.O.Sink.taken c.print_sent.new.out ≡ g.O.Sink.taken c.args.out.now ++ front_answer front.batches front.pages front.bound). record {
+      printed = front_answer front.batches front.pages front.bound;
       placed = placed_plan c.args.asked.tx.now c.args.asked.cert.now done.sent ∷ [];
-      answers = told;
+      answers = printed;
       outputs = done.placed;
       holds = front_sent front.pages front.batches front.bound done.sent done.planned c.drop_first.ensures refl refl;
     })
-    ((c.tell_sent.ensures.told tells).0)
+    ((c.print_sent.ensures.printed is_known).0)
 
 pub returns-clause-stands : goal.returns-clause-stands
 returns-clause-stands g c = λ stands.
     let done = c.in-Ok.ensures.planned in
     let edit = front_edit _ _ _ _ c.args.asked.tx.now c.args.asked.cert.now _ _ _ _ _ _ done.planned c.drop_first.ensures _ c.in-Ok.ensures.edit in
-    if_ok c.tell_sent.result _ (c.in_ok-keep.ensures.stands c.args.round.now.book c.drop_first.new.self stands edit)
+    if_ok c.print_sent.result _ (c.in_ok-keep.ensures.stands c.args.round.now.book c.drop_first.new.self stands edit)
 
 pub returns-clause-cut : goal.returns-clause-cut
-returns-clause-cut g c = λ keeps tells stands.
+returns-clause-cut g c = λ keeps is_known stands.
     let done = c.in-Ok.ensures.planned in
     let front = c.in-Ok.sent.0 in
     let due : List ℕ = front_answer front.batches front.pages front.bound in
     let edit = front_edit _ _ _ _ c.args.asked.tx.now c.args.asked.cert.now _ _ _ _ _ _ done.planned c.drop_first.ensures _ c.in-Ok.ensures.edit in
     let reply = front_placed _ _ _ _ c.args.asked.tx.now c.args.asked.cert.now _ _ _ _ _ _ done.planned c.drop_first.ensures
-    (g.P.Places.placed c.args.planner.now.places) (g.P.Places.placed c.place_front.new.planner.places) done.placed in
+    (g.P.OutputStore.placed c.args.settings.now.store) (g.P.OutputStore.placed c.place_front.new.settings.store) done.placed in
     let kept : (left : List ℕ) → g.K.Keeper.may_leave c.keep.new.self left → g.K.Keeper.reads_as left c.drop_first.new.self = λ left now.
     g.K.Keeper.restarts c.keep.new.self c.drop_first.new.self left keeps
     (c.in_ok-keep.ensures.stands c.args.round.now.book c.drop_first.new.self stands edit) now in
-    on_err c.tell_sent.result _ _
+    on_err c.print_sent.result _ _
     (λ took.
     cut_part
-    (FrontRepliesAndPlaces g.P.Places.tells c.args.planner.now.effort c.args.asked.end c.args.asked.batches c.args.asked.tx.now c.args.asked.cert.now
-    (g.P.Places.placed c.args.planner.now.places) (g.P.Places.placed c.place_front.new.planner.places))
-    c.args.round.now.book c.drop_first.new.self (g.O.Sink.taken c.args.out.now) (g.O.Sink.taken c.tell_sent.new.out) g.K.Keeper.reads_as
-    (g.K.Keeper.may_leave c.keep.new.self) (λ (told : List ℕ). told ≡ due)
-    (λ told is.
-    subst (λ (t : List ℕ). FrontRepliesAndPlaces g.P.Places.tells c.args.planner.now.effort c.args.asked.end c.args.asked.batches
-    c.args.asked.tx.now c.args.asked.cert.now (g.P.Places.placed c.args.planner.now.places) (g.P.Places.placed c.place_front.new.planner.places)
+    (FrontRepliesAndPlaces g.P.OutputStore.is_known c.args.settings.now.on_limit c.args.asked.end c.args.asked.batches c.args.asked.tx.now c.args.asked.cert.now
+    (g.P.OutputStore.placed c.args.settings.now.store) (g.P.OutputStore.placed c.place_front.new.settings.store))
+    c.args.round.now.book c.drop_first.new.self (g.O.Sink.taken c.args.out.now) (g.O.Sink.taken c.print_sent.new.out) g.K.Keeper.reads_as
+    (g.K.Keeper.may_leave c.keep.new.self) (λ (printed : List ℕ). printed ≡ due)
+    (λ printed is.
+    subst (λ (t : List ℕ). FrontRepliesAndPlaces g.P.OutputStore.is_known c.args.settings.now.on_limit c.args.asked.end c.args.asked.batches
+    c.args.asked.tx.now c.args.asked.cert.now (g.P.OutputStore.placed c.args.settings.now.store) (g.P.OutputStore.placed c.place_front.new.settings.store)
     c.args.round.now.book c.drop_first.new.self t) (sym is) reply)
     (λ left now. inr (c.drop_first.new.self, (due, reply, kept left now))) kept
-    (took_part (g.O.Sink.taken c.args.out.now) (g.O.Sink.taken c.tell_sent.new.out) due (λ (told : List ℕ). told ≡ due) refl took))
-    ((c.tell_sent.ensures.told tells).1)
+    (took_part (g.O.Sink.taken c.args.out.now) (g.O.Sink.taken c.print_sent.new.out) due (λ (printed : List ℕ). printed ≡ due) refl took))
+    ((c.print_sent.ensures.printed is_known).1)
 
 pub returns-clause-any_moment : goal.returns-clause-any_moment
 returns-clause-any_moment g c = λ keeps stands.
@@ -124,4 +124,4 @@ returns-in_err-keep-clause-explained g c = λ counts stands.
 
 pub returns-clause-explained : goal.returns-clause-explained
 returns-clause-explained g c = λ counts stands.
-    not_told c.tell_sent.result _ _ c.tell_sent.ensures.lost c.tell_sent.ensures.failures.1
+    not_told c.print_sent.result _ _ c.print_sent.ensures.lost c.print_sent.ensures.failures.1

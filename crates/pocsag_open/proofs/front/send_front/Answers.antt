@@ -16,9 +16,9 @@ returns-in-Ok-front_stream-clause-planned g c = record {
     its_bound = refl;
     no_worse = c.in-Ok-front_stream.ensures.plan.no_worse;
     fewest = λ never. c.in-Ok-front_stream.ensures.plan.fewest never;
-    headline = λ tells.
-        let known = c.in-Ok.ensures.known tells in
-        let empty = c.in-Ok.ensures.empty tells in
+    headline = λ is_known.
+        let known = c.in-Ok.ensures.known is_known in
+        let empty = c.in-Ok.ensures.empty is_known in
         all_held _ _ _ _ _ empty.0 empty.1 (c.in-Ok-front_stream.ensures.headline known known);
   };
   within = c.in-Ok-front_stream.ensures.within;
@@ -26,7 +26,7 @@ returns-in-Ok-front_stream-clause-planned g c = record {
 
 pub returns-clause-explained : goal.returns-clause-explained
 returns-clause-explained g c =
-    subst (λ (f : UndoneFault). ExplainsFrontUndone c.args.planner.now.effort c.args.asked.end c.args.asked.batches c.args.book.now f)
+    subst (λ (f : UndoneFault). ExplainsFrontUndone c.args.settings.now.on_limit c.args.asked.end c.args.asked.batches c.args.book.now f)
     (sym c.undone.ensures)
-    (explains_front c.args.planner.now.effort c.args.asked.end c.args.asked.batches c.args.book.now c.in-Err-Stream.fault
+    (explains_front c.args.settings.now.on_limit c.args.asked.end c.args.asked.batches c.args.book.now c.in-Err-Stream.fault
     (rw c.in-Err-Stream.field-0-is at c.in-Err-Stream.ensures.explained))

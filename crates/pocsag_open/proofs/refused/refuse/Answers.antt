@@ -6,9 +6,9 @@ use Rattle.pocsag_words.specs.Devices.{Delivers}
 use Rattle.pocsag_open.specs.Answers.{refusal_answer}
 use Rattle.pocsag_open.proofs.refused.refuse.Goals as goal
 
-pub returns-in-Field-BadCharacter-clause-told : goal.returns-in-Field-BadCharacter-clause-told
-returns-in-Field-BadCharacter-clause-told g c = λ tells.
+pub returns-in-Field-BadCharacter-clause-printed : goal.returns-in-Field-BadCharacter-clause-printed
+returns-in-Field-BadCharacter-clause-printed g c = λ is_known.
     let same : c.args.refusal ≡ refusal.Field (field.BadCharacter c.in-Field-BadCharacter.place) =
     search rules in
-    subst (λ (r : Refusal). Delivers c.tell_numbers.result (g.O.Sink.taken c.args.out.now) (g.O.Sink.taken c.tell_numbers.new.sink) (refusal_answer r))
-    (sym same) (c.tell_numbers.ensures.delivers tells)
+    subst (λ (r : Refusal). Delivers c.print_numbers.result (g.O.Sink.taken c.args.out.now) (g.O.Sink.taken c.print_numbers.new.sink) (refusal_answer r))
+    (sym same) (c.print_numbers.ensures.delivers is_known)

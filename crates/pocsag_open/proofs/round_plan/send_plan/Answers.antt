@@ -12,20 +12,20 @@ returns-in-Ok-bounded_stream-clause-planned g c = record {
   its_bound = refl;
   no_worse = c.in-Ok-bounded_stream.ensures.plan.no_worse;
   fewest = λ never. c.in-Ok-bounded_stream.ensures.plan.fewest never;
-  headline = λ tells.
-      let known = c.in-Ok.ensures.known tells in
-      let empty = c.in-Ok.ensures.empty tells in
+  headline = λ is_known.
+      let known = c.in-Ok.ensures.known is_known in
+      let empty = c.in-Ok.ensures.empty is_known in
       all_held _ _ _ _ _ empty.0 empty.1 (c.in-Ok-bounded_stream.ensures.headline known known);
 }
 
 pub returns-in-Err-bounded_stream-clause-explained : goal.returns-in-Err-bounded_stream-clause-explained
 returns-in-Err-bounded_stream-clause-explained g c =
-    subst (λ (f : UndoneFault). ExplainsUndone c.args.planner.now.effort c.args.end c.args.book.now f) (sym c.undone.ensures)
+    subst (λ (f : UndoneFault). ExplainsUndone c.args.settings.now.on_limit c.args.end c.args.book.now f) (sym c.undone.ensures)
     (explains _ _ _ _ c.in-Err-bounded_stream.fault refl c.in-Err-bounded_stream.ensures.explained)
 
 pub returns-in-Err-bounded_stream-clause-files : goal.returns-in-Err-bounded_stream-clause-files
-returns-in-Err-bounded_stream-clause-files g c = λ tells.
-    subst (λ (f : UndoneFault). ExplainsFiles (c.args.tx.now, c.args.cert.now) (g.P.Places.failures c.args.planner.now.places)
-    (g.P.Places.failures c.make.new.self) (g.P.Places.last_fault c.make.new.self) (HasFailedOutput g.P.Output.Sink.failures) f)
+returns-in-Err-bounded_stream-clause-files g c = λ is_known.
+    subst (λ (f : UndoneFault). ExplainsFiles (c.args.tx.now, c.args.cert.now) (g.P.OutputStore.failures c.args.settings.now.store)
+    (g.P.OutputStore.failures c.make.new.self) (g.P.OutputStore.last_fault c.make.new.self) (HasFailedOutput g.P.Output.Sink.failures) f)
     (sym c.undone.ensures)
     (unsent_files g.P.Output.Sink.failures _ _ _ _ _ _ _ _ c.in-Err-bounded_stream.fault c.in-Err-bounded_stream.ensures.writers)

@@ -3,108 +3,108 @@ use Rattle.pocsag_journal.specs.Moments.{LeavesOnly}
 use Rattle.pocsag_journal.specs.declared.refusal.Refusal.TheVariants as refusal
 use Rattle.pocsag_journal.proofs.Moments.{started, then_on}
 use Rattle.pocsag_open.specs.Ahead.{ahead_of}
-use Rattle.pocsag_open.specs.Replies.{IsRefusalTold, too_long}
+use Rattle.pocsag_open.specs.Replies.{IsRefusalPrinted, too_long}
 use Rattle.pocsag_open.specs.Survival.{ReadsAfterLines, RepliesAndPlaces}
 use Rattle.pocsag_open.proofs.Survival.{Answered, all_answered, cut_part, none_answered, one_answered, read_next, read_now, survives_between, survives_within, took_part}
-use Rattle.pocsag_open.proofs.Told.{told_once}
+use Rattle.pocsag_open.proofs.Printed.{told_once}
 use Rattle.pocsag_open.proofs.session.run_open_kept.Goals.{in-TooLong+in_ok-refuse-in-TooLong, in-Kept+in_ok-answer_line-in-Kept}
 use Rattle.pocsag_open.proofs.Ends.{line_counts}
 use Rattle.pocsag_open.proofs.session.run_open_kept.Goals as goal
 
 pub returns-in_err-lines-clause-survives : goal.returns-in_err-lines-clause-survives
-returns-in_err-lines-clause-survives g c = λ keeps reads tells stands.
-    survives_between _ _ _ _ _ _ _ _ _ _ _ _ (none_answered g.P.Places.tells c.args.planner.now.effort (g.I.Source.held c.args.input.now) (g.I.Source.held c.args.input.now) c.args.round.now.book (g.O.Sink.taken c.args.out.now) (g.P.Places.placed c.args.planner.now.places) refl)
+returns-in_err-lines-clause-survives g c = λ keeps reads is_known stands.
+    survives_between _ _ _ _ _ _ _ _ _ _ _ _ (none_answered g.P.OutputStore.is_known c.args.settings.now.on_limit (g.I.Source.held c.args.input.now) (g.I.Source.held c.args.input.now) c.args.round.now.book (g.O.Sink.taken c.args.out.now) (g.P.OutputStore.placed c.args.settings.now.store) refl)
     (λ left now. g.K.Keeper.restarts c.args.round.now.keeper c.args.round.now.book left keeps stands now)
 
 pub returns-in_err-lines-clause-any_moment : goal.returns-in_err-lines-clause-any_moment
-returns-in_err-lines-clause-any_moment g c = λ keeps reads tells stands.
+returns-in_err-lines-clause-any_moment g c = λ keeps reads is_known stands.
     started g.K.Keeper.moment g.K.Keeper.left_since c.args.round.now.keeper _
     (λ left since.
-    read_now _ _ _ _ _ _ _ _ _ _ _ left (none_answered g.P.Places.tells c.args.planner.now.effort (g.I.Source.held c.args.input.now) (g.I.Source.held c.args.input.now) c.args.round.now.book (g.O.Sink.taken c.args.out.now) (g.P.Places.placed c.args.planner.now.places) refl)
+    read_now _ _ _ _ _ _ _ _ _ _ _ left (none_answered g.P.OutputStore.is_known c.args.settings.now.on_limit (g.I.Source.held c.args.input.now) (g.I.Source.held c.args.input.now) c.args.round.now.book (g.O.Sink.taken c.args.out.now) (g.P.OutputStore.placed c.args.settings.now.store) refl)
     (g.K.Keeper.restarts c.args.round.now.keeper c.args.round.now.book left keeps stands (g.K.Keeper.only_now c.args.round.now.keeper left keeps since)))
 
 pub loop-answered-init : goal.loop-answered-init
 loop-answered-init g c = record {
   unfailed = refl;
-  effort = refl;
-  none_left = λ tells none. none;
+  on_limit = refl;
+  none_left = λ is_known none. none;
   output = refl;
   keeper = λ counts. refl;
   counted = λ reads. rw c.in_ok-lines.ensures.ahead (omega arith);
   stands = λ stands. stands;
-  answered = λ reads tells.
+  answered = λ reads is_known.
       none_answered _ _ _ _ _ _ _ (ap (λ (l : List ℕ). l ++ g.I.Source.held c.args.input.now) c.in_ok-lines.ensures.ahead);
-  moments = λ keeps reads tells stands.
+  moments = λ keeps reads is_known stands.
       started g.K.Keeper.moment g.K.Keeper.left_since c.args.round.now.keeper _
       (λ left since.
-      read_now _ _ _ _ _ _ _ _ _ _ _ left (none_answered g.P.Places.tells c.args.planner.now.effort (g.I.Source.held c.args.input.now) (g.I.Source.held c.args.input.now) c.args.round.now.book (g.O.Sink.taken c.args.out.now) (g.P.Places.placed c.args.planner.now.places) refl)
+      read_now _ _ _ _ _ _ _ _ _ _ _ left (none_answered g.P.OutputStore.is_known c.args.settings.now.on_limit (g.I.Source.held c.args.input.now) (g.I.Source.held c.args.input.now) c.args.round.now.book (g.O.Sink.taken c.args.out.now) (g.P.OutputStore.placed c.args.settings.now.store) refl)
       (g.K.Keeper.restarts c.args.round.now.keeper c.args.round.now.book left keeps stands (g.K.Keeper.only_now c.args.round.now.keeper left keeps since)));
 }
 
 pub returns-in_err-read_line-clause-survives : goal.returns-in_err-read_line-clause-survives
-returns-in_err-read_line-clause-survives g c = λ keeps reads tells stands.
-    survives_between _ _ _ _ _ _ _ _ _ _ _ _ (c.loop-answered.invariant.answered reads tells)
+returns-in_err-read_line-clause-survives g c = λ keeps reads is_known stands.
+    survives_between _ _ _ _ _ _ _ _ _ _ _ _ (c.loop-answered.invariant.answered reads is_known)
     (λ left now. g.K.Keeper.restarts c.loop-answered.round.keeper c.loop-answered.round.book left keeps (c.loop-answered.invariant.stands stands) now)
 
 pub returns-in-End-clause-survives : goal.returns-in-End-clause-survives
-returns-in-End-clause-survives g c = λ keeps reads tells stands.
-    survives_between _ _ _ _ _ _ _ _ _ _ _ _ (c.loop-answered.invariant.answered reads tells)
+returns-in-End-clause-survives g c = λ keeps reads is_known stands.
+    survives_between _ _ _ _ _ _ _ _ _ _ _ _ (c.loop-answered.invariant.answered reads is_known)
     (λ left now. g.K.Keeper.restarts c.loop-answered.round.keeper c.loop-answered.round.book left keeps (c.loop-answered.invariant.stands stands) now)
 
 pub returns-clause-survives : goal.returns-clause-survives
-returns-clause-survives g c = λ keeps reads tells stands.
-    survives_between _ _ _ _ _ _ _ _ _ _ _ _ (c.loop-answered.invariant.answered reads tells)
+returns-clause-survives g c = λ keeps reads is_known stands.
+    survives_between _ _ _ _ _ _ _ _ _ _ _ _ (c.loop-answered.invariant.answered reads is_known)
     (λ left now. g.K.Keeper.restarts c.loop-answered.round.keeper c.loop-answered.round.book left keeps (c.loop-answered.invariant.stands stands) now)
 
 pub returns-in-End-clause-session : goal.returns-in-End-clause-session
-returns-in-End-clause-session g c = λ reads tells.
+returns-in-End-clause-session g c = λ reads is_known.
     let none = rw c.in-End.is at (c.in_ok-read_line.ensures.found reads) in
-    all_answered _ _ _ _ _ _ _ _ _ _ none (c.loop-answered.invariant.answered reads tells)
+    all_answered _ _ _ _ _ _ _ _ _ _ none (c.loop-answered.invariant.answered reads is_known)
 
 pub returns-in_err-refuse-in-TooLong-clause-survives : goal.returns-in_err-refuse-in-TooLong-clause-survives
-returns-in_err-refuse-in-TooLong-clause-survives g c = λ keeps reads tells stands.
+returns-in_err-refuse-in-TooLong-clause-survives g c = λ keeps reads is_known stands.
     let found = rw c.in-TooLong.is at (c.in_ok-read_line.ensures.found reads) in
     let kept : (left : List ℕ) → g.K.Keeper.may_leave c.loop-answered.round.keeper left → g.K.Keeper.reads_as left c.loop-answered.round.book = λ left now.
     g.K.Keeper.restarts c.loop-answered.round.keeper c.loop-answered.round.book left keeps (c.loop-answered.invariant.stands stands) now in
-    survives_within _ _ _ _ found.0 _ _ _ _ _ _ _ _ _ _ _ (c.loop-answered.invariant.answered reads tells) found.1
-    (cut_part (RepliesAndPlaces g.P.Places.tells c.args.planner.now.effort found.0 (g.P.Places.placed c.loop-answered.planner.places) (g.P.Places.placed c.loop-answered.planner.places)) c.loop-answered.round.book c.loop-answered.round.book
+    survives_within _ _ _ _ found.0 _ _ _ _ _ _ _ _ _ _ _ (c.loop-answered.invariant.answered reads is_known) found.1
+    (cut_part (RepliesAndPlaces g.P.OutputStore.is_known c.args.settings.now.on_limit found.0 (g.P.OutputStore.placed c.loop-answered.settings.store) (g.P.OutputStore.placed c.loop-answered.settings.store)) c.loop-answered.round.book c.loop-answered.round.book
     (g.O.Sink.taken c.loop-answered.out) (g.O.Sink.taken c.refuse.new.out) g.K.Keeper.reads_as (g.K.Keeper.may_leave c.loop-answered.round.keeper)
-    (IsRefusalTold refusal.Unknown) (λ told is. ([], too_long found.2 refl is refl, λ known. sym (append-nil _))) (λ left now. inl (kept left now)) kept
-    (took_part _ _ _ (IsRefusalTold refusal.Unknown) refl (c.in_err-refuse-in-TooLong.ensures.told tells).1))
+    (IsRefusalPrinted refusal.Unknown) (λ printed is. ([], too_long found.2 refl is refl, λ known. sym (append-nil _))) (λ left now. inl (kept left now)) kept
+    (took_part _ _ _ (IsRefusalPrinted refusal.Unknown) refl (c.in_err-refuse-in-TooLong.ensures.printed is_known).1))
 
 pub returns-in_err-answer_line-in-Kept-clause-survives : goal.returns-in_err-answer_line-in-Kept-clause-survives
-returns-in_err-answer_line-in-Kept-clause-survives g c = λ keeps reads tells stands.
+returns-in_err-answer_line-in-Kept-clause-survives g c = λ keeps reads is_known stands.
     let found = rw c.in-Kept.is at (c.in_ok-read_line.ensures.found reads) in
-    let cut = rw (c.as_slice.ensures.value, c.loop-answered.invariant.effort) at
-    (c.in_err-answer_line-in-Kept.ensures.cut keeps tells (c.loop-answered.invariant.stands stands)) in
-    survives_within _ _ _ _ _ _ _ _ _ _ _ _ _ _ _ _ (c.loop-answered.invariant.answered reads tells) found.0 cut
+    let cut = rw (c.as_slice.ensures.value, c.loop-answered.invariant.on_limit) at
+    (c.in_err-answer_line-in-Kept.ensures.cut keeps is_known (c.loop-answered.invariant.stands stands)) in
+    survives_within _ _ _ _ _ _ _ _ _ _ _ _ _ _ _ _ (c.loop-answered.invariant.answered reads is_known) found.0 cut
 
 pub returns-in_err-answer_line-in-Kept-clause-any_moment : goal.returns-in_err-answer_line-in-Kept-clause-any_moment
-returns-in_err-answer_line-in-Kept-clause-any_moment g c = λ keeps reads tells stands.
+returns-in_err-answer_line-in-Kept-clause-any_moment g c = λ keeps reads is_known stands.
     let found = rw c.in-Kept.is at (c.in_ok-read_line.ensures.found reads) in
-    let more = rw (c.as_slice.ensures.value, c.loop-answered.invariant.effort) at (c.answer_line.ensures.any_moment keeps (c.loop-answered.invariant.stands stands)) in
+    let more = rw (c.as_slice.ensures.value, c.loop-answered.invariant.on_limit) at (c.answer_line.ensures.any_moment keeps (c.loop-answered.invariant.stands stands)) in
     then_on g.K.Keeper.moment g.K.Keeper.left_since _ c.loop-answered.round.keeper c.answer_line.new.round.keeper _ _
-    (c.loop-answered.invariant.moments keeps reads tells stands) more
-    (λ left is. read_next _ _ _ _ _ _ _ _ _ _ _ _ _ left (c.loop-answered.invariant.answered reads tells) found.0 is)
+    (c.loop-answered.invariant.moments keeps reads is_known stands) more
+    (λ left is. read_next _ _ _ _ _ _ _ _ _ _ _ _ _ left (c.loop-answered.invariant.answered reads is_known) found.0 is)
 
 pub returns-in_err-settle-clause-survives : goal.returns-in_err-settle-clause-survives
-returns-in_err-settle-clause-survives g c = λ keeps reads tells stands.
-    let answered : Answered g.P.Places.tells c.args.planner.now.effort (g.I.Source.held c.args.input.now) (ahead_of c.read_line.new.self ++ g.I.Source.held c.read_line.new.source)
+returns-in_err-settle-clause-survives g c = λ keeps reads is_known stands.
+    let answered : Answered g.P.OutputStore.is_known c.args.settings.now.on_limit (g.I.Source.held c.args.input.now) (ahead_of c.read_line.new.self ++ g.I.Source.held c.read_line.new.source)
     c.args.round.now.book c.match-branch-3.round.book (g.O.Sink.taken c.args.out.now) (g.O.Sink.taken c.match-branch-3.out)
-    (g.P.Places.placed c.args.planner.now.places) (g.P.Places.placed c.match-branch-3.planner.places) = elim c.match-branch-3.branch [
+    (g.P.OutputStore.placed c.args.settings.now.store) (g.P.OutputStore.placed c.match-branch-3.settings.store) = elim c.match-branch-3.branch [
       | in-TooLong+in_ok-refuse-in-TooLong w ↦
           let found = rw w.in-TooLong.is at (c.in_ok-read_line.ensures.found reads) in
-          let told = w.in_ok-refuse-in-TooLong.ensures.told tells in
-          rw (w.planner-is, w.round-is, w.out-is)
-          (one_answered _ _ _ _ found.0 _ _ _ _ _ _ _ _ _ _ (c.loop-answered.invariant.answered reads tells) found.1
-          (told_once _ _ _ _ _ _ (too_long found.2 refl refl refl) told.0))
+          let printed = w.in_ok-refuse-in-TooLong.ensures.printed is_known in
+          rw (w.settings-is, w.round-is, w.out-is)
+          (one_answered _ _ _ _ found.0 _ _ _ _ _ _ _ _ _ _ (c.loop-answered.invariant.answered reads is_known) found.1
+          (told_once _ _ _ _ _ _ (too_long found.2 refl refl refl) printed.0))
       | in-Kept+in_ok-answer_line-in-Kept w ↦
           let found = rw w.in-Kept.is at (c.in_ok-read_line.ensures.found reads) in
-          let reply = rw (w.as_slice.ensures.value, c.loop-answered.invariant.effort) at (w.in_ok-answer_line-in-Kept.ensures.replied tells) in
-          rw (w.planner-is, w.round-is, w.out-is)
-          (one_answered _ _ _ _ _ _ _ _ _ _ _ _ _ _ _ (c.loop-answered.invariant.answered reads tells) found.0 reply)
+          let reply = rw (w.as_slice.ensures.value, c.loop-answered.invariant.on_limit) at (w.in_ok-answer_line-in-Kept.ensures.replied is_known) in
+          rw (w.settings-is, w.round-is, w.out-is)
+          (one_answered _ _ _ _ _ _ _ _ _ _ _ _ _ _ _ (c.loop-answered.invariant.answered reads is_known) found.0 reply)
     ] in
-    let now_stands : g.K.Keeper.stands_for c.match-branch-3.round.keeper c.match-branch-3.round.book = elim c.match-branch-3.branch [
+    let now_stands : g.K.Keeper.represents c.match-branch-3.round.keeper c.match-branch-3.round.book = elim c.match-branch-3.branch [
       | in-TooLong+in_ok-refuse-in-TooLong w ↦ rw w.round-is (c.loop-answered.invariant.stands stands)
       | in-Kept+in_ok-answer_line-in-Kept w ↦
           rw w.round-is (w.in_ok-answer_line-in-Kept.ensures.stands (c.loop-answered.invariant.stands stands))
@@ -115,37 +115,37 @@ returns-in_err-settle-clause-survives g c = λ keeps reads tells stands.
     settling.each left (g.K.Keeper.counts_now c.settle.new.self (g.K.Keeper.moment c.match-branch-3.round.keeper) left keeps settling.later now))
 
 pub returns-in_err-settle-clause-any_moment : goal.returns-in_err-settle-clause-any_moment
-returns-in_err-settle-clause-any_moment g c = λ keeps reads tells stands.
-    let answered : Answered g.P.Places.tells c.args.planner.now.effort (g.I.Source.held c.args.input.now) (ahead_of c.read_line.new.self ++ g.I.Source.held c.read_line.new.source)
+returns-in_err-settle-clause-any_moment g c = λ keeps reads is_known stands.
+    let answered : Answered g.P.OutputStore.is_known c.args.settings.now.on_limit (g.I.Source.held c.args.input.now) (ahead_of c.read_line.new.self ++ g.I.Source.held c.read_line.new.source)
     c.args.round.now.book c.match-branch-3.round.book (g.O.Sink.taken c.args.out.now) (g.O.Sink.taken c.match-branch-3.out)
-    (g.P.Places.placed c.args.planner.now.places) (g.P.Places.placed c.match-branch-3.planner.places) = elim c.match-branch-3.branch [
+    (g.P.OutputStore.placed c.args.settings.now.store) (g.P.OutputStore.placed c.match-branch-3.settings.store) = elim c.match-branch-3.branch [
       | in-TooLong+in_ok-refuse-in-TooLong w ↦
           let found = rw w.in-TooLong.is at (c.in_ok-read_line.ensures.found reads) in
-          let told = w.in_ok-refuse-in-TooLong.ensures.told tells in
-          rw (w.planner-is, w.round-is, w.out-is)
-          (one_answered _ _ _ _ found.0 _ _ _ _ _ _ _ _ _ _ (c.loop-answered.invariant.answered reads tells) found.1
-          (told_once _ _ _ _ _ _ (too_long found.2 refl refl refl) told.0))
+          let printed = w.in_ok-refuse-in-TooLong.ensures.printed is_known in
+          rw (w.settings-is, w.round-is, w.out-is)
+          (one_answered _ _ _ _ found.0 _ _ _ _ _ _ _ _ _ _ (c.loop-answered.invariant.answered reads is_known) found.1
+          (told_once _ _ _ _ _ _ (too_long found.2 refl refl refl) printed.0))
       | in-Kept+in_ok-answer_line-in-Kept w ↦
           let found = rw w.in-Kept.is at (c.in_ok-read_line.ensures.found reads) in
-          let reply = rw (w.as_slice.ensures.value, c.loop-answered.invariant.effort) at (w.in_ok-answer_line-in-Kept.ensures.replied tells) in
-          rw (w.planner-is, w.round-is, w.out-is)
-          (one_answered _ _ _ _ _ _ _ _ _ _ _ _ _ _ _ (c.loop-answered.invariant.answered reads tells) found.0 reply)
+          let reply = rw (w.as_slice.ensures.value, c.loop-answered.invariant.on_limit) at (w.in_ok-answer_line-in-Kept.ensures.replied is_known) in
+          rw (w.settings-is, w.round-is, w.out-is)
+          (one_answered _ _ _ _ _ _ _ _ _ _ _ _ _ _ _ (c.loop-answered.invariant.answered reads is_known) found.0 reply)
     ] in
-    let now_stands : g.K.Keeper.stands_for c.match-branch-3.round.keeper c.match-branch-3.round.book = elim c.match-branch-3.branch [
+    let now_stands : g.K.Keeper.represents c.match-branch-3.round.keeper c.match-branch-3.round.book = elim c.match-branch-3.branch [
       | in-TooLong+in_ok-refuse-in-TooLong w ↦ rw w.round-is (c.loop-answered.invariant.stands stands)
       | in-Kept+in_ok-answer_line-in-Kept w ↦
           rw w.round-is (w.in_ok-answer_line-in-Kept.ensures.stands (c.loop-answered.invariant.stands stands))
     ] in
     let so_far : LeavesOnly g.K.Keeper.moment g.K.Keeper.left_since c.args.round.now.keeper c.match-branch-3.round.keeper
-    (ReadsAfterLines g.P.Places.tells c.args.planner.now.effort (g.I.Source.held c.args.input.now) c.args.round.now.book g.K.Keeper.reads_as) = elim c.match-branch-3.branch [
-      | in-TooLong+in_ok-refuse-in-TooLong w ↦ rw w.round-is (c.loop-answered.invariant.moments keeps reads tells stands)
+    (ReadsAfterLines g.P.OutputStore.is_known c.args.settings.now.on_limit (g.I.Source.held c.args.input.now) c.args.round.now.book g.K.Keeper.reads_as) = elim c.match-branch-3.branch [
+      | in-TooLong+in_ok-refuse-in-TooLong w ↦ rw w.round-is (c.loop-answered.invariant.moments keeps reads is_known stands)
       | in-Kept+in_ok-answer_line-in-Kept w ↦
           let found = rw w.in-Kept.is at (c.in_ok-read_line.ensures.found reads) in
-          let more = rw (w.as_slice.ensures.value, c.loop-answered.invariant.effort) at (w.answer_line.ensures.any_moment keeps (c.loop-answered.invariant.stands stands)) in
+          let more = rw (w.as_slice.ensures.value, c.loop-answered.invariant.on_limit) at (w.answer_line.ensures.any_moment keeps (c.loop-answered.invariant.stands stands)) in
           rw w.round-is
           (then_on g.K.Keeper.moment g.K.Keeper.left_since _ c.loop-answered.round.keeper w.answer_line.new.round.keeper _ _
-          (c.loop-answered.invariant.moments keeps reads tells stands) more
-          (λ left is. read_next _ _ _ _ _ _ _ _ _ _ _ _ _ left (c.loop-answered.invariant.answered reads tells) found.0 is))
+          (c.loop-answered.invariant.moments keeps reads is_known stands) more
+          (λ left is. read_next _ _ _ _ _ _ _ _ _ _ _ _ _ left (c.loop-answered.invariant.answered reads is_known) found.0 is))
     ] in
     then_on g.K.Keeper.moment g.K.Keeper.left_since _ c.match-branch-3.round.keeper c.settle.new.self _ _ so_far
     (c.settle.ensures.any_moment keeps now_stands) (λ left is. read_now _ _ _ _ _ _ _ _ _ _ _ left answered is)
@@ -153,7 +153,7 @@ returns-in_err-settle-clause-any_moment g c = λ keeps reads tells stands.
 pub loop-answered-preserved : goal.loop-answered-preserved
 loop-answered-preserved g c = record {
   unfailed = search rules;
-  effort = search rules;
+  on_limit = search rules;
   none_left = search rules;
   output = search rules;
   keeper = search rules;
@@ -170,60 +170,60 @@ loop-answered-preserved g c = record {
             omega (arith, was, less)
       ];
   stands = λ stands.
-      let now_stands : g.K.Keeper.stands_for c.match-branch-3.round.keeper c.match-branch-3.round.book = elim c.match-branch-3.branch [
+      let now_stands : g.K.Keeper.represents c.match-branch-3.round.keeper c.match-branch-3.round.book = elim c.match-branch-3.branch [
         | in-TooLong+in_ok-refuse-in-TooLong w ↦ rw w.round-is (c.loop-answered.invariant.stands stands)
         | in-Kept+in_ok-answer_line-in-Kept w ↦
             rw w.round-is (w.in_ok-answer_line-in-Kept.ensures.stands (c.loop-answered.invariant.stands stands))
       ] in
       c.in_ok-settle.ensures.stands now_stands;
-  answered = λ reads tells.
-      let answered : Answered g.P.Places.tells c.args.planner.now.effort (g.I.Source.held c.args.input.now) (ahead_of c.read_line.new.self ++ g.I.Source.held c.read_line.new.source)
+  answered = λ reads is_known.
+      let answered : Answered g.P.OutputStore.is_known c.args.settings.now.on_limit (g.I.Source.held c.args.input.now) (ahead_of c.read_line.new.self ++ g.I.Source.held c.read_line.new.source)
       c.args.round.now.book c.match-branch-3.round.book (g.O.Sink.taken c.args.out.now) (g.O.Sink.taken c.match-branch-3.out)
-      (g.P.Places.placed c.args.planner.now.places) (g.P.Places.placed c.match-branch-3.planner.places) = elim c.match-branch-3.branch [
+      (g.P.OutputStore.placed c.args.settings.now.store) (g.P.OutputStore.placed c.match-branch-3.settings.store) = elim c.match-branch-3.branch [
         | in-TooLong+in_ok-refuse-in-TooLong w ↦
             let found = rw w.in-TooLong.is at (c.in_ok-read_line.ensures.found reads) in
-            let told = w.in_ok-refuse-in-TooLong.ensures.told tells in
-            rw (w.planner-is, w.round-is, w.out-is)
-            (one_answered _ _ _ _ found.0 _ _ _ _ _ _ _ _ _ _ (c.loop-answered.invariant.answered reads tells) found.1
-            (told_once _ _ _ _ _ _ (too_long found.2 refl refl refl) told.0))
+            let printed = w.in_ok-refuse-in-TooLong.ensures.printed is_known in
+            rw (w.settings-is, w.round-is, w.out-is)
+            (one_answered _ _ _ _ found.0 _ _ _ _ _ _ _ _ _ _ (c.loop-answered.invariant.answered reads is_known) found.1
+            (told_once _ _ _ _ _ _ (too_long found.2 refl refl refl) printed.0))
         | in-Kept+in_ok-answer_line-in-Kept w ↦
             let found = rw w.in-Kept.is at (c.in_ok-read_line.ensures.found reads) in
-            let reply = rw (w.as_slice.ensures.value, c.loop-answered.invariant.effort) at (w.in_ok-answer_line-in-Kept.ensures.replied tells) in
-            rw (w.planner-is, w.round-is, w.out-is)
-            (one_answered _ _ _ _ _ _ _ _ _ _ _ _ _ _ _ (c.loop-answered.invariant.answered reads tells) found.0 reply)
+            let reply = rw (w.as_slice.ensures.value, c.loop-answered.invariant.on_limit) at (w.in_ok-answer_line-in-Kept.ensures.replied is_known) in
+            rw (w.settings-is, w.round-is, w.out-is)
+            (one_answered _ _ _ _ _ _ _ _ _ _ _ _ _ _ _ (c.loop-answered.invariant.answered reads is_known) found.0 reply)
       ] in
       answered;
-  moments = λ keeps reads tells stands.
-      let answered : Answered g.P.Places.tells c.args.planner.now.effort (g.I.Source.held c.args.input.now) (ahead_of c.read_line.new.self ++ g.I.Source.held c.read_line.new.source)
+  moments = λ keeps reads is_known stands.
+      let answered : Answered g.P.OutputStore.is_known c.args.settings.now.on_limit (g.I.Source.held c.args.input.now) (ahead_of c.read_line.new.self ++ g.I.Source.held c.read_line.new.source)
       c.args.round.now.book c.match-branch-3.round.book (g.O.Sink.taken c.args.out.now) (g.O.Sink.taken c.match-branch-3.out)
-      (g.P.Places.placed c.args.planner.now.places) (g.P.Places.placed c.match-branch-3.planner.places) = elim c.match-branch-3.branch [
+      (g.P.OutputStore.placed c.args.settings.now.store) (g.P.OutputStore.placed c.match-branch-3.settings.store) = elim c.match-branch-3.branch [
         | in-TooLong+in_ok-refuse-in-TooLong w ↦
             let found = rw w.in-TooLong.is at (c.in_ok-read_line.ensures.found reads) in
-            let told = w.in_ok-refuse-in-TooLong.ensures.told tells in
-            rw (w.planner-is, w.round-is, w.out-is)
-            (one_answered _ _ _ _ found.0 _ _ _ _ _ _ _ _ _ _ (c.loop-answered.invariant.answered reads tells) found.1
-            (told_once _ _ _ _ _ _ (too_long found.2 refl refl refl) told.0))
+            let printed = w.in_ok-refuse-in-TooLong.ensures.printed is_known in
+            rw (w.settings-is, w.round-is, w.out-is)
+            (one_answered _ _ _ _ found.0 _ _ _ _ _ _ _ _ _ _ (c.loop-answered.invariant.answered reads is_known) found.1
+            (told_once _ _ _ _ _ _ (too_long found.2 refl refl refl) printed.0))
         | in-Kept+in_ok-answer_line-in-Kept w ↦
             let found = rw w.in-Kept.is at (c.in_ok-read_line.ensures.found reads) in
-            let reply = rw (w.as_slice.ensures.value, c.loop-answered.invariant.effort) at (w.in_ok-answer_line-in-Kept.ensures.replied tells) in
-            rw (w.planner-is, w.round-is, w.out-is)
-            (one_answered _ _ _ _ _ _ _ _ _ _ _ _ _ _ _ (c.loop-answered.invariant.answered reads tells) found.0 reply)
+            let reply = rw (w.as_slice.ensures.value, c.loop-answered.invariant.on_limit) at (w.in_ok-answer_line-in-Kept.ensures.replied is_known) in
+            rw (w.settings-is, w.round-is, w.out-is)
+            (one_answered _ _ _ _ _ _ _ _ _ _ _ _ _ _ _ (c.loop-answered.invariant.answered reads is_known) found.0 reply)
       ] in
-      let now_stands : g.K.Keeper.stands_for c.match-branch-3.round.keeper c.match-branch-3.round.book = elim c.match-branch-3.branch [
+      let now_stands : g.K.Keeper.represents c.match-branch-3.round.keeper c.match-branch-3.round.book = elim c.match-branch-3.branch [
         | in-TooLong+in_ok-refuse-in-TooLong w ↦ rw w.round-is (c.loop-answered.invariant.stands stands)
         | in-Kept+in_ok-answer_line-in-Kept w ↦
             rw w.round-is (w.in_ok-answer_line-in-Kept.ensures.stands (c.loop-answered.invariant.stands stands))
       ] in
       let so_far : LeavesOnly g.K.Keeper.moment g.K.Keeper.left_since c.args.round.now.keeper c.match-branch-3.round.keeper
-      (ReadsAfterLines g.P.Places.tells c.args.planner.now.effort (g.I.Source.held c.args.input.now) c.args.round.now.book g.K.Keeper.reads_as) = elim c.match-branch-3.branch [
-        | in-TooLong+in_ok-refuse-in-TooLong w ↦ rw w.round-is (c.loop-answered.invariant.moments keeps reads tells stands)
+      (ReadsAfterLines g.P.OutputStore.is_known c.args.settings.now.on_limit (g.I.Source.held c.args.input.now) c.args.round.now.book g.K.Keeper.reads_as) = elim c.match-branch-3.branch [
+        | in-TooLong+in_ok-refuse-in-TooLong w ↦ rw w.round-is (c.loop-answered.invariant.moments keeps reads is_known stands)
         | in-Kept+in_ok-answer_line-in-Kept w ↦
             let found = rw w.in-Kept.is at (c.in_ok-read_line.ensures.found reads) in
-            let more = rw (w.as_slice.ensures.value, c.loop-answered.invariant.effort) at (w.answer_line.ensures.any_moment keeps (c.loop-answered.invariant.stands stands)) in
+            let more = rw (w.as_slice.ensures.value, c.loop-answered.invariant.on_limit) at (w.answer_line.ensures.any_moment keeps (c.loop-answered.invariant.stands stands)) in
             rw w.round-is
             (then_on g.K.Keeper.moment g.K.Keeper.left_since _ c.loop-answered.round.keeper w.answer_line.new.round.keeper _ _
-            (c.loop-answered.invariant.moments keeps reads tells stands) more
-            (λ left is. read_next _ _ _ _ _ _ _ _ _ _ _ _ _ left (c.loop-answered.invariant.answered reads tells) found.0 is))
+            (c.loop-answered.invariant.moments keeps reads is_known stands) more
+            (λ left is. read_next _ _ _ _ _ _ _ _ _ _ _ _ _ left (c.loop-answered.invariant.answered reads is_known) found.0 is))
       ] in
       then_on g.K.Keeper.moment g.K.Keeper.left_since _ c.match-branch-3.round.keeper c.settle.new.self _ _ so_far
       (c.settle.ensures.any_moment keeps now_stands) (λ left is. read_now _ _ _ _ _ _ _ _ _ _ _ left answered is);

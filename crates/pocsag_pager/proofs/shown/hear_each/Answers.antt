@@ -1,6 +1,6 @@
 use Rattle.pocsag_pager.proofs.Prelude.{◌≡◌, ◌+◌, ◌/◌, ◌++◌, ◌∷◌, [], ℕ, List, length, map, take, refl, sym, ap, subst, ◌∙◌, arith, append_assoc, from_be_bytes, w32, words_of, HasHeard, pager_address}
 use Rattle.std.proofs.lemmas.List.{take_all}
-use Rattle.pocsag_pager.specs.States.{Stands}
+use Rattle.pocsag_pager.specs.States.{HasFollowed}
 use Rattle.pocsag_pager.proofs.WholeWords.{chunk_words, ended_at, one_more_word}
 use Rattle.pocsag_pager.specs.Shown.{ShowsSome}
 use Rattle.pocsag_pager.proofs.Memory.{shows_all, shows_ended, wanted}
@@ -22,7 +22,7 @@ loop-word-preserved c =
           ap (λ ws. words ++ ws) (one_more_word chunks loop.word-index c.from_be_bytes.result (omega arith) c.from_be_bytes.ensures)
           ∙ sym (append_assoc words so_far (c.from_be_bytes.result ∷ [])) in
           record {
-            stands = subst (Stands c.hear.new.self) (sym more) (answer.stands (words ++ so_far) before.stands);
+            stands = subst (HasFollowed c.hear.new.self) (sym more) (answer.stands (words ++ so_far) before.stands);
             ended =
                 ended_at _ _ _ _ _ _ more c.hear.ensures.address c.in_ok-keep.ensures.kept
                 (answer.ended (words ++ so_far) loop.pages.items before.stands before.ended);

@@ -8,8 +8,8 @@ returns-then-passes-clause-heard c =
     let bytes = c.args.bytes.now in
     record {
       heard =
-          λ words h. c.pass.ensures.heard words (words_of bytes) _ h (words_small bytes (λ i. (c.type_inv.bytes i).fits))
+          λ words h. c.skip.ensures.heard words (words_of bytes) _ h (words_small bytes (λ i. (c.type_inv.bytes i).fits))
           (words_long bytes);
       memory = λ words h. tt;
-      address = c.pass.ensures.address;
+      address = c.skip.ensures.address;
     }

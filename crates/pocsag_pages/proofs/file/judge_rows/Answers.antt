@@ -2,8 +2,8 @@ use Rattle.std.proofs.Common.{◌∙◌, inl, inr, refl, arith}
 use Rattle.pocsag_pages.proofs.Judgements.{judged, grown_end, grown_fault, grown_on, said_ok, said_err}
 use Rattle.pocsag_pages.proofs.file.judge_rows.Goals as goal
 
-pub loop-draft-init : goal.loop-draft-init
-loop-draft-init c = rw c.new-draft.ensures (record {
+pub loop-builder-init : goal.loop-builder-init
+loop-builder-init c = rw c.new-builder.ensures (record {
   even = refl;
   few = omega arith;
   rest = judged _;
@@ -12,15 +12,15 @@ loop-draft-init c = rw c.new-draft.ensures (record {
 pub returns-then-not-found-clause-ok : goal.returns-then-not-found-clause-ok
 returns-then-not-found-clause-ok c =
     let over =
-    c.loop-draft.invariant.rest ∙ rw (c.in_ok-found.ensures.none c.if-not-found.true)
-    (grown_end c.loop-draft.draft c.loop-draft.earlier) in
+    c.loop-builder.invariant.rest ∙ rw (c.in_ok-found.ensures.none c.if-not-found.true)
+    (grown_end c.loop-builder.builder c.loop-builder.earlier) in
     rw c.into_round.ensures (said_ok _ _ over)
 
 pub returns-then-not-found-clause-err : goal.returns-then-not-found-clause-err
 returns-then-not-found-clause-err c =
     let over =
-    c.loop-draft.invariant.rest ∙ rw (c.in_ok-found.ensures.none c.if-not-found.true)
-    (grown_end c.loop-draft.draft c.loop-draft.earlier) in
+    c.loop-builder.invariant.rest ∙ rw (c.in_ok-found.ensures.none c.if-not-found.true)
+    (grown_end c.loop-builder.builder c.loop-builder.earlier) in
     rw c.into_round.ensures (said_err _ _ over)
 
 pub returns-in-Err-clause-err : goal.returns-in-Err-clause-err
@@ -29,19 +29,19 @@ returns-in-Err-clause-err c =
       | inl e ↦ inl (c.numbered.ensures ∙ rw e refl)
       | inr f ↦
           inr
-          (c.loop-draft.invariant.rest
+          (c.loop-builder.invariant.rest
           ∙ rw (c.in_ok-found.ensures.found c.if-not-found.false, c.numbered.ensures)
-          (grown_fault c.loop-draft.draft c.loop-draft.earlier _ _ c.in-Err.fault f))
+          (grown_fault c.loop-builder.builder c.loop-builder.earlier _ _ c.in-Err.fault f))
     ]
 
-pub loop-draft-preserved : goal.loop-draft-preserved
-loop-draft-preserved c =
+pub loop-builder-preserved : goal.loop-builder-preserved
+loop-builder-preserved c =
     let judged_fine = c.in-Ok.ensures in
     record {
       even = omega (arith, judged_fine.one);
       few = judged_fine.few;
       rest =
-          c.loop-draft.invariant.rest
+          c.loop-builder.invariant.rest
           ∙ rw (c.in_ok-found.ensures.found c.if-not-found.false, judged_fine.longer)
-          (grown_on c.loop-draft.draft c.loop-draft.earlier _ _ judged_fine.fine);
+          (grown_on c.loop-builder.builder c.loop-builder.earlier _ _ judged_fine.fine);
     }

@@ -14,7 +14,7 @@ returns-in-Ok-Some-clause-longer c =
 pub returns-in-Ok-Some-clause-one : goal.returns-in-Ok-Some-clause-one
 returns-in-Ok-Some-clause-one c =
     let longer = rw c.in-Ok-Some.field-0-is at c.in-Ok-Some.ensures.longer in
-    omega (arith, ap length longer, length-append c.args.draft (c.in_ok-page.page ∷ []))
+    omega (arith, ap length longer, length-append c.args.builder (c.in_ok-page.page ∷ []))
 
 pub returns-in-Ok-Some-clause-fine : goal.returns-in-Ok-Some-clause-fine
 returns-in-Ok-Some-clause-fine c =

@@ -11,22 +11,22 @@ loop-page-preserved-then-has c = record {
 
 pub loop-page-preserved : goal.loop-page-preserved
 loop-page-preserved c =
-    let draft = c.loop-page.draft in
+    let builder = c.loop-page.builder in
     let p = c.page-item.result in
     let copied = rw c.in-Some.is at c.in_ok-longer.ensures.longer in
-    let longer : c.in-Some.longer ≡ draft ++ p ∷ [] = rw c.in_ok-copy.ensures at copied in
+    let longer : c.in-Some.longer ≡ builder ++ p ∷ [] = rw c.in_ok-copy.ensures at copied in
     record {
-      few = omega (arith, c.loop-page.invariant.few, ap length longer, length-append draft (p ∷ []));
-      rest = firsts_longer _ draft _ p c.loop-page-test.true c.page-item.is c.loop-page.invariant.rest c.in-Some.longer
+      few = omega (arith, c.loop-page.invariant.few, ap length longer, length-append builder (p ∷ []));
+      rest = firsts_longer _ builder _ p c.loop-page-test.true c.page-item.is c.loop-page.invariant.rest c.in-Some.longer
           (sym c.has.ensures ∙ c.if-has.false) longer;
     }
 
 pub unreachable-requires-in-Err : goal.unreachable-requires-in-Err
 unreachable-requires-in-Err c =
-    never_empty c.args.queue.now c.loop-page.draft c.loop-page.page-index c.in-Err.field-0 c.requires.some c.loop-page-test.false
+    never_empty c.args.queue.now c.loop-page.builder c.loop-page.page-index c.in-Err.field-0 c.requires.some c.loop-page-test.false
     c.loop-page.invariant.rest (sym c.into_round.ensures ∙ c.in-Err.is)
 
 pub returns : goal.returns
 returns c =
-    value_is c.loop-page.draft c.in-Ok.round (sym c.into_round.ensures ∙ c.in-Ok.is)
-    ∙ firsts_over c.args.queue.now c.loop-page.draft c.loop-page.page-index c.loop-page-test.false c.loop-page.invariant.rest
+    value_is c.loop-page.builder c.in-Ok.round (sym c.into_round.ensures ∙ c.in-Ok.is)
+    ∙ firsts_over c.args.queue.now c.loop-page.builder c.loop-page.page-index c.loop-page-test.false c.loop-page.invariant.rest

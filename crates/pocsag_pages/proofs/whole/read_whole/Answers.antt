@@ -37,7 +37,7 @@ loop-count-preserved g c =
     record {
       size = size;
       fits = omega (arith, long);
-      held = λ tells. held_on _ bytes _ piece now _ (before.held tells) (c.in-Ok.ensures.moved tells) grown;
+      held = λ is_known. held_on _ bytes _ piece now _ (before.held is_known) (c.in-Ok.ensures.moved is_known) grown;
       calls = omega (arith, long, c.in-Ok.ensures.called, at_most_one (g.S.Source.calls c.loop-count.source));
       failures = c.in-Ok.ensures.succeeded ∙ before.failures;
     }

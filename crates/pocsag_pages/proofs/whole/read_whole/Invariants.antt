@@ -6,7 +6,7 @@ abbrev pub invariant-loop-count : goal.invariant-loop-count
 invariant-loop-count g l = record {
   size : length l.piece ≡ 8192;
   fits : length l.bytes.items ≤ l.max;
-  held : g.S.Source.tells → g.S.Source.held l.fn.source ≡ l.bytes.items ++ g.S.Source.held l.source;
+  held : g.S.Source.is_known → g.S.Source.held l.fn.source ≡ l.bytes.items ++ g.S.Source.held l.source;
   calls : g.S.Source.calls l.source ≤ g.S.Source.calls l.fn.source + length l.bytes.items;
   failures : g.S.Source.failures l.source ≡ g.S.Source.failures l.fn.source;
 }

@@ -19,7 +19,7 @@ returns-clause-attempt c =
     let outcome = c.in_ok-outcome.outcome in
     let is = c.in_ok-outcome.ensures.outcome in
     let within = is.within in
-    let near = most k end limit outcome.bound outcome.found within in
+    let fallback = most k end limit outcome.bound outcome.found within in
     let few = nodes_few k end limit outcome.bound outcome.found within c.requires.limited
     (accepted_closed k end outcome.bound (bound_tree_of outcome.found.tree) within.accepted) in
     let text = accepted_text false k end outcome.bound (bound_tree_of outcome.found.tree) within.accepted

@@ -29,7 +29,7 @@ returns-clause-plan c =
     let found = c.args.outcome.found in
     let left = c.requires.of_round.of_classes in
     let is = left.within in
-    let near : found.batches ≤ 1760001 = most k end limit bound found is in
+    let fallback : found.batches ≤ 1760001 = most k end limit bound found is in
     let at_least : bound ≤ found.batches = is.at_least in
     let sent = tour_worded k end (slice_index found.choice.early) found.batches found.steps.items R
     (some_batch k end limit bound found is) c.pages.ensures.round counted is.tour in
@@ -49,8 +49,8 @@ returns-clause-plan c =
         order = subst (λ (steps : List Step). IsOrder end R steps c.in_ok-order.order.items) c.deref.ensures.value
             c.in_ok-order.ensures.order;
         room = subst (λ (n : ℕ). n ≤ 16 * found.batches) (sym c.codewords_of.ensures) room;
-        near_least = record { least = is.least; is_least = is.is_least; near = is.or_one_more };
-        most = near;
+        fallback_least = record { least = is.least; is_least = is.is_least; fallback = is.or_one_more };
+        most = fallback;
         fewest = λ T n legal. is.bounded R T n (apart_pages R c.pages.ensures.round.good) counted legal;
         at_least = at_least;
         within_one = is.within_one;

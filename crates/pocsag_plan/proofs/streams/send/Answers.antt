@@ -5,8 +5,8 @@ pub new-slots-requires : goal.new-slots-requires
 new-slots-requires g c = has_places c.args.round.now c.args.bounded.now c.requires _ _ c.deref.ensures.value c.deref-2.ensures.value
 
 pub returns-in_default-clause-part : goal.returns-in_default-clause-part
-returns-in_default-clause-part g c = λ tells _.
-    let sent = c.in_default.ensures.part tells in
+returns-in_default-clause-part g c = λ is_known _.
+    let sent = c.in_default.ensures.part is_known in
     record {
       sent = _;
       certificate = _;
@@ -16,8 +16,8 @@ returns-in_default-clause-part g c = λ tells _.
     }
 
 pub returns-in-Ok-write_text-clause-whole : goal.returns-in-Ok-write_text-clause-whole
-returns-in-Ok-write_text-clause-whole g c = λ tells cert_tells.
-    let sent = c.in-Ok.ensures.whole tells in
+returns-in-Ok-write_text-clause-whole g c = λ is_known cert_tells.
+    let sent = c.in-Ok.ensures.whole is_known in
     record {
       sent = _;
       certificate = _;
@@ -28,8 +28,8 @@ returns-in-Ok-write_text-clause-whole g c = λ tells cert_tells.
     }
 
 pub returns-in-Err-clause-certificate_part : goal.returns-in-Err-clause-certificate_part
-returns-in-Err-clause-certificate_part g c = λ tells cert_tells _.
-    let sent = c.in-Ok.ensures.whole tells in
+returns-in-Err-clause-certificate_part g c = λ is_known cert_tells _.
+    let sent = c.in-Ok.ensures.whole is_known in
     record {
       sent = _;
       certificate = _;

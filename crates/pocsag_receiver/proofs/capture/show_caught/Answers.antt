@@ -5,9 +5,9 @@ use Rattle.pocsag_receiver.proofs.capture.show_caught.Goals as goal
 
 pub returns-clause-explained : goal.returns-clause-explained
 returns-clause-explained g c =
-    let lifted = c.in_ok-bytes.ensures.lifted in
+    let extracted = c.in_ok-bytes.ensures.extracted in
     let X = c.in_ok-bytes.field-0.bytes.items in
     let same = c.as_slice.ensures.value in
-    show_explained c.args.viewing.now.view c.args.capture.now X c.args.viewing.now.nth c.in_ok-bytes.field-0.heard.items c.in-Err.fault c.in_ok-bytes.ensures.few lifted
-    (c.readings_have_no_fault.ensures X lifted.lifts.pages lifted.lifts.reads)
+    show_explained c.args.viewing.now.view c.args.capture.now X c.args.viewing.now.nth c.in_ok-bytes.field-0.heard.items c.in-Err.fault c.in_ok-bytes.ensures.few extracted
+    (c.readings_have_no_fault.ensures X extracted.lifts.pages extracted.lifts.reads)
     (subst (λ (l : List ℕ). ExplainsShowing c.args.viewing.now.view l c.in-Err.fault) same c.in-Err.ensures.explained)

@@ -13,7 +13,7 @@ use Rattle.pocsag_receiver.proofs.decode.run_decode.Goals as goal
 use Rattle.pocsag_receiver.proofs.decode.run_decode.Goals.{then-listed+in-Some+in-Err, then-listed+in-Some+in_default, else-listed+in-Ok, else-listed+in-Err-read_transmission}
 
 pub returns-clause-counted : goal.returns-clause-counted
-returns-clause-counted g c = λ tells.
+returns-clause-counted g c = λ is_known.
     let counted : OnOk c.if-listed.done (IsSoOfRead (g.T.Source.held c.args.tx.now) c.args.decoding.now.repairing.is_asked
     (Counts c.if-listed.decoding.repairing.corrected (g.T.Source.held c.args.tx.now))) =
     elim c.if-listed.branch [
@@ -25,21 +25,21 @@ returns-clause-counted g c = λ tells.
     search rules
 
 pub returns-clause-restored : goal.returns-clause-restored
-returns-clause-restored g c = λ tells told on X ps reads damaged.
+returns-clause-restored g c = λ is_known printed on X ps reads damaged.
     let listed : OnOk c.if-listed.done (g.O.Sink.taken c.if-listed.out ≡ g.O.Sink.taken c.args.out.now ++ listed_in c.args.decoding.now.form ps) =
     elim c.if-listed.branch [
       | then-listed+in-Some+in-Err w ↦ search rules
       | then-listed+in-Some+in_default w ↦ search rules
       | else-listed+in-Ok w ↦
-          let same = w.decode_bytes.ensures.restored told on X ps reads
-          (subst (IsDamaged X) (sym (w.as_mut_slice.ensures.value ∙ w.in-Ok.ensures.whole tells)) damaged) in
+          let same = w.decode_bytes.ensures.restored printed on X ps reads
+          (subst (IsDamaged X) (sym (w.as_mut_slice.ensures.value ∙ w.in-Ok.ensures.whole is_known)) damaged) in
           search rules
       | else-listed+in-Err-read_transmission w ↦ search rules
     ] in
     search rules
 
 pub returns-clause-taken : goal.returns-clause-taken
-returns-clause-taken g c = λ tells on X ps reads damaged.
+returns-clause-taken g c = λ is_known on X ps reads damaged.
     let large : IfErr c.if-listed.done (λ e. receiver_status e ≡ 1 → input_limit < length (g.T.Source.held c.args.tx.now)) =
     elim c.if-listed.branch [
       | then-listed+in-Some+in-Err w ↦ search rules
@@ -49,7 +49,7 @@ returns-clause-taken g c = λ tells on X ps reads damaged.
           (λ (e : ReceiverFault). receiver_status e ≡ 1 → input_limit < length (g.T.Source.held c.args.tx.now))
           (λ e three one. absurd (omega arith))
           (w.decode_bytes.ensures.taken on X ps reads
-          (subst (IsDamaged X) (sym (w.as_mut_slice.ensures.value ∙ w.in-Ok.ensures.whole tells)) damaged)) in
+          (subst (IsDamaged X) (sym (w.as_mut_slice.ensures.value ∙ w.in-Ok.ensures.whole is_known)) damaged)) in
           search rules
       | else-listed+in-Err-read_transmission w ↦ search rules
     ] in

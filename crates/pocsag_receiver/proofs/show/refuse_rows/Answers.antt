@@ -15,7 +15,7 @@ pub returns-then-rows-batches-clause-rows : goal.returns-then-rows-batches-claus
 returns-then-rows-batches-clause-rows c =
     rw (sym c.in-Some.ensures) (λ batches reads. omega (
       arith,
-      rows_are c.args.bytes.now c.split_at.result.1.now reads.reads.codewords c.leading_len.result _ c.leading_len.ensures.value
+      rows_are c.args.bytes.now c.split_at.result.1.now reads.reads.codewords c.preamble_len.result _ c.preamble_len.ensures.value
           c.split_at.ensures.back refl reads.reads.sent,
       reads.as_many,
     ))
@@ -30,7 +30,7 @@ returns-clause-explained c =
         reads = reading.1;
         as_many =
             sym
-            (rows_are c.args.bytes.now c.split_at.result.1.now reading.1.codewords c.leading_len.result _ c.leading_len.ensures.value
+            (rows_are c.args.bytes.now c.split_at.result.1.now reading.1.codewords c.preamble_len.result _ c.preamble_len.ensures.value
             c.split_at.ensures.back refl reading.1.sent);
       };
       behind = omega arith;

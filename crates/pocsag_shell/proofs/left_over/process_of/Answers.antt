@@ -1,7 +1,7 @@
 use Rattle.std.proofs.Common.{◌≡◌, ℕ, List, ◌∷◌, ◌++◌, sym, ap, ◌∙◌, arith}
 use Rattle.std.specs.Prelude.{None, Some, codes}
 use Rattle.std.proofs.lemmas.Str.Pattern.{strip_prefix_char}
-use Rattle.pocsag_shell.proofs.Besides.{made_new, made_old, none_made, without_dot, without_ending}
+use Rattle.pocsag_shell.proofs.StagedFiles.{made_new, made_old, none_made, without_dot, without_ending}
 use Rattle.pocsag_shell.proofs.left_over.process_of.Goals.{in-Some, in-None+in_ok-digits-in-None}
 use Rattle.pocsag_shell.proofs.left_over.process_of.Goals as goal
 

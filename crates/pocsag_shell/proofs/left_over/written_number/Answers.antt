@@ -1,5 +1,5 @@
 use Rattle.std.proofs.Common.{refl, arith}
-use Rattle.pocsag_shell.proofs.Besides.{first_some, none_read, none_read_of, parsed}
+use Rattle.pocsag_shell.proofs.StagedFiles.{first_some, none_read, none_read_of, parsed}
 use Rattle.pocsag_shell.proofs.left_over.written_number.Goals as goal
 
 pub returns-in_err-first : goal.returns-in_err-first

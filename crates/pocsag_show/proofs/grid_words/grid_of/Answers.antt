@@ -10,7 +10,7 @@ pub loop-rest-init : goal.loop-rest-init
 loop-rest-init c =
     let Y = c.split_at.result.1.now in
     let e : Y ≡ after_preamble c.args.bytes.now =
-    c.split_at.ensures.back ∙ ap (λ (n : ℕ). drop n c.args.bytes.now) c.leading_len.ensures.value in
+    c.split_at.ensures.back ∙ ap (λ (n : ℕ). drop n c.args.bytes.now) c.preamble_len.ensures.value in
     rw e (at_start c.args.numbers.now _ (after_preamble c.args.bytes.now) c.new.ensures.items c.new-2.ensures.items refl c.requires)
 
 pub take_word-requires : goal.take_word-requires

@@ -8,7 +8,7 @@ pub laps-preserved : goal.laps-preserved
 laps-preserved c =
     let lap = map step_of c.args.arcs.now in
     let more : c.extend_from_slice.new.self.items ≡ c.laps.steps.items ++ lap =
-    c.in_ok-extend_from_slice.ensures.items ∙ ap (λ piece. c.laps.steps.items ++ piece) c.piece_of-piece.ensures.steps in
+    c.in_ok-extend_from_slice.ensures.items ∙ ap (λ piece. c.laps.steps.items ++ piece) c.steps_of_batch-piece.ensures.steps in
     more
     ∙ ap (λ steps. steps ++ lap) c.laps.invariant
     ∙ append_assoc c.args.steps.now.items (repeat c.laps._lap lap) lap

@@ -9,9 +9,9 @@ use Rattle.pocsag_tree.proofs.Rows.{reads_on, reads_no_further, reads_tree, row_
 use Rattle.pocsag_tree.proofs.reader.+node.Goals as goal
 
 pub node-returns-clause-reads : goal.node-returns-clause-reads
-node-returns-clause-reads g t c = λ tells.
+node-returns-clause-reads g t c = λ is_known.
     let fine = c.in_ok-wanted.ensures.fine in
-    let read = c.tagged.ensures.reads tells in
+    let read = c.tagged.ensures.reads is_known in
     record {
       shrinks = read.shrinks;
       bytes = λ k le.
@@ -22,15 +22,15 @@ node-returns-clause-reads g t c = λ tells.
 -- ---- a row
 
 pub row-returns-in_err-child-clause-reads : goal.row-returns-in_err-child-clause-reads
-row-returns-in_err-child-clause-reads g t c = λ tells.
+row-returns-in_err-child-clause-reads g t c = λ is_known.
     let p = err_from_is_err_and c.from_residual-in_err-child.result c.from_residual-in_err-child.ensures.1 in
-    let child = c.in_err-child.ensures.reads tells in
+    let child = c.in_err-child.ensures.reads is_known in
     record {
-      shrinks = omega (arith, child.shrinks, c.loop.invariant.shrinks tells);
+      shrinks = omega (arith, child.shrinks, c.loop.invariant.shrinks is_known);
       bytes = λ k le.
           let longer : k ≤ length (g.S.Source.held c.loop.source) = omega (arith, le, child.shrinks) in
           rw (p.1, p.2) (row_ends c.in_err-child.field-0.0 _ _ (map bound_tree_of c.loop.children.items) c.args.count c.loop.counter
-          c.loop.reached _ _ c.loop-test.true (child.bytes k le) (c.loop.invariant.bytes tells k longer));
+          c.loop.reached _ _ c.loop-test.true (child.bytes k le) (c.loop.invariant.bytes is_known k longer));
     }
 
 pub row-loop-init : goal.row-loop-init
@@ -43,8 +43,8 @@ row-loop-init g t c =
       len = search rules;
       room = search rules;
       failures = refl;
-      shrinks = λ tells. omega arith;
-      bytes = λ tells k le. row_starts
+      shrinks = λ is_known. omega arith;
+      bytes = λ is_known k le. row_starts
           (node_at c.args.builder.ranges c.args.depth) c.in_ok-children.children.items c.args.count c.args.made _ items;
     }
 
@@ -68,23 +68,23 @@ row-loop-preserved g t c =
       len = omega (arith, c.push_reserved.ensures.len, c.loop.invariant.len);
       room = omega (arith, c.push_reserved.ensures.capacity, c.loop.invariant.room);
       failures = search rules;
-      shrinks = λ tells. omega (arith, (c.in_ok-child.ensures.reads tells).shrinks, c.loop.invariant.shrinks tells);
-      bytes = λ tells k le.
-          let read = c.in_ok-child.ensures.reads tells in
+      shrinks = λ is_known. omega (arith, (c.in_ok-child.ensures.reads is_known).shrinks, c.loop.invariant.shrinks is_known);
+      bytes = λ is_known k le.
+          let read = c.in_ok-child.ensures.reads is_known in
           let longer : k ≤ length (g.S.Source.held c.loop.source) = omega (arith, le, read.shrinks) in
           rw seen (row_goes_on _ (map bound_tree_of c.loop.children.items) c.args.count c.loop.counter c.loop.reached _ (bound_tree_of child)
-          c.in_ok-child.after _ _ c.loop-test.true (read.bytes k le) (c.loop.invariant.bytes tells k longer));
+          c.in_ok-child.after _ _ c.loop-test.true (read.bytes k le) (c.loop.invariant.bytes is_known k longer));
     }
 
 pub row-returns-clause-reads : goal.row-returns-clause-reads
-row-returns-clause-reads g t c = λ tells. record {
-  shrinks = c.loop.invariant.shrinks tells;
+row-returns-clause-reads g t c = λ is_known. record {
+  shrinks = c.loop.invariant.shrinks is_known;
   bytes = λ k le. row_is_done _ (map bound_tree_of c.loop.children.items) c.args.count c.loop.counter c.loop.reached _ _ c.loop-test.false
-      (c.loop.invariant.bytes tells k le);
+      (c.loop.invariant.bytes is_known k le);
 }
 
 pub row-returns-in_err-wanted-clause-reads : goal.row-returns-in_err-wanted-clause-reads
-row-returns-in_err-wanted-clause-reads g t c = λ tells.
+row-returns-in_err-wanted-clause-reads g t c = λ is_known.
     let p = err_from_is_err_and c.from_residual.result c.from_residual.ensures.1 in
     record {
       shrinks = omega arith;
@@ -93,7 +93,7 @@ row-returns-in_err-wanted-clause-reads g t c = λ tells.
     }
 
 pub row-returns-in_err-children-clause-reads : goal.row-returns-in_err-children-clause-reads
-row-returns-in_err-children-clause-reads g t c = λ tells.
+row-returns-in_err-children-clause-reads g t c = λ is_known.
     let p = err_from_is_err_and c.from_residual-in_err-children.result c.from_residual-in_err-children.ensures.1 in
     let held : List ℕ = g.S.Source.held c.args.source.now in
     let fine = c.in_ok-wanted.ensures.fine in
@@ -106,12 +106,12 @@ row-returns-in_err-children-clause-reads g t c = λ tells.
 -- ---- a `Split`, where a child is wanted that may not stand there, or for which there is no room
 
 pub split-returns-in_err-wanted-clause-reads : goal.split-returns-in_err-wanted-clause-reads
-split-returns-in_err-wanted-clause-reads g t c = λ tells.
+split-returns-in_err-wanted-clause-reads g t c = λ is_known.
     let p = err_from_is_err_and c.from_residual-in_err-wanted.result c.from_residual-in_err-wanted.ensures.1 in
     let e = c.in_err-wanted.field-0.0 in
     let early = c.in_err-wanted.ensures.early in
-    let class = c.in_ok-class.ensures.reads tells in
-    let m = c.in_ok-m.ensures.reads tells in
+    let class = c.in_ok-class.ensures.reads is_known in
+    let m = c.in_ok-m.ensures.reads is_known in
     record {
       shrinks = omega (arith, class.shrinks, m.shrinks);
       bytes = λ k le.
@@ -122,12 +122,12 @@ split-returns-in_err-wanted-clause-reads g t c = λ tells.
     }
 
 pub split-returns-in_err-below-clause-reads : goal.split-returns-in_err-below-clause-reads
-split-returns-in_err-below-clause-reads g t c = λ tells.
+split-returns-in_err-below-clause-reads g t c = λ is_known.
     let p = err_from_is_err_and c.from_residual-in_err-below.result c.from_residual-in_err-below.ensures.1 in
     let held : List ℕ = g.S.Source.held c.large.new.source in
     let fine = c.in_ok-wanted.ensures.fine in
-    let class = c.in_ok-class.ensures.reads tells in
-    let m = c.in_ok-m.ensures.reads tells in
+    let class = c.in_ok-class.ensures.reads is_known in
+    let m = c.in_ok-m.ensures.reads is_known in
     record {
       shrinks = omega (arith, class.shrinks, m.shrinks);
       bytes = λ k le.
@@ -142,53 +142,53 @@ split-returns-in_err-below-clause-reads g t c = λ tells.
 
 pub split-returns-in_err-tree-clause-reads : goal.split-returns-in_err-tree-clause-reads
 unfolding split_at
-split-returns-in_err-tree-clause-reads g t c = λ tells.
+split-returns-in_err-tree-clause-reads g t c = λ is_known.
     let p = err_from_is_err_and c.from_residual-in_err-tree.result c.from_residual-in_err-tree.ensures.1 in
     rw (p.1, p.2)
-    (reads_on _ _ _ _ _ _ _ _ _ (c.in_ok-class.ensures.reads tells)
-    (reads_on _ _ _ _ _ _ _ _ _ (c.in_ok-m.ensures.reads tells)
-    (reads_no_further _ _ _ _ _ _ _ (c.in_err-tree.ensures.reads tells))))
+    (reads_on _ _ _ _ _ _ _ _ _ (c.in_ok-class.ensures.reads is_known)
+    (reads_on _ _ _ _ _ _ _ _ _ (c.in_ok-m.ensures.reads is_known)
+    (reads_no_further _ _ _ _ _ _ _ (c.in_err-tree.ensures.reads is_known))))
 
 pub split-returns-in_err-tree-2-clause-reads : goal.split-returns-in_err-tree-2-clause-reads
 unfolding split_at
-split-returns-in_err-tree-2-clause-reads g t c = λ tells.
+split-returns-in_err-tree-2-clause-reads g t c = λ is_known.
     let p = err_from_is_err_and c.from_residual-in_err-tree-2.result c.from_residual-in_err-tree-2.ensures.1 in
     rw (p.1, p.2)
-    (reads_on _ _ _ _ _ _ _ _ _ (c.in_ok-class.ensures.reads tells)
-    (reads_on _ _ _ _ _ _ _ _ _ (c.in_ok-m.ensures.reads tells)
-    (reads_on _ _ _ _ _ _ _ _ _ (c.in_ok-tree.ensures.reads tells)
-    (reads_no_further _ _ _ _ _ _ _ (c.in_err-tree-2.ensures.reads tells)))))
+    (reads_on _ _ _ _ _ _ _ _ _ (c.in_ok-class.ensures.reads is_known)
+    (reads_on _ _ _ _ _ _ _ _ _ (c.in_ok-m.ensures.reads is_known)
+    (reads_on _ _ _ _ _ _ _ _ _ (c.in_ok-tree.ensures.reads is_known)
+    (reads_no_further _ _ _ _ _ _ _ (c.in_err-tree-2.ensures.reads is_known)))))
 
 pub split-returns-clause-reads : goal.split-returns-clause-reads
 unfolding split_at
-split-returns-clause-reads g t c = λ tells.
-    reads_on _ _ _ _ _ _ _ _ _ (c.in_ok-class.ensures.reads tells)
-    (reads_on _ _ _ _ _ _ _ _ _ (c.in_ok-m.ensures.reads tells)
-    (reads_on _ _ _ _ _ _ _ _ _ (c.in_ok-tree.ensures.reads tells)
-    (reads_on _ _ _ _ _ _ _ _ _ (c.in_ok-tree-2.ensures.reads tells)
+split-returns-clause-reads g t c = λ is_known.
+    reads_on _ _ _ _ _ _ _ _ _ (c.in_ok-class.ensures.reads is_known)
+    (reads_on _ _ _ _ _ _ _ _ _ (c.in_ok-m.ensures.reads is_known)
+    (reads_on _ _ _ _ _ _ _ _ _ (c.in_ok-tree.ensures.reads is_known)
+    (reads_on _ _ _ _ _ _ _ _ _ (c.in_ok-tree-2.ensures.reads is_known)
     (reads_tree _ _ _ _ (split_seen _ _ _ _ c.in_ok-tree.tree c.in_ok-tree-2.tree (search rules) (search rules))))))
 
 pub cut-returns-in_err-children-clause-reads : goal.cut-returns-in_err-children-clause-reads
 unfolding cut_at
-cut-returns-in_err-children-clause-reads g t c = λ tells.
+cut-returns-in_err-children-clause-reads g t c = λ is_known.
     let p = err_from_is_err_and c.from_residual-in_err-children.result c.from_residual-in_err-children.ensures.1 in
     rw (p.1, p.2)
-    (reads_on _ _ _ _ _ _ _ _ _ (c.in_ok-set.ensures.reads tells)
-    (reads_on _ _ _ _ _ _ _ _ _ (c.in_ok-needed.ensures.reads tells)
-    (reads_on _ _ _ _ _ _ _ _ _ (c.in_ok-count.ensures.reads tells)
-    (reads_no_further _ _ _ _ _ _ _ (c.in_err-children.ensures.reads tells)))))
+    (reads_on _ _ _ _ _ _ _ _ _ (c.in_ok-set.ensures.reads is_known)
+    (reads_on _ _ _ _ _ _ _ _ _ (c.in_ok-needed.ensures.reads is_known)
+    (reads_on _ _ _ _ _ _ _ _ _ (c.in_ok-count.ensures.reads is_known)
+    (reads_no_further _ _ _ _ _ _ _ (c.in_err-children.ensures.reads is_known)))))
 
 pub cut-returns-clause-reads : goal.cut-returns-clause-reads
 unfolding cut_at
-cut-returns-clause-reads g t c = λ tells.
-    reads_on _ _ _ _ _ _ _ _ _ (c.in_ok-set.ensures.reads tells)
-    (reads_on _ _ _ _ _ _ _ _ _ (c.in_ok-needed.ensures.reads tells)
-    (reads_on _ _ _ _ _ _ _ _ _ (c.in_ok-count.ensures.reads tells)
-    (reads_on _ _ _ _ _ _ _ _ _ (c.in_ok-children.ensures.reads tells) (reads_tree _ _ _ _ (bound_tree_of-cut _ _ _ _ refl)))))
+cut-returns-clause-reads g t c = λ is_known.
+    reads_on _ _ _ _ _ _ _ _ _ (c.in_ok-set.ensures.reads is_known)
+    (reads_on _ _ _ _ _ _ _ _ _ (c.in_ok-needed.ensures.reads is_known)
+    (reads_on _ _ _ _ _ _ _ _ _ (c.in_ok-count.ensures.reads is_known)
+    (reads_on _ _ _ _ _ _ _ _ _ (c.in_ok-children.ensures.reads is_known) (reads_tree _ _ _ _ (bound_tree_of-cut _ _ _ _ refl)))))
 
 pub close-returns-clause-reads : goal.close-returns-clause-reads
 unfolding close_at
-close-returns-clause-reads g t c = λ tells.
-    let children = rw c.from.ensures at (c.in_ok-children.ensures.reads tells) in
-    reads_on _ _ _ _ _ _ _ _ _ (c.in_ok-count.ensures.reads tells)
+close-returns-clause-reads g t c = λ is_known.
+    let children = rw c.from.ensures at (c.in_ok-children.ensures.reads is_known) in
+    reads_on _ _ _ _ _ _ _ _ _ (c.in_ok-count.ensures.reads is_known)
     (reads_on _ _ _ _ _ _ _ _ _ children (reads_tree _ _ _ _ (bound_tree_of-close _ _ refl)))

@@ -32,8 +32,8 @@ invariant-row-loop g l = record {
   len : vec_len l.children ≡ l.counter;
   room : vec_capacity l.children ≡ l.count;
   failures : g.S.Source.failures l.source ≡ g.S.Source.failures l.fn.source;
-  shrinks : g.S.Source.tells → length (g.S.Source.held l.source) ≤ length (g.S.Source.held l.fn.source);
-  bytes : g.S.Source.tells → (k : ℕ) → k ≤ length (g.S.Source.held l.source) →
+  shrinks : g.S.Source.is_known → length (g.S.Source.held l.source) ≤ length (g.S.Source.held l.fn.source);
+  bytes : g.S.Source.is_known → (k : ℕ) → k ≤ length (g.S.Source.held l.source) →
       with_front (map bound_tree_of l.children.items)
       (row_at (node_at l.builder.ranges l.depth) (l.count - l.counter) l.reached (but_last k (g.S.Source.held l.source)))
       ≡ row_at (node_at l.builder.ranges l.depth) l.count l.made (but_last k (g.S.Source.held l.fn.source));

@@ -7,24 +7,24 @@ use Rattle.pocsag_tree.proofs.writer.+written.Goals as goal
 
 pub write_node-returns-in_err-write_split_head-in-Split-clause-delivers :
     goal.write_node-returns-in_err-write_split_head-in-Split-clause-delivers
-write_node-returns-in_err-write_split_head-in-Split-clause-delivers g t c = λ tells.
+write_node-returns-in_err-write_split_head-in-Split-clause-delivers g t c = λ is_known.
     let text = split_text c.args.tree.now c.in-Split.class c.in-Split.m c.in-Split.below c.in-Split.from c.in-Split.is in
     stopped _ c.from_residual.result _ _ _ c.from_residual.ensures.1
-    (took_first _ _ _ _ _ text (c.in_err-write_split_head-in-Split.ensures.delivers tells).1)
+    (took_first _ _ _ _ _ text (c.in_err-write_split_head-in-Split.ensures.delivers is_known).1)
 
 pub write_node-returns-in_err-write_node-in-Split-clause-delivers : goal.write_node-returns-in_err-write_node-in-Split-clause-delivers
-write_node-returns-in_err-write_node-in-Split-clause-delivers g t c = λ tells.
+write_node-returns-in_err-write_node-in-Split-clause-delivers g t c = λ is_known.
     let text = split_text c.args.tree.now c.in-Split.class c.in-Split.m c.in-Split.below c.in-Split.from c.in-Split.is in
-    let below = rw c.deref.ensures at (c.in_err-write_node-in-Split.ensures.delivers tells).1 in
+    let below = rw c.deref.ensures at (c.in_err-write_node-in-Split.ensures.delivers is_known).1 in
     stopped _ c.from_residual-in_err-write_node-in-Split.result _ _ _ c.from_residual-in_err-write_node-in-Split.ensures.1
-    (took_then _ _ _ _ _ _ text (c.in_ok-write_split_head-in-Split.ensures.delivers tells).0 (took_first _ _ _ _ _ refl below))
+    (took_then _ _ _ _ _ _ text (c.in_ok-write_split_head-in-Split.ensures.delivers is_known).0 (took_first _ _ _ _ _ refl below))
 
 pub write_node-returns-in_ok-write_node-in-Split-clause-delivers : goal.write_node-returns-in_ok-write_node-in-Split-clause-delivers
-write_node-returns-in_ok-write_node-in-Split-clause-delivers g t c = λ tells.
+write_node-returns-in_ok-write_node-in-Split-clause-delivers g t c = λ is_known.
     let text = split_text c.args.tree.now c.in-Split.class c.in-Split.m c.in-Split.below c.in-Split.from c.in-Split.is in
-    let below = rw c.deref.ensures at (c.in_ok-write_node-in-Split.ensures.delivers tells).0 in
-    let from = rw c.deref-in-Split.ensures at (c.write_node-in-Split.ensures.delivers tells) in
-    delivers_then c.write_node-in-Split.result _ _ _ _ _ _ text (c.in_ok-write_split_head-in-Split.ensures.delivers tells).0
+    let below = rw c.deref.ensures at (c.in_ok-write_node-in-Split.ensures.delivers is_known).0 in
+    let from = rw c.deref-in-Split.ensures at (c.write_node-in-Split.ensures.delivers is_known) in
+    delivers_then c.write_node-in-Split.result _ _ _ _ _ _ text (c.in_ok-write_split_head-in-Split.ensures.delivers is_known).0
     (delivers_then c.write_node-in-Split.result _ _ _ _ _ _ refl below from)
 
 -- ---- a `Cut`: what is written names the number of its children
@@ -36,18 +36,18 @@ write_node-write_cut_head-requires g t c =
     omega (arith, in_range.3, count_of_bounds c.in-Cut.children.items, c.in-Cut.children.ok.0, c.len.ensures)
 
 pub write_node-returns-in_err-write_cut_head-in-Cut-clause-delivers : goal.write_node-returns-in_err-write_cut_head-in-Cut-clause-delivers
-write_node-returns-in_err-write_cut_head-in-Cut-clause-delivers g t c = λ tells.
+write_node-returns-in_err-write_cut_head-in-Cut-clause-delivers g t c = λ is_known.
     let text = cut_text c.args.tree.now c.in-Cut.set c.in-Cut.needed c.len.result c.in-Cut.children c.in-Cut.is
     (omega (arith, c.in-Cut.children.ok.0, c.len.ensures)) in
     stopped _ c.from_residual-in_err-write_cut_head-in-Cut.result _ _ _ c.from_residual-in_err-write_cut_head-in-Cut.ensures.1
-    (took_first _ _ _ _ _ text (c.in_err-write_cut_head-in-Cut.ensures.delivers tells).1)
+    (took_first _ _ _ _ _ text (c.in_err-write_cut_head-in-Cut.ensures.delivers is_known).1)
 
 pub write_node-returns-in_ok-write_cut_head-in-Cut-clause-delivers : goal.write_node-returns-in_ok-write_cut_head-in-Cut-clause-delivers
-write_node-returns-in_ok-write_cut_head-in-Cut-clause-delivers g t c = λ tells.
+write_node-returns-in_ok-write_cut_head-in-Cut-clause-delivers g t c = λ is_known.
     let text = cut_text c.args.tree.now c.in-Cut.set c.in-Cut.needed c.len.result c.in-Cut.children c.in-Cut.is
     (omega (arith, c.in-Cut.children.ok.0, c.len.ensures)) in
-    let children = rw c.deref-in-Cut.ensures.value at (c.write_row.ensures.delivers tells) in
-    delivers_then c.write_row.result _ _ _ _ _ _ text (c.in_ok-write_cut_head-in-Cut.ensures.delivers tells).0 children
+    let children = rw c.deref-in-Cut.ensures.value at (c.write_row.ensures.delivers is_known) in
+    delivers_then c.write_row.result _ _ _ _ _ _ text (c.in_ok-write_cut_head-in-Cut.ensures.delivers is_known).0 children
 
 -- ---- a `Close`, alike
 
@@ -59,26 +59,26 @@ write_node-write_close_head-requires g t c =
 
 pub write_node-returns-in_err-write_close_head-in-Close-clause-delivers :
     goal.write_node-returns-in_err-write_close_head-in-Close-clause-delivers
-write_node-returns-in_err-write_close_head-in-Close-clause-delivers g t c = λ tells.
+write_node-returns-in_err-write_close_head-in-Close-clause-delivers g t c = λ is_known.
     let text = close_text c.args.tree.now c.len-in-Close.result c.in-Close.children c.in-Close.is
     (omega (arith, c.in-Close.children.ok.0, c.len-in-Close.ensures)) in
     stopped _ c.from_residual-in_err-write_close_head-in-Close.result _ _ _ c.from_residual-in_err-write_close_head-in-Close.ensures.1
-    (took_first _ _ _ _ _ text (c.in_err-write_close_head-in-Close.ensures.delivers tells).1)
+    (took_first _ _ _ _ _ text (c.in_err-write_close_head-in-Close.ensures.delivers is_known).1)
 
 pub write_node-returns-in_ok-write_close_head-in-Close-clause-delivers :
     goal.write_node-returns-in_ok-write_close_head-in-Close-clause-delivers
-write_node-returns-in_ok-write_close_head-in-Close-clause-delivers g t c = λ tells.
+write_node-returns-in_ok-write_close_head-in-Close-clause-delivers g t c = λ is_known.
     let text = close_text c.args.tree.now c.len-in-Close.result c.in-Close.children c.in-Close.is
     (omega (arith, c.in-Close.children.ok.0, c.len-in-Close.ensures)) in
-    let children = rw c.deref-in-Close.ensures.value at (c.write_row-in-Close.ensures.delivers tells) in
-    delivers_then c.write_row-in-Close.result _ _ _ _ _ _ text (c.in_ok-write_close_head-in-Close.ensures.delivers tells).0 children
+    let children = rw c.deref-in-Close.ensures.value at (c.write_row-in-Close.ensures.delivers is_known) in
+    delivers_then c.write_row-in-Close.result _ _ _ _ _ _ text (c.in_ok-write_close_head-in-Close.ensures.delivers is_known).0 children
 
 -- ---- a row
 
 pub write_row-returns-in_err-write_node-clause-delivers : goal.write_row-returns-in_err-write_node-clause-delivers
-write_row-returns-in_err-write_node-clause-delivers g t c = λ tells.
+write_row-returns-in_err-write_node-clause-delivers g t c = λ is_known.
     let rest = row (bounds_of (drop c.loop-tree.tree-index c.args.trees.now)) in
     let text = row-drop c.args.trees.now c.loop-tree.tree-index c.tree-item.result c.loop-tree-test.true c.tree-item.is in
-    let part = took_first _ _ _ _ _ text (c.in_err-write_node.ensures.delivers tells).1 in
+    let part = took_first _ _ _ _ _ text (c.in_err-write_node.ensures.delivers is_known).1 in
     stopped _ c.from_residual.result _ _ _ c.from_residual.ensures.1
-    (took_left _ _ _ _ rest (c.loop-tree.invariant.grown tells) (c.loop-tree.invariant.taken tells) part)
+    (took_left _ _ _ _ rest (c.loop-tree.invariant.grown is_known) (c.loop-tree.invariant.taken is_known) part)

@@ -10,28 +10,28 @@ use Rattle.pocsag_wav.proofs.wav.put_samples.Goals as goal
 
 pub loop-index-init : goal.loop-index-init
 loop-index-init g c = record {
-  told = λ tells. ap (λ (l : List ℕ). g.O.Sink.taken c.args.out.now ++ l) (c.new-piece.ensures ∙ sym (none_written c.args.keying c.args.keyed.now));
-  grown = λ tells. omega arith;
+  told = λ is_known. ap (λ (l : List ℕ). g.O.Sink.taken c.args.out.now ++ l) (c.new-piece.ensures ∙ sym (none_written c.args.keying c.args.keyed.now));
+  grown = λ is_known. omega arith;
   failures = refl;
 }
 
 pub returns-in_err-spill-clause-delivers : goal.returns-in_err-spill-clause-delivers
-returns-in_err-spill-clause-delivers g c = λ tells.
+returns-in_err-spill-clause-delivers g c = λ is_known.
     let loop = c.loop-index in
     let before = g.O.Sink.taken c.args.out.now in
     let now = g.O.Sink.taken loop.out in (
       search rules,
       after_fault c.from_residual.result
-          (took_on before now (g.O.Sink.taken c.spill.new.out) loop.piece.items _ _ (loop.invariant.grown tells)
-          (still_to_write c.args.keying c.args.keyed.now before now loop.piece.items loop.index c.args.count (omega arith) (loop.invariant.told tells))
-          (c.in_err-spill.ensures.part tells)),
+          (took_on before now (g.O.Sink.taken c.spill.new.out) loop.piece.items _ _ (loop.invariant.grown is_known)
+          (still_to_write c.args.keying c.args.keyed.now before now loop.piece.items loop.index c.args.count (omega arith) (loop.invariant.told is_known))
+          (c.in_err-spill.ensures.part is_known)),
     )
 
 pub loop-index-preserved : goal.loop-index-preserved
 loop-index-preserved g c =
     let loop = c.loop-index in
     record {
-      told = λ tells.
+      told = λ is_known.
           let before = g.O.Sink.taken c.args.out.now in
           let place = loop.index * c.args.keying.rate / c.args.keying.samples in
           let level = level_at c.args.keying.is_inverted c.args.keyed.now place in
@@ -48,8 +48,8 @@ loop-index-preserved g c =
           (c.push.ensures.items ∙ ap (λ (bytes : List ℕ). c.spill.new.piece.items ++ get_or bytes 0 0 ∷ []) written) written in
           pushed before (g.O.Sink.taken loop.out) loop.piece.items (g.O.Sink.taken c.spill.new.out) c.spill.new.piece.items
           c.push-in-loop-index.new.self.items (flat_map sample_bytes (samples_of c.args.keying c.args.keyed.now loop.index)) _ _
-          (loop.invariant.told tells) (c.in_ok-spill.ensures.same tells) behind
+          (loop.invariant.told is_known) (c.in_ok-spill.ensures.same is_known) behind
           ∙ ap (λ (l : List ℕ). before ++ l) (written_more c.args.keying c.args.keyed.now loop.index);
-      grown = λ tells. omega (arith, loop.invariant.grown tells, c.in_ok-spill.ensures.grown tells);
+      grown = λ is_known. omega (arith, loop.invariant.grown is_known, c.in_ok-spill.ensures.grown is_known);
       failures = c.in_ok-spill.ensures.failures.0 ∙ loop.invariant.failures;
     }

@@ -5,7 +5,7 @@ use Rattle.pocsag_command_cases.proofs.Disks.{IsAppended, elapses_appended, leav
 use Rattle.pocsag_command_cases.proofs.crash_disk.CrashDiskDisk.append.Goals as goal
 
 pub returns-in_default-clause-crash : goal.returns-in_default-clause-crash
-returns-in_default-clause-crash c = λ tells.
+returns-in_default-clause-crash c = λ is_known.
     let text = c.args.self.now.text in
     let later : Text = record { begun = c.args.self.now.text.begun; lines = c.extend_from_slice.new.self } in
     let none : IsAppended text later [] = record { begun = refl; lines = c.in_default.ensures.items ∙ sym (append-nil text.lines.items) } in
@@ -14,7 +14,7 @@ returns-in_default-clause-crash c = λ tells.
     leaves_torn text later c.args.line.now [] 0 _ _ none refl same
 
 pub returns-in_default-clause-time : goal.returns-in_default-clause-time
-returns-in_default-clause-time c = λ tells.
+returns-in_default-clause-time c = λ is_known.
     let text = c.args.self.now.text in
     let later : Text = record { begun = c.args.self.now.text.begun; lines = c.extend_from_slice.new.self } in
     let none : IsAppended text later [] = record { begun = refl; lines = c.in_default.ensures.items ∙ sym (append-nil text.lines.items) } in
@@ -23,7 +23,7 @@ returns-in_default-clause-time c = λ tells.
     elapses_appended c.args.self.now.past.items text later [] _ _ none (omega arith) same
 
 pub returns-then-front-line-clause-crash : goal.returns-then-front-line-clause-crash
-returns-then-front-line-clause-crash c = λ tells.
+returns-then-front-line-clause-crash c = λ is_known.
     let text = c.args.self.now.text in
     let later : Text = record { begun = c.args.self.now.text.begun; lines = c.extend_from_slice.new.self } in
     let front : List ℕ = take c.min.result c.args.line.now in
@@ -42,7 +42,7 @@ returns-then-front-line-clause-crash c = λ tells.
     leaves_torn text later c.args.line.now front c.min.result _ _ more refl same
 
 pub returns-then-front-line-clause-time : goal.returns-then-front-line-clause-time
-returns-then-front-line-clause-time c = λ tells.
+returns-then-front-line-clause-time c = λ is_known.
     let text = c.args.self.now.text in
     let later : Text = record { begun = c.args.self.now.text.begun; lines = c.extend_from_slice.new.self } in
     let front : List ℕ = take c.min.result c.args.line.now in
@@ -61,7 +61,7 @@ returns-then-front-line-clause-time c = λ tells.
     elapses_appended c.args.self.now.past.items text later front _ _ more (omega arith) same
 
 pub returns-clause-crash : goal.returns-clause-crash
-returns-clause-crash c = λ tells.
+returns-clause-crash c = λ is_known.
     let text = c.args.self.now.text in
     let later : Text = record { begun = c.args.self.now.text.begun; lines = c.extend_from_slice.new.self } in
     let front : List ℕ = take c.min.result c.args.line.now in
@@ -80,7 +80,7 @@ returns-clause-crash c = λ tells.
     leaves_torn text later c.args.line.now front c.min.result _ _ more refl same
 
 pub returns-clause-time : goal.returns-clause-time
-returns-clause-time c = λ tells.
+returns-clause-time c = λ is_known.
     let text = c.args.self.now.text in
     let later : Text = record { begun = c.args.self.now.text.begun; lines = c.extend_from_slice.new.self } in
     let front : List ℕ = take c.min.result c.args.line.now in
@@ -99,7 +99,7 @@ returns-clause-time c = λ tells.
     elapses_appended c.args.self.now.past.items text later front _ _ more (omega arith) same
 
 pub returns-then-front-line-clause-delivers : goal.returns-then-front-line-clause-delivers
-returns-then-front-line-clause-delivers c = λ tells.
+returns-then-front-line-clause-delivers c = λ is_known.
     let text = c.args.self.now.text in
     let later : Text = record { begun = c.args.self.now.text.begun; lines = c.extend_from_slice.new.self } in
     let front : List ℕ = take c.min.result c.args.line.now in

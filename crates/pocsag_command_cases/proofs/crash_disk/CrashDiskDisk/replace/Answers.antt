@@ -4,7 +4,7 @@ use Rattle.pocsag_command_cases.specs.Disks.{DiskLeftSince, LeavesFrom, LeftSinc
 use Rattle.pocsag_command_cases.proofs.crash_disk.CrashDiskDisk.replace.Goals as goal
 
 pub returns-clause-time : goal.returns-clause-time
-returns-clause-time c = λ tells.
+returns-clause-time c = λ is_known.
     let none : lines_length c.put.new.text - 0 ≡ 0 = omega (arith, ap length c.in-Ok.ensures.lines) in
     subst (λ (s : ℕ). Elapses (disk_moment c.args.self.now) (moment_after c.put.new.past.items s) (DiskLeftSince c.args.self.now)
     (LeftSince c.put.new.past.items c.put.new.text) (LeavesFrom c.put.new.text s))

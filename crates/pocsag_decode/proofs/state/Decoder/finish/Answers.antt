@@ -28,4 +28,4 @@ returns-clause-listable c = λ X s.
 
 pub returns-in_err-finish-clause-memory : goal.returns-in_err-finish-clause-memory
 returns-in_err-finish-clause-memory c = λ X s e.
-    (whole_no_fault X (ended_whole _ X s (omega arith) (omega arith) (omega arith)), sym s.words.read.may ∙ c.in_err-finish.ensures.memory)
+    (whole_no_fault X (ended_whole _ X s (omega arith) (omega arith) (omega arith)), sym s.words.read.in_page ∙ c.in_err-finish.ensures.memory)

@@ -7,4 +7,4 @@ returns-then-size-gt0-clause-skipped c = λ X e s. skips_begun X _ _ _ e s (λ z
 
 pub returns-clause-skipped : goal.returns-clause-skipped
 returns-clause-skipped c = λ X e s.
-    skips_alone X _ _ _ _ _ e s (omega arith) c.leading_len-count.ensures.value c.split_at.ensures.back
+    skips_alone X _ _ _ _ _ e s (omega arith) c.preamble_len-count.ensures.value c.split_at.ensures.back

@@ -3,7 +3,7 @@ use Rattle.std.proofs.lemmas.List.Elements.{All-from_get_or}
 use Rattle.std.proofs.lemmas.Result.{on_ok_weaker, IfErr-weaker}
 use Rattle.pocsag_pages.specs.Bytes.{after_preamble}
 use Rattle.pocsag_decode.specs.Faults.{too_much}
-use Rattle.pocsag_decode.specs.States.{StandsIn}
+use Rattle.pocsag_decode.specs.States.{HoldsOf}
 use Rattle.pocsag_decode.proofs.Pieces.{fed_preamble, fed_body, refused_short, refused_body, full_size, body_size}
 use Rattle.pocsag_decode.proofs.Words.{is_nil, not_nil}
 use Rattle.pocsag_decode.proofs.state.Decoder.take.Goals as goal
@@ -41,7 +41,7 @@ returns-clause-stands c = λ X s.
     let f = full_size _ X s in let e = c.size.ensures in let t = c.if-piece-self.false in omega arith in
     let bytes : All (λ b. b < 256) c.args.piece.now =
     All-from_get_or (λ b. b < 256) c.args.piece.now 0 (λ i h. omega (arith, (c.type_inv.piece i).fits)) in
-    let body : StandsIn c.skip_preamble-rest.new.self.body (after_preamble X) = rw c.skip_preamble-rest.ensures.body s.words in
+    let body : HoldsOf c.skip_preamble-rest.new.self.body (after_preamble X) = rw c.skip_preamble-rest.ensures.body s.words in
     on_ok_weaker _
     (λ t. fed_body _ X s _ c.args.piece.now c.skip_preamble-rest.result.now few k.1 k.0 c.skip_preamble-rest.ensures.works bytes
     c.if-self-lt-PREAMBLE.false t)
@@ -52,7 +52,7 @@ returns-clause-refused c = λ X s.
     let k = c.skip_preamble-rest.ensures.skipped X s.preamble (body_size _ X s) in
     let few : length X + length c.args.piece.now < 2 ^ 64 =
     let f = full_size _ X s in let e = c.size.ensures in let t = c.if-piece-self.false in omega arith in
-    let body : StandsIn c.skip_preamble-rest.new.self.body (after_preamble X) = rw c.skip_preamble-rest.ensures.body s.words in
+    let body : HoldsOf c.skip_preamble-rest.new.self.body (after_preamble X) = rw c.skip_preamble-rest.ensures.body s.words in
     IfErr-weaker _ _ _
     (λ f b. refused_body _ X s c.skip_preamble-rest.new.self c.args.piece.now c.skip_preamble-rest.result.now few k.1 k.0 f
     c.if-self-lt-PREAMBLE.false b)

@@ -8,6 +8,6 @@ abbrev pub invariant-loop-seen : goal.invariant-loop-seen
 invariant-loop-seen g l = record {
   unfailed : g.S.Source.failures l.source ≡ g.S.Source.failures l.initial.source;
   short : length l.self.line.items ≤ line_limit;
-  seen : g.S.Source.tells → (seen : List ℕ) × HasNoLineFeed seen × IsSeen l.found seen l.self.line.items
+  seen : g.S.Source.is_known → (seen : List ℕ) × HasNoLineFeed seen × IsSeen l.found seen l.self.line.items
       × (between_places l.fn.self.piece l.fn.self.start l.fn.self.end ++ g.S.Source.held l.fn.source ≡ seen ++ (between_places l.self.piece l.self.start l.self.end ++ g.S.Source.held l.source)) × (length seen ≡ l._seen);
 }

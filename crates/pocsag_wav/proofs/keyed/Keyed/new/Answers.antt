@@ -20,8 +20,8 @@ pub returns : goal.returns
 returns c =
     let bytes = c.args.bytes.now in
     let rest : c.split_at.result.1.now ≡ after_preamble bytes =
-    c.split_at.ensures.back ∙ ap (λ (n : ℕ). drop n bytes) c.leading_len-own.ensures.value in
+    c.split_at.ensures.back ∙ ap (λ (n : ℕ). drop n bytes) c.preamble_len-own.ensures.value in
     elim c.match-preamble.branch [
       | in-Some w ↦ led c.args.preamble w.in-Some.bits c.match-preamble.preamble bytes c.split_at.result.1.now w.in-Some.is w.preamble-is rest
-      | in-None w ↦ whole c.args.preamble c.match-preamble.preamble bytes c.split_at.result.1.now w.in-None.is (w.preamble-is ∙ c.leading_len-own.ensures.value) rest
+      | in-None w ↦ whole c.args.preamble c.match-preamble.preamble bytes c.split_at.result.1.now w.in-None.is (w.preamble-is ∙ c.preamble_len-own.ensures.value) rest
     ]

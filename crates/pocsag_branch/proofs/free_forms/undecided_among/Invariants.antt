@@ -1,6 +1,0 @@
-use Rattle.std.proofs.Common.{IfSome}
-use Rattle.pocsag_branch.specs.Examined.{IsForm}
-use Rattle.pocsag_branch.proofs.free_forms.undecided_among.Given as goal
-
-abbrev pub invariant-loop-way : goal.invariant-loop-way
-invariant-loop-way l = IfSome l.best (IsForm l.node.classes.now l.node.task l.node.limits)

@@ -1,0 +1,6 @@
+use Rattle.std.proofs.Common.{IfSome}
+use Rattle.pocsag_branch.specs.Examined.{IsNodeKind}
+use Rattle.pocsag_branch.proofs.free_kinds.undecided_among.Given as goal
+
+abbrev pub invariant-loop-way : goal.invariant-loop-way
+invariant-loop-way l = IfSome l.best (IsNodeKind l.node.classes.now l.node.task l.node.limits)

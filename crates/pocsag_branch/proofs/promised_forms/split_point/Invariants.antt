@@ -1,6 +1,0 @@
-use Rattle.std.proofs.Common.{ℕ, Bool, ◌<◌, slice_index}
-use Rattle.pocsag_tour.specs.Reached.{HasRunOutside}
-use Rattle.pocsag_branch.proofs.promised_forms.split_point.Given as goal
-
-abbrev pub invariant-loop-class : goal.invariant-loop-class
-invariant-loop-class l = (c : ℕ) → c < l.class → (early : Bool) → ¬ HasRunOutside l.node.classes.now (slice_index l.choice.early) l.set.members c early

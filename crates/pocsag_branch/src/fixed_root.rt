@@ -1,0 +1,73 @@
+ghost use Rattle.std.specs.Prelude.{◌<◌, IfErr, IfOk, IfSome, slice_index};
+ghost use Rattle.pocsag_slots.specs.Loads.{IsAdmitted, limits_of_all};
+ghost use Rattle.pocsag_tree.specs.Views.{bound_tree_of};
+ghost use Rattle.pocsag_branch.specs.Examined.{IsExamined, IsStop, IsTreeOf};
+
+use crate::fixed_kinds::kind_for;
+use crate::fixed_nodes::{fixed_node, node_of_kind};
+use crate::free_root::stop_at_tour;
+use crate::node::Node;
+use crate::task::{Stop, Task};
+use pocsag_slots::{Choice, Classes, all_limits};
+use pocsag_tree::Tree;
+use pocsag_words::End;
+use std::alloc::Global;
+
+// With another end than the open one, a choice that has a tour for the open end, if the free search meets one.
+fn choice_for_open_end(alloc: Global, classes: &Classes, task: Task) -> Result<Option<Choice>, Stop>
+    ensures choice { IfOk result
+        (λ found. IfSome found
+        (λ choice. IsAdmitted classes.now (limits_of_all classes.now task.batches) (slice_index choice.early))) }
+    ensures stop { IfErr result (IsStop classes.now task) }
+{
+    let open = Task {
+        end: End::Open,
+        batches: task.batches,
+        limit: task.limit,
+        second: task.second,
+    };
+    match task.end {
+        End::Open => Ok(None),
+        End::Closed | End::Idle => match stop_at_tour(alloc, classes, open) {
+            Ok(()) => Ok(None),
+            Err(Stop::Met(answer)) => {
+                let met = Box::into_inner(answer);
+                Ok(Some(met.choice))
+            }
+            Err(Stop::OutOfMemory) => Err(Stop::OutOfMemory),
+        },
+    }
+}
+
+// The tree of the search from the limits of all choices, where the free search meets no tour. Where it meets
+// one for the open end alone, the root is to be closed at once.
+pub(crate) fn fixed_tree(alloc: Global, classes: &Classes, task: Task) -> Result<Tree, Stop>
+    ensures tree { IfOk result (λ tree. IsTreeOf classes.now task (bound_tree_of tree)) }
+    ensures stop { IfErr result (IsStop classes.now task) }
+{
+    stop_at_tour(alloc, classes, task)?;
+    let root = Node {
+        classes,
+        task,
+        limits: all_limits(classes, task.batches),
+    };
+    let met = choice_for_open_end(alloc, classes, task)?;
+    let (tree, _) = root_with(alloc, &root, met)?;
+    Ok(tree)
+}
+
+// The tree of the root: where a choice has a tour for the open end, of the form that stands for it there.
+fn root_with(alloc: Global, root: &Node<'_>, met: Option<Choice>) -> Result<(Tree, u32), Stop>
+    requires { IfSome met (λ choice. IsAdmitted root.now.classes.now root.now.limits (slice_index choice.early)) }
+    ensures node { IfOk result
+        (λ x. IsExamined root.now.classes.now root.now.task root.now.limits 0 x.1 (bound_tree_of x.0)) }
+    ensures stop { IfErr result (IsStop root.now.classes.now root.now.task) }
+{
+    match met {
+        Some(choice) => {
+            let kind = kind_for(alloc, root, &choice)?;
+            node_of_kind(alloc, root, kind, 0)
+        }
+        None => fixed_node(alloc, root, 0),
+    }
+}

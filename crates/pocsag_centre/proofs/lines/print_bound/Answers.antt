@@ -1,0 +1,14 @@
+use Rattle.pocsag_centre.specs.Lines.{bound_text}
+use Rattle.pocsag_centre.proofs.lines.print_bound.Goals as goal
+
+pub returns-in-Open-clause-printed : goal.returns-in-Open-clause-printed
+unfolding bound_text
+returns-in-Open-clause-printed g c = λ is_known. rw c.in-Open.is ((c.print_numbers.ensures.delivers is_known).0)
+
+pub returns-in-Closed-clause-printed : goal.returns-in-Closed-clause-printed
+unfolding bound_text
+returns-in-Closed-clause-printed g c = λ is_known. rw c.in-Closed.is ((c.print_numbers-in-Closed.ensures.delivers is_known).0)
+
+pub returns-in-Idle-clause-printed : goal.returns-in-Idle-clause-printed
+unfolding bound_text
+returns-in-Idle-clause-printed g c = λ is_known. rw c.in-Idle.is ((c.print_numbers-in-Idle.ensures.delivers is_known).0)

@@ -1,0 +1,133 @@
+//! What the words of a command ask for.
+
+use crate::words::{
+    AIRTIME, AT_MOST, CLOSED_END, EACH_FRAME, END, EXPECT, IDLE_END, IDLE_LAST, LATER, LIMIT,
+    OPEN_END, OVERSIZED, RATE, REST, STRICT, VERIFY, WHY,
+};
+use clap::ArgMatches;
+use pocsag_plan::{OnLimit, Search};
+use pocsag_shell::{ALWAYS, CERT, KEEP, PAGES, TX, path_of};
+use pocsag_words::End;
+
+/// What is asked of the planner, and of the page file.
+#[derive(Clone, Copy)]
+pub(crate) struct SearchArgs {
+    /// How many pages the round must have, if that is given.
+    pub(crate) expect: Option<u32>,
+    /// Whether a misplaced quote refuses the page file.
+    pub(crate) strict: bool,
+    /// Whether a page may wait for an earlier one of its address.
+    pub(crate) may_wait: bool,
+    pub(crate) search: Search,
+}
+
+/// What bounds the front of a page file, where one is planned.
+#[derive(Clone, Copy)]
+pub(crate) enum FrontLimit {
+    /// Nothing: all pages of the round are planned.
+    All,
+    /// So many batches.
+    Batches(u32),
+    /// So many milliseconds at a rate.
+    Airtime { ms: u32, rate: u32 },
+}
+
+/// What `plan` is asked for.
+#[derive(Clone, Copy)]
+pub(crate) struct PlanArgs<'a> {
+    /// The path of the page file.
+    pub(crate) pages: Option<&'a str>,
+    /// The words for the transmission and for the certificate, of which one may name standard output.
+    pub(crate) tx: &'a str,
+    pub(crate) cert: &'a str,
+    pub(crate) search: SearchArgs,
+    /// Whether the files are read back.
+    pub(crate) verify: bool,
+    /// Whether what stands there before is kept until all files are whole.
+    pub(crate) keep: bool,
+    /// What bounds the front, where not all pages need to be planned.
+    pub(crate) front: Option<FrontLimit>,
+    /// The words for the page file of the pages that are left, for that of the pages that are set aside, and for the certificate
+    /// of one page more.
+    pub(crate) rest: Option<&'a str>,
+    pub(crate) oversized: Option<&'a str>,
+    pub(crate) why: Option<&'a str>,
+}
+
+/// What `report` is asked for.
+#[derive(Clone, Copy)]
+pub(crate) struct ReportArgs<'a> {
+    /// The path of the page file.
+    pub(crate) pages: Option<&'a str>,
+    pub(crate) rate: u32,
+    pub(crate) search: SearchArgs,
+    /// Whether the frames are told too.
+    pub(crate) frames: bool,
+}
+
+fn end_in(found: &ArgMatches<'_>) -> Option<End> {
+    if found.get_flag(IDLE_LAST) {
+        return Some(End::Idle);
+    }
+    match found.get_str(END)? {
+        OPEN_END => Some(End::Open),
+        CLOSED_END => Some(End::Closed),
+        IDLE_END => Some(End::Idle),
+        _ => None,
+    }
+}
+
+fn search_in(found: &ArgMatches<'_>) -> Option<SearchArgs> {
+    let on_limit = if found.get_flag(ALWAYS) {
+        OnLimit::Always
+    } else {
+        OnLimit::Fewest
+    };
+    Some(SearchArgs {
+        expect: found.get_one::<u32>(EXPECT),
+        strict: found.get_flag(STRICT),
+        may_wait: found.get_flag(LATER),
+        search: Search {
+            limit: found.get_one::<u32>(LIMIT)?,
+            end: end_in(found)?,
+            on_limit,
+        },
+    })
+}
+
+fn front_in(found: &ArgMatches<'_>) -> Option<FrontLimit> {
+    if let Some(batches) = found.get_one::<u32>(AT_MOST) {
+        return Some(FrontLimit::Batches(batches));
+    }
+    if let Some(ms) = found.get_one::<u32>(AIRTIME) {
+        let rate = found.get_one::<u32>(RATE)?;
+        return Some(FrontLimit::Airtime { ms, rate });
+    }
+    found.get_flag(LATER).then_some(FrontLimit::All)
+}
+
+/// The order of the words of `plan`; none where a word is not there, which clap has seen to.
+pub(crate) fn plan_args<'a>(found: &ArgMatches<'a>) -> Option<PlanArgs<'a>> {
+    Some(PlanArgs {
+        pages: path_of(found.get_str(PAGES)?),
+        tx: found.get_str(TX)?,
+        cert: found.get_str(CERT)?,
+        search: search_in(found)?,
+        verify: found.get_flag(VERIFY),
+        keep: found.get_flag(KEEP),
+        front: front_in(found),
+        rest: found.get_str(REST),
+        oversized: found.get_str(OVERSIZED),
+        why: found.get_str(WHY),
+    })
+}
+
+/// The same of `report`.
+pub(crate) fn report_args<'a>(found: &ArgMatches<'a>) -> Option<ReportArgs<'a>> {
+    Some(ReportArgs {
+        pages: path_of(found.get_str(PAGES)?),
+        rate: found.get_one::<u32>(RATE)?,
+        search: search_in(found)?,
+        frames: found.get_flag(EACH_FRAME),
+    })
+}

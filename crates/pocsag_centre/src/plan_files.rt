@@ -1,0 +1,518 @@
+ghost use Rattle.std.specs.Prelude.{IsErrOf, map};
+ghost use Rattle.pocsag_shell.specs.declared.fault.FileFault.TheVariants as file_fault;
+ghost use Rattle.pocsag_shell.specs.Paths.{HasEqual, paths_of};
+
+use crate::args::{FrontLimit, PlanArgs, SearchArgs};
+use crate::checks::{expected_file, refuse_bad_limit, strict_file};
+use crate::fault::CentreFault;
+use crate::front::{FrontAsked, FrontFiles, first_file, run_front};
+use crate::note::{note_file, quote_asked};
+use crate::oversized::part_file;
+use crate::plan::{PlanFiles, run_plan};
+use crate::readback::run_verify;
+use pocsag_pages::FILE_LIMIT;
+use pocsag_plan::most_batches;
+use pocsag_shell::{
+    CERT_READ, Context, FileFault, Loaded, MemoryStreams, Output, Outputs, PAGES_READ, Role,
+    STANDARD, StagedFile, is_regular, is_regular_or_none, load, make_outputs, open_output,
+    open_outputs, open_source, path_of, print, print_numbers, put_files, put_whole, refuse_equal,
+    refuse_input, refuse_one_file, refuse_shared, write_over,
+};
+use pocsag_words::{GrowingSink, MemorySink, Sink, Source};
+use std::fs::File;
+
+/// Standard output and standard error of a command of the centre.
+pub(crate) type Streams = MemoryStreams<CentreFault>;
+
+// More than the lines of a plan have, which are five and `verified`.
+const LINES: usize = 300;
+
+// What refuses `--verify`, and what refuses `--keep`.
+const BAD_VERIFY: &str =
+    "--verify reads PAGES, TX and CERT again, so that each must be a regular file";
+
+const BAD_KEEP: &str =
+    "--keep renames what it wrote to TX and CERT, so that each must be a regular file, or not there";
+
+// What refuses `--rest` and `--why` where no front is asked for, and where they name no file.
+const BAD_REST: &str = "--rest and --why name files, and go with --at-most or --airtime";
+
+const BAD_OVERSIZED: &str = "--oversized names a file, and goes with --at-most or --airtime";
+
+/// What a file holds, or standard input if there is no path.
+pub(crate) fn loaded(
+    context: Context<'_>,
+    role: Role,
+    path: Option<&str>,
+    limit: usize,
+) -> Result<Loaded, CentreFault> {
+    let mut source = open_source(context, role, path)?;
+    Ok(load(context, &mut source, limit)?)
+}
+
+/// Refuses a page file that does not meet what is asked of it. What cannot be read is for the command to refuse.
+pub(crate) fn refuse_unmet(
+    context: Context<'_>,
+    path: Option<&str>,
+    pages: &Loaded,
+    asked: SearchArgs,
+) -> Result<(), CentreFault> {
+    let Some(file) = pages.lent() else {
+        return Ok(());
+    };
+    if file.len() > FILE_LIMIT {
+        return Ok(());
+    }
+    if asked.strict {
+        strict_file(file)?;
+    }
+    let Some(expected) = asked.expect else {
+        return Ok(());
+    };
+    let met = expected_file(context.alloc, asked.may_wait, file, expected);
+    if let Err(fault) = met {
+        note_file(context, path, pages, None, Some(fault));
+    }
+    met
+}
+
+/// `plan`: plans from file to files, or from and to the standard streams. Where standard output takes one of
+/// the files, the lines go to standard error. Returns the exit status.
+pub(crate) fn plan_command(
+    context: Context<'_>,
+    args: PlanArgs<'_>,
+    streams: &mut Streams,
+) -> Result<u8, CentreFault>
+    ensures { HasEqual (map (λ path. path.now) (paths_of args.entry.pages args.entry.tx args.entry.cert)) →
+        IsErrOf result (CentreFault.File file_fault.EqualPaths) }
+{
+    refuse_equal(args.pages, args.tx, args.cert)?;
+    if let Some(text) = misuse(context, args) {
+        let _ = print(
+            &mut context.err(),
+            format_args!("error: {text}\n\nFor more information, try 'pocsag plan --help'.\n"),
+        );
+        return Ok(2);
+    }
+    plan_paths(context, args, streams)
+}
+
+// The files that a plan writes, in the order in which `--keep` puts them at their places. The page file of the rest goes
+// first, so that no page is both in it and in a transmission that is not there; and no transmission ever stands without
+// its certificate.
+fn places<'a>(args: PlanArgs<'a>) -> [(Role, Option<&'a str>); 5] {
+    [
+        (Role::Rest, args.rest),
+        (Role::Oversized, args.oversized),
+        (Role::Why, args.why),
+        (Role::Certificate, Some(args.cert)),
+        (Role::Transmission, Some(args.tx)),
+    ]
+}
+
+// The first option of the order that its files do not serve, as the text that refuses it. It reads nothing of them.
+fn misuse(context: Context<'_>, args: PlanArgs<'_>) -> Option<&'static str> {
+    let rt = context.rt;
+    let (tx, cert) = (path_of(args.tx), path_of(args.cert));
+    for word in [args.rest, args.why] {
+        if word == Some(STANDARD) || (word.is_some() && args.front.is_none()) {
+            return Some(BAD_REST);
+        }
+    }
+    if let Some(word) = args.oversized {
+        if word == STANDARD || matches!(args.front, None | Some(FrontLimit::All)) {
+            return Some(BAD_OVERSIZED);
+        }
+    }
+    if args.verify && !(is_regular(rt, args.pages) && is_regular(rt, tx) && is_regular(rt, cert)) {
+        return Some(BAD_VERIFY);
+    }
+    if !args.keep {
+        return None;
+    }
+    for (_role, place) in places(args) {
+        let Some(place) = place else {
+            continue;
+        };
+        if place == STANDARD || !is_regular_or_none(rt, place) {
+            return Some(BAD_KEEP);
+        }
+    }
+    None
+}
+
+// Plans, where the files serve the options.
+fn plan_paths(
+    context: Context<'_>,
+    args: PlanArgs<'_>,
+    streams: &mut Streams,
+) -> Result<u8, CentreFault> {
+    if args.tx == STANDARD || args.cert == STANDARD {
+        plan_files(context, args, streams, &mut context.err())
+    } else if args.keep {
+        plan_staged(context, args, streams)
+    } else {
+        plan_files(context, args, streams, &mut context.out())
+    }
+}
+
+// Plans, and reads back what was planned where that is asked for.
+fn plan_files<O: Sink>(
+    context: Context<'_>,
+    args: PlanArgs<'_>,
+    streams: &mut Streams,
+    out: &mut O,
+) -> Result<u8, CentreFault> {
+    let (status, first) = match args.front {
+        Some(limit) => write_front(context, args, limit, streams, out)?,
+        None => (write_plan(context, args, streams, out)?, None),
+    };
+    if status != 0 || !args.verify {
+        return Ok(status);
+    }
+    read_files_back(context, args, first, streams, out)
+}
+
+// Plans a page file, and then writes its transmission and its certificate.
+fn write_plan<O: Sink>(
+    context: Context<'_>,
+    args: PlanArgs<'_>,
+    streams: &mut Streams,
+    out: &mut O,
+) -> Result<u8, CentreFault> {
+    let mut source = open_source(context, Role::PageFile, args.pages)?;
+    let outputs = make_outputs(context, args.pages, args.tx, args.cert)?;
+    let pages = load(context, &mut source, PAGES_READ)?;
+    refuse_unmet(context, args.pages, &pages, args.search)?;
+    let quote = quote_asked(context, &pages);
+    let mut files = PlanFiles {
+        pages,
+        tx: GrowingSink::new(context.alloc),
+        cert: GrowingSink::new(context.alloc),
+    };
+    let mut lines: MemorySink<LINES> = MemorySink::new(LINES, LINES as u64);
+    let search = args.search.search;
+    let status = run_plan(
+        context.alloc,
+        search,
+        &mut files,
+        &mut lines,
+        &mut streams.err,
+    );
+    note_file(
+        context,
+        args.pages,
+        &files.pages,
+        quote,
+        streams.err.fault(),
+    );
+    if status == 0 {
+        put_outputs(outputs, files.tx, files.cert)?;
+        put_whole(out, lines.bytes())?;
+    }
+    Ok(status)
+}
+
+// Puts the transmission and then the certificate.
+fn put_outputs<S: Sink + Drop>(
+    outputs: Outputs<S>,
+    tx: GrowingSink,
+    cert: GrowingSink,
+) -> Result<(), FileFault> {
+    let mut outputs = outputs;
+    put_whole(&mut outputs.tx, tx.into_bytes().as_slice())?;
+    put_whole(&mut outputs.cert, cert.into_bytes().as_slice())
+}
+
+// Plans the front of a page file, and then writes it. Returns how many pages it has too.
+fn write_front<O: Sink>(
+    context: Context<'_>,
+    args: PlanArgs<'_>,
+    limit: FrontLimit,
+    streams: &mut Streams,
+    out: &mut O,
+) -> Result<(u8, Option<u32>), CentreFault> {
+    let asked = front_asked(args, limit)?;
+    refuse_rest(context, args)?;
+    let mut source = open_source(context, Role::PageFile, args.pages)?;
+    let opened = open_outputs(context, args.pages, args.tx, args.cert)?;
+    let others = open_others(context, args)?;
+    let outputs = opened.emptied(context)?;
+    let pages = load(context, &mut source, PAGES_READ)?;
+    refuse_unmet(context, args.pages, &pages, args.search)?;
+    let quote = quote_asked(context, &pages);
+    let Aside { pages, file, count } = set_aside(context, args, asked, pages)?;
+    let mut files = FrontFiles {
+        pages,
+        tx: GrowingSink::new(context.alloc),
+        cert: GrowingSink::new(context.alloc),
+        rest: GrowingSink::new(context.alloc),
+        why: GrowingSink::new(context.alloc),
+        count: 0,
+    };
+    let mut lines: MemorySink<LINES> = MemorySink::new(LINES, LINES as u64);
+    let status = run_front(
+        context.alloc,
+        asked,
+        &mut files,
+        &mut lines,
+        &mut streams.err,
+    );
+    note_file(
+        context,
+        args.pages,
+        &files.pages,
+        quote,
+        streams.err.fault(),
+    );
+    let first = files.count;
+    if status == 0 {
+        if args.oversized.is_some() {
+            print_numbers(&mut lines, &[("oversized ", count as u64)], "\n")?;
+        }
+        put_front_files(context, others, outputs, file, files)?;
+        put_whole(out, lines.bytes())?;
+    }
+    Ok((status, Some(first)))
+}
+
+// What is asked of a front.
+fn front_asked(args: PlanArgs<'_>, limit: FrontLimit) -> Result<FrontAsked, CentreFault> {
+    let batches = match limit {
+        FrontLimit::All => u32::MAX,
+        FrontLimit::Batches(batches) => batches,
+        FrontLimit::Airtime { ms, rate } => most_batches(ms, rate)?,
+    };
+    Ok(FrontAsked {
+        batches,
+        may_wait: args.search.may_wait,
+        search: args.search.search,
+    })
+}
+
+// The page file that is planned, the page file of the pages that are set aside, and how many these are.
+#[derive(Drop)]
+struct Aside {
+    pages: Loaded,
+    file: Vec<u8>,
+    count: usize,
+}
+
+// Sets the pages aside that alone need too many batches, where that is asked for. What cannot be read is for the command to
+// refuse.
+fn set_aside(
+    context: Context<'_>,
+    args: PlanArgs<'_>,
+    asked: FrontAsked,
+    pages: Loaded,
+) -> Result<Aside, CentreFault> {
+    let (Some(_), Some(bytes)) = (args.oversized, pages.lent()) else {
+        return Ok(Aside {
+            pages,
+            file: Vec::new(context.alloc),
+            count: 0,
+        });
+    };
+    refuse_bad_limit(asked.search)?;
+    match part_file(context.alloc, asked, bytes) {
+        Ok(parted) => Ok(Aside {
+            pages: Loaded::new(context.alloc, parted.planned, false),
+            file: parted.aside,
+            count: parted.count,
+        }),
+        Err(fault) => {
+            note_file(context, args.pages, &pages, None, Some(fault));
+            Err(fault)
+        }
+    }
+}
+
+// Opens the files of a front beside its transmission and certificate, behind these and before any file is emptied.
+fn open_others(
+    context: Context<'_>,
+    args: PlanArgs<'_>,
+) -> Result<Vec<(Role, Output<File>)>, FileFault> {
+    let words = [
+        (Role::Rest, args.rest),
+        (Role::Oversized, args.oversized),
+        (Role::Why, args.why),
+    ];
+    let mut others = Vec::new(context.alloc);
+    for (role, word) in words {
+        let Some(word) = word else {
+            continue;
+        };
+        let output = open_output(context, role, word)?;
+        if others.push((role, output)).is_err() {
+            return Err(FileFault::OutOfMemory);
+        }
+    }
+    // A new file may have a second spelling among the words.
+    refuse_rest(context, args)?;
+    Ok(others)
+}
+
+// Writes the files of a front, the rest first.
+fn put_front_files<S: Sink + Drop>(
+    context: Context<'_>,
+    others: Vec<(Role, Output<File>)>,
+    outputs: Outputs<S>,
+    aside: Vec<u8>,
+    files: FrontFiles<Loaded, GrowingSink>,
+) -> Result<(), FileFault> {
+    let FrontFiles {
+        tx,
+        cert,
+        rest,
+        why,
+        ..
+    } = files;
+    let rest = rest.into_bytes();
+    let why = why.into_bytes();
+    for (role, output) in others {
+        let bytes = match role {
+            Role::Rest => rest.as_slice(),
+            Role::Oversized => aside.as_slice(),
+            _ => why.as_slice(),
+        };
+        write_over(context, role, output, bytes)?;
+    }
+    put_outputs(outputs, tx, cert)
+}
+
+// Refuses a word for the rest, for the pages that are set aside, or for the certificate of one page more, that names another
+// file of the plan.
+fn refuse_rest(context: Context<'_>, args: PlanArgs<'_>) -> Result<(), FileFault> {
+    let words = [args.pages, args.rest, args.oversized, args.why];
+    for (place, word) in words.iter().enumerate().skip(1) {
+        refuse_equal(*word, args.tx, args.cert)?;
+        refuse_shared(context, *word, args.tx, args.cert)?;
+        let Some(word) = *word else {
+            continue;
+        };
+        refuse_input(context, word)?;
+        for other in &words[..place] {
+            refuse_equal(*other, word, STANDARD)?;
+            refuse_one_file(context.rt, *other, word, STANDARD)?;
+        }
+    }
+    Ok(())
+}
+
+// Reads the files back and compares them with the page file, or with so many of its first pages.
+fn read_files_back<O: Sink>(
+    context: Context<'_>,
+    args: PlanArgs<'_>,
+    first: Option<u32>,
+    streams: &mut Streams,
+    out: &mut O,
+) -> Result<u8, CentreFault> {
+    let mut pages = loaded(context, Role::PageFile, args.pages, PAGES_READ)?;
+    if let (Some(first), Some(limit)) = (first, args.front) {
+        pages = set_aside(context, args, front_asked(args, limit)?, pages)?.pages;
+        pages = load_first(context, args, pages, first)?;
+    }
+    let quote = quote_asked(context, &pages);
+    let tx = loaded(context, Role::Transmission, Some(args.tx), PAGES_READ)?;
+    let cert = loaded(context, Role::Certificate, Some(args.cert), CERT_READ)?;
+    let mut files = PlanFiles { pages, tx, cert };
+    let mut lines: MemorySink<LINES> = MemorySink::new(LINES, LINES as u64);
+    let search = args.search.search;
+    let status = run_verify(
+        context.alloc,
+        search,
+        &mut files,
+        &mut lines,
+        &mut streams.err,
+    );
+    note_file(
+        context,
+        args.pages,
+        &files.pages,
+        quote,
+        streams.err.fault(),
+    );
+    if status == 0 {
+        put_whole(out, lines.bytes())?;
+    }
+    Ok(status)
+}
+
+// A page file of so many first pages of the round. What cannot be read is for the command to refuse.
+fn load_first(
+    context: Context<'_>,
+    args: PlanArgs<'_>,
+    pages: Loaded,
+    first: u32,
+) -> Result<Loaded, CentreFault> {
+    let Some(file) = pages.lent() else {
+        return Ok(pages);
+    };
+    match first_file(context.alloc, args.search.may_wait, file, first as usize) {
+        Ok(file) => Ok(Loaded::new(context.alloc, file, false)),
+        Err(fault) => {
+            note_file(context, args.pages, &pages, None, Some(fault));
+            Err(fault)
+        }
+    }
+}
+
+// `--keep`: plans beside the places of the files, puts all there once they are whole, and then tells the lines.
+fn plan_staged(
+    context: Context<'_>,
+    args: PlanArgs<'_>,
+    streams: &mut Streams,
+) -> Result<u8, CentreFault> {
+    refuse_shared(context, args.pages, args.tx, args.cert)?;
+    refuse_rest(context, args)?;
+    let mut files = Vec::new(context.alloc);
+    let mut lines: MemorySink<LINES> = MemorySink::new(LINES, LINES as u64);
+    let done = plan_among(context, args, &mut files, streams, &mut lines);
+    for file in &files {
+        file.remove(context);
+    }
+    let status = done?;
+    if status == 0 {
+        put_whole(&mut context.out(), lines.bytes())?;
+    }
+    Ok(status)
+}
+
+// The same, with a list of the files beside the places, which the caller takes away.
+fn plan_among<'a, O: Sink>(
+    context: Context<'_>,
+    args: PlanArgs<'a>,
+    files: &mut Vec<StagedFile<'a>>,
+    streams: &mut Streams,
+    lines: &mut O,
+) -> Result<u8, CentreFault> {
+    for (role, place) in places(args) {
+        let Some(place) = place else {
+            continue;
+        };
+        let made = StagedFile::make(context, role, place)?;
+        if files.push(made).is_err() {
+            return Err(CentreFault::File(FileFault::OutOfMemory));
+        }
+    }
+    let status = plan_files(context, staged_file(args, files.as_slice()), streams, lines)?;
+    if status == 0 {
+        put_files(context, files.as_slice())?;
+    }
+    Ok(status)
+}
+
+// The order with the files beside the places.
+fn staged_file<'a>(args: PlanArgs<'a>, files: &'a [StagedFile<'_>]) -> PlanArgs<'a> {
+    let mut staged_file = args;
+    for file in files {
+        match file.role {
+            Role::Rest => staged_file.rest = Some(file.path()),
+            Role::Oversized => staged_file.oversized = Some(file.path()),
+            Role::Why => staged_file.why = Some(file.path()),
+            Role::Certificate => staged_file.cert = file.path(),
+            _ => staged_file.tx = file.path(),
+        }
+    }
+    staged_file
+}

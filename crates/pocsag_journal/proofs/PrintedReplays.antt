@@ -1,0 +1,23 @@
+-- What is told of bytes explains why they are not read.
+use Rattle.std.proofs.Common.{◌≡◌, ℕ, List, subst}
+use Rattle.std.specs.Prelude.{IfErr, Result, Ok, Err}
+use Rattle.pocsag_journal.specs.Faults.{ExplainsReplay, IsPrinted}
+use Rattle.pocsag_journal.specs.declared.fault.JournalFault.{JournalFault}
+use Rattle.pocsag_journal.specs.declared.fault.JournalFault.TheVariants as fault
+use Rattle.pocsag_journal.specs.declared.replay.Replayed.{Replayed}
+
+told_replay : (bytes : List ℕ) (before after : ℕ) (f : JournalFault) → IsPrinted bytes f → ExplainsReplay bytes before after f
+told_replay bytes before after fault.ReadFault h = absurd h
+told_replay bytes before after fault.WriteFault h = h
+told_replay bytes before after fault.TooLarge h = absurd h
+told_replay bytes before after fault.NotJournal h = h
+told_replay bytes before after fault.OtherVersion h = h
+told_replay bytes before after (fault.BadLine n) h = h
+told_replay bytes before after (fault.NoLine n) h = h
+told_replay bytes before after fault.OutOfMemory h = h
+
+-- what is told of the bytes that were read is told of those that were held
+pub told_of : (bytes held : List ℕ) (before after : ℕ) → bytes ≡ held → (r : Result Replayed JournalFault) → IfErr r (IsPrinted bytes) →
+    IfErr r (ExplainsReplay held before after)
+told_of bytes held before after e (Ok x) told = tt
+told_of bytes held before after e (Err f) told = told_replay held before after f (subst (λ (b : List ℕ). IsPrinted b f) e told)

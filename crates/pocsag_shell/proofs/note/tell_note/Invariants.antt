@@ -1,7 +1,0 @@
-use Rattle.std.proofs.Common.{◌≡◌, ◌++◌, take, map, codes}
-use Rattle.pocsag_shell.specs.Notes.{plain}
-use Rattle.pocsag_shell.proofs.note.tell_note.Given as goal
-
--- the line is its front and the bytes so far
-abbrev pub invariant-loop-byte : goal.invariant-loop-byte
-invariant-loop-byte g l = l.line.items ≡ codes "pocsag: " ++ map plain (take l.byte-index l.text)

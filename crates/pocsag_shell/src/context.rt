@@ -1,0 +1,119 @@
+ghost use Rattle.std.specs.Prelude.{◌≡◌, ◌⊎◌, IfErr, IfOk, IsErrAnd, IsErrOf, Ok, OnErr};
+
+use crate::devices::WriterSink;
+use crate::diagnostics::{Diagnostics, Trouble};
+use crate::fault::{Failure, FileFault};
+use crate::lines::print_fault;
+use crate::note::print_note;
+use crate::role::{Names, Role};
+use std::alloc::Global;
+use std::fmt::Display;
+use std::io::{self, ErrorKind, Stderr, Stdout};
+
+/// What each step of a command needs: the runtime, the allocator, and the watch for `--verbose`.
+#[derive(Clone, Copy)]
+pub struct Context<'a> {
+    pub rt: &'a HostRuntime,
+    pub alloc: Global,
+    pub diagnostics: &'a Diagnostics,
+}
+
+impl<'a> Context<'a> {
+    /// The result of opening or making a file, as a fault of the command if the system refused it.
+    pub fn opened<T: Drop>(&self, role: Role, found: io::Result<T>) -> Result<T, FileFault>
+        ensures kept { IfOk found (λ file. result ≡ Ok file) }
+        ensures fault { OnErr found (IsErrAnd result (λ e. (e ≡ FileFault.Device) ⊎ (e ≡ FileFault.OutOfMemory))) }
+    {
+        match found {
+            Ok(found) => Ok(found),
+            Err(error) if error.kind() == ErrorKind::OutOfMemory => Err(FileFault::OutOfMemory),
+            Err(error) => {
+                self.diagnostics.meet(role, error.raw_os_error());
+                Err(FileFault::Device)
+            }
+        }
+    }
+
+    /// The result of writing, renaming or synchronising a file, as a fault of the command if the system refused it.
+    pub fn written(&self, role: Role, done: io::Result<()>) -> Result<(), FileFault>
+        ensures kept { IfOk done (λ unit. result ≡ Ok unit) }
+        ensures fault { OnErr done (IsErrOf result FileFault.Write) }
+    {
+        match done {
+            Ok(()) => Ok(()),
+            Err(error) => {
+                self.diagnostics.meet(role, error.raw_os_error());
+                Err(FileFault::Write)
+            }
+        }
+    }
+
+    /// Standard output.
+    pub fn out(&self) -> WriterSink<'a, Stdout> {
+        WriterSink::new(self.rt.stdout(), Role::Output, self.diagnostics)
+    }
+
+    /// Standard error.
+    pub fn err(&self) -> WriterSink<'a, Stderr> {
+        WriterSink::new(self.rt.stderr(), Role::Output, self.diagnostics)
+    }
+
+    /// Keeps a note for `tell_more`, in place of an earlier one, if the user gave `--verbose`. It keeps none if memory
+    /// runs out.
+    pub fn note<D: Display + Drop>(&self, text: D) {
+        if self.diagnostics.is_asked() {
+            let _ = self
+                .diagnostics
+                .note
+                .try_replace(text.to_string(self.alloc).ok());
+        }
+    }
+
+    /// Adds the line of `--verbose` on standard error: the note that was kept, or else which file the system refused last
+    /// and why. Both are then forgotten. If standard error fails the line is lost.
+    pub fn print_more(&self, names: Names<'_>) {
+        if !self.diagnostics.is_asked() {
+            return;
+        }
+        let kept = self.diagnostics.note.try_replace(None).ok().flatten();
+        let printed = match (kept, self.diagnostics.take_trouble()) {
+            (None, Some(Trouble { role, code })) => {
+                let place = names.place(role);
+                let printed = match code.map(io::Error::from_raw_os_error) {
+                    Some(reason) => format!(in self.alloc; "{place}: {reason}"),
+                    None => {
+                        format!(in self.alloc;
+                            "{place}: the system took nothing and told no reason"
+                        )
+                    }
+                };
+                printed.ok()
+            }
+            (kept, _) => kept,
+        };
+        if let Some(printed) = printed {
+            let _ = print_note(self.alloc, &mut self.err(), printed.as_str());
+        }
+    }
+
+    /// Forgets which file the system refused, which is no trouble of a command that did what it was asked.
+    pub fn forget_trouble(&self) {
+        let _ = self.diagnostics.take_trouble();
+    }
+
+    /// Ends a command: writes its fault to standard error, and the line of `--verbose` behind it. Returns the exit status.
+    pub fn end<F: Failure>(&self, names: Names<'_>, done: Result<u8, F>) -> u8
+        ensures done { IfOk done (λ status. result ≡ status) }
+        ensures fault { IfErr done (λ fault. result ≡ F.status_is fault) }
+    {
+        let status = match done {
+            Ok(status) => {
+                self.forget_trouble();
+                status
+            }
+            Err(fault) => print_fault(&mut self.err(), fault),
+        };
+        self.print_more(names);
+        status
+    }
+}
