@@ -253,7 +253,8 @@ pub extern "C" fn pocsag_plan_at_most(
         IsPlannedInto (IsFrontHeadline pages.now end info.new) tx.old tx.new tx_len.new cert.old cert.new cert_len.new }
     ensures rest { result ≡ 0 → IsGivenIfWanted (IsRestOf pages.now info.new) rest.old rest.new rest_len.new }
     ensures why { result ≡ 0 →
-        IsGivenIfWanted (IsBeyond (on_limit_of always) pages.now end limit batches info.new) why.old why.new why_len.new }
+        IsGivenIfWanted (IsBeyond
+        (on_limit_of always) pages.now end limit batches info.new) why.old why.new why_len.new }
 
     // Too small a buffer: the lengths are those of such texts.
     ensures no_room { IsFront result →

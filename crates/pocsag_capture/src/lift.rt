@@ -36,7 +36,8 @@ fn put_lift(
 ) -> Result<ReceptionStats, AllocError>
     requires few { length capture.now ≤ input_limit }
     requires end { behind reception < 2 ^ 60 }
-    ensures extracted { IfOk result (λ heard. PutsLift (capture_bits capture.now) heard bytes.old.items bytes.new.items) }
+    ensures extracted { IfOk result (λ heard.
+        PutsLift (capture_bits capture.now) heard bytes.old.items bytes.new.items) }
     ensures same { IfOk result (λ heard. heard.reception ≡ reception) }
 {
     let mut corrector = WordCorrector {
@@ -164,7 +165,8 @@ fn nth_of(found: &[Reception], nth: u64) -> Option<Reception>
 
 /// Lifts one transmission out of a capture, counted from 1.
 pub fn lift_one(alloc: Global, capture: &[u8], nth: u64) -> Result<Extracted, CaptureFault>
-    ensures extracted { IfOk result (λ extracted. LiftsOne capture.now nth extracted.heard.items extracted.bytes.items) }
+    ensures extracted { IfOk result (λ extracted.
+        LiftsOne capture.now nth extracted.heard.items extracted.bytes.items) }
     ensures few { OnOk result (length capture.now ≤ input_limit) }
     ensures explained { IfErr result (ExplainsNone capture.now nth) }
 {

@@ -113,7 +113,8 @@ pub fn run_explain<P: Source + Drop, C: Source + Drop, O: Sink, E: Sink + Drop>(
         DoesNotShow (P.held files.old.pages) (C.held files.old.cert)) }
     ensures printed { C.is_known → O.is_known → IfNone (printed_by err.new)
         (TookVerdict format (result == 0) (C.held files.old.cert) (O.taken out.old) (O.taken out.new)) }
-    ensures part { P.is_known → C.is_known → O.is_known → printed_by err.new ≡ Some (CentreFault.File file_fault.Write) →
+    ensures part { P.is_known → C.is_known → O.is_known →
+        printed_by err.new ≡ Some (CentreFault.File file_fault.Write) →
         TookVerdictPart format (P.held files.old.pages) (C.held files.old.cert) (O.taken out.old) (O.taken out.new) }
     ensures explained { P.is_known → C.is_known → IfSome (printed_by err.new)
         (OrDevice (ExplainsUntold (P.held files.old.pages) (C.held files.old.cert))) }

@@ -79,7 +79,8 @@ pub fn answer_edit<K: Keeper + Drop, O: Sink>(
 /// How many pages there are now.
 #[tactic(auto, unfolding(crate::specs::Answers::pages_answer))]
 pub(crate) fn print_pages<O: Sink>(book: &Book, out: &mut O) -> Result<(), FileFault>
-    ensures printed { O.is_known → Delivers result (O.taken out.old) (O.taken out.new) (pages_answer (length book.now)) }
+    ensures printed { O.is_known →
+        Delivers result (O.taken out.old) (O.taken out.new) (pages_answer (length book.now)) }
     ensures lost { IfErr result (λ e. e ≡ FileFault.Write) }
     ensures failures { CountsFailures result (O.failures out.old) (O.failures out.new) }
 {

@@ -92,7 +92,8 @@ fn place_front<P: OutputStore + Drop>(
     book: &Book,
     asked: FrontRequest<'_>,
 ) -> Result<(SentFront, ByteRecord), UndoneFault>
-    ensures planned { IfOk result (λ both. IsFrontPlaced P.is_known settings.old.on_limit asked.entry.end asked.entry.batches
+    ensures planned { IfOk result (λ both. IsFrontPlaced P.is_known settings.old.on_limit asked.entry.end
+        asked.entry.batches
         asked.entry.tx.now asked.entry.cert.now book.now both.0.pages both.0.batches both.0.bound
         (P.placed settings.old.store) (P.placed settings.new.store)) }
     ensures edit { IfOk result (λ both. fields_of both.1 ≡ sent_record both.0.pages) }

@@ -73,7 +73,8 @@ impl Pager {
     /// synchronisation word, whatever it holds; any other is repaired. The page that this word ends
     /// is answered. After `OutOfMemory` and after `end` the pager answers `Failed`.
     pub fn hear(&mut self, word: u32) -> Result<Option<Page>, PagerFault>
-        ensures stands { (words : List ℕ) → HasFollowed self.old words → OnOk result (HasFollowed self.new (words ++ word ∷ [])) }
+        ensures stands { (words : List ℕ) → HasFollowed self.old words →
+            OnOk result (HasFollowed self.new (words ++ word ∷ [])) }
 
         // Where these are the pages of *Shown* that had ended, with the answer they are those that
         // have ended now.

@@ -87,7 +87,8 @@ pub fn plan_stream_always<S: Source, T: Sink, C: Sink>(
     ensures headline { S.is_known → T.is_known → C.is_known → IfOk result (λ bounded.
         WritesBounded (S.held source.old) end bounded.plan.batches bounded.bound (bound_tree_of bounded.plan.tree)
         (T.taken tx.old) (T.taken tx.new) (C.taken cert.old) (C.taken cert.new)) }
-    ensures fewest { S.is_known → T.is_known → C.is_known → IfOk result (λ bounded. bounded.bound ≡ bounded.plan.batches →
+    ensures fewest { S.is_known → T.is_known → C.is_known →
+        IfOk result (λ bounded. bounded.bound ≡ bounded.plan.batches →
         Writes (S.held source.old) end bounded.plan.batches (bound_tree_of bounded.plan.tree)
         (T.taken tx.old) (T.taken tx.new) (C.taken cert.old) (C.taken cert.new)) }
     ensures plan { S.is_known → IfOk result (IsBoundedOf (S.held source.old) end) }

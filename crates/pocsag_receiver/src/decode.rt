@@ -91,7 +91,8 @@ fn decode_bytes<O: Sink>(
     ensures status { IfOk result (λ status. status ≡ 0) }
     ensures read { AreReadOf bytes.old decoding.old.repairing.is_asked bytes.new }
     ensures counted { Counts decoding.new.repairing.corrected bytes.old bytes.new }
-    ensures listed { O.is_known → OnOk result (DecodedIn decoding.old.form bytes.new (O.taken out.old) (O.taken out.new)) }
+    ensures listed { O.is_known →
+        OnOk result (DecodedIn decoding.old.form bytes.new (O.taken out.old) (O.taken out.new)) }
     ensures restored { O.is_known → decoding.old.repairing.is_asked ≡ true → (X : List ℕ) (pages : List Page) →
         ReadsAs X pages →
         IsDamaged X bytes.old → OnOk result (O.taken out.new ≡ O.taken out.old ++ listed_in decoding.old.form pages) }
@@ -132,7 +133,8 @@ pub fn run_decode<T: Source, O: Sink, E: Sink + Drop>(
         (λ bytes. DecodedIn decoding.old.form bytes (O.taken out.old) (O.taken out.new))) }
 
     // *Repaired for all*: of a transmission with at most two wrong bits in each word just its pages are listed.
-    ensures restored { T.is_known → O.is_known → decoding.old.repairing.is_asked ≡ true → (X : List ℕ) (pages : List Page) →
+    ensures restored { T.is_known → O.is_known → decoding.old.repairing.is_asked ≡ true →
+        (X : List ℕ) (pages : List Page) →
         ReadsAs X pages → IsDamaged X (T.held tx.old) →
         IfNone (printed_by err.new) (O.taken out.new ≡ O.taken out.old ++ listed_in decoding.old.form pages) }
     // And it is refused only where it is larger than is read.

@@ -104,7 +104,8 @@ pub fn run_show<T: Source, O: Sink, E: Sink + Drop>(
 ) -> u8
     ensures done { IfNone (printed_by err.new) ((result ≡ 0) × (stream_of err.new ≡ stream_of err.old)) }
     ensures status { IfSome (printed_by err.new) (λ e. result ≡ receiver_status e) }
-    ensures counted { T.is_known → IfNone (printed_by err.new) (IsSoOfRead (T.held tx.old) showing.old.repairing.is_asked
+    ensures counted { T.is_known →
+        IfNone (printed_by err.new) (IsSoOfRead (T.held tx.old) showing.old.repairing.is_asked
         (Counts showing.new.repairing.corrected (T.held tx.old))) }
     ensures shown { T.is_known → O.is_known → IfNone (printed_by err.new)
         (IsSoOfRead (T.held tx.old) showing.old.repairing.is_asked

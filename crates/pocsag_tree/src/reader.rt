@@ -239,7 +239,8 @@ fn body<S: Source>(
     requires { made ≤ most_nodes }
     ensures counts { IfOk result (λ x. IsBodyRead depth made (bound_tree_of x.0) x.1) }
     ensures failures { S.failures source.new ≡ failed_after result (S.failures source.old) }
-    ensures reads { S.is_known → ReadsBy (body_at builder.ranges (node_at builder.ranges depth) tag made) node_then result
+    ensures reads { S.is_known →
+        ReadsBy (body_at builder.ranges (node_at builder.ranges depth) tag made) node_then result
         (S.held source.old) (S.held source.new) }
 {
     match tag {
@@ -386,7 +387,8 @@ fn certificate<S: Source>(alloc: Global, source: &mut S) -> Result<Certificate, 
     ensures deep { IfOk result (λ c. depth_of (bound_tree_of c.tree) ≤ greatest_depth) }
     ensures few { IfOk result (λ c. all_nodes (bound_tree_of c.tree) ≤ most_nodes) }
     ensures failures { S.failures source.new ≡ failed_after result (S.failures source.old) }
-    ensures reads { S.is_known → ReadsBy certificate_at (λ c rest. (c.end, c.batches, bound_tree_of c.tree, rest)) result
+    ensures reads { S.is_known →
+        ReadsBy certificate_at (λ c rest. (c.end, c.batches, bound_tree_of c.tree, rest)) result
         (S.held source.old) (S.held source.new) }
 {
     mark(0x50, source)?;
