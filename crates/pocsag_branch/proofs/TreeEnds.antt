@@ -85,7 +85,7 @@ mutual
       let both = or_parts (has_open t) (have_open ts) whole in
       (sealed t k end b (narrowed_limits k l w b) both.0 a.0, each_sealed ts ws k end b l both.1 a.1)
 
--- the marks tell the nodes
+-- the marks report the nodes
 some_open : List Bool → Bool
 some_open [] = false
 some_open (x ∷ xs) = x || some_open xs

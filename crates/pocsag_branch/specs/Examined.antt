@@ -1,4 +1,4 @@
--- What the search owes node by node.
+-- What the search promises node by node.
 use Rattle.std.specs.Prelude.{◌≡◌, ℕ, ◌+◌, ◌<◌, ◌≤◌, Bool, true, false, IsTrue, List, ◌++◌, All, replicate, slice_index}
 use Rattle.pocsag_words.specs.declared.ending.End.{End}
 use Rattle.pocsag_slots.specs.declared.class.Classes.{Classes}
@@ -77,7 +77,7 @@ pub record Fills (limit made after : ℕ) (marks : List Bool) : Type 0 where
   pub within : after ≤ limit
   pub whole : 0 < unseen → after ≡ limit
 
--- What is owed for a node, where so many were made before it and so many after it.
+-- What is required for a node, where so many were made before it and so many after it.
 pub record IsExamined (k : Classes) (q : Task) (l : Limits) (made after : ℕ) (t : BoundTree) : Type 0 where
   pub refuted : IsRefuted true k q.end q.batches l t
   pub shaped : IsShaped k q.end q.batches l t

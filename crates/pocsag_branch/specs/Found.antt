@@ -1,4 +1,4 @@
--- What the search owes: *The search's bound*, *Least or one more*, *Search limit*.
+-- What the search promises: *The search's bound*, *Least or one more*, *Search limit*.
 use Rattle.std.specs.Prelude.{◌≡◌, ℕ, ◌+◌, ◌<◌, ◌≤◌, true, false, List, ◌++◌, slice_index, replicate, ◌⊎◌}
 use Rattle.pocsag_words.specs.declared.ending.End.{End}
 use Rattle.pocsag_pages.specs.declared.page.Page.{Page}

@@ -1,4 +1,4 @@
--- What the free search owes node by node: its trees have no promised shape.
+-- What the free search promises node by node: its trees have no promised shape.
 use Rattle.std.specs.Prelude.{◌≡◌, ℕ, ◌+◌, ◌≤◌, false, List, slice_index}
 use Rattle.pocsag_slots.specs.declared.class.Classes.{Classes}
 use Rattle.pocsag_slots.specs.declared.limit.Limits.{Limits}
@@ -26,7 +26,7 @@ IsUndecidedWay k batches l (IdleIn slot) = batches ≤ slice_index l.cap slot
 IsUndecidedWay k batches l (Early c) = slice_index l.lo c ≡ 0
 IsUndecidedWay k batches l (Late c) = slice_index k.count c ≤ slice_index l.hi c
 
--- What is owed for a node, where so many were examined before it and so many after it: the limit is not
+-- What is required for a node, where so many were examined before it and so many after it: the limit is not
 -- exceeded, and no node of the tree was left out of the count.
 pub record IsFreeNode (k : Classes) (q : Task) (l : Limits) (examined after : ℕ) (t : BoundTree) : Type 0 where
   pub refuted : IsRefuted false k q.end q.batches l t

@@ -1,4 +1,4 @@
--- What the free search owes: *The free search's bound* and *Within one*, this project's own.
+-- What the free search promises: *The free search's bound* and *Within one*, this project's own.
 use Rattle.std.specs.Prelude.{◌≡◌, ℕ, ◌+◌, ◌≤◌, false, slice_index, ◌⊎◌}
 use Rattle.pocsag_words.specs.declared.ending.End.{End}
 use Rattle.pocsag_slots.specs.declared.class.Classes.{Classes}

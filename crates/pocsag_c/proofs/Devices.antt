@@ -1,4 +1,4 @@
--- No call over bytes tells that a decoder or a pager has stopped, nor that bytes are too many to be counted.
+-- No call over bytes reports that a decoder or a pager has stopped, nor that bytes are too many to be counted.
 use Rattle.std.proofs.Common.{◌≡◌, ◌≢◌, ◌⊎◌, ℕ, ◌==◌, ◌%◌, Bool, true, false, not, List, Option, Some, None, nat_lt, inl, inr}
 use Rattle.std.specs.Prelude.{if◌then◌else◌, length}
 use Rattle.std.specs.Option.{option_or}

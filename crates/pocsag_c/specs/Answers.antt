@@ -1,4 +1,4 @@
--- What each call owes, in the numbers and the bytes that cross to the caller.
+-- What each call promises, in the numbers and the bytes that cross to the caller.
 use Rattle.std.specs.Prelude.{◌≡◌, ◌≢◌, ◌⊎◌, ◌==◌, if◌then◌else◌, ℕ, ◌<◌, ◌≤◌, List, length, ◌++◌, drop, IsOk}
 use Rattle.pocsag_words.specs.declared.ending.End.{End}
 use Rattle.pocsag_words.specs.declared.ending.End.TheVariants as ends
@@ -32,7 +32,7 @@ pub record PrintsFault {F : Type 0} (refusal : F → StatusAt) (Explains : F →
   pub same_status : status ≡ (refusal fault).status
   pub same_place : place ≡ (refusal fault).place
 
--- What is told beside the place where nothing was judged.
+-- What is reported beside the place where nothing was judged.
 abbrev pub no_verdict : Place → CheckInfo
 no_verdict place = record { end = 0; batches = 0; place = place }
 
@@ -54,13 +54,13 @@ IsUnjudged file text status place =
     PrintsFault round_refusal (ExplainsRound file) status place
     ⊎ (IsOk (verdict file) × PrintsFault certificate_refusal (ExplainsCertificate text) status place)
 
--- The buffer begins with these bytes, whose length is told, and is as it was behind them.
+-- The buffer begins with these bytes, whose length is reported, and is as it was behind them.
 pub record IsDelivered (before after : List ℕ) (told : ℕ) (bytes : List ℕ) : Type 0 where
   pub all : told ≡ length bytes
   pub room : told ≤ length before
   pub bytes_then_rest : after ≡ bytes ++ drop told before
 
--- The buffer is too small for these bytes, whose length is told, and is as it was.
+-- The buffer is too small for these bytes, whose length is reported, and is as it was.
 pub record IsTooSmall (before after : List ℕ) (told : ℕ) (bytes : List ℕ) : Type 0 where
   pub all : told ≡ length bytes
   pub no_room : length before < told

@@ -1,4 +1,4 @@
--- What `pocsag_explain` owes.
+-- What `pocsag_explain` promises.
 use Rattle.std.specs.Prelude.{◌≡◌, ◌≢◌, ◌⊎◌, ℕ, Bool, true, false, List}
 use Rattle.pocsag_words.specs.declared.ending.End.{End}
 use Rattle.pocsag_findings.specs.Beginnings.{GivesVerdict}
@@ -21,7 +21,7 @@ IsNumberOfForm form depth (formats.Lines deepest) = (form ≡ 0) × (deepest ≡
 IsNumberOfForm form depth (formats.Json deepest) = (form ≡ 1) × (deepest ≡ depth)
 IsNumberOfForm form depth formats.Drawing = ⊥
 
--- A text of the form of this number, which begins with the verdict on the end and the batches that are told.
+-- A text of the form of this number, which begins with the verdict on the end and the batches that are reported.
 pub record IsVerdictText (form depth : ℕ) (info : CheckInfo) (is_shown : Bool) (text : List ℕ) : Type 0 where
   pub format : Format
   pub same_form : IsNumberOfForm form depth format
@@ -33,6 +33,6 @@ pub record IsVerdictText (form depth : ℕ) (info : CheckInfo) (is_shown : Bool)
 abbrev pub IsTextOfVerdict : (form depth : ℕ) → CheckInfo → (text : List ℕ) → Type 0
 IsTextOfVerdict form depth info text = IsVerdictText form depth info true text ⊎ IsVerdictText form depth info false text
 
--- Nothing is told of the certificate, though the form is one.
+-- Nothing is reported of the certificate, though the form is one.
 abbrev pub IsUntold : (status : ℕ) → Type 0
 IsUntold status = (status ≢ 0) × (status ≢ 1) × (status ≢ 10) × (status ≢ 11)

@@ -1,4 +1,4 @@
--- What `pocsag_plan_at_most` owes.
+-- What `pocsag_plan_at_most` promises.
 use Rattle.std.specs.Prelude.{◌≡◌, ◌≢◌, ◌⊎◌, ℕ, ◌+◌, ◌*◌, List, [], Option, Some, None, Ok, IsOk, drop, length, sum_by, take}
 use Rattle.pocsag_words.specs.declared.codeword.Kind.{Kind}
 use Rattle.pocsag_words.specs.declared.ending.End.{End}
@@ -40,21 +40,21 @@ abbrev pub IsWithoutFront : (status : ℕ) → Type 0
 IsWithoutFront status =
     (status ≢ 0) × (status ≢ 2) × (status ≢ 7) × (status ≢ 8) × (status ≢ 13) × (status ≢ 14)
 
--- The first pages that are told are the longest front of the page file's round that so many batches carry, for the end of
+-- The first pages that are reported are the longest front of the page file's round that so many batches carry, for the end of
 -- this number.
 pub record IsLongestTold (file : List ℕ) (number batches : ℕ) (info : FrontInfo) : Type 0 where
   pub end : End
   pub same_end : number ≡ number_of_end end
   pub longest : IsOfRound file (λ round. IsLongestFront end round batches info.pages)
 
--- They are the front that a planner of this effort owes, with this limit.
+-- They are the front that a planner of this effort promises, with this limit.
 pub record IsRequiredFront (on_limit : OnLimit) (file : List ℕ) (number limit batches : ℕ) (info : FrontInfo) : Type 0 where
   pub end : End
   pub same_end : number ≡ number_of_end end
   pub front : IsOfRound file (λ round.
       IsFrontFor (record { limit = limit; end = end; on_limit = on_limit }) round batches info.pages)
 
--- The counts are those of the first pages that are told, and of the others.
+-- The counts are those of the first pages that are reported, and of the others.
 pub record IsCountedFirst (file : List ℕ) (info : FrontInfo) : Type 0 where
   pub round : List Page
   pub read : verdict file ≡ Ok round
@@ -62,7 +62,7 @@ pub record IsCountedFirst (file : List ℕ) (info : FrontInfo) : Type 0 where
   pub codewords : info.codewords ≡ sum_by page_length (take info.pages round)
   pub in_order : (T : List Kind) → IsFileOrder (take info.pages round) T → length T ≡ 16 * info.in_order
 
--- The headline of the first pages that are told, with the bound and the batches that are told.
+-- The headline of the first pages that are reported, with the bound and the batches that are reported.
 pub record IsFrontHeadline (file : List ℕ) (number : ℕ) (info : FrontInfo) (sent certificate : List ℕ) : Type 0 where
   pub end : End
   pub same_end : number ≡ number_of_end end
@@ -100,13 +100,13 @@ pub record IsTextOfWhy (search : Search) (file : List ℕ) (batches count : ℕ)
   pub bytes : text ≡ beyond_bytes why
   pub same_bound : bound ≡ beyond_bound why
 
--- The same behind the pages that are told, with the bound that is told.
+-- The same behind the pages that are reported, with the bound that is reported.
 pub record IsBeyond (on_limit : OnLimit) (file : List ℕ) (number limit batches : ℕ) (info : FrontInfo) (text : List ℕ) : Type 0 where
   pub end : End
   pub same_end : number ≡ number_of_end end
   pub of_why : IsTextOfWhy (record { limit = limit; end = end; on_limit = on_limit }) file batches info.pages text info.beyond
 
--- The buffer begins with the bytes; or it has no byte, and their length alone is told.
+-- The buffer begins with the bytes; or it has no byte, and their length alone is reported.
 abbrev pub IsPutIfWanted : (before after : List ℕ) → (told : ℕ) → (bytes : List ℕ) → Type 0
 IsPutIfWanted before after told bytes =
     IsDelivered before after told bytes ⊎ ((length before ≡ 0) × IsTooSmall before after told bytes)
@@ -116,13 +116,13 @@ abbrev pub IsGivenIfWanted : (IsText : List ℕ → Type 0) → (before after : 
 IsGivenIfWanted IsText before after told =
     IsListed IsText before after told ⊎ ((length before ≡ 0) × HasNoRoom IsText before after told)
 
--- The length that is told is that of a text of which this is said.
+-- The length that is reported is that of a text of which this is said.
 pub record HasLengthOf (IsText : List ℕ → Type 0) (told : ℕ) : Type 0 where
   pub text : List ℕ
   pub is : IsText text
   pub length_told : told ≡ length text
 
--- What is told beside the place where there is no front.
+-- What is reported beside the place where there is no front.
 abbrev pub no_front : Place → FrontInfo
 no_front place = record {
   pages = 0;

@@ -1,4 +1,4 @@
--- What `pocsag_decode` and `pocsag_hear` owe.
+-- What `pocsag_decode` and `pocsag_hear` promise.
 use Rattle.std.specs.Prelude.{◌≡◌, ◌⊎◌, ℕ, List, None, Some}
 use Rattle.pocsag_pages.specs.Bytes.{after_preamble, words_of}
 use Rattle.pocsag_pages.specs.declared.page.Page.{Page}
@@ -13,13 +13,13 @@ use Rattle.pocsag_pager.specs.declared.fault.PagerFault.TheVariants as hearing
 use Rattle.pocsag_c.specs.Answers.{IsDelivered, IsTooSmall}
 use Rattle.pocsag_c.specs.Readings.{IsSoAsRead}
 
--- A text of which this is said stands in the buffer, with its length told.
+-- A text of which this is said stands in the buffer, with its length reported.
 pub record IsListed (IsText : List ℕ → Type 0) (before after : List ℕ) (told : ℕ) : Type 0 where
   pub text : List ℕ
   pub is : IsText text
   pub delivered : IsDelivered before after told text
 
--- The buffer is too small for such a text, and the text's length is told.
+-- The buffer is too small for such a text, and the text's length is reported.
 pub record HasNoRoom (IsText : List ℕ → Type 0) (before after : List ℕ) (told : ℕ) : Type 0 where
   pub text : List ℕ
   pub is : IsText text

@@ -1,4 +1,4 @@
--- What `pocsag_lay_in_order` owes.
+-- What `pocsag_lay_in_order` promises.
 use Rattle.std.specs.Prelude.{◌≡◌, ℕ, List, Ok, map}
 use Rattle.pocsag_words.specs.Kinds.{kind_of}
 use Rattle.pocsag_words.specs.declared.ending.End.TheVariants.{Open}

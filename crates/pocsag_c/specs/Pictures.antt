@@ -1,4 +1,4 @@
--- What `pocsag_show` owes.
+-- What `pocsag_show` promises.
 use Rattle.std.specs.Prelude.{◌≡◌, ◌≢◌, ◌⊎◌, ◌<◌, ℕ, List}
 use Rattle.pocsag_show.specs.Shows.{IsTextOf}
 use Rattle.pocsag_show.specs.Views.{view_text}

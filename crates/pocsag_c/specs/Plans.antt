@@ -1,4 +1,4 @@
--- What `pocsag_plan` owes.
+-- What `pocsag_plan` promises.
 use Rattle.std.specs.Prelude.{◌≡◌, ◌≢◌, ◌⊎◌, ℕ, ◌*◌, List, Ok, length, sum_by}
 use Rattle.pocsag_words.specs.declared.codeword.Kind.{Kind}
 use Rattle.pocsag_words.specs.declared.ending.End.{End}
@@ -18,21 +18,21 @@ use Rattle.pocsag_c.specs.Answers.{IsDelivered, number_of_end}
 use Rattle.pocsag_c.specs.declared.plan.PlanInfo.{PlanInfo}
 use Rattle.pocsag_c.specs.declared.refusal.Place.{Place}
 
--- The headline of the page file, the end of this number, and the batches that are told.
+-- The headline of the page file, the end of this number, and the batches that are reported.
 pub record IsHeadline (file : List ℕ) (number : ℕ) (info : PlanInfo) (sent certificate : List ℕ) : Type 0 where
   pub end : End
   pub same_end : number ≡ number_of_end end
   pub tree : BoundTree
   pub headline : Headline file end info.batches tree sent certificate
 
--- The same with the bound that is told.
+-- The same with the bound that is reported.
 pub record IsHeadlineWithBound (file : List ℕ) (number : ℕ) (info : PlanInfo) (sent certificate : List ℕ) : Type 0 where
   pub end : End
   pub same_end : number ≡ number_of_end end
   pub tree : BoundTree
   pub headline : BoundedHeadline file end info.batches info.bound tree sent certificate
 
--- A transmission and a certificate of which this is said stand in both buffers, with their lengths told.
+-- A transmission and a certificate of which this is said stand in both buffers, with their lengths reported.
 pub record IsPlannedInto (Says : (sent certificate : List ℕ) → Type 0) (tx tx_after : List ℕ) (tx_told : ℕ)
     (cert cert_after : List ℕ) (cert_told : ℕ) : Type 0 where
   pub sent : List ℕ
@@ -41,7 +41,7 @@ pub record IsPlannedInto (Says : (sent certificate : List ℕ) → Type 0) (tx t
   pub transmission : IsDelivered tx tx_after tx_told sent
   pub text : IsDelivered cert cert_after cert_told certificate
 
--- The lengths that are told are those of a transmission and a certificate of which this is said.
+-- The lengths that are reported are those of a transmission and a certificate of which this is said.
 pub record HasNoRoomForBoth (Says : (sent certificate : List ℕ) → Type 0) (tx_told cert_told : ℕ) : Type 0 where
   pub sent : List ℕ
   pub certificate : List ℕ
@@ -65,11 +65,11 @@ pub record IsCounted (file : List ℕ) (info : PlanInfo) : Type 0 where
   pub codewords : info.codewords ≡ sum_by page_length round
   pub in_order : (T : List Kind) → IsFileOrder round T → length T ≡ 16 * info.in_order
 
--- What is told beside the place where there is no plan.
+-- What is reported beside the place where there is no plan.
 abbrev pub no_plan : Place → PlanInfo
 no_plan place = record { pages = 0; codewords = 0; in_order = 0; batches = 0; bound = 0; place = place }
 
--- Where the bound that is told is below the batches, the search for the fewest stops at the same limit, and this is what it
+-- Where the bound that is reported is below the batches, the search for the fewest stops at the same limit, and this is what it
 -- knows of the page file's round then.
 pub record IsNoWorseTold (file : List ℕ) (number limit : ℕ) (info : PlanInfo) : Type 0 where
   pub end : End

@@ -1,4 +1,4 @@
--- What `pocsag_write_page` owes.
+-- What `pocsag_write_page` promises.
 use Rattle.std.specs.Prelude.{◌≡◌, ◌⊎◌, ℕ, All, ◌==◌, if◌then◌else◌, List, [], ◌∷◌, ◌++◌, Ok, Err, IsOk, codes}
 use Rattle.std.specs.Fmt.{decimal}
 use Rattle.csv.specs.Writing.{default_writer, row_text}

@@ -1,4 +1,4 @@
--- What `pocsag_report` owes.
+-- What `pocsag_report` promises.
 use Rattle.std.specs.Prelude.{◌≡◌, ℕ, List}
 use Rattle.pocsag_plan.specs.Plans.{ExplainsPlan}
 use Rattle.pocsag_plan.specs.Reports.{IsPlannable, IsRate, IsReportOf}
@@ -18,7 +18,7 @@ pub record IsAsked (number limit always : ℕ) (search : Search) : Type 0 where
   pub same_limit : search.limit ≡ limit
   pub same_on_limit : search.on_limit ≡ on_limit_of always
 
--- What is told is the report of a plan of the page file's round for the end of this number, with its bound.
+-- What is reported is the report of a plan of the page file's round for the end of this number, with its bound.
 pub record PrintsReport (file : List ℕ) (number limit always rate : ℕ) (info : ReportInfo) : Type 0 where
   pub search : Search
   pub asked : IsAsked number limit always search
@@ -53,7 +53,7 @@ pub record IsBadRate (file : List ℕ) (number limit always rate : ℕ) : Type 0
   pub planned : IsPlannable file search
   pub no_rate : ¬ IsRate rate
 
--- What is told beside the place where there is no report.
+-- What is reported beside the place where there is no report.
 abbrev pub no_report : Place → ReportInfo
 no_report place = record {
   pages = 0;

@@ -1,4 +1,4 @@
--- What `pocsag_wav` owes.
+-- What `pocsag_wav` promises.
 use Rattle.std.specs.Prelude.{◌⊎◌, ℕ, ◌==◌, if◌then◌else◌, Bool, not, List, Option, None, Some}
 use Rattle.pocsag_wav.specs.Keys.{ExplainsKeying, IsAsAsked}
 use Rattle.pocsag_wav.specs.Sounds.{ExplainsWav, ReadsAsPages}

@@ -90,7 +90,7 @@ certificate_refusal certificate.TooMany = plain_refusal 39
 certificate_refusal certificate.ReadFault = plain_refusal 40
 certificate_refusal certificate.OutOfMemory = plain_refusal 3
 
--- A refusal for a record and a line of the page file. A record number of more than 32 bits is told as the greatest.
+-- A refusal for a record and a line of the page file. A record number of more than 32 bits is reported as the greatest.
 abbrev pub at_record_and_line : (status number line : ℕ) → StatusAt
 at_record_and_line status number line =
     record { status = status; place = record { record_number = min number 4294967295; least = 0; found = 0; at = line } }

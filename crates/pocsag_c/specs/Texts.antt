@@ -1,4 +1,4 @@
--- What `pocsag_text_of_status` and `pocsag_text_of_version` owe.
+-- What `pocsag_text_of_status` and `pocsag_text_of_version` promise.
 use Rattle.std.specs.Prelude.{ℕ, ◌==◌, nat_lt, if◌then◌else◌, List, codes}
 
 -- The texts of what was done, asked for or had no room.
@@ -70,7 +70,7 @@ sent_text status =
     else if status == 65 then codes "reserved address"
     else codes "unknown status"
 
--- What a status says, in the words of the program, where its place is not told.
+-- What a status says, in the words of the program, where its place is not reported.
 abbrev pub status_text : ℕ → List ℕ
 status_text status =
     if nat_lt status 16 then call_text status

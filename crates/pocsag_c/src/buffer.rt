@@ -4,7 +4,7 @@ ghost use Rattle.pocsag_c.specs.Statuses.{IsOfBytes, IsRefusing, IsTextTooSmall,
 
 use crate::refusal::{NOWHERE, Place, StatusAt};
 
-// Tells how many bytes there are, and puts them to the front of the buffer where they fit.
+// Prints how many bytes there are, and puts them to the front of the buffer where they fit.
 pub(crate) fn hand_out(bytes: &[u8], buffer: &mut [u8], told: &mut usize) -> bool
     ensures delivered { IsTrue result → IsDelivered buffer.old buffer.new told.new bytes.now }
     ensures too_small { (¬ IsTrue result) → IsTooSmall buffer.old buffer.new told.new bytes.now }
@@ -17,7 +17,7 @@ pub(crate) fn hand_out(bytes: &[u8], buffer: &mut [u8], told: &mut usize) -> boo
     true
 }
 
-// Hands out a text, or tells why there is none; `small` is the status where it has no room.
+// Hands out a text, or reports why there is none; `small` is the status where it has no room.
 pub(crate) fn hand_out_text(
     made: Result<Vec<u8>, StatusAt>,
     small: u32,

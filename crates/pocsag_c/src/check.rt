@@ -9,7 +9,7 @@ use pocsag_tree::{Certificate, read_certificate};
 use pocsag_words::{End, SliceSource};
 use std::alloc::Global;
 
-/// What a check tells; all but the place is 0 where nothing was judged.
+/// What a check reports; all but the place is 0 where nothing was judged.
 #[repr(C)]
 #[derive(Clone, Copy)]
 pub struct CheckInfo {
@@ -21,14 +21,14 @@ pub struct CheckInfo {
     pub place: Place,
 }
 
-// What is told where nothing is judged.
+// What is reported where nothing is judged.
 pub(crate) const NOT_JUDGED: CheckInfo = CheckInfo {
     end: 0,
     batches: 0,
     place: NOWHERE,
 };
 
-// A round and a certificate, with the verdict of the checker and what is told of it.
+// A round and a certificate, with the verdict of the checker and what is reported of it.
 #[derive(Drop)]
 pub(crate) struct Verdict {
     pub(crate) round: Round,

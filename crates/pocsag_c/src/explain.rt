@@ -9,7 +9,7 @@ use crate::check::{CheckInfo, NOT_JUDGED, verdict_of};
 use pocsag_findings::{Format, explanation};
 use std::alloc::Global;
 
-// How the certificate is told, by the number of a form: 0 in words, 1 as JSON.
+// How the certificate is reported, by the number of a form: 0 in words, 1 as JSON.
 fn format_of(form: u32, depth: u32) -> Option<Format>
     ensures form { IfSome result (IsNumberOfForm form depth) }
     ensures none { result ≡ None ↔ IsNoForm form }
@@ -21,9 +21,9 @@ fn format_of(form: u32, depth: u32) -> Option<Format>
     }
 }
 
-/// Judges a certificate for a page file as `pocsag_check` does, and puts the text that tells why fewer batches do not
-/// suffice, or which node does not hold, into a buffer: 10 where the buffer is too small. Then too `text_len` tells
-/// the length of the text. The form is 0 for words and 1 for JSON, and tells the nodes no deeper than `depth`.
+/// Judges a certificate for a page file as `pocsag_check` does, and puts the text that reports why fewer batches do not
+/// suffice, or which node does not hold, into a buffer: 10 where the buffer is too small. Then too `text_len` reports
+/// the length of the text. The form is 0 for words and 1 for JSON, and reports the nodes no deeper than `depth`.
 #[unsafe(no_mangle)]
 pub extern "C" fn pocsag_explain(
     alloc: Global,
@@ -46,7 +46,7 @@ pub extern "C" fn pocsag_explain(
     ensures judged { result ≡ 10 → IsJudgedAs pages.now cert.now info.new }
     ensures no_room { result ≡ 10 →
         HasNoRoom (IsTextOfVerdict form depth info.new) text.old text.new text_len.new }
-    // Any other status says why nothing is told, and never that a device failed. Want of memory for the text is that for the
+    // Any other status says why nothing is reported, and never that a device failed. Want of memory for the text is that for the
     // certificate.
     ensures bad_form { result ≡ 11 ↔ IsNoForm form }
     ensures fault { IsUntold result → IsUnjudged pages.now cert.now result info.new.place }

@@ -31,7 +31,7 @@ use pocsag_tree::{Certificate, write_text};
 use pocsag_words::{GrowingSink, OutOfMemory, SliceSource};
 use std::alloc::Global;
 
-/// What the plan of a front tells; all but the place is 0 where there is none.
+/// What the plan of a front reports; all but the place is 0 where there is none.
 #[repr(C)]
 #[derive(Clone, Copy)]
 pub struct FrontInfo {
@@ -168,7 +168,7 @@ fn front_texts(
     }
 }
 
-// Puts the four texts into their buffers, if each has room for its text, and tells their lengths. A buffer of no byte for
+// Puts the four texts into their buffers, if each has room for its text, and reports their lengths. A buffer of no byte for
 // the pages that are left, or for one page more, is not wanted.
 fn hand_out_front(
     front: &FrontTexts,

@@ -1,6 +1,6 @@
 #![tactic(auto)]
 //! The calls of the C library. Bytes come in as slices, and go out into buffers of the caller, which are
-//! written only where all of a text fits; each call answers a status, and tells what belongs to it through
+//! written only where all of a text fits; each call returns a status, and reports what belongs to it through
 //! a structure.
 
 ghost use Rattle.std.specs.Prelude.{◌≡◌};

@@ -46,7 +46,7 @@ fn text_heard(alloc: Global, address: u32, tx: &[u8]) -> Result<Vec<u8>, StatusA
 }
 
 /// Puts the listing of the pages of a transmission into a buffer: 0, or 9 where the buffer is too small. In
-/// both cases `listing_len` tells the length of the listing.
+/// both cases `listing_len` reports the length of the listing.
 #[unsafe(no_mangle)]
 pub extern "C" fn pocsag_decode(
     alloc: Global,

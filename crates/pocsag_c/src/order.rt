@@ -34,7 +34,7 @@ fn text_in_order(alloc: Global, pages: &[u8]) -> Result<Vec<u8>, StatusAt>
 }
 
 /// Puts the transmission of a page file into a buffer in which each page stands at the first place for it, in the order of the
-/// file, with the open end: 0, or 7 where the buffer is too small. In both cases `tx_len` tells the length.
+/// file, with the open end: 0, or 7 where the buffer is too small. In both cases `tx_len` reports the length.
 #[unsafe(no_mangle)]
 pub extern "C" fn pocsag_lay_in_order(
     alloc: Global,

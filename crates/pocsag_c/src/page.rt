@@ -76,7 +76,7 @@ fn record_spelled(
 }
 
 /// Puts the record of a page, with its quotes and its line end, into a buffer: 0, or 10 where the buffer is too small. In both
-/// cases `row_len` tells its length. Behind a page file it makes the page file of one page more.
+/// cases `row_len` reports its length. Behind a page file it makes the page file of one page more.
 #[unsafe(no_mangle)]
 pub extern "C" fn pocsag_write_page(
     alloc: Global,

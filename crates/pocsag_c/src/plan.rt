@@ -15,7 +15,7 @@ use pocsag_plan::{Bounded, OnLimit, Search, StreamFault, plan_stream, plan_strea
 use pocsag_words::{End, GrowingSink, SliceSource};
 use std::alloc::Global;
 
-/// What a plan tells; all but the place is 0 where there is none.
+/// What a plan reports; all but the place is 0 where there is none.
 #[repr(C)]
 #[derive(Clone, Copy)]
 pub struct PlanInfo {
@@ -123,7 +123,7 @@ fn plan_texts(alloc: Global, pages: &[u8], search: Search) -> Result<PlanTexts, 
     }
 }
 
-// Puts both texts into their buffers, if each has room for its text, and tells their lengths.
+// Puts both texts into their buffers, if each has room for its text, and reports their lengths.
 pub(crate) fn hand_out_both(
     texts: &PlanTexts,
     tx: &mut [u8],
@@ -156,7 +156,7 @@ pub(crate) fn hand_out_both(
 }
 
 /// Plans a page file, and puts the transmission and the certificate into two buffers: 0, or 7 or 8 where
-/// that of the transmission or of the certificate is too small. In these cases both lengths are told. The
+/// that of the transmission or of the certificate is too small. In these cases both lengths are reported. The
 /// end is 0 for the open one, 1 for the closed one and 2 for the idle one; where `always` is not 0, no round is refused.
 #[unsafe(no_mangle)]
 pub extern "C" fn pocsag_plan(

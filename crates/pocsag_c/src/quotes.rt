@@ -6,7 +6,7 @@ ghost use Rattle.pocsag_c.specs.Statuses.{IsOfBytes, nowhere, quote_refusal, at_
 use crate::refusal::{NOWHERE, Place, StatusAt};
 use pocsag_pages::{QuoteFault, quote_fault};
 
-// A refusal for a record and a line. A number that is greater than those that are told is told as the greatest of them.
+// A refusal for a record and a line. A number that is greater than those that are reported is reported as the greatest of them.
 fn of_line(status: u32, number: usize, line: usize) -> StatusAt
     ensures { result ≡ at_record_and_line status number line }
 {

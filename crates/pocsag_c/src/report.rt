@@ -65,7 +65,7 @@ fn plan_in(alloc: Global, pages: &[u8], search: Search) -> Result<Bounded, Strea
     }
 }
 
-/// Plans a page file as `pocsag_plan` does, and tells what the plan takes on the air at a rate of 512, 1200
+/// Plans a page file as `pocsag_plan` does, and reports what the plan takes on the air at a rate of 512, 1200
 /// or 2400 bits a second.
 #[unsafe(no_mangle)]
 pub extern "C" fn pocsag_report(

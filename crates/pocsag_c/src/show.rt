@@ -66,7 +66,7 @@ fn text_shown_as(
     }
 }
 
-/// Puts a picture of a transmission into a buffer: 0, or 10 where the buffer is too small. In both cases `text_len` tells its
+/// Puts a picture of a transmission into a buffer: 0, or 10 where the buffer is too small. In both cases `text_len` reports its
 /// length. The reading is that of `pocsag_decode_as`; the form is 0 for a text with a letter for each codeword, 1 for the list
 /// of where the pages stand and 2 for a drawing; 58 where one of them is none. Text and drawing show the batches from `first`
 /// to `last`, counted from 1; 57 where these are none.

@@ -34,7 +34,7 @@ fn text_sounded(alloc: Global, keying: Keying, tx: &[u8]) -> Result<Vec<u8>, Sta
 }
 
 /// Puts the sound that a transmitter is keyed with into a buffer, as a WAV file: 0, or 10 where the buffer is too small. In both
-/// cases `wav_len` tells its length. The bits of the preamble are 0 for that of the transmission; `inverted` is 0 for a high
+/// cases `wav_len` reports its length. The bits of the preamble are 0 for that of the transmission; `inverted` is 0 for a high
 /// level of a 0 and a low one of a 1.
 #[unsafe(no_mangle)]
 pub extern "C" fn pocsag_wav(

@@ -97,7 +97,7 @@ fn status_text(status: u32) -> &'static [u8]
     }
 }
 
-/// Puts what a status says into a buffer: 0, or 10 where the buffer is too small. In both cases `text_len` tells the length.
+/// Puts what a status says into a buffer: 0, or 10 where the buffer is too small. In both cases `text_len` reports the length.
 #[unsafe(no_mangle)]
 pub extern "C" fn pocsag_text_of_status(status: u32, text: &mut [u8], text_len: &mut usize) -> u32
     ensures told { result ≡ 0 → IsDelivered text.old text.new text_len.new (status_text status) }

@@ -16,7 +16,7 @@ use Rattle.pocsag_capture.specs.declared.lift.Extracted.{Extracted}
 use Rattle.pocsag_capture.specs.declared.reception.ReceptionStats.{ReceptionStats}
 use Rattle.pocsag_capture.specs.declared.reception.Reception.{Reception}
 
--- These are the codewords to which a reception is lifted, as its counts tell: whole batches.
+-- These are the codewords to which a reception is lifted, as its counts report: whole batches.
 pub record IsLift (bits : List ℕ) (heard : ReceptionStats) (codewords : List ℕ) : Type 0 where
   pub are : All IsCodeword codewords
   pub long : length codewords ≡ 16 * heard.reception.batches
@@ -40,7 +40,7 @@ pub record IsStatsOf (bits : List ℕ) (heard : ReceptionStats) : Type 0 where
   pub codewords : List ℕ
   pub extracted : AreLifted (received bits heard.reception) codewords heard.corrected heard.lost heard.cut
 
--- *Lifted*: the bytes are a transmission that reads as the pages that are caught of a capture, and its receptions are told.
+-- *Lifted*: the bytes are a transmission that reads as the pages that are caught of a capture, and its receptions are reported.
 pub record LiftsAll (capture : List ℕ) (extracted : Extracted) : Type 0 where
   pub pages : List Page
   pub caught : HasCaught capture (map (λ (h : ReceptionStats). h.reception) extracted.heard.items) pages

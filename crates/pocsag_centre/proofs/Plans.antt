@@ -1,4 +1,4 @@
--- What was planned and told.
+-- What was planned and reported.
 use Rattle.std.proofs.Common.{◌≡◌, ℕ, List, ◌++◌, Ok, refl}
 use Rattle.std.specs.Prelude.{IfNone, None, Option, Some}
 use Rattle.pocsag_words.specs.declared.ending.End.TheVariants.{Open}

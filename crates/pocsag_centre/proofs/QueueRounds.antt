@@ -99,7 +99,7 @@ left_distinct sent before (p ∷ ps) apart =
       | inr n ↦ rw (left_kept sent before ps p n) (left_apart (λ y. nat_eq p.address y ≡ false) sent (before ++ p ∷ []) ps apart.0, later)
     ]
 
--- what is told of page files of pages of a round and of a queue
+-- what is reported of page files of pages of a round and of a queue
 abbrev pub AreReadBack : Type 0
 AreReadBack =
     ((ps : List Page) → AreGood ps → length ps ≤ page_limit → All IsSpellable ps → verdict (page_file ps) ≡ unless_empty ps)

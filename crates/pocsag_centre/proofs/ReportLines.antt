@@ -19,7 +19,7 @@ four_then a b c d rest =
     append_assoc a (b ++ (c ++ d)) rest
     ∙ ap (λ (l : List ℕ). a ++ l) (append_assoc b (c ++ d) rest ∙ ap (λ (l : List ℕ). b ++ l) (append_assoc c d rest))
 
--- the texts and numbers that are told
+-- the texts and numbers that are reported
 abbrev pub report_numbers : Report → List (List ℕ × ℕ)
 report_numbers r =
     (codes "pages ", r.pages) ∷ (codes "\ncodewords ", r.codewords) ∷ (codes "\nin_order ", r.in_order)

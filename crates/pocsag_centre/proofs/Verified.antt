@@ -45,7 +45,7 @@ module _ (ps qs others R S : List Page) (moved : IsPermutation ps qs) (view : ot
       subst (λ (v : List Page). AreAmong v S) (sym view)
       (subst (λ (v : List Page). AreAmong qs v) (sym pages) (moved_pages qs ps (IsPermutation-sym ps qs moved) R among))
 
--- pages that the test of their fields tells apart differ
+-- pages that the test of their fields distinguishes differ
 pub told_apart : (q p : Page) (b : Bool) → b ≡ (q.address == p.address && (q.function == p.function && pointwise ◌==◌ q.payload p.payload)) →
     b ≡ false → q ≢ p
 told_apart q p b tested apart same =

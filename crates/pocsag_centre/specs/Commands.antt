@@ -13,13 +13,13 @@ use Rattle.pocsag_plan.specs.declared.airtime.BoundedReport.{BoundedReport}
 use Rattle.pocsag_centre.specs.Judgements.{NotShownAndPrinted}
 use Rattle.pocsag_centre.specs.Lines.{below_text, bound_text, plan_text}
 
--- No words: the counts of a plan of the page file's round were told.
+-- No words: the counts of a plan of the page file's round were reported.
 pub record PrintedPlan (file : List ℕ) (end : End) (out_before out_after : List ℕ) : Type 0 where
   pub plan : Plan
   pub plan_of : IsPlanOf file end plan
   pub printed : out_after ≡ out_before ++ plan_text plan.pages plan.batches
 
--- `plan`: what both files took more is what the headline with a bound says of the plan that is owed for what is asked of the
+-- `plan`: what both files took more is what the headline with a bound says of the plan that is required for what is asked of the
 -- page file's round; and what the headline says where the bound is the batches, as it is where only the fewest batches are an
 -- answer.
 pub record Planned (file : List ℕ) (search : Search) (tx_before tx_after cert_before cert_after : List ℕ) : Type 0 where
@@ -29,7 +29,7 @@ pub record Planned (file : List ℕ) (search : Search) (tx_before tx_after cert_
   pub headline : bounded.bound ≡ bounded.plan.batches
       → Writes file search.end bounded.plan.batches (bound_tree_of bounded.plan.tree) tx_before tx_after cert_before cert_after
 
--- The same, and the counts of that plan were told, with the bound where it is below the batches.
+-- The same, and the counts of that plan were reported, with the bound where it is below the batches.
 pub record PlannedAndPrinted (file : List ℕ) (search : Search) (tx_before tx_after cert_before cert_after out_before out_after : List ℕ) : Type 0 where
   pub planned : Planned file search tx_before tx_after cert_before cert_after
   pub printed : out_after ≡ out_before ++ plan_text planned.bounded.plan.pages planned.bounded.plan.batches
@@ -45,7 +45,7 @@ pub data LeavesOutputs (file : List ℕ) (search : Search) (tx_before tx_after c
       → LeavesOutputs file search tx_before tx_after cert_before cert_after
   all : Planned file search tx_before tx_after cert_before cert_after → LeavesOutputs file search tx_before tx_after cert_before cert_after
 
--- `check`: the certificate shows its batches for the page file, and the line that names its end and its batches was told.
+-- `check`: the certificate shows its batches for the page file, and the line that names its end and its batches was reported.
 pub record CheckedAndPrinted (file certificate out_before out_after : List ℕ) : Type 0 where
   pub end : End
   pub batches : ℕ
@@ -58,7 +58,7 @@ IsVerdictPrinted status file certificate out_before out_after =
     ((status ≡ 0) × CheckedAndPrinted file certificate out_before out_after)
     ⊎ ((status ≡ 1) × NotShownAndPrinted file certificate out_before out_after)
 
--- `report`: the report of the plan of the page file's round was told, and its bound where that is below the batches.
+-- `report`: the report of the plan of the page file's round was reported, and its bound where that is below the batches.
 pub record Reported (file : List ℕ) (search : Search) (rate : ℕ) (out_before out_after : List ℕ) : Type 0 where
   pub answered : BoundedReport
   pub report_of : IsReportOf file search rate answered

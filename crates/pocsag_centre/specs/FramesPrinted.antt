@@ -1,4 +1,4 @@
--- `report --frames`: what it told where it ended without a fault.
+-- `report --frames`: what it reported where it ended without a fault.
 use Rattle.std.specs.Prelude.{◌≡◌, ℕ, List, ◌++◌, Ok}
 use Rattle.std.specs.List.{flat_map}
 use Rattle.pocsag_pages.specs.PageFile.{verdict}
@@ -12,7 +12,7 @@ use Rattle.pocsag_centre.specs.Lines.{below_text}
 use Rattle.pocsag_centre.specs.declared.frames.FrameRoom.{FrameRoom}
 use Rattle.pocsag_centre.specs.Frames.{AreByRoom, frame_text}
 
--- The report at a rate of the plan that is owed for what is asked of the page file's round was told, its bound where that is
+-- The report at a rate of the plan that is required for what is asked of the page file's round was reported, its bound where that is
 -- below the batches, and a line for each frame of that plan, the least room first.
 pub record ReportedFrames (file : List ℕ) (search : Search) (rate : ℕ) (out_before out_after : List ℕ) : Type 0 where
   pub round : List Page

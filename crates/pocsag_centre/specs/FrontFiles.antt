@@ -112,7 +112,7 @@ pub record IsFrontWritten (file : List ℕ) (asked : FrontAsked) (count : ℕ) (
   pub written_of : IsWhyWritten asked.search (firsts queue) asked.batches count beyond written
   pub why : why_after ≡ why_before ++ written
 
--- The same; and the counts of the plan were told, the bound where it is below the batches, how many pages are left, and what is
+-- The same; and the counts of the plan were reported, the bound where it is below the batches, how many pages are left, and what is
 -- shown of one page more.
 pub record IsFrontPrinted (file : List ℕ) (asked : FrontAsked) (count : ℕ) (tx_before tx_after cert_before cert_after rest_before rest_after why_before why_after out_before out_after : List ℕ) : Type 0 where
   pub front : IsFrontWritten file asked count tx_before tx_after cert_before cert_after rest_before rest_after why_before why_after

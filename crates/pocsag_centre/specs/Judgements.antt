@@ -6,7 +6,7 @@ use Rattle.pocsag_plan.specs.Verdicts.{ExplainsCertificate, ExplainsRound, IsNot
 use Rattle.pocsag_centre.specs.declared.fault.CentreFault.{CentreFault}
 use Rattle.pocsag_centre.specs.declared.fault.CentreFault.TheVariants as fault
 
--- `check` said no: nothing is shown by the certificate, and `not shown` was told.
+-- `check` said no: nothing is shown by the certificate, and `not shown` was reported.
 pub record NotShownAndPrinted (file certificate out_before out_after : List ℕ) : Type 0 where
   pub end : End
   pub batches : ℕ

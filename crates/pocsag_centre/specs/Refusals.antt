@@ -1,4 +1,4 @@
--- Why each call on a page file refuses: the fault that it answers is one of that file, of what is asked for, or of memory.
+-- Why each call on a page file refuses: the fault that it returns is one of that file, of what is asked for, or of memory.
 use Rattle.std.specs.Prelude.{ℕ, List, IsOk}
 use Rattle.pocsag_words.specs.declared.ending.End.TheVariants.{Open}
 use Rattle.pocsag_pages.specs.declared.fault.RoundFault.TheVariants as round

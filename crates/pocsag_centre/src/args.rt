@@ -61,7 +61,7 @@ pub(crate) struct ReportArgs<'a> {
     pub(crate) pages: Option<&'a str>,
     pub(crate) rate: u32,
     pub(crate) search: SearchArgs,
-    /// Whether the frames are told too.
+    /// Whether the frames are reported too.
     pub(crate) frames: bool,
 }
 

@@ -19,7 +19,7 @@ use pocsag_tree::read_certificate;
 use pocsag_words::{Sink, Source};
 use std::alloc::Global;
 
-/// `check PAGES CERT`: tells whether the certificate shows its number of batches for the page file. Returns the exit status,
+/// `check PAGES CERT`: reports whether the certificate shows its number of batches for the page file. Returns the exit status,
 /// which is 1 without a fault where it does not.
 pub fn run_check<P: Source, C: Source, O: Sink, E: Sink + Drop>(
     alloc: Global,
@@ -28,7 +28,7 @@ pub fn run_check<P: Source, C: Source, O: Sink, E: Sink + Drop>(
     out: &mut O,
     err: &mut ErrorStream<CentreFault, E>,
 ) -> u8
-    // Without a fault the verdict was told.
+    // Without a fault the verdict was reported.
     ensures judged { P.is_known → C.is_known → O.is_known → IfNone (printed_by err.new)
         (IsVerdictPrinted result (P.held pages.old) (C.held cert.old) (O.taken out.old) (O.taken out.new)) }
     ensures done { IfNone (printed_by err.new)
@@ -40,7 +40,7 @@ pub fn run_check<P: Source, C: Source, O: Sink, E: Sink + Drop>(
         IfSome (printed_by err.new) (OrDevice (ExplainsJudging (P.held pages.old) (C.held cert.old))) }
     ensures refused { IfSome (printed_by err.new) (λ e. e ≢ CentreFault.File file_fault.Write → out.new ≡ out.old) }
 
-    // A device's fault is told only where that device failed.
+    // A device's fault is reported only where that device failed.
     ensures read_failed { printed_by err.new ≡ Some (CentreFault.Round round_fault.ReadFault) →
         HasFailed (P.failures pages.old) (P.failures pages.new) }
     ensures certificate_failed { printed_by err.new ≡ Some (CentreFault.Certificate tree_fault.ReadFault) →
@@ -64,7 +64,7 @@ pub fn run_check<P: Source, C: Source, O: Sink, E: Sink + Drop>(
     }
 }
 
-// Tells a verdict: the end and the batches that are shown, or that they are not.
+// Prints a verdict: the end and the batches that are shown, or that they are not.
 fn print_verdict<O: Sink>(judged: CheckVerdict, out: &mut O) -> Result<(), FileFault>
     ensures printed { O.is_known → OnOk result
         (O.taken out.new ≡ O.taken out.old ++ verdict_text judged.is_shown judged.end judged.batches) }

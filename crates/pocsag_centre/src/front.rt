@@ -54,7 +54,7 @@ pub struct FrontFiles<P: Drop, S: Drop> {
 }
 
 /// `plan PAGES TX CERT --at-most B`: plans the longest front of a page file's round that so many batches carry, as is asked: its
-/// transmission, the certificate of its bound, the page file of the others, and why there is not one page more; and tells the
+/// transmission, the certificate of its bound, the page file of the others, and why there is not one page more; and reports the
 /// counts. Faults in order: `BadLimit`, before the file is read; `Round`; `FirstPage`, where not even the first page fits;
 /// `SearchLimit`; want of memory. Returns the exit status.
 pub fn run_front<P: Source + Drop, S: Sink + Drop, O: Sink, E: Sink + Drop>(
@@ -83,7 +83,7 @@ pub fn run_front<P: Source + Drop, S: Sink + Drop, O: Sink, E: Sink + Drop>(
         (files.new.tx ≡ files.old.tx) × (files.new.cert ≡ files.old.cert)
         × (files.new.rest ≡ files.old.rest) × (files.new.why ≡ files.old.why) × (out.new ≡ out.old)) }
 
-    // A device's fault is told only where that device failed.
+    // A device's fault is reported only where that device failed.
     ensures read_failed { printed_by err.new ≡ Some (CentreFault.Round round_fault.ReadFault) →
         HasFailed (P.failures files.old.pages) (P.failures files.new.pages) }
     ensures write_failed { printed_by err.new ≡ Some (CentreFault.File file_fault.Write) →
@@ -96,7 +96,7 @@ pub fn run_front<P: Source + Drop, S: Sink + Drop, O: Sink, E: Sink + Drop>(
     err.end(fronted(alloc, asked, files, out))
 }
 
-// The same, whose fault is still to be told.
+// The same, whose fault is still to be reported.
 fn fronted<P: Source + Drop, S: Sink + Drop, O: Sink>(
     alloc: Global,
     asked: FrontAsked,
@@ -315,7 +315,7 @@ pub(crate) fn written_pages(alloc: Global, pages: &[Page]) -> Result<Vec<u8>, Ce
     }
 }
 
-// Tells the counts of a front, with its bound where that is below its batches; how many pages are left; and what is shown
+// Prints the counts of a front, with its bound where that is below its batches; how many pages are left; and what is shown
 // of one page more, where that is no more than the batches that were asked for.
 #[tactic(auto, unfolding(crate::specs::Lines::left_text, crate::specs::Lines::undecided_text))]
 fn print_front<O: Sink>(front: &FrontPlan, batches: u32, out: &mut O) -> Result<(), FileFault>

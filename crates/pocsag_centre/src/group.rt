@@ -18,7 +18,7 @@ use pocsag_shell::{
 use std::alloc::AllocError;
 use std::io::IsTerminal;
 
-// What a person is told who gave no words.
+// What a person is reported who gave no words.
 const AT_TERMINAL: &str =
     "pocsag: reading a page file from standard input; 'pocsag --help' tells the commands\n";
 

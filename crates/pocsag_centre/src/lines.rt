@@ -5,7 +5,7 @@ ghost use Rattle.pocsag_centre.specs.Lines.{below_text, bound_text, plan_text};
 use pocsag_shell::{FileFault, print_numbers};
 use pocsag_words::{End, Sink};
 
-/// Tells the pages and the batches of a plan.
+/// Prints the pages and the batches of a plan.
 #[tactic(auto, unfolding(crate::specs::Lines::plan_text))]
 pub(crate) fn print_plan<O: Sink>(pages: u32, batches: u32, out: &mut O) -> Result<(), FileFault>
     ensures printed { O.is_known → OnOk result (O.taken out.new ≡ O.taken out.old ++ plan_text pages batches) }
@@ -16,7 +16,7 @@ pub(crate) fn print_plan<O: Sink>(pages: u32, batches: u32, out: &mut O) -> Resu
     print_numbers(out, &numbers, "\n")
 }
 
-/// Tells that fewer batches do not suffice.
+/// Prints that fewer batches do not suffice.
 #[tactic(auto, unfolding(crate::specs::Lines::bound_text))]
 pub(crate) fn print_bound<O: Sink>(end: End, batches: u32, out: &mut O) -> Result<(), FileFault>
     ensures printed { O.is_known → OnOk result (O.taken out.new ≡ O.taken out.old ++ bound_text end batches) }
@@ -31,7 +31,7 @@ pub(crate) fn print_bound<O: Sink>(end: End, batches: u32, out: &mut O) -> Resul
     }
 }
 
-/// Tells the bound of a plan where it is below its batches.
+/// Prints the bound of a plan where it is below its batches.
 #[tactic(auto, unfolding(crate::specs::Lines::below_text, crate::specs::Lines::bound_text))]
 pub(crate) fn print_below<O: Sink>(batches: u32, bound: u32, out: &mut O) -> Result<(), FileFault>
     ensures printed { O.is_known → OnOk result (O.taken out.new ≡ O.taken out.old ++ below_text batches bound) }

@@ -77,7 +77,7 @@ pub(crate) fn read_plan<P: Source>(
     }
 }
 
-/// With no words: plans a page file with the default limit and the open end, and tells its pages and batches. Returns the exit
+/// With no words: plans a page file with the default limit and the open end, and reports its pages and batches. Returns the exit
 /// status.
 pub fn run_input<I: Source, O: Sink, E: Sink + Drop>(
     alloc: Global,
@@ -95,7 +95,7 @@ pub fn run_input<I: Source, O: Sink, E: Sink + Drop>(
         IfSome (printed_by err.new) (OrDevice (ExplainsNoPlan (I.held input.old) default_search)) }
     ensures refused { IfSome (printed_by err.new) (λ e. e ≢ CentreFault.File file_fault.Write → out.new ≡ out.old) }
 
-    // A device's fault is told only where that device failed.
+    // A device's fault is reported only where that device failed.
     ensures read_failed { printed_by err.new ≡ Some (CentreFault.Round round_fault.ReadFault) →
         HasFailed (I.failures input.old) (I.failures input.new) }
     ensures write_failed { printed_by err.new ≡ Some (CentreFault.File file_fault.Write) →
@@ -112,7 +112,7 @@ pub fn run_input<I: Source, O: Sink, E: Sink + Drop>(
     }
 }
 
-/// `plan PAGES TX CERT`: writes the transmission of a page file and the certificate of its bound, and tells the
+/// `plan PAGES TX CERT`: writes the transmission of a page file and the certificate of its bound, and reports the
 /// pages, the batches, and the bound where it is below them. The batches are the fewest, which the bound then
 /// is; with `--always`, where the search reaches its limit, they are one more than the bound. Returns the exit status.
 pub fn run_plan<P: Source + Drop, T: Sink + Drop, C: Sink + Drop, O: Sink, E: Sink + Drop>(
@@ -141,7 +141,7 @@ pub fn run_plan<P: Source + Drop, T: Sink + Drop, C: Sink + Drop, O: Sink, E: Si
         LeavesOutputs (P.held files.old.pages) search (T.taken files.old.tx) (T.taken files.new.tx)
         (C.taken files.old.cert) (C.taken files.new.cert) }
 
-    // A device's fault is told only where that device failed.
+    // A device's fault is reported only where that device failed.
     ensures read_failed { printed_by err.new ≡ Some (CentreFault.Round round_fault.ReadFault) →
         HasFailed (P.failures files.old.pages) (P.failures files.new.pages) }
     ensures write_failed { printed_by err.new ≡ Some (CentreFault.File file_fault.Write) →
@@ -203,7 +203,7 @@ fn stream_asked<P: Source, T: Sink, C: Sink>(
     }
 }
 
-/// Tells the counts of a plan, and its bound where that is below the batches.
+/// Prints the counts of a plan, and its bound where that is below the batches.
 pub(crate) fn print_bounded<O: Sink>(bounded: &Bounded, out: &mut O) -> Result<(), FileFault>
     ensures printed { O.is_known → OnOk result
         (O.taken out.new ≡ O.taken out.old ++ plan_text bounded.now.plan.pages bounded.now.plan.batches

@@ -457,7 +457,7 @@ fn load_first(
     }
 }
 
-// `--keep`: plans beside the places of the files, puts all there once they are whole, and then tells the lines.
+// `--keep`: plans beside the places of the files, puts all there once they are whole, and then reports the lines.
 fn plan_staged(
     context: Context<'_>,
     args: PlanArgs<'_>,

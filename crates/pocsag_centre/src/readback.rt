@@ -29,7 +29,7 @@ use std::alloc::Global;
 // The bytes of the idle codeword.
 const IDLE_BYTES: [u8; 4] = [0x7A, 0x89, 0xC1, 0x97];
 
-/// `--verify`: reads a transmission and a certificate back, and tells `verified` where the one holds the pages of the page file
+/// `--verify`: reads a transmission and a certificate back, and reports `verified` where the one holds the pages of the page file
 /// and ends as is asked for, and the other shows its number of batches for them and the end, or, where no round is to be refused,
 /// that number or one less. Returns the exit status.
 pub fn run_verify<P: Source + Drop, T: Source + Drop, C: Source + Drop, O: Sink, E: Sink + Drop>(
@@ -51,7 +51,7 @@ pub fn run_verify<P: Source + Drop, T: Source + Drop, C: Source + Drop, O: Sink,
         (ExplainsVerifying (P.held files.old.pages) search (T.held files.old.tx) (C.held files.old.cert))) }
     ensures refused { IfSome (printed_by err.new) (λ e. e ≢ CentreFault.File file_fault.Write → out.new ≡ out.old) }
 
-    // A device's fault is told only where that device failed.
+    // A device's fault is reported only where that device failed.
     ensures read_failed { printed_by err.new ≡ Some (CentreFault.Round round_fault.ReadFault) →
         HasFailed (P.failures files.old.pages) (P.failures files.new.pages) }
     ensures device_failed { printed_by err.new ≡ Some (CentreFault.File file_fault.Device) →

@@ -28,11 +28,11 @@ pub struct ReportAsked {
     /// Bits a second.
     pub rate: u32,
     pub search: Search,
-    /// Whether the frames are told too.
+    /// Whether the frames are reported too.
     pub frames: bool,
 }
 
-/// `report PAGES --rate R`: tells what the plan of a page file takes on the air at a rate, and its bound where
+/// `report PAGES --rate R`: reports what the plan of a page file takes on the air at a rate, and its bound where
 /// that is below the batches; with `--frames` then a line for each frame, the least room first. Returns the exit status.
 pub fn run_report<P: Source, O: Sink, E: Sink + Drop>(
     alloc: Global,
@@ -53,7 +53,7 @@ pub fn run_report<P: Source, O: Sink, E: Sink + Drop>(
         IfSome (printed_by err.new) (OrDevice (ExplainsReporting (P.held pages.old) asked.search asked.rate)) }
     ensures refused { IfSome (printed_by err.new) (λ e. e ≢ CentreFault.File file_fault.Write → out.new ≡ out.old) }
 
-    // A device's fault is told only where that device failed.
+    // A device's fault is reported only where that device failed.
     ensures read_failed { printed_by err.new ≡ Some (CentreFault.Round round_fault.ReadFault) →
         HasFailed (P.failures pages.old) (P.failures pages.new) }
     ensures write_failed { printed_by err.new ≡ Some (CentreFault.File file_fault.Write) →
@@ -94,7 +94,7 @@ fn rooms_asked(
     Ok(Vec::new(alloc))
 }
 
-// Tells a report, and the bound where it is below the batches.
+// Prints a report, and the bound where it is below the batches.
 #[tactic(auto, using(crate::proofs::ReportLines::report_numbered))]
 fn print_report<O: Sink>(report: Report, bound: u32, out: &mut O) -> Result<(), FileFault>
     ensures printed { O.is_known → OnOk result

@@ -1,4 +1,4 @@
-//! The commands of a paging centre over memory: what each tells, what it leaves, and its exit status.
+//! The commands of a paging centre over memory: what each reports, what it leaves, and its exit status.
 
 use pocsag_centre::{
     CentreFault, DEFAULT_LIMIT, FrontAsked, FrontFiles, PlanFiles, ReportAsked, expected_file,
@@ -68,7 +68,7 @@ const fn open_to(limit: u32, on_limit: OnLimit) -> Search {
     }
 }
 
-// What a command answered and told.
+// What a command answered and reported.
 #[derive(Drop)]
 struct Printed {
     status: u8,
@@ -120,7 +120,7 @@ fn plan(alloc: Global, search: Search, file: &[u8], faults: Faults) -> Planned {
     }
 }
 
-// A plan that is asked for, what it tells, the length of its transmission, and the last byte of the number in
+// A plan that is asked for, what it reports, the length of its transmission, and the last byte of the number in
 // its certificate.
 #[derive(Clone, Copy)]
 struct PlanCase {
@@ -293,7 +293,7 @@ const BAD_CHARACTER: &str = "pocsag: record 1: bad character at 2\n";
 const BAD_RATE: &str = "pocsag: the rate must be 512, 1200 or 2400\n";
 
 // A round is planned, and a command reads what was written: the plan's page file and search, the page file of
-// the command, the command, its status, and what it tells.
+// the command, the command, its status, and what it reports.
 type ReadCase = (
     &'static [u8],
     Search,
@@ -549,7 +549,7 @@ fn what_was_planned_is_read(rt: HostRuntime) -> Result<(), Fail> {
     Ok(())
 }
 
-// A round, how it is planned, how many bytes its transmission has, and what is told.
+// A round, how it is planned, how many bytes its transmission has, and what is reported.
 type LentCase = (&'static [u8], Search, usize, &'static str);
 
 // A source that lends its bytes is judged where it stands, and the outputs are those of one that is read piece by piece.
@@ -625,7 +625,7 @@ fn cut_files_are_refused(rt: HostRuntime) -> Result<(), Fail> {
     Ok(())
 }
 
-// A front that is asked for: the batches, what is told, the length of the transmission, whether no page is left, and the
+// A front that is asked for: the batches, what is reported, the length of the transmission, whether no page is left, and the
 // status and the output of a plan of the pages that are left.
 type FrontCase = (u32, &'static str, usize, bool, u8, &'static str);
 

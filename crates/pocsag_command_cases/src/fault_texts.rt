@@ -25,7 +25,7 @@ fn expect_texts<D: Display>(rt: &impl Abort, alloc: Global, rows: &[(D, &str)]) 
     }
 }
 
-// The line that tells each refusal.
+// The line that reports each refusal.
 fn expect_lines(rt: &impl Abort, alloc: Global, rows: &[(Refusal, &str)]) {
     for (why, text) in rows {
         let line = format!(in alloc; "refused: {text}\n").expect(rt, "memory");

@@ -231,7 +231,7 @@ fn told(read: Result<Replayed, JournalFault>) -> Result<(usize, usize, usize), J
     Ok((replayed.edits, replayed.book.len(), replayed.torn))
 }
 
-// A torn end is passed over, the first bad line told, and a first line that is another or torn.
+// A torn end is passed over, the first bad line reported, and a first line that is another or torn.
 #[test]
 fn journals_are_read(rt: HostRuntime) -> Result<(), Fail> {
     let alloc = rt.alloc();

@@ -100,7 +100,7 @@ const TWO_PAGES: Beginning = Beginning {
     ..EMPTY
 };
 
-// The exit status, once a fault is told.
+// The exit status, once a fault is reported.
 fn status_after<F: Failure>(done: Result<(), F>, err: &mut MemorySink<100>) -> u8 {
     match done {
         Ok(()) => 0,

@@ -1,4 +1,4 @@
-//! The commands for transmissions and `explain`, over memory: what each tells, and its exit status.
+//! The commands for transmissions and `explain`, over memory: what each reports, and its exit status.
 
 use pocsag_decode::Repaired;
 use pocsag_explain::{ExplainFiles, run_explain};
@@ -62,7 +62,7 @@ const SOUND: Faults = Faults {
     out: 1000,
 };
 
-// What a command told.
+// What a command reported.
 #[derive(Drop)]
 struct Printed {
     status: u8,
@@ -176,7 +176,7 @@ const SHOW_REPAIRED: Command = Command::Show {
     repair: true,
 };
 
-// A command, what is wrong, its status, and what it tells.
+// A command, what is wrong, its status, and what it reports.
 type Case = (Command, Faults, u8, &'static str, &'static str);
 
 #[test]

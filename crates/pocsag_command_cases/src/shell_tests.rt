@@ -1,4 +1,4 @@
-//! What the commands share, over memory: what names a file, and how a line is told.
+//! What the commands share, over memory: what names a file, and how a line is reported.
 
 use pocsag_shell::{FileFault, NamedFile, Names, Role, equal_paths, print, print_fault};
 use pocsag_words::MemorySink;

@@ -47,7 +47,7 @@ abbrev pub EndsOpen : List ℕ → Type 0
 EndsOpen X = IsTrue (may_follow (words X) (length (words X)))
 
 -- Where memory is wanted: to keep a page or an item, at a word before which nothing is bad, or at the end of bytes
--- without a fault. So every fault up to the first codeword that has to be kept is owed whatever memory does.
+-- without a fault. So every fault up to the first codeword that has to be kept is required whatever memory does.
 pub data WantsMemory : List ℕ → Type 0 where
   at_word : {X : List ℕ} → 72 ≤ leading X → KeepsFrom (words X) 0 → WantsMemory X
   at_end : {X : List ℕ} → IsFaultless X → EndsOpen X → WantsMemory X

@@ -1,4 +1,4 @@
--- `explain`: its verdict, which is that of `check`, the text that tells it, and why there is none.
+-- `explain`: its verdict, which is that of `check`, the text that reports it, and why there is none.
 use Rattle.std.specs.Prelude.{◌≡◌, ℕ, Bool, true, false, List, ◌++◌, Ok}
 use Rattle.pocsag_words.specs.Devices.{TookPrefix}
 use Rattle.pocsag_words.specs.declared.ending.End.{End}
@@ -58,7 +58,7 @@ pub record CanBeJudged (file certificate : List ℕ) : Type 0 where
   pub tree : BoundTree
   pub text : IsText end batches tree certificate
 
--- Why nothing is told of a certificate for a page file: memory refused the text, or the certificate was not judged.
+-- Why nothing is reported of a certificate for a page file: memory refused the text, or the certificate was not judged.
 abbrev pub ExplainsUntold : (file certificate : List ℕ) → CentreFault → Type 0
 ExplainsUntold file certificate (fault.File file_fault.OutOfMemory) = CanBeJudged file certificate
 ExplainsUntold file certificate f = ExplainsJudging file certificate f

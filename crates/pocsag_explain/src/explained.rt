@@ -35,11 +35,11 @@ pub struct ExplainFiles<P: Drop, C: Drop> {
 struct Explained {
     // What it names, and the verdict.
     judged: CheckVerdict,
-    // What `explain` tells of it.
+    // What `explain` reports of it.
     text: String,
 }
 
-// Judges a certificate for a round, and makes the text that `explain` tells of it.
+// Judges a certificate for a round, and makes the text that `explain` reports of it.
 fn judged_and_told(
     alloc: Global,
     format: Format,
@@ -62,7 +62,7 @@ fn judged_and_told(
     })
 }
 
-// Tells why fewer batches do not suffice for the page file, by its certificate, or which node of the certificate does not hold.
+// Prints why fewer batches do not suffice for the page file, by its certificate, or which node of the certificate does not hold.
 // Returns whether the certificate shows its number of batches.
 fn explain_held<P: Source + Drop, C: Source + Drop, O: Sink>(
     alloc: Global,
@@ -95,7 +95,7 @@ fn explain_held<P: Source + Drop, C: Source + Drop, O: Sink>(
     Ok(explained.judged.is_shown)
 }
 
-/// `explain PAGES CERT`: tells why fewer batches do not suffice for the page file, by its certificate, or which node of the
+/// `explain PAGES CERT`: reports why fewer batches do not suffice for the page file, by its certificate, or which node of the
 /// certificate does not hold. Returns the exit status: 0 where the certificate shows its number of batches, 1 where it does not.
 pub fn run_explain<P: Source + Drop, C: Source + Drop, O: Sink, E: Sink + Drop>(
     alloc: Global,
@@ -120,7 +120,7 @@ pub fn run_explain<P: Source + Drop, C: Source + Drop, O: Sink, E: Sink + Drop>(
         (OrDevice (ExplainsUntold (P.held files.old.pages) (C.held files.old.cert))) }
     ensures refused { IfSome (printed_by err.new) (λ e. e ≢ CentreFault.File file_fault.Write → out.new ≡ out.old) }
 
-    // A device's fault is told only where that device failed.
+    // A device's fault is reported only where that device failed.
     ensures read_failed { printed_by err.new ≡ Some (CentreFault.Round round_fault.ReadFault) →
         HasFailed (P.failures files.old.pages) (P.failures files.new.pages) }
     ensures certificate_failed { printed_by err.new ≡ Some (CentreFault.Certificate tree_fault.ReadFault) →

@@ -62,7 +62,7 @@ pub(crate) const EXPLAIN_COMMANDS: &[Shape] = &[Shape {
     ],
 }];
 
-/// How a certificate is told, by the words of `explain`.
+/// How a certificate is reported, by the words of `explain`.
 pub(crate) fn wanted_format(found: &ArgMatches<'_>) -> Option<Format> {
     let depth = found.get_one::<u32>(DEPTH)?;
     Some(if found.get_flag(SVG) {

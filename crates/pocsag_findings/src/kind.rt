@@ -20,7 +20,7 @@ fn add_different(sample: &mut Sample, number: u64) {
     }
 }
 
-/// What is told of the pages of one class.
+/// What is reported of the pages of one class.
 #[derive(Drop)]
 pub(crate) struct ClassPages {
     addresses: Sample,

@@ -14,7 +14,7 @@ use pocsag_tree::{Certificate, Tree};
 use pocsag_words::OutOfMemory;
 use std::alloc::Global;
 
-// Puts what a node states behind the findings, and answers whether its rule holds.
+// Puts what a node states behind the findings, and returns whether its rule holds.
 #[inline(never)]
 fn put_fact(
     inquiry: &Inquiry,

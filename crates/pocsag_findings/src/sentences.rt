@@ -10,7 +10,7 @@ use pocsag_slots::{CLASSES, Way, frame, holds, size};
 use pocsag_words::End;
 use std::fmt::{self, Display, Formatter};
 
-// How many shares are told one by one.
+// How many shares are reported one by one.
 const MOST_SHARES: usize = 8;
 
 // The class of the address codewords alone that may end a closed transmission, those of frame 7.
@@ -170,7 +170,7 @@ fn are_starts(set: u16, shares: &[Share]) -> bool {
 }
 
 // Adds from which pages the codewords in so many slots come, and how much of each share are whole turns, each of which
-// covers each slot once; of the shares that are not told one by one their sum.
+// covers each slot once; of the shares that are not reported one by one their sum.
 fn write_origins<W: fmt::Write>(
     f: &mut Formatter<W>,
     kinds: &[ClassPages],

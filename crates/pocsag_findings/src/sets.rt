@@ -47,7 +47,7 @@ impl Display for Members {
         let Members((one, several), set) = *self;
         let word = if size(set) == 1 { one } else { several };
         write!(f, "{word} ")?;
-        // A member between two others is not told. Where a span of three or more ends, it is no item of its own.
+        // A member between two others is not reported. Where a span of three or more ends, it is no item of its own.
         let told = set & !(set << 1 & set >> 1);
         let items = told & !(set << 1 & set << 2);
         for member in 0..BATCH_SLOTS {

@@ -92,7 +92,7 @@ fn overfull(counted: &[u32; 16], limits: &Limits) -> Option<u8>
     None
 }
 
-// Moves some of the load of the slot to one with room, which leaves less overload; or answers the set of all slots
+// Moves some of the load of the slot to one with room, which leaves less overload; or returns the set of all slots
 // to which load can be moved from there.
 fn relieve(
     classes: &Classes,

@@ -1,4 +1,4 @@
--- What is told of bytes explains why they are not read.
+-- What is reported of bytes explains why they are not read.
 use Rattle.std.proofs.Common.{◌≡◌, ℕ, List, subst}
 use Rattle.std.specs.Prelude.{IfErr, Result, Ok, Err}
 use Rattle.pocsag_journal.specs.Faults.{ExplainsReplay, IsPrinted}
@@ -16,7 +16,7 @@ told_replay bytes before after (fault.BadLine n) h = h
 told_replay bytes before after (fault.NoLine n) h = h
 told_replay bytes before after fault.OutOfMemory h = h
 
--- what is told of the bytes that were read is told of those that were held
+-- what is reported of the bytes that were read is reported of those that were held
 pub told_of : (bytes held : List ℕ) (before after : ℕ) → bytes ≡ held → (r : Result Replayed JournalFault) → IfErr r (IsPrinted bytes) →
     IfErr r (ExplainsReplay held before after)
 told_of bytes held before after e (Ok x) told = tt

@@ -14,7 +14,7 @@ fault_of_reading whole.ReadFault = fault.ReadFault
 fault_of_reading whole.TooLarge = fault.TooLarge
 fault_of_reading whole.OutOfMemory = fault.OutOfMemory
 
--- What is told of bytes that are no journal: that they do not begin as one, or only as one of another version, or the line
+-- What is reported of bytes that are no journal: that they do not begin as one, or only as one of another version, or the line
 -- that is none of one. Memory may be wanting.
 abbrev pub IsPrinted : List ℕ → JournalFault → Type 0
 IsPrinted bytes fault.NotJournal = ¬ IsBegun bytes × ¬ NamesFormat bytes
@@ -24,7 +24,7 @@ IsPrinted bytes fault.OutOfMemory = Unit {0}
 IsPrinted bytes _ = ⊥
 
 -- Why a journal is not read: a read failed, between these two counts of failures, or it has more bytes than are read, or what
--- is told of its bytes.
+-- is reported of its bytes.
 abbrev pub ExplainsReplay : List ℕ → (failures_before failures_after : ℕ) → JournalFault → Type 0
 ExplainsReplay bytes before after fault.ReadFault = HasFailed before after
 ExplainsReplay bytes before after fault.TooLarge = journal_limit < length bytes
@@ -35,7 +35,7 @@ abbrev pub ExplainsListing : List ℕ → (reads_before reads_after writes_befor
 ExplainsListing bytes before after writes_before writes_after fault.WriteFault = HasFailed writes_before writes_after
 ExplainsListing bytes before after writes_before writes_after f = ExplainsReplay bytes before after f
 
--- What is told of bytes that are a journal: the source or memory fails, or it is too large.
+-- What is reported of bytes that are a journal: the source or memory fails, or it is too large.
 abbrev pub IsPrintedOf : JournalFault → Type 0
 IsPrintedOf fault.NotJournal = ⊥
 IsPrintedOf fault.OtherVersion = ⊥

@@ -1,4 +1,4 @@
--- What keeps the edits of an open round owes (this project's own).
+-- What keeps the edits of an open round promises (this project's own).
 use Rattle.std.specs.Prelude.{◌≡◌, ◌⊎◌, ℕ, ◌+◌, ◌<◌, List, length}
 use Rattle.pocsag_words.specs.Devices.{HasFailed}
 use Rattle.pocsag_pages.specs.declared.page.Page.{Page}

@@ -1,7 +1,7 @@
 #![tactic(auto)]
 //! The edits of an open round: what each of its lines asks for, and the edit that a record makes of its pages. And the
 //! journal that keeps them: their text, and what reading it gives, whole or cut. It knows no file: it reads a source, and
-//! writes to a disk that tells its bytes.
+//! writes to a disk that reports its bytes.
 
 mod compaction;
 mod disk;

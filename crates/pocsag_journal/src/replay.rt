@@ -32,7 +32,7 @@ pub struct Replayed {
 }
 
 /// Reads the journal that a source holds up to its end. A torn end is passed over, also one in the first line; bytes that
-/// begin otherwise than a journal are told as none, and a line behind the first that is none of a journal by its number.
+/// begin otherwise than a journal are reported as none, and a line behind the first that is none of a journal by its number.
 pub fn read_journal<S: Source>(alloc: Global, source: &mut S) -> Result<Replayed, JournalFault>
     ensures read { S.is_known → IfOk result
         (λ replayed. Replays (S.held source.old) replayed.edits replayed.torn replayed.book) }

@@ -173,7 +173,7 @@ plan_edits end None tx cert row pages after (inl e) d = subst (λ (r : Row). IsE
 plan_edits end None tx cert row pages after (inr e) d = subst (λ (r : Row). IsEdit r pages after) e.1 d
 plan_edits end (Some b) tx cert row pages after e d = subst (λ (r : Row). IsEdit r pages after) e.2 d
 
--- the reply to a record leaves what is due, or tells that memory was wanting
+-- the reply to a record leaves what is due, or reports that memory was wanting
 abbrev Leaves : (after due : List Page) (told : List ℕ) → Type 0
 Leaves after due told = (after ≡ due) ⊎ NamesNoMemory told
 

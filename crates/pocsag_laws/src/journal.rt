@@ -69,7 +69,7 @@ pub fn texts_have_one_reason()
         why ≢ Refusal.Undone UndoneFault.OutOfMemory → other ≢ Refusal.Undone UndoneFault.OutOfMemory → why ≡ other }
 {}
 
-/// `open` over the text of a journal: the session leaves the pages of the journal, unless it told that memory was wanting.
+/// `open` over the text of a journal: the session leaves the pages of the journal, unless it reported that memory was wanting.
 pub fn a_journal_opens_as_its_pages<P: Places>()
     ensures { (on_limit : OnLimit) (rows : List Row) (pages after : List Page) (told : List ℕ)
         (placed : List PlacedPlan) → AllByRecursion IsLine rows → IsRun rows [] pages →

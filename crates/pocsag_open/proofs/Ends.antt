@@ -22,7 +22,7 @@ use Rattle.pocsag_open.specs.Ends.{ExplainsEnd, HasGivenUp}
 use Rattle.pocsag_open.specs.KeptAnswers.{ExplainsUnanswered}
 use Rattle.pocsag_open.specs.Lines.{IsFirstLine}
 
--- what is not told, is not for a failed write
+-- what is not reported, is not for a failed write
 pub not_told : {X : Type 0} (r : Result X FileFault) (output keeper : Type 0) → IfErr r (λ e. e ≡ file.Write) → OnErr r output →
     IfErr r (ExplainsEnd ⊥ output keeper)
 not_told (Ok x) output keeper is failed = tt

@@ -9,7 +9,7 @@ pub on_ok : {X E : Type 0} (r : Result X E) (P Q : Type 0) → (P → Q) → OnO
 on_ok (Ok x) P Q f h = f h
 on_ok (Err e) P Q f h = tt
 
--- what is told is of another kind too, and nothing is placed
+-- what is reported is of another kind too, and nothing is placed
 pub told_as : {X E : Type 0} (r : Result X E) (IsKnown : Type 0) (before after : List ℕ) (placed later : List PlacedPlan) (P : List ℕ → Type 0)
     (Q : List ℕ → List PlacedPlan → Type 0) → (IsKnown → later ≡ placed) → ((printed : List ℕ) → P printed → Q printed []) →
     OnOk r (TookMore before after P) → OnOk r (PrintsAndPlaces IsKnown before after placed later Q)
@@ -29,7 +29,7 @@ told_like r IsKnown before after placed later P Q f h =
     record { printed = t.printed; placed = t.placed; answers = t.answers; outputs = t.outputs; holds = f t.printed t.placed t.holds })
     h
 
--- this is told, and nothing is placed
+-- this is reported, and nothing is placed
 pub told_once : (IsKnown : Type 0) (before after printed : List ℕ) (placed : List PlacedPlan) (Q : List ℕ → List PlacedPlan → Type 0) → Q printed [] →
     after ≡ before ++ printed → PrintsAndPlaces IsKnown before after placed placed Q
 told_once IsKnown before after printed placed Q q e =

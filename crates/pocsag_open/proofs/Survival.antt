@@ -35,7 +35,7 @@ pub either_read : (Replies : (before after : List Page) → List ℕ → Type 0)
 either_read Replies before after printed reads_as left so (inl is) = inl is
 either_read Replies before after printed reads_as left so (inr is) = inr (after, (printed, so, is))
 
--- an answer of which a part was told is cut short
+-- an answer of which a part was reported is cut short
 pub cut_part : (Replies : (before after : List Page) → List ℕ → Type 0)
     (before after : List Page) (out_before out_after : List ℕ) (reads_as : List ℕ → List Page → Type 0) (may_leave : List ℕ → Type 0)
     (is : List ℕ → Type 0) → ((printed : List ℕ) → is printed → Replies before after printed) →

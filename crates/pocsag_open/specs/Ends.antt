@@ -13,7 +13,7 @@ AreCountless bytes = 2 ^ 64 - 1 ≤ length bytes
 abbrev pub HasGivenUp : (most : ℕ) (taken : List ℕ) (failures_before failures_after : ℕ) → Type 0
 HasGivenUp most taken before after = HasFailed before after ⊎ (most < length taken + kept_line_limit)
 
--- *Cause of an end*: a device is told as its cause only where the input failed, a write only where the output or what keeps the
+-- *Cause of an end*: a device is reported as its cause only where the input failed, a write only where the output or what keeps the
 -- edits did. Memory may be wanting.
 abbrev pub ExplainsEnd : (input_failed output_failed keeper_failed : Type 0) → FileFault → Type 0
 ExplainsEnd input_failed output_failed keeper_failed file.Device = input_failed

@@ -22,7 +22,7 @@ open_status (fault.Journal journal.WriteFault) = 3
 open_status (fault.Journal journal.OutOfMemory) = 3
 open_status _ = 1
 
--- Which fault that of a journal is: one of a device or memory is told as that of any file.
+-- Which fault that of a journal is: one of a device or memory is reported as that of any file.
 abbrev pub fault_of_journal : JournalFault → OpenFault
 fault_of_journal journal.ReadFault = fault.File file.Device
 fault_of_journal journal.WriteFault = fault.File file.Write

@@ -48,7 +48,7 @@ pub data IsKeptRound (IsKnown : Type 0) (on_limit : OnLimit) (input bytes : List
 abbrev pub HoldsEdits : List ℕ → Type 0
 HoldsEdits bytes = (edits torn : ℕ) × (pages : List Page) × Replays bytes edits torn pages × (0 < edits)
 
--- What is told of the journal: its bytes are none, or too many, or no line of it holds a page with which the round begins.
+-- What is reported of the journal: its bytes are none, or too many, or no line of it holds a page with which the round begins.
 abbrev pub IsPrintedOfJournal : (bytes : List ℕ) → (file : Option (List ℕ)) → JournalFault → Type 0
 IsPrintedOfJournal bytes file journal.TooLarge = journal_limit < length bytes
 IsPrintedOfJournal bytes file journal.NotJournal = IsPrinted bytes journal.NotJournal
@@ -71,7 +71,7 @@ IsPrintedOfPages (Some file) file_failed (fault.Round round.ReadFault) = file_fa
 IsPrintedOfPages (Some file) file_failed (fault.Round f) = verdict file ≡ Err f
 IsPrintedOfPages (Some file) file_failed _ = ⊥
 
--- *Cause of a refused start or an end*: what is told of the journal or of the page file; that there is a page file and the
+-- *Cause of a refused start or an end*: what is reported of the journal or of the page file; that there is a page file and the
 -- journal holds edits; or why the round ends before its input.
 abbrev pub ExplainsKept : (bytes : List ℕ) → (file : Option (List ℕ)) → (file_failed : Type 0) → (Ends : FileFault → Type 0) → OpenFault → Type 0
 ExplainsKept bytes file file_failed Ends (fault.File f) = Ends f

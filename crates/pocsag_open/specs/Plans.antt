@@ -75,7 +75,7 @@ pub record IsPlanned (IsKnown : Type 0) (on_limit : OnLimit) (end : End) (pages 
 abbrev pub plan_search : OnLimit → End → Search
 plan_search on_limit end = record { limit = plan_limit; end = end; on_limit = on_limit }
 
--- The first `count` pages are the front that is owed for so many batches, the longest where only the fewest are an answer; and
+-- The first `count` pages are the front that is required for so many batches, the longest where only the fewest are an answer; and
 -- they are planned, in no more batches. The pages may stand in a round.
 pub record IsFrontPlanned (IsKnown : Type 0) (on_limit : OnLimit) (end : End) (most : ℕ) (pages : List Page) (count batches bound : ℕ) (sent : PlanBytes) : Type 0 where
   pub round : IsRound pages

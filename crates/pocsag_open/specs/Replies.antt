@@ -17,7 +17,7 @@ use Rattle.pocsag_open.specs.Answers.{front_answer, pages_answer, plan_answer, r
 use Rattle.pocsag_open.specs.Lines.{AreLines, line_limit}
 use Rattle.pocsag_open.specs.Plans.{ExplainsPlanUndone, IsFrontPlanned, IsPlanned, PlacedPlan, PlanBytes, placed_plan}
 
--- The line that tells a refusal: `refused: ` and its words.
+-- The line that reports a refusal: `refused: ` and its words.
 abbrev pub IsRefusalPrinted : Refusal → (printed : List ℕ) → Type 0
 IsRefusalPrinted why printed = printed ≡ refusal_answer why
 
@@ -43,13 +43,13 @@ pub record IsRefusalDue (on_limit : OnLimit) (row : Row) (pages : List Page) (wh
   pub heading : row ≢ first_record
 
 -- The reply to a record that is judged as an edit: the edit is made, and the reply is the number of pages; or nothing is
--- changed, and the reply tells why.
+-- changed, and the reply reports why.
 abbrev pub IsEditReply : (row : Row) → (before after : List Page) → (printed : List ℕ) → Type 0
 IsEditReply row before after printed =
     (IsEdit row before after × (printed ≡ pages_answer (length after)))
     ⊎ ((after ≡ before) × ((why : Refusal) × IsRefusedFor row before why × IsReasonFor row before why × IsRefusalPrinted why printed))
 
--- *Reply* to a record, and the outputs of the plan that it tells, if it tells one.
+-- *Reply* to a record, and the outputs of the plan that it reports, if it reports one.
 pub data IsReply (IsKnown : Type 0) (on_limit : OnLimit) (row : Row) (before after : List Page) (printed : List ℕ) (placed : List PlacedPlan) : Type 0 where
   -- It is an edit that the pages accept: it is made, and the reply is the number of pages.
   edited :
@@ -83,7 +83,7 @@ pub data IsReply (IsKnown : Type 0) (on_limit : OnLimit) (row : Row) (before aft
       IsReply IsKnown on_limit row before after printed placed
 
 -- The reply where a record asks for a plan of a front, for the end and so many batches: the first pages that are planned are
--- taken out; or nothing is changed, and the reply tells why the plan is refused.
+-- taken out; or nothing is changed, and the reply reports why the plan is refused.
 pub data IsFrontReply (IsKnown : Type 0) (on_limit : OnLimit) (end : End) (most : ℕ) (tx cert : List ℕ) (before after : List Page) (printed : List ℕ) (placed : List PlacedPlan) : Type 0 where
   front_sent :
       (count batches bound : ℕ) (sent : PlanBytes) → IsFrontPlanned IsKnown on_limit end most before count batches bound sent →
@@ -117,8 +117,8 @@ AreReplies IsKnown on_limit (line ∷ lines) before after printed placed =
     (between : List Page) × (reply more : List ℕ) × (its others : List PlacedPlan) × IsLineReply IsKnown on_limit line before between reply its
     × AreReplies IsKnown on_limit lines between after more others × (printed ≡ reply ++ more) × (placed ≡ its ++ others)
 
--- *Session*: what is told are the replies to the lines of an input, from these pages on, which leave those; and what is
--- placed are the outputs of the plans that they tell.
+-- *Session*: what is reported are the replies to the lines of an input, from these pages on, which leave those; and what is
+-- placed are the outputs of the plans that they report.
 pub record IsSession (IsKnown : Type 0) (on_limit : OnLimit) (input : List ℕ) (before after : List Page) (printed : List ℕ) (placed : List PlacedPlan) : Type 0 where
   pub lines : List (List ℕ)
   pub cut : AreLines lines input
@@ -128,7 +128,7 @@ pub record IsSession (IsKnown : Type 0) (on_limit : OnLimit) (input : List ℕ) 
 abbrev pub TookMore : (before after : List ℕ) → (List ℕ → Type 0) → Type 0
 TookMore before after is = (printed : List ℕ) × (after ≡ before ++ printed) × is printed
 
--- What was told more is such a text, and what was placed more, where that is known, are such outputs.
+-- What was reported more is such a text, and what was placed more, where that is known, are such outputs.
 pub record PrintsAndPlaces (IsKnown : Type 0) (out_before out_after : List ℕ) (placed_before placed_after : List PlacedPlan) (Holds : List ℕ → List PlacedPlan → Type 0) : Type 0 where
   pub printed : List ℕ
   pub placed : List PlacedPlan

@@ -22,7 +22,7 @@ abbrev pub FrontRepliesTo : (IsKnown : Type 0) → OnLimit → End → (most : �
 FrontRepliesTo IsKnown on_limit end most tx cert before after printed =
     (placed : List PlacedPlan) × IsFrontReply IsKnown on_limit end most tx cert before after printed placed
 
--- A reply to a line, and what was put in its places more, where that is known, are the outputs of the plan that it tells.
+-- A reply to a line, and what was put in its places more, where that is known, are the outputs of the plan that it reports.
 abbrev pub RepliesAndPlaces : (IsKnown : Type 0) → OnLimit → (line : List ℕ) → (placed_before placed_after : List PlacedPlan) → (before after : List Page) → (printed : List ℕ) → Type 0
 RepliesAndPlaces IsKnown on_limit line placed_before placed_after before after printed =
     (placed : List PlacedPlan) × IsLineReply IsKnown on_limit line before after printed placed × (IsKnown → placed_after ≡ placed_before ++ placed)
@@ -37,8 +37,8 @@ abbrev pub ReadsOrReplied : (List ℕ → List Page → Type 0) → (Replies : (
 ReadsOrReplied reads_as Replies before left =
     reads_as left before ⊎ ((after : List Page) × ((reply : List ℕ) × Replies before after reply × reads_as left after))
 
--- Where an answer is cut short: nothing of it was told, and whatever a crash leaves is read as the pages before, or as those
--- that a reply leaves; or a part of a reply was told, and whatever a crash leaves is read as the pages that this reply leaves.
+-- Where an answer is cut short: nothing of it was reported, and whatever a crash leaves is read as the pages before, or as those
+-- that a reply leaves; or a part of a reply was reported, and whatever a crash leaves is read as the pages that this reply leaves.
 pub data IsCutShort (Replies : (before after : List Page) → List ℕ → Type 0)
     (before : List Page) (out_before out_after : List ℕ) (reads_as : List ℕ → List Page → Type 0) (may_leave : List ℕ → Type 0) : Type 0 where
   untold :
@@ -51,7 +51,7 @@ pub data IsCutShort (Replies : (before after : List Page) → List ℕ → Type 
 
 -- What stands behind the lines that are answered: the answer to the first line of it is cut short; or none is under way, and
 -- whatever a crash leaves is read as the pages now. Where it is read as the pages after that line, the outputs of the plan that
--- its reply tells were put in their places.
+-- its reply reports were put in their places.
 pub data IsCutBehind (IsKnown : Type 0) (on_limit : OnLimit) (rest : List ℕ) (now : List Page) (out_before out_after : List ℕ)
     (placed_before placed_after : List PlacedPlan) (reads_as : List ℕ → List Page → Type 0) (may_leave : List ℕ → Type 0) : Type 0 where
   between :
@@ -64,7 +64,7 @@ pub data IsCutBehind (IsKnown : Type 0) (on_limit : OnLimit) (rest : List ℕ) (
 
 -- *Survives*: the first lines of an input were answered whole, from the pages before on, and at most one line more in part.
 -- Whatever a crash leaves is read as the pages after the lines that were answered, or as those after one line more; and the
--- outputs of the plans that the replies to these lines tell were put in their places.
+-- outputs of the plans that the replies to these lines report were put in their places.
 pub record Survives (IsKnown : Type 0) (on_limit : OnLimit) (input : List ℕ) (before : List Page) (out_before out_after : List ℕ)
     (placed_before placed_after : List PlacedPlan) (reads_as : List ℕ → List Page → Type 0) (may_leave : List ℕ → Type 0) : Type 0 where
   pub lines : List (List ℕ)

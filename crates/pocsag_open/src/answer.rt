@@ -28,7 +28,7 @@ pub struct KeptRound<K: Keeper + Drop> {
     pub keeper: K,
 }
 
-/// Makes the edit that a record is, has it kept, and answers it; or tells why it is refused. No byte of it is kept
+/// Makes the edit that a record is, has it kept, and returns it; or reports why it is refused. No byte of it is kept
 /// before it is judged, and it is not answered before it is kept.
 pub fn answer_edit<K: Keeper + Drop, O: Sink>(
     alloc: Global,
@@ -50,7 +50,7 @@ pub fn answer_edit<K: Keeper + Drop, O: Sink>(
         OnOk result (K.represents round.new.keeper round.new.book) }
 
     // Where the answer is cut short, a crash leaves what is read as the pages before the edit, or as those after it; and those
-    // after it where any of the answer was told. So it is at any moment.
+    // after it where any of the answer was reported. So it is at any moment.
     ensures cut { K.is_known → O.is_known → K.represents round.old.keeper round.old.book → OnErr result
         (IsCutShort (IsEditReply (fields_of row.now)) round.old.book
         (O.taken out.old) (O.taken out.new) K.reads_as (K.may_leave round.new.keeper)) }

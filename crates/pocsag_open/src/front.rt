@@ -40,8 +40,8 @@ pub(crate) struct SentFront {
     pub pages: u32,
 }
 
-/// Puts the plan of the longest front in its places, takes the pages of the front out, has that kept, and answers it; or
-/// tells why the plan is refused. It is not answered before it is kept.
+/// Puts the plan of the longest front in its places, takes the pages of the front out, has that kept, and returns it; or
+/// reports why the plan is refused. It is not answered before it is kept.
 pub(crate) fn answer_front<P: OutputStore + Drop, K: Keeper + Drop, O: Sink>(
     alloc: Global,
     settings: &mut PlanSettings<P>,
@@ -84,7 +84,7 @@ pub(crate) fn answer_front<P: OutputStore + Drop, K: Keeper + Drop, O: Sink>(
     print_sent(front, out)
 }
 
-// Plans the front, writes its two outputs, and puts them in their places once both are whole. It answers the record too of
+// Plans the front, writes its two outputs, and puts them in their places once both are whole. It returns the record too of
 // the edit that takes its pages out.
 fn place_front<P: OutputStore + Drop>(
     alloc: Global,

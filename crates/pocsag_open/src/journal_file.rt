@@ -23,7 +23,7 @@ pub(crate) struct JournalPlace<'a, 'w> {
 }
 
 impl JournalPlace<'_, '_> {
-    // What was done, as a disk tells it, which has one fault alone.
+    // What was done, as a disk reports it, which has one fault alone.
     fn by_disk<T: Drop>(&self, done: Result<T, OpenFault>) -> Result<T, DeviceFault> {
         match done {
             Ok(done) => Ok(done),

@@ -67,7 +67,7 @@ fn list_on(place: JournalPlace<'_, '_>) -> Result<u8, OpenFault> {
     Ok(0)
 }
 
-// Keeps a round, where no other program holds the journal, and answers the lines of standard input. Where the round does not
+// Keeps a round, where no other program holds the journal, and returns the lines of standard input. Where the round does not
 // begin, a file that was made for the journal is taken away, while it is still locked.
 fn keep_on(place: JournalPlace<'_, '_>, args: OpenArgs<'_>) -> Result<u8, OpenFault> {
     let context = place.context;

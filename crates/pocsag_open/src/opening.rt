@@ -28,12 +28,12 @@ pub struct KeptStreams<F: Source + Drop, I: Source + Drop, O: Sink + Drop, E: Si
     pub input: I,
     /// The answers to these.
     pub out: O,
-    /// Where it tells what was read of the journal.
+    /// Where it reports what was read of the journal.
     pub err: E,
 }
 
 /// `open --journal`: reads the journal of a round, or its page file where the journal holds no edit, writes the journal anew,
-/// and answers the lines of the input up to its end, each edit once it is kept. The book of the round is not looked at.
+/// and returns the lines of the input up to its end, each edit once it is kept. The book of the round is not looked at.
 pub fn open_kept<
     P: OutputStore + Drop,
     D: Disk + Drop,
@@ -47,8 +47,8 @@ pub fn open_kept<
     round: &mut KeptRound<Journal<D>>,
     streams: &mut KeptStreams<F, I, O, E>,
 ) -> Result<(), OpenFault>
-    // What is told are the replies to the lines of the input, one by one, from the beginning on; and what is placed are the
-    // outputs of the plans that they tell.
+    // What is reported are the replies to the lines of the input, one by one, from the beginning on; and what is placed are the
+    // outputs of the plans that they report.
     ensures session { D.is_known → F.is_known → I.is_known → O.is_known → OnOk result ((before : List Page) ×
         IsBeginning (D.held (disk_of round.old.keeper)) (option_map F.held streams.old.pages) before ×
         PrintsAndPlaces P.is_known (O.taken streams.old.out) (O.taken streams.new.out)
@@ -118,7 +118,7 @@ fn first_book<F: Source>(
     }
 }
 
-/// Tells what was read of a journal, and what became of a torn line. That it cannot be told changes nothing.
+/// Prints what was read of a journal, and what became of a torn line. That it cannot be reported changes nothing.
 pub(crate) fn print_read<E: Sink>(
     err: &mut E,
     torn: usize,

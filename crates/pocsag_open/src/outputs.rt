@@ -24,7 +24,7 @@ pub trait OutputStore {
 
     ghost last_fault: { Self → Option PlaceFault };
 
-    /// Makes the two outputs that a line names, which are empty, or answers why there are none.
+    /// Makes the two outputs that a line names, which are empty, or returns why there are none.
     fn make(&mut self, tx: &str, cert: &str) -> Result<Outputs<Self::Output>, FileFault>
         ensures known { is_known → IfOk result (λ outputs. Self.Output.is_known) }
         ensures empty { is_known → IfOk result (λ outputs.

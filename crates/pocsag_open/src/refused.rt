@@ -1,4 +1,4 @@
-//! The lines that tell why a line of an open round is refused.
+//! The lines that report why a line of an open round is refused.
 ghost use Rattle.std.specs.Prelude.{◌≡◌, IfErr};
 ghost use Rattle.pocsag_words.specs.Devices.{CountsFailures, Delivers};
 ghost use Rattle.pocsag_open.specs.Answers.{refusal_answer};
@@ -10,7 +10,7 @@ use pocsag_plan::AddFault;
 use pocsag_shell::{FileFault, print_numbers, put_whole};
 use pocsag_words::Sink;
 
-/// Tells why a line is refused, by one line.
+/// Prints why a line is refused, by one line.
 pub fn refuse<O: Sink>(refusal: Refusal, out: &mut O) -> Result<(), FileFault>
     ensures printed { O.is_known → Delivers result (O.taken out.old) (O.taken out.new) (refusal_answer refusal) }
     ensures lost { IfErr result (λ e. e ≡ FileFault.Write) }

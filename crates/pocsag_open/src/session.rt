@@ -43,8 +43,8 @@ pub fn run_open<P: OutputStore + Drop, I: Source, O: Sink>(
     input: &mut I,
     out: &mut O,
 ) -> Result<(), FileFault>
-    // What is told are the replies to the lines of the input, one by one, from no pages on; and what is placed are the
-    // outputs of the plans that they tell.
+    // What is reported are the replies to the lines of the input, one by one, from no pages on; and what is placed are the
+    // outputs of the plans that they report.
     ensures session { I.is_known → O.is_known → OnOk result ((after : List Page) × PrintsAndPlaces P.is_known
         (O.taken out.old) (O.taken out.new) (P.placed settings.old.store) (P.placed settings.new.store)
         (IsSession P.is_known settings.old.on_limit (I.held input.old) [] after)) }
@@ -76,8 +76,8 @@ pub fn run_open_pages<P: OutputStore + Drop, F: Source, I: Source, O: Sink>(
     input: &mut I,
     out: &mut O,
 ) -> Result<(), OpenFault>
-    // What is told are the replies to the lines of the input, one by one, from the pages of the page file on; and what is
-    // placed are the outputs of the plans that they tell.
+    // What is reported are the replies to the lines of the input, one by one, from the pages of the page file on; and what is
+    // placed are the outputs of the plans that they report.
     ensures session { F.is_known → I.is_known → O.is_known → OnOk result ((before after : List Page) ×
         (verdict (F.held pages.old) ≡ Ok before) × PrintsAndPlaces P.is_known
         (O.taken out.old) (O.taken out.new) (P.placed settings.old.store) (P.placed settings.new.store)
@@ -134,8 +134,8 @@ pub fn run_open_kept<P: OutputStore + Drop, K: Keeper + Drop, I: Source, O: Sink
     input: &mut I,
     out: &mut O,
 ) -> Result<(), FileFault>
-    // What is told are the replies to the lines of the input, one by one, from the pages of the round on; and what is placed
-    // are the outputs of the plans that they tell.
+    // What is reported are the replies to the lines of the input, one by one, from the pages of the round on; and what is placed
+    // are the outputs of the plans that they report.
     ensures session { I.is_known → O.is_known → OnOk result (PrintsAndPlaces P.is_known
         (O.taken out.old) (O.taken out.new) (P.placed settings.old.store) (P.placed settings.new.store)
         (IsSession P.is_known settings.old.on_limit (I.held input.old) round.old.book round.new.book)) }

@@ -26,7 +26,7 @@ fn word_from(bytes: &[u8], at: usize) -> u32
 }
 
 /// A pager of one address. It is given all words after a preamble in order, synchronisation words
-/// included, and answers each page of its address at the word that ends it.
+/// included, and returns each page of its address at the word that ends it.
 #[derive(Drop)]
 pub struct Pager {
     alloc: Global,

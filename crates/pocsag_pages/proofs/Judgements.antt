@@ -163,7 +163,7 @@ never_read bytes h =
       | inr small ↦ not_of_rows (rows_of bytes) (sym (small_file bytes (omega arith)) ∙ h)
     ]
 
--- what is told where the bytes were not read whole
+-- what is reported where the bytes were not read whole
 pub unread : (bytes : List ℕ) (w : WholeFault) (e : RoundFault) → (w ≡ whole.TooLarge → input_limit < length bytes) →
     e ≡ round_fault_of w → (e ≡ fault.OutOfMemory) ⊎ ((e ≡ fault.ReadFault) ⊎ (verdict bytes ≡ Err e))
 unread bytes whole.ReadFault e large is = inr (inl is)

@@ -140,7 +140,7 @@ pub held_large : (may_wait : Bool) (bytes : List ℕ) → input_limit < length b
 held_large true bytes h = large_queue bytes h
 held_large false bytes h = large_file bytes h
 
--- what is told where the bytes were not read whole
+-- what is reported where the bytes were not read whole
 pub held_unread : (may_wait : Bool) (bytes : List ℕ) (w : WholeFault) (e : RoundFault) → (w ≡ whole.TooLarge → input_limit < length bytes) →
     e ≡ round_fault_of w → (e ≡ fault.OutOfMemory) ⊎ ((e ≡ fault.ReadFault) ⊎ (held_pages may_wait bytes ≡ Err e))
 held_unread may_wait bytes whole.ReadFault e large is = inr (inl is)

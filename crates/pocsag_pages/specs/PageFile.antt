@@ -83,7 +83,7 @@ IsTone (kind.Tone function) = Unit {0}
 IsTone kind.Numeric = ⊥
 IsTone kind.Alpha = ⊥
 
--- A text's fault as that of a field. No text has the last one, which is told of a packing alone.
+-- A text's fault as that of a field. No text has the last one, which is reported of a packing alone.
 abbrev pub field_fault_of : TextFault → FieldFault
 field_fault_of text.EmptyMessage = field.EmptyMessage
 field_fault_of (text.BadCharacter place) = field.BadCharacter place
@@ -147,7 +147,7 @@ fault_after count earlier (Ok p) =
 unfoldable pub fault_of_row : (before : List Row) → Row → Option RecordFault
 fault_of_row before r = fault_after (length before) (pages_of before) (page_of r)
 
--- The fault of the record of this number. Want of memory, which is told of a packing alone, names no record.
+-- The fault of the record of this number. Want of memory, which is reported of a packing alone, names no record.
 abbrev pub numbered : ℕ → RecordFault → RoundFault
 numbered n (wrong.Field field.OutOfMemory) = fault.OutOfMemory
 numbered n e = fault.Record n e

@@ -17,7 +17,7 @@ fault_at n before p None = if has_address before p.address then Some (fault.Reco
 unfoldable pub fault_of_next : List Page → Page → Option RoundFault
 fault_of_next before p = fault_at (length before + 1) before p (page_fault_of p)
 
--- The first fault, or else what is told of the pages after it.
+-- The first fault, or else what is reported of the pages after it.
 abbrev pub or_else : Option RoundFault → Option RoundFault → Option RoundFault
 or_else (Some f) other = Some f
 or_else None other = other

@@ -20,7 +20,7 @@ pages_from i (Address high function ∷ ws) =
     record { address = 8 * high + frame_at i; function = function; payload = items_of ws } ∷ pages_from (i + 1) ws
 pages_from i (Message bits ∷ ws) = pages_from (i + 1) ws
 
--- Each message codeword continues a page; whether one may stand first is told.
+-- Each message codeword continues a page; whether one may stand first is reported.
 abbrev pub HasNoOrphan : Bool → List Kind → Type 0
 HasNoOrphan in_page [] = Unit {0}
 HasNoOrphan in_page (Idle ∷ ws) = HasNoOrphan false ws

@@ -34,7 +34,7 @@ fn has_wide_row(alloc: Global, text: &[u8]) -> Result<bool, OutOfMemory>
 
 // The first front of a file that has a record of more than three fields, or the whole file. `csv` takes eight bytes of memory
 // for each field of a record, so of a long file no more is read than shows such a fault. Where memory is refused for a
-// front, the whole file is left to read, which then tells so.
+// front, the whole file is left to read, which then reports so.
 #[tactic(auto, using(crate::proofs::Fronts::head_rows))]
 pub(crate) fn judged_head(alloc: Global, file: &[u8]) -> &[u8]
     ensures { up_to_wide (rows_of result.now) ≡ up_to_wide (rows_of file.now) }

@@ -41,7 +41,7 @@ no_certificate (streaming.Round f) b h = h
 no_certificate (streaming.Transmission f) b h = h
 no_certificate (streaming.Certificate f) b h = b
 
--- so nothing is owed of what was taken
+-- so nothing is required of what was taken
 pub no_part : (e : StreamFault) → IsBeforeWriting e → (Holds : List ℕ → List ℕ → Type 0) (tx tx' : List ℕ) → IsTransmission e → WritesPartOf Holds tx tx'
 no_part e before Holds tx tx' h = absurd (no_transmission e before h)
 
@@ -209,6 +209,6 @@ unsent_front search R batches (streaming.Round f) u within round = absurd u
 unsent_front search R batches (streaming.Transmission f) u within round = (within, round)
 unsent_front search R batches (streaming.Certificate f) u within round = (within, round)
 
--- the fault of one call is that of another which answers it
+-- the fault of one call is that of another which returns it
 pub same_fault : {A B : Type 0} (e f : StreamFault) → IsErrOf {T = A} (Err e) f → IsErrOf {T = B} (Err e) f
 same_fault e f is = cc

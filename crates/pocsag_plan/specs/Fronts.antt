@@ -42,7 +42,7 @@ abbrev pub AreBeyond : Search → List Page → ℕ → Type 0
 AreBeyond search R batches =
     NoneHasFewer search.end R (batches + 1) ⊎ ((search.on_limit ≡ Always) × IsUndecidedFor search R batches)
 
--- The front that is owed for what is asked of a planner: the longest, where only the fewest batches are an answer.
+-- The front that is required for what is asked of a planner: the longest, where only the fewest batches are an answer.
 pub record IsFrontFor (search : Search) (R : List Page) (batches count : ℕ) : Type 0 where
   pub some : 0 < count
   pub among : count ≤ length R

@@ -104,7 +104,7 @@ pub record IsNoWorse (end : End) (R : List Page) (limit : ℕ) (bounded : Bounde
       (stop.least ≡ bounded.bound) × (stop.found ≡ bounded.plan.batches)
       × IsStopped end R limit stop.least stop.found (bound_tree_of stop.tree))
 
--- The plan that is owed for what is asked of a planner.
+-- The plan that is required for what is asked of a planner.
 pub record IsPlanFor (search : Search) (R : List Page) (bounded : Bounded) : Type 0 where
   -- It has a bound, and its tree has no more nodes than may be examined;
   pub plan_of : IsBounded search.end R bounded.plan bounded.bound

@@ -1,4 +1,4 @@
--- What a report tells of a plan at a rate, and its text (this project's own).
+-- What a report reports of a plan at a rate, and its text (this project's own).
 use Rattle.std.specs.Prelude.{◌≡◌, ◌⊎◌, ℕ, ◌+◌, ◌*◌, ◌<◌, ◌≤◌, List, [], ◌∷◌, ◌++◌, codes}
 use Rattle.std.specs.Fmt.{decimal}
 use Rattle.pocsag_words.specs.Frame.{airtime, transmission_bits}
@@ -26,19 +26,19 @@ pub record IsReport (plan : Plan) (rate : ℕ) (report : Report) : Type 0 where
   pub enough : 1000 * report.bits ≤ rate * report.airtime_ms
   pub least : rate * report.airtime_ms < 1000 * report.bits + rate
 
--- The report at a rate of the plan that is owed for what is asked of the page file's round, with its bound.
+-- The report at a rate of the plan that is required for what is asked of the page file's round, with its bound.
 pub record IsReportOf (file : List ℕ) (search : Search) (rate : ℕ) (answered : BoundedReport) : Type 0 where
   pub bounded : Bounded
   pub plan_of : IsOfRound file (λ round. IsPlanFor search round bounded)
   pub same_bound : answered.bound ≡ bounded.bound
   pub report_of : IsReport bounded.plan rate answered.report
 
--- A plan is owed for what is asked of the page file's round.
+-- A plan is required for what is asked of the page file's round.
 pub record IsPlannable (file : List ℕ) (search : Search) : Type 0 where
   pub bounded : Bounded
   pub plan_of : IsOfRound file (λ round. IsPlanFor search round bounded)
 
--- A transmission of so many batches lasts at most so many milliseconds at the rate, as a report tells it, and one of a batch
+-- A transmission of so many batches lasts at most so many milliseconds at the rate, as a report reports it, and one of a batch
 -- more lasts longer. No batch is none.
 pub record AreMostWithin (airtime_ms rate batches : ℕ) : Type 0 where
   pub within : 0 < batches → airtime (transmission_bits batches) rate ≤ airtime_ms

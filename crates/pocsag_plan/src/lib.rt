@@ -1,5 +1,5 @@
 #![tactic(auto)]
-//! Plans of rounds with the fewest batches, the streams that are written by them, and what a report tells
+//! Plans of rounds with the fewest batches, the streams that are written by them, and what a report reports
 //! of one.
 
 mod airtime;

@@ -29,7 +29,7 @@ pub fn report(plan: &Plan, rate: u32) -> Result<Report, BadRate>
     })
 }
 
-/// The most batches whose airtime at a rate of 512, 1200 or 2400 bits a second, as `report` tells it, is at most so many
+/// The most batches whose airtime at a rate of 512, 1200 or 2400 bits a second, as `report` reports it, is at most so many
 /// milliseconds; 0 where one batch takes longer.
 pub fn most_batches(airtime_ms: u32, rate: u32) -> Result<u32, BadRate>
     ensures most { IfOk result (AreMostWithin airtime_ms rate) }

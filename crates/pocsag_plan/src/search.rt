@@ -3,7 +3,7 @@ use pocsag_words::End;
 /// How a planner answers where its nodes do not decide between two numbers of batches.
 #[derive(Clone, Copy, PartialEq, Eq, Debug)]
 pub enum OnLimit {
-    /// Not at all: it answers with the fewest batches, or with `SearchLimit`.
+    /// Not at all: it returns with the fewest batches, or with `SearchLimit`.
     Fewest,
     /// With one batch more than its bound: it refuses no round.
     Always,

@@ -22,7 +22,7 @@ use Rattle.pocsag_receiver.specs.declared.fault.ReceiverFault.TheVariants as fau
 abbrev pub of_address : (address : ℕ) → List Page → List Page
 of_address address ps = filter (λ p. p.address == address) ps
 
--- Of the pages that are caught of a capture those that are kept were listed, and how each transmission was received is told.
+-- Of the pages that are caught of a capture those that are kept were listed, and how each transmission was received is reported.
 pub record ListsCaught (capture : List ℕ) (kept : List Page → List Page) (heard : List ReceptionStats) (out_before out_after : List ℕ) : Type 0 where
   pub pages : List Page
   pub caught : HasCaught capture (map (λ (h : ReceptionStats). h.reception) heard) pages

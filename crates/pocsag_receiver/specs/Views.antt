@@ -10,11 +10,11 @@ use Rattle.pocsag_shell.specs.declared.fault.FileFault.TheVariants as file
 use Rattle.pocsag_receiver.specs.declared.fault.ReceiverFault.{ReceiverFault}
 use Rattle.pocsag_receiver.specs.declared.fault.ReceiverFault.TheVariants as fault
 
--- The grid of the rows that are asked for, the listing of the places or the drawing of these rows was told.
+-- The grid of the rows that are asked for, the listing of the places or the drawing of these rows was reported.
 abbrev pub Viewed : View → (bytes out_before out_after : List ℕ) → Type 0
 Viewed view bytes out_before out_after = Shows (view_text view) bytes out_before out_after
 
--- A prefix of it was told.
+-- A prefix of it was reported.
 abbrev pub ViewedPart : View → (bytes out_before out_after : List ℕ) → Type 0
 ViewedPart view bytes out_before out_after = ShowsPart (view_text view) bytes out_before out_after
 

@@ -93,7 +93,7 @@ pub fn run_decode_capture<T: Source, O: Sink, E: Sink + Drop>(
         ⊎ ExplainsCapture (T.held tx.old) e) }
     ensures refused { IfSome (printed_by err.new) (λ e. receiver_status e ≡ 1 → out.new ≡ out.old) }
 
-    // A device's fault is told only where that device failed.
+    // A device's fault is reported only where that device failed.
     ensures read_failed { printed_by err.new ≡ Some (fault.File file.Device) →
         HasFailed (T.failures tx.old) (T.failures tx.new) }
     ensures write_failed { printed_by err.new ≡ Some (fault.File file.Write) →
@@ -171,7 +171,7 @@ pub fn run_hear_capture<T: Source, O: Sink, E: Sink + Drop>(
         ⊎ ExplainsCaptureFor listening.old.address (T.held tx.old) e) }
     ensures refused { IfSome (printed_by err.new) (λ e. receiver_status e ≡ 1 → out.new ≡ out.old) }
 
-    // A device's fault is told only where that device failed.
+    // A device's fault is reported only where that device failed.
     ensures read_failed { printed_by err.new ≡ Some (fault.File file.Device) →
         HasFailed (T.failures tx.old) (T.failures tx.new) }
     ensures write_failed { printed_by err.new ≡ Some (fault.File file.Write) →
@@ -241,7 +241,7 @@ pub fn run_show_capture<T: Source, O: Sink, E: Sink + Drop>(
         ⊎ ExplainsOne viewing.old.view (T.held tx.old) viewing.old.nth e) }
     ensures untouched { IfSome (printed_by err.new) (λ e. e ≢ fault.File file.Write → out.new ≡ out.old) }
 
-    // A device's fault is told only where that device failed.
+    // A device's fault is reported only where that device failed.
     ensures read_failed { printed_by err.new ≡ Some (fault.File file.Device) →
         HasFailed (T.failures tx.old) (T.failures tx.new) }
     ensures write_failed { printed_by err.new ≡ Some (fault.File file.Write) →

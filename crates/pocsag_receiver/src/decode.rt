@@ -149,7 +149,7 @@ pub fn run_decode<T: Source, O: Sink, E: Sink + Drop>(
         ⊎ IsSoOfRead (T.held tx.old) decoding.old.repairing.is_asked (λ bytes. ExplainsDecoding bytes e)) }
     ensures refused { IfSome (printed_by err.new) (λ e. receiver_status e ≡ 1 → out.new ≡ out.old) }
 
-    // A device's fault is told only where that device failed.
+    // A device's fault is reported only where that device failed.
     ensures read_failed { printed_by err.new ≡ Some (fault.File file.Device) →
         HasFailed (T.failures tx.old) (T.failures tx.new) }
     ensures write_failed { printed_by err.new ≡ Some (fault.File file.Write) →

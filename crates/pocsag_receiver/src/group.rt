@@ -27,7 +27,7 @@ const KEPT_BYTES: usize = 4_000_000;
 #[derive(Clone, Copy)]
 pub struct Receiver;
 
-// What is asked of a transmission, and what is told of it with `--verbose`.
+// What is asked of a transmission, and what is reported of it with `--verbose`.
 #[derive(Drop)]
 enum Receiving {
     Decode(Decoding),
@@ -181,7 +181,7 @@ fn carry_out<O: Sink, E: Sink + Drop>(
     }
 }
 
-// With `--verbose` tells how a transmission was received.
+// With `--verbose` reports how a transmission was received.
 fn print_received(context: Context<'_>, asked: &Receiving, names: Names<'_>) {
     match asked {
         Receiving::Hear(_) => {}
@@ -220,7 +220,7 @@ fn note_capture(
     }
 }
 
-// With `--repair` tells how much was corrected.
+// With `--repair` reports how much was corrected.
 fn note_repair(context: Context<'_>, names: Names<'_>, repairing: Repairing) {
     if repairing.is_asked {
         let Repaired { words, bits } = repairing.corrected;
@@ -230,7 +230,7 @@ fn note_repair(context: Context<'_>, names: Names<'_>, repairing: Repairing) {
     }
 }
 
-// With `--verbose` tells how transmissions of a capture were received, of which the first has this number.
+// With `--verbose` reports how transmissions of a capture were received, of which the first has this number.
 fn print_heard(context: Context<'_>, first: u64, heard: &[ReceptionStats]) {
     if !context.diagnostics.is_asked() {
         return;

@@ -85,7 +85,7 @@ pub fn run_hear<T: Source, O: Sink, E: Sink + Drop>(
         ⊎ ExplainsHearing hearing.address (T.held tx.old) e) }
     ensures refused { IfSome (printed_by err.new) (λ e. receiver_status e ≡ 1 → out.new ≡ out.old) }
 
-    // A device's fault is told only where that device failed.
+    // A device's fault is reported only where that device failed.
     ensures read_failed { printed_by err.new ≡ Some (fault.File file.Device) →
         HasFailed (T.failures tx.old) (T.failures tx.new) }
     ensures write_failed { printed_by err.new ≡ Some (fault.File file.Write) →

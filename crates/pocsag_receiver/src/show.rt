@@ -126,7 +126,7 @@ pub fn run_show<T: Source, O: Sink, E: Sink + Drop>(
         (λ bytes. ViewedPart showing.old.view bytes (O.taken out.old) (O.taken out.new)) }
     ensures untouched { IfSome (printed_by err.new) (λ e. e ≢ fault.File file.Write → out.new ≡ out.old) }
 
-    // A device's fault is told only where that device failed.
+    // A device's fault is reported only where that device failed.
     ensures read_failed { printed_by err.new ≡ Some (fault.File file.Device) →
         HasFailed (T.failures tx.old) (T.failures tx.new) }
     ensures write_failed { printed_by err.new ≡ Some (fault.File file.Write) →

@@ -1,4 +1,4 @@
--- What a writer took of a text that was told.
+-- What a writer took of a text that was reported.
 use Rattle.std.proofs.Common.{◌≡◌, ℕ, ◌≤◌, List, ◌++◌, length, take, sym, ap, ◌∙◌, Result, Ok, Err, append_assoc, length-append, length-take, arith}
 use Rattle.std.proofs.lemmas.List.{take-append-le, take_all}
 use Rattle.std.specs.Result.{IsErr, OnErr, OnOk}

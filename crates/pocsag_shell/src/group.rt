@@ -30,7 +30,7 @@ pub trait Group {
     /// the program.
     fn misplaced(&self, found: &ArgMatches<'_>) -> Option<&'static str>;
 
-    /// Carries out a call and answers the exit status, or an error in the words. `None` means that the call is not for this
+    /// Carries out a call and returns the exit status, or an error in the words. `None` means that the call is not for this
     /// group.
     fn run(&self, context: Context<'_>, call: Call<'_, '_>) -> Option<Result<u8, Error>>;
 }

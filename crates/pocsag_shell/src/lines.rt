@@ -83,7 +83,7 @@ pub fn print_numbers<S: Sink>(
     put_whole(sink, line.as_str().as_bytes())
 }
 
-/// Writes the line of a fault to standard error and answers the exit status. If standard error fails the line is lost, or all
+/// Writes the line of a fault to standard error and returns the exit status. If standard error fails the line is lost, or all
 /// but its front.
 pub fn print_fault<S: Sink, F: Failure>(err: &mut S, fault: F) -> u8
     ensures printed { S.is_known → (text : List ℕ) → F.output fault ≡ Some text →

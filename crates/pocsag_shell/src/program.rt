@@ -89,7 +89,7 @@ fn answer<G: Group>(
     }
 }
 
-// Prints an error of clap, which stands for help too, and answers the exit status.
+// Prints an error of clap, which stands for help too, and returns the exit status.
 fn print_clap_error(rt: &HostRuntime, error: &Error) -> u8 {
     let diagnostics = Diagnostics::new(false);
     let err = &mut WriterSink::new(rt.stderr(), Role::Output, &diagnostics);

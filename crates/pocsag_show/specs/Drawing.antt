@@ -27,7 +27,7 @@ piece low pl row =
     let y = row_top low row in
     rectangle x y (28 * (behind - from)) ++ (if nat_le (16 * row) pl.start then head x y pl.number else tail x y pl.number)
 
--- A page in the rows from one up to before another, in which it has codewords: a group of its hue, which tells what the
+-- A page in the rows from one up to before another, in which it has codewords: a group of its hue, which reports what the
 -- page is, and its pieces.
 unfoldable pub page_title : Placed → List ℕ
 page_title pl = codes "<title>" ++ (told pl ++ codes "</title>")
@@ -83,7 +83,7 @@ opening tall =
     codes "<svg xmlns='http://www.w3.org/2000/svg' version='1.1' class='pocsag' role='img' width='540' height='"
     ++ (decimal tall ++ (codes "' viewBox='0 0 540 " ++ (decimal tall ++ (codes "'>" ++ (10 ∷ [])))))
 
--- What readers of screens tell: which batches are drawn, and the line of totals with what the drawing is.
+-- What readers of screens report: which batches are drawn, and the line of totals with what the drawing is.
 unfoldable pub title : (low high batches : ℕ) → List ℕ
 title low high batches =
     codes "<title>Batches " ++ (decimal (low + 1) ++ (codes " to " ++ (decimal high ++ (codes " of "
@@ -107,7 +107,7 @@ unfoldable pub counted : (batches codewords idles : ℕ) → List ℕ
 counted batches codewords idles =
     codes "<text x='12' y='40'>" ++ (counts_part batches codewords idles ++ (codes "</text>" ++ (10 ∷ [])))
 
--- What stands before the rows: what is told, and what is seen.
+-- What stands before the rows: what is reported, and what is seen.
 unfoldable pub text_before : (low high batches codewords idles lines : ℕ) → List ℕ
 text_before low high batches codewords idles lines =
     opening (height (high - low) lines) ++ (title low high batches ++ description batches codewords idles)

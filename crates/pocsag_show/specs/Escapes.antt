@@ -1,4 +1,4 @@
--- What is told of a page, as text of XML (this project's own).
+-- What is reported of a page, as text of XML (this project's own).
 use Rattle.std.specs.Prelude.{ℕ, ◌+◌, ◌==◌, nat_lt, if◌then◌else◌, List, [], ◌∷◌, ◌++◌, codes}
 use Rattle.std.specs.List.{flat_map}
 use Rattle.std.specs.Fmt.{decimal}

@@ -9,7 +9,7 @@ use crate::style::put_style;
 use crate::window::Window;
 use std::alloc::AllocError;
 
-// Writes what is told before the rows: which batches are drawn, the totals and what the drawing is.
+// Writes what is reported before the rows: which batches are drawn, the totals and what the drawing is.
 #[tactic(auto, unfolding(crate::specs::Drawing::text_before, crate::specs::Drawing::opening, crate::specs::Drawing::title, crate::specs::Drawing::description, crate::specs::Drawing::explanation))]
 fn put_text_before(
     text: &mut Vec<u8>,

@@ -111,7 +111,7 @@ fn put_entry_of(
     put_entry(text, top, place_in(window, pages, placed), placed)
 }
 
-/// Writes the legend of the pages that are drawn, where they are few, and else where they are told.
+/// Writes the legend of the pages that are drawn, where they are few, and else where they are reported.
 #[tactic(auto, unfolding(crate::specs::Legend::legend, crate::specs::Legend::left_out))]
 pub(crate) fn put_legend(
     text: &mut Vec<u8>,

@@ -31,7 +31,7 @@ fn put_escaped(text: &mut Vec<u8>, byte: u8) -> Result<(), AllocError>
     }
 }
 
-/// Writes what is told of a page: its label, address, kind and, where it has one, message.
+/// Writes what is reported of a page: its label, address, kind and, where it has one, message.
 #[tactic(auto, unfolding(crate::specs::Escapes::told, crate::specs::Escapes::told_message))]
 pub(crate) fn put_told(alloc: Global, text: &mut Vec<u8>, placed: &Placed) -> Result<(), AllocError>
     requires { IsListable placed.now.page }

@@ -47,7 +47,7 @@ pub fn run_wav<T: Source, O: Sink, E: Sink + Drop>(
     ensures explained { T.is_known → IfSome (printed_by err.new) (ExplainsUnsounded keying (T.held tx.old)) }
     ensures refused { IfSome (printed_by err.new) (λ e. sound_status e ≡ 1 → out.new ≡ out.old) }
 
-    // A device's fault is told only where that device failed.
+    // A device's fault is reported only where that device failed.
     ensures read_failed { printed_by err.new ≡ Some (fault.File file.Device) →
         HasFailed (T.failures tx.old) (T.failures tx.new) }
     ensures write_failed { printed_by err.new ≡ Some (fault.File file.Write) →

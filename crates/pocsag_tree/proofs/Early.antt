@@ -41,7 +41,7 @@ unfolding row_at
 row_fails_first child zero made bytes e some is = absurd (omega arith)
 row_fails_first child (suc count) made bytes e some is = rw is refl
 
--- a fault that is judged early is told as it is
+-- a fault that is judged early is reported as it is
 pub told : {A : Type 0} (depth made : ℕ) (e : CertificateFault) (stopped : Type 0) (read : Result A CertificateFault) → IsEarly depth made e
     → read ≡ Err e → Fails e stopped read
 told depth made fault.TooDeep stopped read is same = same

@@ -443,7 +443,7 @@ pub fn read_certificate<S: Source>(
     // Memory is wanting only where a further byte is wanted, and no fault stands before it.
     ensures room { S.is_known → IsErrOf result CertificateFault.OutOfMemory
         → HasFirst fault.Truncated (given_before (S.held reader.old) (S.held reader.new)) }
-    // What is read is small enough to be read again, also where the reader tells nothing.
+    // What is read is small enough to be read again, also where the reader reports nothing.
     ensures deep { IfOk result (λ c. depth_of (bound_tree_of c.tree) ≤ greatest_depth) }
     ensures few { IfOk result (λ c. all_nodes (bound_tree_of c.tree) ≤ most_nodes) }
     // The reader failed in this call exactly where that is answered.

@@ -215,7 +215,7 @@ fn data_pages(alloc: Global, pages: &[(u32, u8, usize)]) -> Result<Vec<u8>, OutO
     Ok(bytes)
 }
 
-/// Pages of 1,400 items and of one more for the functions that tell their items, decoded, listed and heard, and
+/// Pages of 1,400 items and of one more for the functions that report their items, decoded, listed and heard, and
 /// one of 1,401 items for function 3, heard alone.
 pub fn receive_long_data(alloc: Global, line: &mut Line) -> Result<(), OutOfMemory> {
     let pages = [(1, 1, 1_400), (2, 1, 1_401), (3, 2, 1_400), (4, 2, 1_401)];
