@@ -12,7 +12,7 @@ sys.path[:0] = [str(pathlib.Path(__file__).resolve().parents[1]), str(pathlib.Pa
 import workspace
 from tally import Tally
 
-GROUPS = ("pocsag_centre", "pocsag_receiver", "pocsag_sound", "pocsag_open", "pocsag_explain")
+GROUPS = ("pocsag_centre", "pocsag_receiver", "pocsag_sound", "pocsag_open")
 COMMANDS = {  # of the specification, with the group of each
     "run_input": "pocsag_centre", "run_plan": "pocsag_centre", "run_check": "pocsag_centre", "run_report": "pocsag_centre",
     "run_decode": "pocsag_receiver", "run_hear": "pocsag_receiver",

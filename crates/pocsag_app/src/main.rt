@@ -2,7 +2,6 @@
 //! The program `pocsag`: the list of its groups of commands, and what help says of the whole.
 
 use pocsag_centre::Centre;
-use pocsag_explain::Explain;
 use pocsag_open::RoundGroup;
 use pocsag_receiver::Receiver;
 use pocsag_shell::{Both, Shape, run};
@@ -36,9 +35,6 @@ Example:
 };
 
 fn main(rt: HostRuntime) -> ExitCode {
-    let groups = &Both(
-        Centre,
-        Both(Receiver, Both(Sound, Both(RoundGroup, Explain))),
-    );
+    let groups = &Both(Centre, Both(Receiver, Both(Sound, RoundGroup)));
     ExitCode::from(run(&rt, &POCSAG, groups))
 }

@@ -2,6 +2,7 @@ pub mod AlonePages
 pub mod AsidePages
 pub mod Endings
 pub mod FirstPart
+mod Judged
 pub mod Plans
 pub mod QueueRounds
 pub mod ReportLines

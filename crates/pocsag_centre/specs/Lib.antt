@@ -9,4 +9,5 @@ pub mod Lines
 pub mod Oversized
 pub mod Refusals
 pub mod Reports
+pub mod Verdicts
 pub mod Verification

@@ -1,12 +1,13 @@
 //! What the words of a command ask for.
 
 use crate::words::{
-    AIRTIME, AT_MOST, CLOSED_END, EACH_FRAME, END, EXPECT, IDLE_END, IDLE_LAST, LATER, LIMIT,
-    OPEN_END, OVERSIZED, RATE, REST, STRICT, VERIFY, WHY,
+    AIRTIME, AT_MOST, CLOSED_END, DEPTH, EACH_FRAME, END, EXPECT, IDLE_END, IDLE_LAST, JSON, LATER,
+    LIMIT, OPEN_END, OVERSIZED, RATE, REST, STRICT, VERIFY, WHY,
 };
 use clap::ArgMatches;
+use pocsag_findings::Format;
 use pocsag_plan::{OnLimit, Search};
-use pocsag_shell::{ALWAYS, CERT, KEEP, PAGES, TX, path_of};
+use pocsag_shell::{ALWAYS, CERT, KEEP, PAGES, SVG, TX, path_of};
 use pocsag_words::End;
 
 /// What is asked of the planner, and of the page file.
@@ -129,5 +130,17 @@ pub(crate) fn report_args<'a>(found: &ArgMatches<'a>) -> Option<ReportArgs<'a>> 
         rate: found.get_one::<u32>(RATE)?,
         search: search_in(found)?,
         frames: found.get_flag(EACH_FRAME),
+    })
+}
+
+/// How a certificate is reported, by the words of `explain`.
+pub(crate) fn wanted_format(found: &ArgMatches<'_>) -> Option<Format> {
+    let depth = found.get_one::<u32>(DEPTH)?;
+    Some(if found.get_flag(SVG) {
+        Format::Drawing
+    } else if found.get_flag(JSON) {
+        Format::Json(depth)
+    } else {
+        Format::Lines(depth)
     })
 }

@@ -1,5 +1,6 @@
-use crate::args::{ReportArgs, SearchArgs, plan_args, report_args};
+use crate::args::{ReportArgs, SearchArgs, plan_args, report_args, wanted_format};
 use crate::check::run_check;
+use crate::explain::{ExplainFiles, run_explain};
 use crate::fault::CentreFault;
 use crate::note::{note_file, quote_asked};
 use crate::plan::{DEFAULT_SEARCH, run_input};
@@ -7,10 +8,11 @@ use crate::plan_files::{Streams, loaded, plan_command, refuse_unmet};
 use crate::report::{ReportAsked, run_report};
 use crate::texts::EARLY_STRICT;
 use crate::words::{
-    CHECK, CHECK_COMMAND, OVERSIZED, PLAN, PLAN_COMMAND, REPORT, REPORT_COMMAND, REST, STRICT,
-    STRICT_FLAG, WHY,
+    CHECK, CHECK_COMMAND, EXPLAIN, EXPLAIN_COMMAND, OVERSIZED, PLAN, PLAN_COMMAND, REPORT,
+    REPORT_COMMAND, REST, STRICT, STRICT_FLAG, WHY,
 };
 use clap::{ArgMatches, Error};
+use pocsag_findings::Format;
 use pocsag_shell::{
     CERT, Call, Context, Group, Names, PAGES, PAGES_READ, Role, STANDARD, TX, Tables, load_both,
     path_of, print,
@@ -32,6 +34,7 @@ impl Group for Centre {
         tables.commands.push(PLAN_COMMAND)?;
         tables.commands.push(CHECK_COMMAND)?;
         tables.commands.push(REPORT_COMMAND)?;
+        tables.commands.push(EXPLAIN_COMMAND)?;
         Ok(())
     }
 
@@ -50,6 +53,10 @@ impl Group for Centre {
                 check_paths(context, pages, cert, &mut streams)
             }
             Some(REPORT) => report_path(context, report_args(found)?, &mut streams),
+            Some(EXPLAIN) => {
+                let (pages, cert) = (found.get_str(PAGES)?, found.get_str(CERT)?);
+                explain_paths(context, wanted_format(found)?, pages, cert, &mut streams)
+            }
             _ => return None,
         };
         Some(Ok(streams.end(context, names_of(call), done)))
@@ -122,6 +129,29 @@ fn check_paths(
         &mut streams.err,
     );
     note_file(context, path, &pages, quote, streams.err.fault());
+    Ok(status)
+}
+
+// Explains a certificate; the status is 1 where it does not show its batches.
+fn explain_paths(
+    context: Context<'_>,
+    format: Format,
+    pages: &str,
+    cert: &str,
+    streams: &mut Streams,
+) -> Result<u8, CentreFault> {
+    let path = path_of(pages);
+    let (pages, cert) = load_both(context, pages, cert)?;
+    let quote = quote_asked(context, &pages);
+    let mut files = ExplainFiles { pages, cert };
+    let status = run_explain(
+        context.alloc,
+        format,
+        &mut files,
+        &mut streams.out,
+        &mut streams.err,
+    );
+    note_file(context, path, &files.pages, quote, streams.err.fault());
     Ok(status)
 }
 

@@ -1,10 +1,11 @@
 #![tactic(auto)]
-//! The group of commands of a paging centre: no words, `plan`, `check` and `report`. Each command is one function over any
+//! The group of commands of a paging centre: no words, `plan`, `check`, `report` and `explain`. Each command is one function over any
 //! sources and sinks, which ends its standard error and returns the exit status; the group runs it over what files hold.
 
 mod args;
 mod check;
 mod checks;
+mod explain;
 mod fault;
 mod frames;
 mod front;
@@ -21,11 +22,11 @@ mod words;
 
 pub use check::run_check;
 pub use checks::{expected_file, refuse_bad_limit, strict_file};
+pub use explain::{ExplainFiles, run_explain};
 pub use fault::CentreFault;
 pub use frames::FrameRoom;
 pub use front::{FrontAsked, FrontFiles, first_file, run_front};
 pub use group::Centre;
-pub use note::note_record;
 pub use oversized::{PartedFile, oversized_pages_need_more, part_file};
 pub use plan::{DEFAULT_LIMIT, PlanFiles, run_input, run_plan};
 pub use readback::run_verify;

@@ -53,8 +53,8 @@ fn record_at(alloc: Global, file: &[u8], number: u32) -> Option<(usize, &[u8])> 
     Some((line, record.split(ends_line).next()?))
 }
 
-/// With `--verbose` keeps a note on the record that a fault of a page file names: its line, and its text.
-pub fn note_record(context: Context<'_>, place: NamedFile<'_>, file: &[u8], fault: RoundFault) {
+// With `--verbose` keeps a note on the record that a fault of a page file names: its line, and its text.
+fn note_record(context: Context<'_>, place: NamedFile<'_>, file: &[u8], fault: RoundFault) {
     let RoundFault::Record(number, _) = fault else {
         return;
     };

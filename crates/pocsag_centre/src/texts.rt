@@ -90,3 +90,30 @@ pub(crate) const CHECK_ABOUT: &str =
     "Says whether a certificate shows that fewer batches do not suffice";
 
 pub(crate) const REPORT_ABOUT: &str = "Reports what the plan of a page file takes on the air";
+
+pub(crate) const EXPLAIN_ABOUT: &str =
+    "Explains why fewer batches do not suffice, by the certificate";
+
+pub(crate) const EXPLAIN_MANUAL: &str = "\
+The first line gives the batches that are shown, the codewords of the round and
+the room of one batch less. Then each node of the certificate has a line,
+indented as the tree is. An overload names slots in which more codewords must
+stand than there is room for. A cut names boundaries that no transmission stays
+inside, and has a node below it for each way out. A split has two cases. Where
+a node does not hold, the command prints 'not shown' and the first such node
+with the reason, and the status is 1. '-' as PAGES or CERT is standard input.
+
+Example:
+  pocsag explain pages.csv cert.bin
+  pocsag explain pages.csv cert.bin --svg > cert.svg";
+
+pub(crate) const DEPTH_HELP: &str = "\
+The depth of the deepest nodes that have a line; the
+nodes below them are counted";
+
+pub(crate) const JSON_HELP: &str = "Prints the same facts as JSON";
+
+pub(crate) const PICTURE_HELP: &str = "\
+Draws the root and the nodes right below it as an SVG
+picture: the slots as columns, what must stand in each,
+and the room";

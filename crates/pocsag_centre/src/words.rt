@@ -1,13 +1,14 @@
 //! The words of the commands, as tables.
 
 use crate::texts::{
-    AIRTIME_HELP, AT_MOST_HELP, CHECK_ABOUT, END_HELP, EXPECT_HELP, FRAMES_HELP, IDLE_LAST_HELP,
-    LATER_HELP, LIMIT_HELP, OVERSIZED_HELP, PLAN_ABOUT, PLAN_MANUAL, PLAN_RATE_HELP, RATE_HELP,
-    REPORT_ABOUT, REST_HELP, STRICT_HELP, VERIFY_HELP, WHY_HELP,
+    AIRTIME_HELP, AT_MOST_HELP, CHECK_ABOUT, DEPTH_HELP, END_HELP, EXPECT_HELP, EXPLAIN_ABOUT,
+    EXPLAIN_MANUAL, FRAMES_HELP, IDLE_LAST_HELP, JSON_HELP, LATER_HELP, LIMIT_HELP, OVERSIZED_HELP,
+    PICTURE_HELP, PLAN_ABOUT, PLAN_MANUAL, PLAN_RATE_HELP, RATE_HELP, REPORT_ABOUT, REST_HELP,
+    STRICT_HELP, VERIFY_HELP, WHY_HELP,
 };
 use pocsag_shell::{
-    ALWAYS_FLAG, CERT_PLACE, Content, FLAG, Given, KEEP_FLAG, LineWord, PAGES_PLACE, PLACE, Shape,
-    TX_PLACE,
+    ALWAYS_FLAG, CERT_PLACE, Content, FLAG, Given, KEEP_FLAG, LineWord, PAGES_PLACE, PLACE, SVG,
+    Shape, TX_PLACE,
 };
 
 // The commands.
@@ -16,6 +17,8 @@ pub(crate) const PLAN: &str = "plan";
 pub(crate) const CHECK: &str = "check";
 
 pub(crate) const REPORT: &str = "report";
+
+pub(crate) const EXPLAIN: &str = "explain";
 
 // Their words.
 pub(crate) const RATE: &str = "rate";
@@ -33,6 +36,10 @@ pub(crate) const EXPECT: &str = "expect";
 pub(crate) const STRICT: &str = "strict";
 
 pub(crate) const EACH_FRAME: &str = "frames";
+
+pub(crate) const DEPTH: &str = "depth";
+
+pub(crate) const JSON: &str = "json";
 
 pub(crate) const AT_MOST: &str = "at-most";
 
@@ -213,5 +220,39 @@ pub(crate) const REPORT_COMMAND: Shape = Shape {
         STRICT_FLAG,
         ALWAYS_FLAG,
         EACH_FRAME_FLAG,
+    ],
+};
+
+const DEPTH_OPTION: LineWord = LineWord {
+    id: DEPTH,
+    help: DEPTH_HELP,
+    given: Given::Option("N", &["3"]),
+    content: Content::Number,
+    ..FLAG
+};
+
+const JSON_FLAG: LineWord = LineWord {
+    id: JSON,
+    help: JSON_HELP,
+    ..FLAG
+};
+
+const PICTURE_FLAG: LineWord = LineWord {
+    id: SVG,
+    help: PICTURE_HELP,
+    excludes: &[JSON, DEPTH],
+    ..FLAG
+};
+
+pub(crate) const EXPLAIN_COMMAND: Shape = Shape {
+    name: EXPLAIN,
+    about: EXPLAIN_ABOUT,
+    manual: Some(EXPLAIN_MANUAL),
+    words: &[
+        PAGES_PLACE,
+        CERT_PLACE,
+        DEPTH_OPTION,
+        JSON_FLAG,
+        PICTURE_FLAG,
     ],
 };

@@ -1,7 +1,7 @@
 //! The commands for transmissions and `explain`, over memory: what each reports, and its exit status.
 
+use pocsag_centre::{ExplainFiles, run_explain};
 use pocsag_decode::Repaired;
-use pocsag_explain::{ExplainFiles, run_explain};
 use pocsag_findings::Format;
 use pocsag_plan::plan_stream;
 use pocsag_receiver::{

@@ -7,7 +7,7 @@ use Rattle.pocsag_tree.specs.BoundTrees.{BoundTree}
 use Rattle.pocsag_tree.specs.CertificateText.{IsText}
 use Rattle.pocsag_check.specs.Acceptance.{IsAcceptedFor}
 use Rattle.pocsag_plan.specs.Plans.{NoneHasFewer}
-use Rattle.pocsag_explain.specs.Verdicts.{DoesNotShow, ShowsItsBatches}
+use Rattle.pocsag_centre.specs.Verdicts.{DoesNotShow, ShowsItsBatches}
 
 module _ (file text : List ℕ) (end : End) (batches : ℕ) (R : List Page) (tree : BoundTree) (read : verdict file ≡ Ok R)
     (spelled : IsText end batches tree text) where

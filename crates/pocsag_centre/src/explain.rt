@@ -10,9 +10,9 @@ ghost use Rattle.pocsag_shell.specs.declared.fault.FileFault.TheVariants as file
 ghost use Rattle.pocsag_centre.specs.Faults.{centre_status};
 ghost use Rattle.pocsag_centre.specs.Refusals.{OrDevice};
 ghost use Rattle.pocsag_findings.specs.Beginnings.{GivesVerdict};
-ghost use Rattle.pocsag_explain.specs.Verdicts.{DoesNotShow, ExplainsUntold, ShowsItsBatches, TookVerdict, TookVerdictPart};
+ghost use Rattle.pocsag_centre.specs.Verdicts.{DoesNotShow, ExplainsUntold, ShowsItsBatches, TookVerdict, TookVerdictPart};
 
-use pocsag_centre::CentreFault;
+use crate::fault::CentreFault;
 use pocsag_findings::{Format, explanation};
 use pocsag_pages::{Round, read_round};
 use pocsag_plan::{CheckVerdict, verdict_on};

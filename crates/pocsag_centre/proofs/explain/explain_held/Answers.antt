@@ -1,6 +1,6 @@
 use Rattle.pocsag_tree.specs.Views.{bound_tree_of}
-use Rattle.pocsag_explain.proofs.Judged.{does_not_show, shows}
-use Rattle.pocsag_explain.proofs.explained.explain_held.Goals as goal
+use Rattle.pocsag_centre.proofs.Judged.{does_not_show, shows}
+use Rattle.pocsag_centre.proofs.explain.explain_held.Goals as goal
 
 pub returns-in_err-put_whole-clause-part : goal.returns-in_err-put_whole-clause-part
 returns-in_err-put_whole-clause-part g c = λ pages_tell cert_tells out_tells is.
