@@ -178,7 +178,7 @@ def try_large_trial(tally, library):
         "read_certificate of 1,000,000 nodes: 1000000 58",
         "search and search_freely of 20,000 tones: 1250 20000 1 true 1250 20000 1 true",
         "search of eight pages to 1,000,000 nodes: 12 13 1000000 true",
-        "plan and plan_always of 20,000 pages of 1,400 items: "
+        "plan and bounded_plan of 20,000 pages of 1,400 items: "
         f"20000 {codewords} {in_order} {fewest + 1} 20000 {fewest} 20000 {codewords} {in_order} {fewest}",
         "Book::add and Book::plan of 20,000 tones: 20000 20000 2500 1250 too many pages",
         f"plan_stream of 20,000 pages of 1,400 items: 20000 {codewords} {in_order} {fewest} {72 + 68 * fewest} 12",

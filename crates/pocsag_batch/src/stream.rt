@@ -8,7 +8,7 @@ ghost use Rattle.pocsag_batch.specs.declared.stream.FirstFault.TheVariants as fa
 use crate::bytes::write;
 use crate::order::lay_in_order;
 use pocsag_pages::{RoundFault, read_round};
-use pocsag_words::{OutOfMemory, Sink, Source, WriteFault};
+use pocsag_words::{Sink, Source};
 use std::alloc::Global;
 use thiserror::Error;
 
@@ -23,30 +23,6 @@ pub enum FirstFault {
     /// The transmission was not taken whole; what was taken is a prefix of it.
     #[error("cannot write")]
     WriteFault,
-}
-
-impl From<RoundFault> for FirstFault {
-    ghost from_gives = { λ f e. e ≡ fault.Round f };
-
-    fn from(fault: RoundFault) -> FirstFault {
-        FirstFault::Round(fault)
-    }
-}
-
-impl From<OutOfMemory> for FirstFault {
-    ghost from_gives = { λ _ e. e ≡ fault.OutOfMemory };
-
-    fn from(_fault: OutOfMemory) -> FirstFault {
-        FirstFault::OutOfMemory
-    }
-}
-
-impl From<WriteFault> for FirstFault {
-    ghost from_gives = { λ _ e. e ≡ fault.WriteFault };
-
-    fn from(_fault: WriteFault) -> FirstFault {
-        FirstFault::WriteFault
-    }
 }
 
 /// Reads a page file up to its end, writes its round in file order with the open end, and answers how
@@ -74,8 +50,16 @@ pub fn first_stream<S: Source, T: Sink>(
     ensures unfailed { IfErr result
         (λ e. (e ≡ fault.Round round.ReadFault) ⊎ (S.failures source.new ≡ S.failures source.old)) }
 {
-    let round = read_round(alloc, source)?;
-    let batches = lay_in_order(alloc, &round)?;
-    write(&batches, tx)?;
-    Ok(batches.count())
+    let round = match read_round(alloc, source) {
+        Ok(round) => round,
+        Err(fault) => return Err(FirstFault::Round(fault)),
+    };
+    let batches = match lay_in_order(alloc, &round) {
+        Ok(batches) => batches,
+        Err(_) => return Err(FirstFault::OutOfMemory),
+    };
+    match write(&batches, tx) {
+        Ok(()) => Ok(batches.count()),
+        Err(_) => Err(FirstFault::WriteFault),
+    }
 }

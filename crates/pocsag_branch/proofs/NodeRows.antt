@@ -1,12 +1,8 @@
 -- Nodes that were made one after another until the limit.
-use Rattle.std.proofs.Common.{◌≡◌, ℕ, suc, ◌+◌, ◌≤◌, Bool, true, false, List, [], ◌∷◌, ◌++◌, replicate, refl, sym, ap, ◌∙◌, arith, append_assoc, inl, inr}
+use Rattle.std.proofs.Common.{◌≡◌, ℕ, suc, ◌+◌, Bool, true, false, List, ◌∷◌, ◌++◌, replicate, sym, ap, ◌∙◌, arith, append_assoc, inl, inr}
 use Rattle.std.proofs.lemmas.Bool.{cases_eq}
 use Rattle.std.proofs.lemmas.List.{append-nil, replicate-append-replicate}
 use Rattle.pocsag_branch.specs.Examined.{Fills}
-
-pub fills_none : (limit made : ℕ) → made ≤ limit → Fills limit made made []
-fills_none limit made h =
-    record { closed = 0; unseen = 0; layout = refl; spent = omega arith; within = h; whole = λ some. absurd (omega arith) }
 
 pub fills_node : (limit made after : ℕ) (marks : List Bool) → Fills limit (made + 1) after marks → Fills limit made after (false ∷ marks)
 fills_node limit made after marks f =

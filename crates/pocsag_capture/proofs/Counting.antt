@@ -26,9 +26,6 @@ pub record IsCounting (bits : List ℕ) (u : Run) (n lost : ℕ) : Type 0 where
   pub each : AllZip IsMended (map (run_word bits u) (range_with_len 1 n)) mended
   pub count : lost ≡ lost_words mended
 
-pub counting_none : (bits : List ℕ) (u : Run) → IsCounting bits u 0 0
-counting_none bits u = record { mended = []; each = tt; count = refl }
-
 counting_more : (bits : List ℕ) (u : Run) (n k lost w : ℕ) (m : Option ℕ) → k ≡ n + 1 → w ≡ run_word bits u k → IsMended w m
     → IsCounting bits u n lost → IsCounting bits u k (lost + is_lost m)
 counting_more bits u n k lost w m next is mended f =

@@ -19,7 +19,7 @@ use Rattle.pocsag_pager.proofs.Mended.{all_mended_same}
 use Rattle.pocsag_pager.proofs.Damage.{shown_is_chosen}
 use Rattle.pocsag_capture.specs.Bits.{capture_bits, word_on}
 use Rattle.pocsag_capture.specs.Caught.{AreCaught, HasCaught, without_orphans}
-use Rattle.pocsag_capture.specs.Receptions.{AreFound, IsOnAir, HasBatches, IsBridged, IsInStep, IsQuiet, IsReadTo, IsReception, IsSyncRun, IsSynchronised, counted, run_end, last_sync, nothing, passed, received}
+use Rattle.pocsag_capture.specs.Receptions.{AreFound, IsOnAir, HasBatches, IsBridged, IsInStep, IsReadTo, IsReception, IsSyncRun, IsSynchronised, counted, run_end, last_sync, nothing, passed, received}
 use Rattle.pocsag_capture.specs.declared.polarity.Polarity.{Polarity}
 use Rattle.pocsag_capture.specs.declared.polarity.Polarity.TheVariants.{Upright, Inverted}
 use Rattle.pocsag_capture.specs.declared.reception.Reception.{Reception}
@@ -206,24 +206,3 @@ caught_shown words a ps qs f g =
     ∙ ap (λ (ms : List (Option ℕ)). shown_from a 0 (map said ms)) (all_mended_same (unsynced 0 words) g.mended f.mended g.each f.each)
     ∙ without_orphans_shown a 0 false (map said f.mended) ∙ shown_is_chosen a 0 (without_orphans false (map said f.mended))
     ∙ ap (filter (calls a)) (sym (reads_plainly f.holds).pages)
-
--- ---- noise alone
-
-no_reception : (bits : List ℕ) (first held : ℕ) (rs : List Reception) → IsQuiet bits first (length bits) → AreFound bits first held rs → rs ≡ []
-no_reception bits first held rs quiet (nothing other) = refl
-no_reception bits first held rs quiet (counted u r more run counts is rest) =
-    absurd (quiet u.bit run.later (omega (arith, run.begins.within)) u.polarity run.begins)
-no_reception bits first held rs quiet (passed u more run not rest) =
-    absurd (quiet u.bit run.later (omega (arith, run.begins.within)) u.polarity run.begins)
-
-no_pages : (bits : List ℕ) (rs : List Reception) (pss : List (List Page)) → rs ≡ []
-    → AllZip (λ (r : Reception) (here : List Page). AreCaught (received bits r) here) rs pss → pss ≡ []
-no_pages bits [] [] none f = refl
-no_pages bits [] (p ∷ pss) none f = absurd f
-no_pages bits (r ∷ rs) pss none f = absurd (cc)
-
-pub nothing_of_noise : (capture : List ℕ) (rs : List Reception) (ps : List Page) → IsQuiet (capture_bits capture) 0 (length (capture_bits capture))
-    → HasCaught capture rs ps → (rs ≡ []) × (ps ≡ [])
-nothing_of_noise capture rs ps quiet f =
-    let none = no_reception (capture_bits capture) 0 0 rs quiet f.found in
-    (none, f.all ∙ ap (flat_map (λ (here : List Page). here)) (no_pages (capture_bits capture) rs f.pages none f.each))

@@ -1,5 +1,5 @@
 -- The search for a synchronisation codeword, bit by bit or eight bits at once.
-use Rattle.std.proofs.Common.{◌≡◌, ℕ, ◌+◌, ◌-◌, ◌*◌, ◌/◌, ◌%◌, ◌^◌, ◌<◌, ◌≤◌, List, [], ◌∷◌, ◌++◌, append_assoc, length, Option, Some, None, refl, sym, ap, subst, ◌∙◌, inl, inr, arith}
+use Rattle.std.proofs.Common.{◌≡◌, ℕ, ◌+◌, ◌-◌, ◌*◌, ◌/◌, ◌%◌, ◌^◌, ◌<◌, ◌≤◌, List, [], ◌∷◌, ◌++◌, append_assoc, length, Option, Some, refl, sym, ap, subst, ◌∙◌, inl, inr, arith}
 use Rattle.std.proofs.lemmas.Bool.{cases_lt}
 use Rattle.std.proofs.lemmas.List.{append-nil}
 use Rattle.pocsag_words.specs.Codeword.{IsNear}
@@ -12,10 +12,6 @@ use Rattle.pocsag_capture.specs.declared.reception.Reception.{Reception}
 use Rattle.pocsag_capture.specs.declared.reception.Run.{Run}
 use Rattle.pocsag_capture.proofs.Windows.{bits_long}
 
--- nothing yet
-pub quiet_none : (bits : List ℕ) (first : ℕ) → IsQuiet bits first first
-quiet_none bits first = λ bit low high polarity is. absurd (omega arith)
-
 -- more bits
 pub quiet_more : (bits : List ℕ) (first bit next : ℕ) → IsQuiet bits first bit → IsQuiet bits bit next → IsQuiet bits first next
 quiet_more bits first bit next before here = λ k low high polarity.
@@ -27,14 +23,6 @@ quiet_more bits first bit next before here = λ k low high polarity.
 -- a word that is known to be near in neither polarity, or in none but one
 abbrev Answers : Option Polarity → ℕ → Type 0
 Answers found word = (polarity : Polarity) → IsNear sync_word (as_sent polarity word) → found ≡ Some polarity
-
-pub quiet_bit : (bits : List ℕ) (bit word : ℕ) (found : Option Polarity) → word ≡ word_on bits bit → found ≡ None → Answers found word
-    → IsQuiet bits bit (bit + 1)
-quiet_bit bits bit word found is none only = λ k low high polarity synchronised.
-    let same : k ≡ bit = omega arith in
-    let here : word_on bits k ≡ word = ap (word_on bits) same ∙ sym is in
-    let wrong = only polarity (subst (λ (n : ℕ). IsNear sync_word (as_sent polarity n)) here synchronised.near) in
-    absurd (cc)
 
 pub quiet_eight : (bytes : List ℕ) (at bit window : ℕ) → bit ≡ 8 * at →
     ((k : ℕ) → k < 8 → 8 * at + k + 32 ≤ 8 * length bytes → word_on (capture_bits bytes) (8 * at + k) ≡ window / 2 ^ (8 - k) % 2 ^ 32) →

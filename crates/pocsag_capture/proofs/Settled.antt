@@ -5,7 +5,7 @@ use Rattle.std.specs.List.{AllZip, flat_map}
 use Rattle.std.proofs.lemmas.Bool.{cases_eq, cases_lt, le-leb, lt-leb, ne_eqb}
 use Rattle.std.proofs.lemmas.Grind.{flat_map-append}
 use Rattle.std.proofs.lemmas.List.{append-nil, length-append, map-append}
-use Rattle.std.proofs.lemmas.List.Elements.{All-nil, All-push}
+use Rattle.std.proofs.lemmas.List.Elements.{All-push}
 use Rattle.pocsag_words.specs.Codeword.{IsCodeword}
 use Rattle.pocsag_words.specs.Kinds.{kind_of}
 use Rattle.pocsag_words.specs.declared.codeword.Kind.{Kind}
@@ -170,24 +170,6 @@ pub record IsSettling (words : List ℕ) (s : WordCorrector) (before now : List 
   pub few_cuts : s.cut ≤ length words
   pub few_bits : s.corrected ≤ 32 * length words
   pub few_lost : s.lost ≤ length words
-
-pub settling_none : (s : WordCorrector) (before : List ℕ) → s.is_open ≡ false → s.corrected ≡ 0 → s.lost ≡ 0 → s.cut ≡ 0 → IsSettling [] s before before
-settling_none s before closed none zero uncut = record {
-  codewords = [];
-  mended = [];
-  are = All-nil IsCodeword;
-  each = tt;
-  kinds = refl;
-  open_page = closed;
-  bits = none;
-  beyond = zero;
-  cuts = uncut;
-  few_cuts = omega arith;
-  long = omega arith;
-  bytes = sym (append-nil before);
-  few_bits = omega arith;
-  few_lost = omega arith;
-}
 
 pub mended_push : (ws : List ℕ) (ms : List (Option ℕ)) (w : ℕ) (m : Option ℕ) → AllZip IsMended ws ms → IsMended w m
     → AllZip IsMended (ws ++ w ∷ []) (ms ++ m ∷ [])

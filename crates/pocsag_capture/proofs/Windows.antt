@@ -1,6 +1,5 @@
 -- The words of a window of 40 bits.
 use Rattle.std.proofs.Common.{◌≡◌, ℕ, suc, ◌+◌, ◌-◌, ◌*◌, ◌/◌, ◌%◌, ◌^◌, ◌<◌, ◌≤◌, List, [], ◌∷◌, ◌++◌, length, take, drop, get_or, refl, sym, ap, ◌∙◌, arith, append_assoc}
-use Rattle.std.specs.Int.{from_be_bytes, w32}
 use Rattle.std.proofs.Math.Seq.{drop-cons}
 use Rattle.std.proofs.lemmas.Grind.{flat_map-append}
 use Rattle.std.proofs.lemmas.List.{drop-drop, drop_at, length-take-le, take-append-drop, take_at}
@@ -59,9 +58,6 @@ five_bits : (a b c d e : ℕ) (rest : List ℕ) → b < 256 → c < 256 → d < 
     capture_bits (a ∷ b ∷ c ∷ d ∷ e ∷ rest) ≡ high_first 40 ((((a * 256 + b) * 256 + c) * 256 + d) * 256 + e) ++ capture_bits rest
 five_bits a b c d e rest sb sc sd se =
     four_bits a b c d (e ∷ rest) sb sc sd ∙ join_two 32 (((a * 256 + b) * 256 + c) * 256 + d) e (capture_bits rest) se
-
-pub four_value : (a b c d : ℕ) → from_be_bytes w32 (a ∷ b ∷ c ∷ d ∷ []) ≡ ((a * 256 + b) * 256 + c) * 256 + d
-four_value a b c d = omega arith
 
 -- bits from a byte on are those of the bytes from there on
 pub bits_long : (xs : List ℕ) → length (capture_bits xs) ≡ 8 * length xs

@@ -1,4 +1,3 @@
-pub mod AlonePages
 pub mod AsidePages
 pub mod Endings
 pub mod FirstPart

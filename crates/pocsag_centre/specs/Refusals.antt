@@ -7,6 +7,7 @@ use Rattle.pocsag_tree.specs.BoundTrees.{BoundTree}
 use Rattle.pocsag_tree.specs.declared.refusals.CertificateFault.TheVariants as certificate
 use Rattle.pocsag_branch.specs.Found.{IsNodeLimit}
 use Rattle.pocsag_plan.specs.Plans.{MayStop}
+use Rattle.pocsag_plan.specs.Searches.{default_limit}
 use Rattle.pocsag_plan.specs.Streams.{IsStoppedAt}
 use Rattle.pocsag_plan.specs.Verdicts.{ExplainsRound}
 use Rattle.pocsag_plan.specs.declared.search.OnLimit.TheVariants.{Fewest}
@@ -14,10 +15,6 @@ use Rattle.pocsag_plan.specs.declared.search.Search.{Search}
 use Rattle.pocsag_shell.specs.declared.fault.FileFault.TheVariants as file_fault
 use Rattle.pocsag_centre.specs.declared.fault.CentreFault.{CentreFault}
 use Rattle.pocsag_centre.specs.declared.fault.CentreFault.TheVariants as fault
-
--- The node limit where none is asked for.
-abbrev pub default_limit : ℕ
-default_limit = 100000
 
 -- What is asked of a planner where there are no words.
 abbrev pub default_search : Search

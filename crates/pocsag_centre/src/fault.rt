@@ -1,13 +1,11 @@
 ghost use Rattle.std.specs.Prelude.{◌≡◌};
-ghost use Rattle.pocsag_shell.specs.declared.fault.FileFault.TheVariants as file_fault;
 ghost use Rattle.pocsag_centre.specs.declared.fault.CentreFault.TheVariants as fault;
 
 use pocsag_decode::DecodeFault;
-use pocsag_pages::{QuoteFault, RoundFault, WholeFault};
-use pocsag_plan::{BadRate, NoFront, PlanFault, StreamFault};
+use pocsag_pages::{QuoteFault, RoundFault};
+use pocsag_plan::{NoFront, PlanFault, StreamFault};
 use pocsag_shell::{Failure, FileFault};
 use pocsag_tree::CertificateFault;
-use pocsag_words::OutOfMemory;
 use thiserror::Error;
 
 /// Why a command of the centre did not do what it was asked.
@@ -75,48 +73,6 @@ impl From<FileFault> for CentreFault {
 
     fn from(refused: FileFault) -> CentreFault {
         CentreFault::File(refused)
-    }
-}
-
-impl From<OutOfMemory> for CentreFault {
-    ghost from_gives = { λ _ e. e ≡ fault.File file_fault.OutOfMemory };
-
-    fn from(_refused: OutOfMemory) -> CentreFault {
-        CentreFault::File(FileFault::OutOfMemory)
-    }
-}
-
-impl From<WholeFault> for CentreFault {
-    ghost use Rattle.pocsag_shell.specs.Faults.{fault_of_whole};
-
-    ghost from_gives = { λ refused e. e ≡ fault.File (fault_of_whole refused) };
-
-    fn from(refused: WholeFault) -> CentreFault {
-        CentreFault::File(FileFault::from(refused))
-    }
-}
-
-impl From<RoundFault> for CentreFault {
-    ghost from_gives = { λ refused e. e ≡ fault.Round refused };
-
-    fn from(refused: RoundFault) -> CentreFault {
-        CentreFault::Round(refused)
-    }
-}
-
-impl From<BadRate> for CentreFault {
-    ghost from_gives = { λ _ e. e ≡ fault.BadRate };
-
-    fn from(_refused: BadRate) -> CentreFault {
-        CentreFault::BadRate
-    }
-}
-
-impl From<CertificateFault> for CentreFault {
-    ghost from_gives = { λ refused e. e ≡ fault.Certificate refused };
-
-    fn from(refused: CertificateFault) -> CentreFault {
-        CentreFault::Certificate(refused)
     }
 }
 

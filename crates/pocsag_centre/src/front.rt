@@ -93,55 +93,21 @@ pub fn run_front<P: Source + Drop, S: Sink + Drop, O: Sink, E: Sink + Drop>(
         ⊎ HasFailed (S.failures files.old.cert) (S.failures files.new.cert)
         ⊎ HasFailed (O.failures out.old) (O.failures out.new) }
 {
-    err.end(fronted(alloc, asked, files, out))
-}
-
-// The same, whose fault is still to be reported.
-fn fronted<P: Source + Drop, S: Sink + Drop, O: Sink>(
-    alloc: Global,
-    asked: FrontAsked,
-    files: &mut FrontFiles<P, S>,
-    out: &mut O,
-) -> Result<u8, CentreFault>
-    ensures written { P.is_known → S.is_known → OnOk result
-        (IsFrontWritten (P.held files.old.pages) asked files.new.count
-        (S.taken files.old.tx) (S.taken files.new.tx) (S.taken files.old.cert) (S.taken files.new.cert)
-        (S.taken files.old.rest) (S.taken files.new.rest) (S.taken files.old.why) (S.taken files.new.why)) }
-    ensures printed { P.is_known → S.is_known → O.is_known → OnOk result
-        (IsFrontPrinted (P.held files.old.pages) asked files.new.count
-        (S.taken files.old.tx) (S.taken files.new.tx) (S.taken files.old.cert) (S.taken files.new.cert)
-        (S.taken files.old.rest) (S.taken files.new.rest) (S.taken files.old.why) (S.taken files.new.why)
-        (O.taken out.old) (O.taken out.new)) }
-    ensures done { IfOk result (λ status. status ≡ 0) }
-    ensures explained { P.is_known → IfErr result
-        (OrDevice (ExplainsNoFront (P.held files.old.pages) asked)) }
-    ensures refused { IfErr result (λ e. e ≢ CentreFault.File file_fault.Write →
-        (files.new.tx ≡ files.old.tx) × (files.new.cert ≡ files.old.cert)
-        × (files.new.rest ≡ files.old.rest) × (files.new.why ≡ files.old.why) × (out.new ≡ out.old)) }
-    ensures read_failed { IsErrOf result (CentreFault.Round round_fault.ReadFault) →
-        HasFailed (P.failures files.old.pages) (P.failures files.new.pages) }
-    ensures write_failed { IsErrOf result (CentreFault.File file_fault.Write) →
-        HasFailed (S.failures files.old.rest) (S.failures files.new.rest)
-        ⊎ HasFailed (S.failures files.old.why) (S.failures files.new.why)
-        ⊎ HasFailed (S.failures files.old.tx) (S.failures files.new.tx)
-        ⊎ HasFailed (S.failures files.old.cert) (S.failures files.new.cert)
-        ⊎ HasFailed (O.failures out.old) (O.failures out.new) }
-{
     let front = match read_front(alloc, asked, &mut files.pages) {
         Ok(front) => front,
-        Err(fault) => return Err(fault),
+        Err(fault) => return err.end(Err(fault)),
     };
     files.count = front.bounded.plan.pages;
     if let Err(fault) = put_others(alloc, &front, files) {
-        return Err(CentreFault::File(fault));
+        return err.end(Err(CentreFault::File(fault)));
     }
     match send(&front.round, &front.bounded, &mut files.tx, &mut files.cert) {
         Ok(()) => {}
-        Err(_) => return Err(CentreFault::File(FileFault::Write)),
+        Err(_) => return err.end(Err(CentreFault::File(FileFault::Write))),
     }
     match print_front(&front, asked.batches, out) {
-        Ok(()) => Ok(0),
-        Err(fault) => Err(CentreFault::File(fault)),
+        Ok(()) => err.end(Ok(0)),
+        Err(fault) => err.end(Err(CentreFault::File(fault))),
     }
 }
 

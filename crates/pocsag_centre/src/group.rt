@@ -4,7 +4,7 @@ use crate::explain::{ExplainFiles, run_explain};
 use crate::fault::CentreFault;
 use crate::note::{note_file, quote_asked};
 use crate::plan::{DEFAULT_SEARCH, run_input};
-use crate::plan_files::{Streams, loaded, plan_command, refuse_unmet};
+use crate::plan_files::{Streams, plan_command, refuse_unmet};
 use crate::report::{ReportAsked, run_report};
 use crate::texts::EARLY_STRICT;
 use crate::words::{
@@ -15,7 +15,7 @@ use clap::{ArgMatches, Error};
 use pocsag_findings::Format;
 use pocsag_shell::{
     CERT, Call, Context, Group, Names, PAGES, PAGES_READ, Role, STANDARD, TX, Tables, load_both,
-    path_of, print,
+    load_file, path_of, print,
 };
 use std::alloc::AllocError;
 use std::io::IsTerminal;
@@ -98,7 +98,7 @@ fn plan_input(
         may_wait: false,
         search: DEFAULT_SEARCH,
     };
-    let mut pages = loaded(context, Role::PageFile, None, PAGES_READ)?;
+    let mut pages = load_file(context, Role::PageFile, None, PAGES_READ)?;
     refuse_unmet(context, None, &pages, asked)?;
     let quote = quote_asked(context, &pages);
     let status = run_input(
@@ -161,7 +161,7 @@ fn report_path(
     args: ReportArgs<'_>,
     streams: &mut Streams,
 ) -> Result<u8, CentreFault> {
-    let mut pages = loaded(context, Role::PageFile, args.pages, PAGES_READ)?;
+    let mut pages = load_file(context, Role::PageFile, args.pages, PAGES_READ)?;
     refuse_unmet(context, args.pages, &pages, args.search)?;
     let quote = quote_asked(context, &pages);
     let asked = ReportAsked {

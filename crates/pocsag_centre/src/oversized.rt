@@ -1,9 +1,6 @@
 //! Pages that alone need more batches than are allowed.
-ghost use Rattle.std.specs.Prelude.{◌≡◌, ◌+◌, ℕ, [], ◌∷◌, false, IfErr, IfOk};
+ghost use Rattle.std.specs.Prelude.{◌≡◌, IfErr, IfOk};
 ghost use Rattle.std.specs.List.{list_any};
-ghost use Rattle.pocsag_words.specs.declared.ending.End.{End};
-ghost use Rattle.pocsag_pages.specs.declared.page.Page.{Page};
-ghost use Rattle.pocsag_plan.specs.Plans.{NoneHasFewer};
 ghost use Rattle.pocsag_centre.specs.FrontFiles.{ExplainsFirst};
 ghost use Rattle.pocsag_centre.specs.Oversized.{IsParted, aside_of, fits_alone, planned_of};
 
@@ -108,10 +105,3 @@ fn fits_alone(page: &Page, end: End, batches: u32) -> bool
     let least = u64::from(2 * (page.address % FRAME_COUNT)) + 1 + items + idles;
     least <= BATCH_ROOM * u64::from(batches)
 }
-
-/// A page that does not fit alone into so many batches has no transmission in so many: any codewords whatever that are legal for
-/// it alone have more.
-pub fn oversized_pages_need_more()
-    ensures { (end : End) (batches : ℕ) (p : Page) →
-        fits_alone end batches p ≡ false → NoneHasFewer end (p ∷ []) (batches + 1) }
-{}

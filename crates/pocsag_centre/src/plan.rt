@@ -19,14 +19,12 @@ use crate::fault::CentreFault;
 use crate::lines::{print_below, print_plan};
 use pocsag_pages::{Round, read_round};
 use pocsag_plan::{
-    Bounded, OnLimit, Search, StreamFault, bounded_plan, plan_stream, plan_stream_always,
+    Bounded, DEFAULT_LIMIT, OnLimit, Search, StreamFault, bounded_plan, plan_stream,
+    plan_stream_always,
 };
 use pocsag_shell::{ErrorStream, FileFault};
 use pocsag_words::{End, Sink, Source};
 use std::alloc::Global;
-
-/// The node limit of a plan where none is asked for.
-pub const DEFAULT_LIMIT: u32 = 100_000;
 
 // What is asked of the planner where there are no words.
 pub(crate) const DEFAULT_SEARCH: Search = Search {

@@ -14,9 +14,9 @@ use pocsag_pages::FILE_LIMIT;
 use pocsag_plan::most_batches;
 use pocsag_shell::{
     CERT_READ, Context, FileFault, Loaded, MemoryStreams, Output, Outputs, PAGES_READ, Role,
-    STANDARD, StagedFile, is_regular, is_regular_or_none, load, make_outputs, open_output,
-    open_outputs, open_source, path_of, print, print_numbers, put_files, put_whole, refuse_equal,
-    refuse_input, refuse_one_file, refuse_shared, write_over,
+    STANDARD, StagedFile, is_regular, is_regular_or_none, load, load_file, make_outputs,
+    open_output, open_outputs, open_source, path_of, print, print_numbers, put_files, put_whole,
+    refuse_equal, refuse_input, refuse_one_file, refuse_shared, write_over,
 };
 use pocsag_words::{GrowingSink, MemorySink, Sink, Source};
 use std::fs::File;
@@ -38,17 +38,6 @@ const BAD_KEEP: &str =
 const BAD_REST: &str = "--rest and --why name files, and go with --at-most or --airtime";
 
 const BAD_OVERSIZED: &str = "--oversized names a file, and goes with --at-most or --airtime";
-
-/// What a file holds, or standard input if there is no path.
-pub(crate) fn loaded(
-    context: Context<'_>,
-    role: Role,
-    path: Option<&str>,
-    limit: usize,
-) -> Result<Loaded, CentreFault> {
-    let mut source = open_source(context, role, path)?;
-    Ok(load(context, &mut source, limit)?)
-}
 
 /// Refuses a page file that does not meet what is asked of it. What cannot be read is for the command to refuse.
 pub(crate) fn refuse_unmet(
@@ -281,7 +270,10 @@ fn front_asked(args: PlanArgs<'_>, limit: FrontLimit) -> Result<FrontAsked, Cent
     let batches = match limit {
         FrontLimit::All => u32::MAX,
         FrontLimit::Batches(batches) => batches,
-        FrontLimit::Airtime { ms, rate } => most_batches(ms, rate)?,
+        FrontLimit::Airtime { ms, rate } => match most_batches(ms, rate) {
+            Ok(batches) => batches,
+            Err(_) => return Err(CentreFault::BadRate),
+        },
     };
     Ok(FrontAsked {
         batches,
@@ -407,14 +399,14 @@ fn read_files_back<O: Sink>(
     streams: &mut Streams,
     out: &mut O,
 ) -> Result<u8, CentreFault> {
-    let mut pages = loaded(context, Role::PageFile, args.pages, PAGES_READ)?;
+    let mut pages = load_file(context, Role::PageFile, args.pages, PAGES_READ)?;
     if let (Some(first), Some(limit)) = (first, args.front) {
         pages = set_aside(context, args, front_asked(args, limit)?, pages)?.pages;
         pages = load_first(context, args, pages, first)?;
     }
     let quote = quote_asked(context, &pages);
-    let tx = loaded(context, Role::Transmission, Some(args.tx), PAGES_READ)?;
-    let cert = loaded(context, Role::Certificate, Some(args.cert), CERT_READ)?;
+    let tx = load_file(context, Role::Transmission, Some(args.tx), PAGES_READ)?;
+    let cert = load_file(context, Role::Certificate, Some(args.cert), CERT_READ)?;
     let mut files = PlanFiles { pages, tx, cert };
     let mut lines: MemorySink<LINES> = MemorySink::new(LINES, LINES as u64);
     let search = args.search.search;

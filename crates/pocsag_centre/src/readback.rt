@@ -99,7 +99,7 @@ fn read_batches<T: Source>(
     let Some(bytes) = tx.lent() else {
         return match read_whole(alloc, tx, INPUT_LIMIT) {
             Ok(bytes) => read_back(alloc, bytes.as_slice(), round, end),
-            Err(fault) => Err(CentreFault::from(fault)),
+            Err(fault) => Err(CentreFault::File(FileFault::from(fault))),
         };
     };
     if bytes.len() > INPUT_LIMIT {

@@ -68,6 +68,7 @@ const RATE_OPTION: LineWord = LineWord {
     ..PLACE
 };
 
+// Its word is `DEFAULT_LIMIT` of `pocsag_plan`.
 const LIMIT_OPTION: LineWord = LineWord {
     id: LIMIT,
     help: LIMIT_HELP,

@@ -1,12 +1,11 @@
 //! The commands of a paging centre over memory: what each reports, what it leaves, and its exit status.
 
 use pocsag_centre::{
-    CentreFault, DEFAULT_LIMIT, FrontAsked, FrontFiles, PlanFiles, ReportAsked, expected_file,
-    first_file, part_file, run_check, run_front, run_input, run_plan, run_report, run_verify,
-    strict_file,
+    CentreFault, FrontAsked, FrontFiles, PlanFiles, ReportAsked, expected_file, first_file,
+    part_file, run_check, run_front, run_input, run_plan, run_report, run_verify, strict_file,
 };
 use pocsag_pages::{FieldFault, QuoteFault, RecordFault, RoundFault};
-use pocsag_plan::{OnLimit, Search};
+use pocsag_plan::{DEFAULT_LIMIT, OnLimit, Search};
 use pocsag_shell::{ErrorStream, Loaded};
 use pocsag_words::{End, GrowingSink, MemorySink, MemorySource, SliceSource, Source};
 use std::alloc::Global;

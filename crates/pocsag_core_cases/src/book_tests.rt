@@ -2,8 +2,8 @@
 
 use crate::given::{IDLE, LONE_TONE, PageRow, SECOND, Sent, transmission};
 use crate::{round_of, same};
-use pocsag_pages::{Page, PageFault, Payload};
-use pocsag_plan::{AddFault, Book, BookFault, Bounded, Edit, NotThere, PlanFault};
+use pocsag_pages::{Page, PageFault, Payload, RoundFault};
+use pocsag_plan::{AddFault, Book, BookFault, NotThere, OnLimit, PlanFault, Search, StreamFault};
 use pocsag_words::{End, MemorySink};
 use std::alloc::Global;
 use std::process::Abort;
@@ -114,10 +114,11 @@ fn pages_cancelled(rt: HostRuntime) {
     }
 }
 
-fn expect_bound(rt: &impl Abort, answer: Result<Bounded, BookFault>, batches: u32, bound: u32) {
-    match answer {
-        Ok(bounded) => same!(rt; (bounded.plan.batches, bounded.bound), (batches, bound)),
-        Err(_) => assert!(rt; false, "no plan"),
+fn fewest(end: End) -> Search {
+    Search {
+        limit: 100_000,
+        end,
+        on_limit: OnLimit::Fewest,
     }
 }
 
@@ -132,8 +133,8 @@ fn rounds_reopened(rt: HostRuntime) {
     same!(rt; book.pages(), round.pages());
     let mut tx = MemorySink::<400>::new(64, u64::MAX);
     let mut cert = MemorySink::<100>::new(64, u64::MAX);
-    let plan = book.plan_stream(&mut tx, &mut cert, 100_000, End::Open);
-    same!(rt; plan.expect(&rt, "a plan").batches, 1);
+    let sent = book.bounded_stream(&mut tx, &mut cert, fewest(End::Open));
+    same!(rt; sent.expect(&rt, "a plan").plan.batches, 1);
     let mut is_due = false;
     for sent in TONE_SENT {
         let due = transmission(alloc, sent).expect(&rt, "an answer");
@@ -155,8 +156,8 @@ fn idle_last(rt: HostRuntime) {
     let book = Book::of_round(alloc, &round).expect(&rt, "memory");
     let mut tx = MemorySink::<400>::new(64, u64::MAX);
     let mut cert = MemorySink::<100>::new(64, u64::MAX);
-    let plan = book.plan_stream(&mut tx, &mut cert, 100_000, End::Idle);
-    same!(rt; plan.expect(&rt, "a plan").batches, 1);
+    let sent = book.bounded_stream(&mut tx, &mut cert, fewest(End::Idle));
+    same!(rt; sent.expect(&rt, "a plan").plan.batches, 1);
     let due = transmission(alloc, (16, IDLE, &[(14, 0)])).expect(&rt, "an answer");
     same!(rt; tx.bytes(), due.as_slice());
     assert!(rt;
@@ -170,11 +171,15 @@ fn loops_apart_within_one_batch(rt: HostRuntime) {
     let alloc = rt.alloc();
     let round = round_of(alloc, &[(0, 15), (3, 15)]).expect(&rt, "a round");
     let book = Book::of_round(alloc, &round).expect(&rt, "memory");
-    expect_bound(&rt, book.plan_always(1, End::Open), 3, 2);
     let mut tx = MemorySink::<400>::new(64, u64::MAX);
     let mut cert = MemorySink::<100>::new(64, u64::MAX);
-    let answer = book.plan_stream_always(&mut tx, &mut cert, 1, End::Open);
-    let bounded = answer.expect(&rt, "a plan");
+    let always = Search {
+        limit: 1,
+        end: End::Open,
+        on_limit: OnLimit::Always,
+    };
+    let sent = book.bounded_stream(&mut tx, &mut cert, always);
+    let bounded = sent.expect(&rt, "a plan");
     same!(rt; (bounded.plan.batches, bounded.bound), (3, 2));
     same!(rt; tx.bytes().len(), 72 + 3 * 68);
     assert!(rt;
@@ -182,13 +187,11 @@ fn loops_apart_within_one_batch(rt: HostRuntime) {
             .starts_with(b"PCB2\x00\x00\x00\x00\x02\x00".as_slice())
     );
     let empty = Book::new(alloc);
-    assert!(rt; matches!(empty.plan_always(1, End::Open), Err(BookFault::NoPages)));
-    assert!(rt;
-        matches!(
-            empty.plan_always(0, End::Open),
-            Err(BookFault::Plan(PlanFault::BadLimit))
-        )
-    );
+    let none = empty.bounded_stream(&mut tx, &mut cert, always);
+    assert!(rt; matches!(none, Err(StreamFault::Round(RoundFault::NoPages))));
+    let unlimited = Search { limit: 0, ..always };
+    let none = empty.bounded_stream(&mut tx, &mut cert, unlimited);
+    assert!(rt; matches!(none, Err(StreamFault::Plan(PlanFault::BadLimit))));
     assert!(rt;
         matches!(
             empty.plan(0, End::Open),
@@ -215,21 +218,4 @@ fn full_books(rt: HostRuntime) {
             Err(refused) => same!(rt; refused.fault, due),
         }
     }
-}
-
-#[test]
-fn edits_in_a_row(rt: HostRuntime) {
-    let alloc = rt.alloc();
-    let mut edits = Vec::new(alloc);
-    for address in [8, 16, 8] {
-        edits
-            .push(Edit::Add(made(&rt, alloc, (address, 0, &[]))))
-            .expect(&rt, "memory");
-    }
-    for _ in 0..2 {
-        edits.push(Edit::Cancel(8)).expect(&rt, "memory");
-    }
-    let mut book = Book::new(alloc);
-    book.edit_all(edits).expect(&rt, "memory");
-    same!(rt; book.pages(), [made(&rt, alloc, (16, 0, &[]))].as_slice());
 }

@@ -4,7 +4,8 @@ use crate::same;
 use pocsag_check::{check, check_open};
 use pocsag_pages::RoundFault;
 use pocsag_plan::{
-    PlanFault, StreamFault, plan, plan_always, plan_stream, plan_stream_always, report,
+    OnLimit, PlanFault, Search, StreamFault, bounded_plan, plan, plan_stream, plan_stream_always,
+    report,
 };
 use pocsag_tree::{nodes, read_certificate};
 use pocsag_words::{End, MemorySink, MemorySource, OutOfMemory};
@@ -85,6 +86,14 @@ const SIZES: [(Records, u32, u32); 3] = [
 // never refused.
 const LIMITED: [(Records, u32, u32, u32); 2] = [(LOOPS_APART, 1, 3, 2), (HARD, 1_000, 9, 9)];
 
+fn always(limit: u32, end: End) -> Search {
+    Search {
+        limit,
+        end,
+        on_limit: OnLimit::Always,
+    }
+}
+
 #[test]
 fn plans(rt: HostRuntime) {
     let alloc = rt.alloc();
@@ -93,7 +102,8 @@ fn plans(rt: HostRuntime) {
         let fewest = plan(alloc, &round, 100_000, *end).expect(&rt, "an answer");
         same!(rt; (fewest.batches, fewest.in_order), (*batches, *in_order), records);
         same!(rt; check(&round, *batches, &fewest.tree, *end), true, records);
-        let bounded = plan_always(alloc, &round, 100_000, *end).expect(&rt, "an answer");
+        let search = always(100_000, *end);
+        let bounded = bounded_plan(alloc, &round, search).expect(&rt, "an answer");
         same!(rt; (bounded.plan.batches, bounded.bound), (*batches, *batches), records);
         same!(rt; check(&round, *batches, &bounded.plan.tree, *end), true, records);
     }
@@ -116,7 +126,8 @@ fn plans_within_a_limit(rt: HostRuntime) {
         let round = round_of_file(alloc, records).expect(&rt, "an answer");
         let told = plan(alloc, &round, limit, End::Open);
         same!(rt; matches!(told, Err(PlanFault::SearchLimit(_))), true, records);
-        let bounded = plan_always(alloc, &round, limit, End::Open).expect(&rt, "an answer");
+        let search = always(limit, End::Open);
+        let bounded = bounded_plan(alloc, &round, search).expect(&rt, "an answer");
         same!(rt; (bounded.plan.batches, bounded.bound), (batches, bound), records);
         same!(rt; check(&round, bound, &bounded.plan.tree, End::Open), true, records);
         let Some(stop) = &bounded.stopped else {
@@ -135,7 +146,7 @@ fn limits_and_reports(rt: HostRuntime) {
     for limit in [0, 1_000_001] {
         let told = plan(alloc, &round, limit, End::Open);
         same!(rt; matches!(told, Err(PlanFault::BadLimit)), true, limit);
-        let told = plan_always(alloc, &round, limit, End::Open);
+        let told = bounded_plan(alloc, &round, always(limit, End::Open));
         same!(rt; matches!(told, Err(PlanFault::BadLimit)), true, limit);
     }
     let Err(PlanFault::SearchLimit(stop)) = plan(alloc, &round, 2, End::Open) else {

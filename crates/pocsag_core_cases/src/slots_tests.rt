@@ -2,8 +2,8 @@
 
 use crate::{round_of, same};
 use pocsag_slots::{
-    Choice, Way, all_limits, carries, classes_of, closing_ways, ending_ways, holds, is_certain,
-    least_load, loads, narrow, overloads, size, ways, with_member,
+    Choice, Way, all_limits, classes_of, closing_ways, ending_ways, holds, is_certain, least_load,
+    loads, narrow, overloads, size, ways, with_member,
 };
 use pocsag_words::End;
 
@@ -118,8 +118,6 @@ fn limits_and_loads(rt: HostRuntime) {
     let mut early = classes.count;
     early[135] = 0;
     same!(rt; loads(&classes, &Choice { early }), [2; 16]);
-    same!(rt; carries(&classes, &Choice { early }, 2), true);
-    same!(rt; carries(&classes, &Choice { early }, 1), false);
     for (end, wanted) in CLOSING {
         let classes = classes_of(
             &round_of(rt.alloc(), CLOSED_MIXED).expect(&rt, "an answer"),

@@ -1,7 +1,8 @@
 //! Worked examples of tours.
 
+use crate::tours::carries;
 use crate::{NoTour, round_of, same, tour_of};
-use pocsag_slots::{Choice, Step, carries, classes_of};
+use pocsag_slots::{Choice, Step, classes_of};
 use pocsag_tour::{TourFault, has_run_outside, reached, tour};
 use pocsag_words::End;
 

@@ -1,9 +1,9 @@
 ghost use Rattle.std.specs.Prelude.{◌≡◌, ℕ, ◌<◌, ◌≤◌, IfOk, IsTrue, slice_index};
-ghost use Rattle.pocsag_slots.specs.Loads.{IsChoice};
+ghost use Rattle.pocsag_slots.specs.Loads.{AreCarried, IsChoice};
 ghost use Rattle.pocsag_slots.specs.Tours.{IsTourFor};
 
 use pocsag_pages::Round;
-use pocsag_slots::{Choice, Classes, Step, carries, classes_of};
+use pocsag_slots::{Choice, Classes, Step, classes_of, loads};
 use pocsag_tour::{TourFault, tour};
 use pocsag_words::End;
 use std::alloc::Global;
@@ -26,6 +26,19 @@ fn all_early_but(classes: &Classes, late: Option<u8>) -> Choice
         _ => {}
     }
     Choice { early }
+}
+
+// Whether so many batches carry the loads of the choice: no slot is loaded above them.
+pub(crate) fn carries(classes: &Classes, choice: &Choice, batches: u32) -> bool
+    requires { IsChoice classes.now (slice_index choice.now.early) }
+    ensures { IsTrue result → AreCarried classes.now (slice_index choice.now.early) batches }
+{
+    for load in loads(classes, choice) {
+        if load > batches {
+            return false;
+        }
+    }
+    true
 }
 
 /// A tour of the round with so many batches in which all pages start early, but those of the class that

@@ -132,16 +132,6 @@ module _ {D : Type 0} (moment : D → ℕ) (left_since : D → ℕ → List ℕ 
       (unwritten journal before (ReadsAsEither RestartsAs before after) only held_is (λ left is. inl is)) time
       (torn_left journal line row before after new held_is text whole edit fits leaves)
 
-  -- while it is written anew
-  pub replaced_left : (journal : Journal D) (text : List ℕ) (pages : List Page) (new : D) →
-      IsHeld journal (held (disk_of journal)) (may_leave (disk_of journal)) pages → ListsPages text pages → length pages ≤ 20000 →
-      LeavesOr text (may_leave (disk_of journal)) (may_leave new) → (left : List ℕ) → may_leave new left → RestartsAs left pages
-  replaced_left journal text pages new held_is listed few leaves left now =
-      ⊎_elim
-      (λ was. held_restarts journal (held (disk_of journal)) (may_leave (disk_of journal)) pages left held_is was)
-      (λ same. subst (λ (bytes : List ℕ). RestartsAs bytes pages) (sym same) (listed_restarts text pages listed few))
-      (leaves left now)
-
   -- from what a crash may have left before on
   pub put_anew : (disk new : D) (text : List ℕ) (pages : List Page) →
       ((left : List ℕ) → left_since disk (moment disk) left → may_leave disk left) → ListsPages text pages → length pages ≤ 20000 →

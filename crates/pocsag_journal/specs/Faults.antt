@@ -2,17 +2,10 @@
 use Rattle.std.specs.Prelude.{◌≡◌, ℕ, ◌+◌, ◌<◌, List, [], ◌∷◌, ◌++◌, length}
 use Rattle.csv.specs.Writing.{default_writer, row_text}
 use Rattle.pocsag_words.specs.Devices.{HasFailed}
-use Rattle.pocsag_pages.specs.declared.fault.WholeFault.{WholeFault}
-use Rattle.pocsag_pages.specs.declared.fault.WholeFault.TheVariants as whole
 use Rattle.pocsag_pages.specs.declared.page.Page.{Page}
 use Rattle.pocsag_journal.specs.declared.fault.JournalFault.{JournalFault}
 use Rattle.pocsag_journal.specs.declared.fault.JournalFault.TheVariants as fault
 use Rattle.pocsag_journal.specs.Journals.{AddsLine, IsBadLine, IsBegun, NamesFormat, add_record, journal_limit}
-
-abbrev pub fault_of_reading : WholeFault → JournalFault
-fault_of_reading whole.ReadFault = fault.ReadFault
-fault_of_reading whole.TooLarge = fault.TooLarge
-fault_of_reading whole.OutOfMemory = fault.OutOfMemory
 
 -- What is reported of bytes that are no journal: that they do not begin as one, or only as one of another version, or the line
 -- that is none of one. Memory may be wanting.

@@ -1,3 +1,4 @@
+pub mod AlonePages
 pub mod Minimum
 pub mod PagesTakenOut
 pub mod Ends

@@ -2,8 +2,9 @@
 //! Laws that no call needs: of codewords and certificates, of the tours and file orders of a round, of what an accepted
 //! tree bounds, of readings and journals; of the fewest batches of a round: how those of the three ends compare, that
 //! they never grow when pages are taken away, and that they take the least airtime; of page files and open rounds, which
-//! hold rounds, whose own page files have the same verdict; of lines of JSON, which are read back; and of captures, which say
-//! one thing, those of transmissions their pages and no others, noise nothing, and preambles nothing.
+//! hold rounds, whose own page files have the same verdict; of lines of JSON, which are read back; of queues, which keep
+//! their order, and of pages that alone need too many batches; and of captures, which say one thing, those of transmissions
+//! their pages and no others, noise nothing, and preambles nothing.
 //! Nothing here runs: each function is a theorem.
 
 mod bound;
@@ -13,6 +14,7 @@ mod journal;
 mod laws;
 mod lines;
 mod order;
+mod queue;
 mod readings;
 mod tour;
 
@@ -37,6 +39,7 @@ pub use order::{
     file_order_exists, file_order_is_legal, file_order_is_one, orders_are_one, orders_give_layouts,
     orders_have_places, tours_have_orders,
 };
+pub use queue::{oversized_pages_need_more, queues_keep_order};
 pub use readings::{
     a_fault_there_stays, faults_are_one, listed_fields_are_read_back, no_fault_is_a_reading,
     readings_are_one, repaired_pages_are_heard, rounds_are_good, standing_is_without_fault,

@@ -96,15 +96,6 @@ wider i o k I O K file.EqualPaths a b c h = h
 wider i o k I O K file.Owner a b c h = h
 wider i o k I O K file.TooLarge a b c h = h
 
--- where nothing keeps the edits, nothing that keeps them gives up
-pub none_keeps : (i o : Type 0) (f : FileFault) → ExplainsEnd i o (HasGivenUp kept_line_limit [] 0 0) f → ExplainsEnd i o ⊥ f
-none_keeps i o f h =
-    wider i o (HasGivenUp kept_line_limit [] 0 0) i o ⊥ f (λ x. x) (λ x. x) never h
-  where
-    never : HasGivenUp kept_line_limit [] 0 0 → ⊥
-    never (inl failed) = let some = failed (omega arith) in omega (arith, some)
-    never (inr full) = omega (arith, full)
-
 -- a line has a byte, or a line feed behind it
 pub line_counts : (pending line rest : List ℕ) → IsFirstLine pending line rest → length rest < length pending
 line_counts pending line rest first = elim first.parts [

@@ -1,14 +1,12 @@
 -- A round that a journal keeps, from its start on.
-use Rattle.std.proofs.Common.{◌≡◌, ◌⊎◌, inl, inr, ⊎_elim, ℕ, ◌≤◌, List, [], ◌∷◌, length, arith, refl, subst}
-use Rattle.std.specs.Prelude.{Option, Some, None}
+use Rattle.std.proofs.Common.{◌⊎◌, inl, inr, ⊎_elim, ℕ, ◌≤◌, List, [], refl}
+use Rattle.std.specs.Prelude.{Option}
 use Rattle.pocsag_words.specs.Devices.{HasFailed}
-use Rattle.pocsag_pages.specs.PageFile.{Row}
 use Rattle.pocsag_pages.specs.declared.page.Page.{Page}
-use Rattle.pocsag_pages.specs.declared.fault.RoundFault.TheVariants as round
 use Rattle.pocsag_plan.specs.declared.search.OnLimit.{OnLimit}
 use Rattle.pocsag_journal.specs.Crashes.{RestartsAs}
-use Rattle.pocsag_journal.specs.Faults.{ExplainsAnew, ExplainsReplay}
-use Rattle.pocsag_journal.specs.Journals.{IsRead, ListsPages, Replays, journal_limit}
+use Rattle.pocsag_journal.specs.Faults.{ExplainsAnew}
+use Rattle.pocsag_journal.specs.Journals.{ListsPages}
 use Rattle.pocsag_journal.specs.Moments.{IsSafe, LeavesOnly}
 use Rattle.pocsag_journal.specs.Views.{IsHeld, IsMeasured, disk_of}
 use Rattle.pocsag_journal.specs.declared.journal.Journal.{Journal}
@@ -16,69 +14,11 @@ use Rattle.pocsag_journal.specs.declared.fault.JournalFault.{JournalFault}
 use Rattle.pocsag_journal.specs.declared.fault.JournalFault.TheVariants as journal
 use Rattle.pocsag_journal.proofs.Moments.{named, then_on}
 use Rattle.pocsag_open.specs.Ends.{ExplainsEnd}
-use Rattle.pocsag_open.specs.Faults.{ExplainsOpening, fault_of_journal}
+use Rattle.pocsag_open.specs.Faults.{fault_of_journal}
 use Rattle.pocsag_open.specs.KeptRounds.{ExplainsKept, IsBeginning, ReadsBeginning, ReadsKept}
 use Rattle.pocsag_open.specs.Replies.{AreReplies}
 use Rattle.pocsag_open.specs.Survival.{AreFirstLines, ReadsAfterLines}
-use Rattle.pocsag_open.specs.declared.fault.OpenFault.{OpenFault}
 use Rattle.pocsag_open.specs.declared.fault.OpenFault.TheVariants as fault
-use Rattle.pocsag_open.proofs.Ends.{wider}
-
--- bytes that are replayed are read again as the same pages
-pub replayed_reads : (bytes : List ℕ) (edits torn : ℕ) (pages : List Page) → Replays bytes edits torn pages → length bytes ≤ journal_limit →
-    RestartsAs bytes pages
-replayed_reads bytes edits torn pages r few = record { rows = r.rows; torn = r.rest; read = r.read; run = r.run; few = few }
-
-no_rows : (rows : List Row) → 0 ≡ length rows → rows ≡ []
-no_rows [] e = refl
-no_rows (row ∷ rows) e = absurd (omega (arith, e))
-
--- and where there is no edit, as none
-pub none_replayed : (bytes : List ℕ) (edits torn : ℕ) (pages : List Page) → edits ≤ 0 → Replays bytes edits torn pages →
-    (rest : List ℕ) × IsRead bytes [] rest
-none_replayed bytes edits torn pages none r =
-    let e : 0 ≡ length r.rows = omega (arith, none, r.as_many) in
-    (r.rest, subst (λ (rows : List Row). IsRead bytes rows r.rest) (no_rows r.rows e) r.read)
-
--- why a page file gives no beginning
-pub file_explains : (bytes file : List ℕ) (before after : ℕ) (f : OpenFault) →
-    ExplainsOpening file before after (ExplainsEnd ⊥ ⊥ ⊥) f →
-    ExplainsKept bytes (Some file) (HasFailed before after) (ExplainsEnd ⊥ ⊥ ⊥) f
-file_explains bytes file before after (fault.File f) h = h
-file_explains bytes file before after (fault.Round round.OutOfMemory) h = h
-file_explains bytes file before after (fault.Round round.ReadFault) h = h
-file_explains bytes file before after (fault.Round round.TooLarge) h = h
-file_explains bytes file before after (fault.Round round.BadHeader) h = h
-file_explains bytes file before after (fault.Round (round.Record n f)) h = h
-file_explains bytes file before after (fault.Round round.NoPages) h = h
-file_explains bytes file before after fault.NotHeld h = absurd h
-file_explains bytes file before after fault.HeldByAnother h = absurd h
-file_explains bytes file before after fault.HoldsEdits h = absurd h
-file_explains bytes file before after (fault.Journal f) h = absurd h
-
--- the same under wider causes of an end
-pub kept_wider : (bytes : List ℕ) (file : Option (List ℕ)) (file_failed I O K : Type 0) (f : OpenFault) →
-    ExplainsKept bytes file file_failed (ExplainsEnd ⊥ ⊥ ⊥) f → ExplainsKept bytes file file_failed (ExplainsEnd I O K) f
-kept_wider bytes file failed I O K (fault.File f) h = wider ⊥ ⊥ ⊥ I O K f (λ x. absurd x) (λ x. absurd x) (λ x. absurd x) h
-kept_wider bytes file failed I O K (fault.Round f) h = h
-kept_wider bytes None failed I O K fault.HoldsEdits h = h
-kept_wider bytes (Some file) failed I O K fault.HoldsEdits h = h
-kept_wider bytes file failed I O K (fault.Journal f) h = h
-kept_wider bytes file failed I O K fault.NotHeld h = h
-kept_wider bytes file failed I O K fault.HeldByAnother h = h
-
--- why a journal is not read
-pub read_explains : (bytes : List ℕ) (file : Option (List ℕ)) (file_failed I O K : Type 0) (before after : ℕ) (f : JournalFault) →
-    (HasFailed before after → I) → ExplainsReplay bytes before after f →
-    ExplainsKept bytes file file_failed (ExplainsEnd I O K) (fault_of_journal f)
-read_explains bytes file failed I O K before after journal.ReadFault i h = i h
-read_explains bytes file failed I O K before after journal.WriteFault i h = absurd h
-read_explains bytes file failed I O K before after journal.OutOfMemory i h = tt
-read_explains bytes file failed I O K before after journal.TooLarge i h = h
-read_explains bytes file failed I O K before after journal.NotJournal i h = h
-read_explains bytes file failed I O K before after journal.OtherVersion i h = h
-read_explains bytes file failed I O K before after (journal.BadLine n) i h = h
-read_explains bytes file failed I O K before after (journal.NoLine n) i h = absurd h
 
 -- why it is not written anew
 pub anew_explains : (bytes : List ℕ) (file : Option (List ℕ)) (file_failed I O K : Type 0) (before after : ℕ) (pages : List Page) (f : JournalFault) →

@@ -11,8 +11,9 @@ use Rattle.pocsag_plan.specs.declared.fault.StreamFault.TheVariants as streaming
 use Rattle.pocsag_plan.specs.declared.fault.UnsentFront.TheVariants as front
 use Rattle.pocsag_plan.specs.BookPlans.{ExplainsBookFront, ExplainsBookStream}
 use Rattle.pocsag_plan.specs.Plans.{IsStopped}
+use Rattle.pocsag_plan.specs.Searches.{default_limit}
 use Rattle.pocsag_plan.specs.Streams.{WritesAllOf, WritesInTurn}
-use Rattle.pocsag_open.specs.Plans.{ExplainsFiles, ExplainsFrontUndone, ExplainsUndone, HasFailedOutput, PlaceFault, PlaceNames, plan_limit, plan_search, undone_of}
+use Rattle.pocsag_open.specs.Plans.{ExplainsFiles, ExplainsFrontUndone, ExplainsUndone, HasFailedOutput, PlaceFault, PlaceNames, plan_search, undone_of}
 
 -- outputs that were empty hold what was written
 pub all_held : (Holds : List ℕ → List ℕ → Type 0) (tx tx_after cert cert_after : List ℕ) → tx ≡ [] → cert ≡ [] →
@@ -23,7 +24,7 @@ all_held Holds tx tx_after cert cert_after none no_text w =
     subst (λ (l : List ℕ). Holds l cert_after) (sym sent) (subst (λ (l : List ℕ). Holds w.sent l) (sym text) w.headline)
 
 -- the fault of a stream of the pages explains why their plan is refused
-pub explains : (on_limit : OnLimit) (end : End) (pages : List Page) (limit : ℕ) (f : StreamFault) → limit ≡ plan_limit →
+pub explains : (on_limit : OnLimit) (end : End) (pages : List Page) (limit : ℕ) (f : StreamFault) → limit ≡ default_limit →
     ExplainsBookStream on_limit end pages limit f → ExplainsUndone on_limit end pages (undone_of f)
 explains on_limit end pages limit (streaming.Plan planning.BadLimit) e h = absurd (h (record { some = omega (arith, e); few = omega (arith, e) }))
 explains on_limit end pages limit (streaming.Plan (planning.SearchLimit stop)) e h = (

@@ -1,6 +1,6 @@
 -- What a call that did what it was asked leaves, and what is so where there is a value.
-use Rattle.std.proofs.Common.{◌≡◌, ℕ, List, [], ◌++◌, refl, sym, ◌∙◌, append-nil}
-use Rattle.std.specs.Prelude.{IfSome, OnOk, Option, Some, None, Result, Ok, Err}
+use Rattle.std.proofs.Common.{◌≡◌, ℕ, List, [], ◌++◌, sym, ◌∙◌, append-nil}
+use Rattle.std.specs.Prelude.{OnOk, Result, Ok, Err}
 use Rattle.pocsag_words.specs.Devices.{Delivers}
 use Rattle.pocsag_open.specs.Plans.{PlacedPlan}
 use Rattle.pocsag_open.specs.Replies.{PrintsAndPlaces, TookMore}
@@ -39,10 +39,6 @@ pub told_this : {X E : Type 0} (r : Result X E) (IsKnown : Type 0) (before after
     (Q : List ℕ → List PlacedPlan → Type 0) → Q printed [] → OnOk r (after ≡ before ++ printed) → OnOk r (PrintsAndPlaces IsKnown before after placed placed Q)
 told_this r IsKnown before after printed placed Q q h =
     on_ok r _ _ (told_once IsKnown before after printed placed Q q) h
-
-pub if_some : {X : Type 0} (o : Option X) (P : X → Type 0) → ((x : X) → o ≡ Some x → P x) → IfSome o P
-if_some None P f = tt
-if_some (Some x) P f = f x refl
 
 -- what was delivered is such a text, or a part of one
 pub told_more : {X E : Type 0} (r : Result X E) (before after due : List ℕ) (is : List ℕ → Type 0) → is due → Delivers r before after due →

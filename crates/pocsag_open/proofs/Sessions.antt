@@ -1,5 +1,5 @@
 -- The replies to lines, one after another.
-use Rattle.std.proofs.Common.{◌≡◌, inl, inr, ℕ, List, [], ◌∷◌, ◌++◌, refl, sym, ap, ◌∙◌, subst, Bor, append_assoc, append-nil}
+use Rattle.std.proofs.Common.{◌≡◌, inl, inr, ℕ, List, [], refl, subst, Bor}
 use Rattle.std.specs.Prelude.{Option, Some, None}
 use Rattle.pocsag_words.specs.declared.ending.End.{End}
 use Rattle.pocsag_pages.specs.PageFile.{Row}
@@ -12,46 +12,8 @@ use Rattle.pocsag_journal.specs.declared.edits.Line.TheVariants as line
 use Rattle.pocsag_journal.specs.declared.refusal.Refusal.TheVariants as refusal
 use Rattle.pocsag_journal.specs.declared.refusal.UndoneFault.{UndoneFault}
 use Rattle.pocsag_journal.specs.declared.refusal.UndoneFault.TheVariants as undone
-use Rattle.pocsag_open.specs.Lines.{AreLines, IsFirstLine}
 use Rattle.pocsag_open.specs.Plans.{ExplainsPlanUndone, PlacedPlan}
-use Rattle.pocsag_open.specs.Replies.{AreReplies, IsEditReply, IsFrontReply, IsLineReply, IsPlanRefused, IsRefusalDue, IsReply, IsSession, PrintsAndPlaces, edited, front_refused, front_sent, refused, sent_first}
-
--- one line more, and its reply
-pub one_reply : (IsKnown : Type 0) (on_limit : OnLimit) (pending line rest input : List ℕ) (before now between : List Page)
-    (start out next : List ℕ) (first_placed placed then_placed : List PlacedPlan) →
-    IsFirstLine pending line rest → PrintsAndPlaces IsKnown out next placed then_placed (IsLineReply IsKnown on_limit line now between) →
-    ((lines : List (List ℕ)) (after : List Page) (printed : List ℕ) (sent : List PlacedPlan) → AreLines lines pending → AreReplies IsKnown on_limit lines now after printed sent →
-    PrintsAndPlaces IsKnown start (out ++ printed) first_placed (placed ++ sent) (IsSession IsKnown on_limit input before after)) →
-    (lines : List (List ℕ)) (after : List Page) (printed : List ℕ) (sent : List PlacedPlan) → AreLines lines rest → AreReplies IsKnown on_limit lines between after printed sent →
-    PrintsAndPlaces IsKnown start (next ++ printed) first_placed (then_placed ++ sent) (IsSession IsKnown on_limit input before after)
-unfolding AreLines AreReplies
-one_reply IsKnown on_limit pending line rest input before now between start out next first_placed placed then_placed first reply all lines after printed sent cut replies =
-    let whole = all (line ∷ lines) after (reply.printed ++ printed) (reply.placed ++ sent) (rest, first, cut)
-    (between, reply.printed, printed, reply.placed, sent, reply.holds, replies, refl, refl) in
-    record {
-      printed = whole.printed;
-      placed = whole.placed;
-      answers = ap (λ (l : List ℕ). l ++ printed) reply.answers ∙ append_assoc out reply.printed printed ∙ whole.answers;
-      outputs = λ is_known. ap (λ (l : List PlacedPlan). l ++ sent) (reply.outputs is_known) ∙ append_assoc placed reply.placed sent ∙ whole.outputs is_known;
-      holds = whole.holds;
-    }
-
--- no line is left
-pub no_reply : (IsKnown : Type 0) (on_limit : OnLimit) (pending input : List ℕ) (before now : List Page) (start out : List ℕ)
-    (first_placed placed : List PlacedPlan) → pending ≡ [] →
-    ((lines : List (List ℕ)) (after : List Page) (printed : List ℕ) (sent : List PlacedPlan) → AreLines lines pending → AreReplies IsKnown on_limit lines now after printed sent →
-    PrintsAndPlaces IsKnown start (out ++ printed) first_placed (placed ++ sent) (IsSession IsKnown on_limit input before after)) →
-    PrintsAndPlaces IsKnown start out first_placed placed (IsSession IsKnown on_limit input before now)
-unfolding AreLines AreReplies
-no_reply IsKnown on_limit pending input before now start out first_placed placed none all =
-    let whole = all [] now [] [] none (refl, refl, refl) in
-    record {
-      printed = whole.printed;
-      placed = whole.placed;
-      answers = sym (append-nil out) ∙ whole.answers;
-      outputs = λ is_known. sym (append-nil placed) ∙ whole.outputs is_known;
-      holds = whole.holds;
-    }
+use Rattle.pocsag_open.specs.Replies.{IsEditReply, IsFrontReply, IsPlanRefused, IsRefusalDue, IsReply, edited, front_refused, front_sent, refused, sent_first}
 
 -- what asks for no edit makes none
 pub no_edit : (row : Row) → None ≡ asked_of row → (pages after : List Page) → IsEdit row pages after → ⊥

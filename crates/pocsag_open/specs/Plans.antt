@@ -16,14 +16,11 @@ use Rattle.pocsag_plan.specs.declared.search.Search.{Search}
 use Rattle.pocsag_plan.specs.Fronts.{FirstNeeds, IsFrontFor, IsLongestFront, StopsAtFront}
 use Rattle.pocsag_plan.specs.Headline.{RoundHeadline}
 use Rattle.pocsag_plan.specs.Plans.{IsBounded, IsNoWorse, IsStopped, MayStop}
+use Rattle.pocsag_plan.specs.Searches.{default_limit}
 use Rattle.pocsag_shell.specs.declared.fault.FileFault.{FileFault}
 use Rattle.pocsag_shell.specs.declared.fault.FileFault.TheVariants as file
 use Rattle.pocsag_journal.specs.declared.refusal.UndoneFault.{UndoneFault}
 use Rattle.pocsag_journal.specs.declared.refusal.UndoneFault.TheVariants as undone
-
--- The nodes that the search of a plan may examine.
-abbrev pub plan_limit : ℕ
-plan_limit = 100000
 
 -- What the two outputs of a plan hold: the bytes of the transmission and of the certificate.
 abbrev pub PlanBytes : Type 0
@@ -67,13 +64,13 @@ pub record IsPlanned (IsKnown : Type 0) (on_limit : OnLimit) (end : End) (pages 
   pub plan_of : IsBounded end pages made.plan bound
   pub same : batches ≡ made.plan.batches
   pub its_bound : bound ≡ made.bound
-  pub no_worse : IsNoWorse end pages plan_limit made
+  pub no_worse : IsNoWorse end pages default_limit made
   pub fewest : on_limit ≡ Fewest → bound ≡ batches
   pub headline : IsKnown → RoundHeadline pages end batches bound (bound_tree_of made.plan.tree) sent.0 sent.1
 
 -- The search of a plan for the end.
 abbrev pub plan_search : OnLimit → End → Search
-plan_search on_limit end = record { limit = plan_limit; end = end; on_limit = on_limit }
+plan_search on_limit end = record { limit = default_limit; end = end; on_limit = on_limit }
 
 -- The first `count` pages are the front that is required for so many batches, the longest where only the fewest are an answer; and
 -- they are planned, in no more batches. The pages may stand in a round.
@@ -102,7 +99,7 @@ pub record IsFrontPlaced (IsKnown : Type 0) (on_limit : OnLimit) (end : End) (mo
 abbrev pub ExplainsUndone : OnLimit → End → List Page → UndoneFault → Type 0
 ExplainsUndone on_limit end pages undone.NoPages = pages ≡ []
 ExplainsUndone on_limit end pages (undone.SearchLimit least found) =
-    MayStop on_limit × IsRound pages × ((tree : BoundTree) × IsStopped end pages plan_limit least found tree)
+    MayStop on_limit × IsRound pages × ((tree : BoundTree) × IsStopped end pages default_limit least found tree)
 ExplainsUndone on_limit end pages (undone.FirstPage needed) = ⊥
 ExplainsUndone on_limit end pages undone.OutOfMemory = IsRound pages
 ExplainsUndone on_limit end pages (undone.File f) = Unit {0}

@@ -13,11 +13,11 @@ ghost use Rattle.pocsag_open.specs.Survival.{FrontRepliesAndPlaces, FrontReplies
 use crate::answer::{KeptRound, print_sent};
 use crate::outputs::OutputStore;
 use crate::refused::refuse;
-use crate::round_plan::{PLAN_LIMIT, undone};
+use crate::round_plan::undone;
 use crate::session::PlanSettings;
 use csv::ByteRecord;
 use pocsag_journal::{Keeper, Refusal, UndoneFault, sent_row};
-use pocsag_plan::{Book, Search, UnsentFront};
+use pocsag_plan::{Book, DEFAULT_LIMIT, Search, UnsentFront};
 use pocsag_shell::{FileFault, Outputs};
 use pocsag_words::{End, Sink};
 use std::alloc::Global;
@@ -143,7 +143,7 @@ fn send_front<P: OutputStore + Drop>(
     ensures on_limit { settings.new.on_limit ≡ settings.old.on_limit }
 {
     let search = Search {
-        limit: PLAN_LIMIT,
+        limit: DEFAULT_LIMIT,
         end: asked.end,
         on_limit: settings.on_limit,
     };

@@ -4,12 +4,9 @@ ghost use Rattle.pocsag_open.specs.Plans.{ExplainsFiles, ExplainsUndone, HasFail
 use crate::outputs::OutputStore;
 use crate::session::PlanSettings;
 use pocsag_journal::UndoneFault;
-use pocsag_plan::{Book, PlanFault, Search, StreamFault};
+use pocsag_plan::{Book, DEFAULT_LIMIT, PlanFault, Search, StreamFault};
 use pocsag_shell::{FileFault, Outputs};
 use pocsag_words::{End, Sink};
-
-// How many nodes the search of a plan may examine.
-pub(crate) const PLAN_LIMIT: u32 = 100_000;
 
 /// The batches of a plan, and the bound that its certificate shows.
 #[derive(Clone, Copy)]
@@ -66,7 +63,7 @@ fn send_plan<P: OutputStore + Drop>(
     ensures on_limit { settings.new.on_limit ≡ settings.old.on_limit }
 {
     let search = Search {
-        limit: PLAN_LIMIT,
+        limit: DEFAULT_LIMIT,
         end,
         on_limit: settings.on_limit,
     };

@@ -98,12 +98,6 @@ rows_over s t None after fields k h = absurd (cc)
 rows_over s t (Some xs) None fields k h = absurd h
 rows_over s t (Some xs) (Some ys) fields k h = none_next s t xs ys fields _ refl h
 
-pub still_known : (s t : State) (before after : Option (List ℕ)) (found : Bool) (fields : List (List ℕ)) → IsSome before →
-    ReadsNext default_config s before after found fields t → IsSome after
-still_known s t None after found fields k h = absurd (cc)
-still_known s t (Some xs) None found fields k h = absurd h
-still_known s t (Some xs) (Some ys) found fields k h = refl
-
 -- the bytes that are left once the start of the text was looked at
 pub unread_is : {R : Type 0} (rem : R → Option (List ℕ)) (reader : Reader R) → reader.bom_checked ≡ true →
     source_of rem reader ≡ pending_of (rem reader.rdr) reader

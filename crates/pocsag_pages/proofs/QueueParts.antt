@@ -1,7 +1,6 @@
 -- The pages of a queue that are sent next, and those that are left.
-use Rattle.std.proofs.Common.{◌≡◌, ℕ, zero, suc, ◌+◌, ◌<◌, ◌≤◌, Bool, true, false, not, cond, ◌||◌, ◌&&◌, inl, inr, List, [], ◌∷◌, ◌++◌, length, take, drop, get_or, nat_eq, filter, All, refl, sym, ap, ◌∙◌, arith, append_assoc}
+use Rattle.std.proofs.Common.{◌≡◌, ℕ, ◌+◌, ◌<◌, ◌≤◌, Bool, true, false, not, cond, ◌||◌, ◌&&◌, inl, inr, List, [], ◌∷◌, ◌++◌, length, take, drop, get_or, nat_eq, All, refl, sym, ap, ◌∙◌, arith, append_assoc}
 use Rattle.std.specs.Prelude.{Err, Ok}
-use Rattle.std.specs.BTreeMap.{is_at}
 use Rattle.std.specs.BTreeSet.{BTreeSet, contains, Updates}
 use Rattle.std.specs.Ordering.{nat_cmp}
 use Rattle.std.proofs.lemmas.Bool.{cases_Bool}
@@ -13,7 +12,7 @@ use Rattle.pocsag_pages.specs.PageList.{unless_empty}
 use Rattle.pocsag_pages.specs.Pages.{has_address}
 use Rattle.pocsag_pages.specs.Queues.{firsts, firsts_after, is_sent, left_after, left_of, pages_for}
 use Rattle.pocsag_pages.specs.declared.fault.RoundFault.{RoundFault}
-use Rattle.pocsag_pages.proofs.GrownRounds.{either, has_push, same_test}
+use Rattle.pocsag_pages.proofs.GrownRounds.{has_push, same_test}
 use Rattle.pocsag_pages.proofs.PageLists.{left}
 use Rattle.pocsag_words.proofs.TruthValues.{or_false}
 
@@ -114,22 +113,6 @@ without_one false true true = refl
 without_one false true false = refl
 without_one false false true = refl
 without_one false false false = refl
-
-pub due_none : (due : BTreeSet ℕ) → due.keys ≡ [] → (a : ℕ) → contains nat_cmp due a ≡ has_address [] a
-due_none due e a = rw e refl
-
-pub due_more : (ps : List Page) (due more : BTreeSet ℕ) (p : Page) → ((a : ℕ) → contains nat_cmp due a ≡ has_address ps a) →
-    Updates nat_cmp due more p.address true → (a : ℕ) → contains nat_cmp more a ≡ has_address (ps ++ p ∷ []) a
-due_more ps due more p h u a =
-    u.0 a ∙ (rw (same_test p.address a, h a, has_push ps p a) (either (nat_eq a p.address) (has_address ps a)))
-
-due_all : (s : Bool) → s ≡ (s && not false)
-due_all true = refl
-due_all false = refl
-
-pub due_first : (sent : List Page) (due : BTreeSet ℕ) → ((a : ℕ) → contains nat_cmp due a ≡ has_address sent a) →
-    (a : ℕ) → contains nat_cmp due a ≡ is_due sent [] a
-due_first sent due h a = h a ∙ due_all (has_address sent a)
 
 pub due_less : (sent before : List Page) (due less : BTreeSet ℕ) (p : Page) → ((a : ℕ) → contains nat_cmp due a ≡ is_due sent before a) →
     Updates nat_cmp due less p.address false → (a : ℕ) → contains nat_cmp less a ≡ is_due sent (before ++ p ∷ []) a

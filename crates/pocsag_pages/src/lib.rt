@@ -23,7 +23,7 @@ mod whole;
 pub use csv_row::only_row;
 pub use fault::{FieldFault, PageFault, QuoteFault, RecordFault, RoundFault, WholeFault};
 pub use file::{FILE_LIMIT, read_round, round_of};
-pub use laws::{queues_keep_order, readings_are_plain, rounds_are_apart};
+pub use laws::{readings_are_plain, rounds_are_apart};
 pub use page::{LAST_ADDRESS, Page, Payload};
 pub use pocsag_words::{BATCH_BITS, PREAMBLE_BITS, SYNC_WORD};
 pub use preamble::preamble_len;

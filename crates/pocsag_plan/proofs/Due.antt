@@ -142,12 +142,6 @@ module _ (search : Search) (R : List Page) (bounded : Bounded) (is : IsPlanFor s
 pub of_round_as : (file : List ℕ) (P Q : List Page → Type 0) → ((round : List Page) → P round → Q round) → IsOfRound file P → IsOfRound file Q
 of_round_as file P Q each is = record { round = is.round; read = is.read; holds = each is.round is.holds }
 
--- where the bound is the batches, the headline of the round is that without a bound
-pub tight_round : (R : List Page) (end : End) (batches bound : ℕ) (tree : BoundTree) (tx tx' cert cert' : List ℕ) → bound ≡ batches →
-    WritesAllOf (RoundHeadline R end batches bound tree) tx tx' cert cert' → WritesAllOf (RoundHeadline R end batches batches tree) tx tx' cert cert'
-tight_round R end batches bound tree tx tx' cert cert' same is =
-    subst (λ (n : ℕ). WritesAllOf (RoundHeadline R end batches n tree) tx tx' cert cert') same is
-
 -- What is planned of the first pages of a book.
 module _ (search : Search) (R round F rest : List Page) (batches : ℕ) (bounded : Bounded) (same : round ≡ R) (parts : F ++ rest ≡ round)
     (is : IsPlanFor search F bounded) where

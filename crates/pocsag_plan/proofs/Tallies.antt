@@ -1,5 +1,5 @@
 -- Class tables that gain or lose one page, wherever it stands.
-use Rattle.std.proofs.Common.{◌≡◌, ◌≢◌, ℕ, ◌+◌, ◌-◌, ◌/◌, ◌<◌, ◌≤◌, ◌==◌, ◌⊎◌, cond, List, [], ◌∷◌, ◌++◌, All, length, sym, ◌∙◌, subst, arith, slice_index, slice_set, get_or-set_same, get_or-set_other, inl, inr}
+use Rattle.std.proofs.Common.{◌≡◌, ◌≢◌, ℕ, ◌+◌, ◌-◌, ◌/◌, ◌<◌, ◌==◌, ◌⊎◌, cond, List, [], ◌∷◌, ◌++◌, All, length, sym, ◌∙◌, subst, arith, slice_index, slice_set, get_or-set_same, get_or-set_other, inl, inr}
 use Rattle.std.proofs.lemmas.Bool.{cases_eq}
 use Rattle.std.proofs.lemmas.Bool.Decides.{nat_tests}
 use Rattle.std.proofs.lemmas.List.{length-append, length-set}
@@ -63,16 +63,6 @@ counted_of k end R of = record { long = k.tables.counts; turns_long = k.tables.t
 
 pub short_pages : (R : List Page) → All IsGoodPage R → All IsShort R
 short_pages R good = All-weaker IsGoodPage IsShort (λ p g. g.few) R good
-
--- what stands at the class of a page of the list
-pub count_here : (counts turns : List ℕ) (end : End) (S R : List Page) (p : Page) → class_of_page end p < 136
-    → AreCounted counts turns end (S ++ p ∷ R) →
-    (1 ≤ slice_index counts (class_of_page end p)) × (page_length p / 16 ≤ slice_index turns (class_of_page end p))
-count_here counts turns end S R p h of =
-    let at = class_of_page end p in (
-      omega (arith, of.each at h, count_amid end S R p at, here_more at (count_of end (S ++ R) at) 1),
-      omega (arith, of.each_turns at h, turns_amid end S R p at, here_more at (turns_of end (S ++ R) at) (page_length p / 16)),
-    )
 
 pub counted_more : (counts turns : List ℕ) (end : End) (S R : List Page) (p : Page) → class_of_page end p < 136
     → AreCounted counts turns end (S ++ R) →

@@ -155,13 +155,12 @@ plan_answered on_limit end R limit planning.BadLimit said always h = h
 plan_answered on_limit end R limit (planning.SearchLimit stop) said always h = subst MayStop always said.0
 plan_answered on_limit end R limit planning.OutOfMemory said always h = h
 
-pub book_answered : (end : End) (R : List Page) (limit : ℕ) (e : StreamFault) → ExplainsBookStream Always end R limit e → IsSearchLimit e → ⊥
-book_answered end R limit (streaming.Plan planning.BadLimit) said h = h
-book_answered end R limit (streaming.Plan (planning.SearchLimit stop)) said h = said.0
-book_answered end R limit (streaming.Plan planning.OutOfMemory) said h = h
-book_answered end R limit (streaming.Round f) said h = h
-book_answered end R limit (streaming.Transmission f) said h = h
-book_answered end R limit (streaming.Certificate f) said h = h
+pub book_answered : (on_limit : OnLimit) (end : End) (R : List Page) (limit : ℕ) (e : BookFault) → ExplainsBook on_limit end R limit e →
+    on_limit ≡ Always → IsSearchLimit (stream_fault_of e) → ⊥
+book_answered on_limit end R limit (book.Plan planning.BadLimit) said always h = h
+book_answered on_limit end R limit book.NoPages said always h = h
+book_answered on_limit end R limit (book.Plan (planning.SearchLimit stop)) said always h = subst MayStop always said.0
+book_answered on_limit end R limit (book.Plan planning.OutOfMemory) said always h = h
 
 -- a fault of a writer
 pub sent_explained : (on_limit : OnLimit) (file : List ℕ) (end : End) (R : List Page) (limit : ℕ) (e : StreamFault) → IsUnsent e →

@@ -2,13 +2,13 @@ pub mod Attempts
 pub mod BookPlans
 pub mod Books
 pub mod BoundedHeadline
-pub mod Edits
 pub mod FaultChains
 pub mod Fronts
 pub mod Headline
 pub mod OpenRound
 pub mod Plans
 pub mod Reports
+pub mod Searches
 pub mod Streams
 pub mod Tallies
 pub mod Verdicts

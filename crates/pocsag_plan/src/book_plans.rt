@@ -7,7 +7,7 @@ ghost use Rattle.pocsag_branch.specs.Found.{IsNodeLimit};
 ghost use Rattle.pocsag_plan.specs.BookPlans.{ExplainsBook, ExplainsBookFront, ExplainsBookStream};
 ghost use Rattle.pocsag_plan.specs.Fronts.{IsFrontFor, IsLongestFront};
 ghost use Rattle.pocsag_plan.specs.Headline.{RoundHeadline};
-ghost use Rattle.pocsag_plan.specs.Plans.{IsBounded, IsNoWorse, IsPlan, IsPlanFor, NoneHasFewer};
+ghost use Rattle.pocsag_plan.specs.Plans.{IsPlan, IsPlanFor};
 ghost use Rattle.pocsag_plan.specs.Streams.{fault_in, unsent_fault_in, HasHeadline, IsCertificate, IsSearchLimit, IsTransmission, WritesAllOf, WritesCertificatePartOf, WritesInTurn, WritesPartOf};
 
 use crate::answer::Plan;
@@ -80,118 +80,8 @@ impl Book {
         Ok(bounded.plan)
     }
 
-    /// Plans the round of the pages, as `plan_always` does, over the class table that the book keeps for the
-    /// end. `BadLimit` where the node limit is 0 or above 1,000,000, then `NoPages`; never `SearchLimit`.
-    pub fn plan_always(&self, limit: u32, end: End) -> Result<Bounded, BookFault>
-        ensures round { OnOk result (IsRound self.now) }
-        ensures plan { IfOk result (λ bounded. IsBounded end self.now bounded.plan bounded.bound) }
-        // Where the bound is the batches, they are the fewest.
-        ensures fewest { IfOk result (λ bounded. bounded.bound ≡ bounded.plan.batches →
-            NoneHasFewer end self.now bounded.plan.batches) }
-        // And where they are not, `plan` stops at the same limit, and all that it says then is so.
-        ensures no_worse { IfOk result (IsNoWorse end self.now limit) }
-        ensures small { IfOk result (λ bounded. closed_nodes (bound_tree_of bounded.plan.tree) ≤ limit) }
-        ensures bad_limit { IsErrOf result (BookFault.Plan PlanFault.BadLimit) ↔ (¬ IsNodeLimit limit) }
-        ensures no_pages { IsErrOf result BookFault.NoPages ↔ (IsNodeLimit limit × (self.now ≡ [])) }
-        ensures fault { IfErr result (ExplainsBook OnLimit.Always end self.now limit) }
-    {
-        let on_limit = OnLimit::Always;
-        let (_round, bounded) = self.planned(Search {
-            limit,
-            end,
-            on_limit,
-        })?;
-        Ok(bounded)
-    }
-
-    /// Plans the round of the pages and writes the transmission whole and then the certificate, as
-    /// `plan_stream` does for a page file of these pages. Where there are no pages it answers
-    /// `Round(NoPages)`.
-    pub fn plan_stream<T: Sink, C: Sink>(
-        &self,
-        tx: &mut T,
-        cert: &mut C,
-        limit: u32,
-        end: End,
-    ) -> Result<Plan, StreamFault>
-        // The headline of these pages.
-        ensures headline { T.is_known → C.is_known → IfOk result (λ plan.
-            WritesAllOf (RoundHeadline self.now end plan.batches plan.batches (bound_tree_of plan.tree))
-            (T.taken tx.old) (T.taken tx.new) (C.taken cert.old) (C.taken cert.new)) }
-        ensures plan { IfOk result (IsPlan end self.now) }
-        ensures small { IfOk result (λ plan. closed_nodes (bound_tree_of plan.tree) ≤ limit) }
-
-        // When each fault comes, and what it leaves.
-        ensures explained { IfErr result (ExplainsBookStream OnLimit.Fewest end self.now limit) }
-        ensures bad_limit { IsErrOf result (StreamFault.Plan PlanFault.BadLimit) ↔ (¬ IsNodeLimit limit) }
-        ensures writers { WritesInTurn T.failures C.failures tx.old tx.new cert.old cert.new (fault_in result) }
-        ensures part { T.is_known → IfErr result (λ e. IsTransmission e →
-            WritesPartOf (HasHeadline OnLimit.Fewest self.now end) (T.taken tx.old) (T.taken tx.new)) }
-        ensures certificate_part { T.is_known → C.is_known → IfErr result (λ e. IsCertificate e →
-            WritesCertificatePartOf (HasHeadline OnLimit.Fewest self.now end)
-            (T.taken tx.old) (T.taken tx.new) (C.taken cert.old) (C.taken cert.new)) }
-    {
-        let on_limit = OnLimit::Fewest;
-        let bounded = self.bounded_stream(
-            tx,
-            cert,
-            Search {
-                limit,
-                end,
-                on_limit,
-            },
-        )?;
-        Ok(bounded.plan)
-    }
-
-    /// Plans the round of the pages as `plan_always` does, and writes the transmission whole and then the
-    /// certificate, as `plan_stream_always` does for a page file of these pages. Where there are no pages it
-    /// answers `Round(NoPages)`.
-    pub fn plan_stream_always<T: Sink, C: Sink>(
-        &self,
-        tx: &mut T,
-        cert: &mut C,
-        limit: u32,
-        end: End,
-    ) -> Result<Bounded, StreamFault>
-        // The headline of these pages with the bound; the batches are the bound, or one more, by `plan`.
-        ensures headline { T.is_known → C.is_known → IfOk result (λ bounded.
-            WritesAllOf
-            (RoundHeadline self.now end bounded.plan.batches bounded.bound (bound_tree_of bounded.plan.tree))
-            (T.taken tx.old) (T.taken tx.new) (C.taken cert.old) (C.taken cert.new)) }
-        ensures fewest { T.is_known → C.is_known → IfOk result (λ bounded. bounded.bound ≡ bounded.plan.batches →
-            WritesAllOf
-            (RoundHeadline self.now end bounded.plan.batches bounded.plan.batches (bound_tree_of bounded.plan.tree))
-            (T.taken tx.old) (T.taken tx.new) (C.taken cert.old) (C.taken cert.new)) }
-        ensures plan { IfOk result (λ bounded. IsBounded end self.now bounded.plan bounded.bound) }
-        ensures no_worse { IfOk result (IsNoWorse end self.now limit) }
-        ensures small { IfOk result (λ bounded. closed_nodes (bound_tree_of bounded.plan.tree) ≤ limit) }
-
-        // When each fault comes, and what it leaves.
-        ensures explained { IfErr result (ExplainsBookStream OnLimit.Always end self.now limit) }
-        ensures answered { IfErr result (λ e. ¬ IsSearchLimit e) }
-        ensures bad_limit { IsErrOf result (StreamFault.Plan PlanFault.BadLimit) ↔ (¬ IsNodeLimit limit) }
-        ensures writers { WritesInTurn T.failures C.failures tx.old tx.new cert.old cert.new (fault_in result) }
-        ensures part { T.is_known → IfErr result (λ e. IsTransmission e →
-            WritesPartOf (HasHeadline OnLimit.Always self.now end) (T.taken tx.old) (T.taken tx.new)) }
-        ensures certificate_part { T.is_known → C.is_known → IfErr result (λ e. IsCertificate e →
-            WritesCertificatePartOf (HasHeadline OnLimit.Always self.now end)
-            (T.taken tx.old) (T.taken tx.new) (C.taken cert.old) (C.taken cert.new)) }
-    {
-        let on_limit = OnLimit::Always;
-        self.bounded_stream(
-            tx,
-            cert,
-            Search {
-                limit,
-                end,
-                on_limit,
-            },
-        )
-    }
-
-    /// Plans the round of the pages and writes both as is asked: `plan_stream` with the bound of its plan,
-    /// which is its batches, or `plan_stream_always`.
+    /// Plans the round of the pages as is asked, and writes the transmission whole and then the certificate, as
+    /// `bounded_stream` does for a page file of these pages. Where there are no pages it returns `Round(NoPages)`.
     pub fn bounded_stream<T: Sink, C: Sink>(
         &self,
         tx: &mut T,
@@ -205,6 +95,7 @@ impl Book {
 
         // When each fault comes, and what it leaves.
         ensures explained { IfErr result (ExplainsBookStream search.on_limit search.end self.now search.limit) }
+        ensures answered { search.on_limit ≡ OnLimit.Always → IfErr result (λ e. ¬ IsSearchLimit e) }
         ensures bad_limit { IsErrOf result (StreamFault.Plan PlanFault.BadLimit) ↔ (¬ IsNodeLimit search.limit) }
         ensures writers { WritesInTurn T.failures C.failures tx.old tx.new cert.old cert.new (fault_in result) }
         ensures part { T.is_known → IfErr result (λ e. IsTransmission e →

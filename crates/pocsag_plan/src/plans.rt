@@ -4,7 +4,7 @@ ghost use Rattle.pocsag_slots.specs.Loads.{AreClassesOf};
 ghost use Rattle.pocsag_tree.specs.BoundTrees.{closed_nodes};
 ghost use Rattle.pocsag_tree.specs.Views.{bound_tree_of};
 ghost use Rattle.pocsag_branch.specs.Found.{IsNodeLimit};
-ghost use Rattle.pocsag_plan.specs.Plans.{ExplainsPlan, IsBounded, IsNoWorse, IsPlan, IsPlanFor, NoneHasFewer};
+ghost use Rattle.pocsag_plan.specs.Plans.{ExplainsPlan, IsPlan, IsPlanFor};
 ghost use Rattle.pocsag_plan.specs.Within.{IsOutcomeFor};
 
 use crate::answer::Plan;
@@ -41,33 +41,9 @@ pub fn plan(alloc: Global, round: &Round, limit: u32, end: End) -> Result<Plan, 
     Ok(bounded.plan)
 }
 
-/// Plans the round for the end, and refuses none: with the fewest batches, or, where `plan` stops at its limit,
-/// with one batch more than the bound that is proved, beside what `plan` answers. `BadLimit` where the node limit
-/// is 0 or above 1,000,000; never `SearchLimit`.
-pub fn plan_always(alloc: Global, round: &Round, limit: u32, end: End) -> Result<Bounded, PlanFault>
-    ensures plan { IfOk result (λ bounded. IsBounded end round.now bounded.plan bounded.bound) }
-    // Where the bound is the batches, they are the fewest.
-    ensures fewest { IfOk result (λ bounded. bounded.bound ≡ bounded.plan.batches →
-        NoneHasFewer end round.now bounded.plan.batches) }
-    // And where they are not, `plan` stops at the same limit, and all that it says then is so.
-    ensures no_worse { IfOk result (IsNoWorse end round.now limit) }
-    ensures small { IfOk result (λ bounded. closed_nodes (bound_tree_of bounded.plan.tree) ≤ limit) }
-    ensures bad_limit { IsErrOf result PlanFault.BadLimit ↔ (¬ IsNodeLimit limit) }
-    ensures fault { IfErr result (ExplainsPlan OnLimit.Always end round.now limit) }
-{
-    let on_limit = OnLimit::Always;
-    bounded_plan(
-        alloc,
-        round,
-        Search {
-            limit,
-            end,
-            on_limit,
-        },
-    )
-}
-
-/// Plans the round as is asked: `plan` with its bound, which is its batches, or `plan_always`.
+/// Plans the round as is asked: with the fewest batches, which are then the bound, as `plan` does; or, where the effort is
+/// `Always`, refusing none: where `plan` stops at its limit, with one batch more than the bound that is proved, beside what
+/// `plan` returns. `BadLimit` where the node limit is 0 or above 1,000,000; `SearchLimit` never with `Always`.
 pub fn bounded_plan(alloc: Global, round: &Round, search: Search) -> Result<Bounded, PlanFault>
     ensures plan { IfOk result (IsPlanFor search round.now) }
     ensures bad_limit { IsErrOf result PlanFault.BadLimit ↔ (¬ IsNodeLimit search.limit) }

@@ -9,6 +9,9 @@ pub enum OnLimit {
     Always,
 }
 
+/// How many nodes a planner may examine where no other number is named.
+pub const DEFAULT_LIMIT: u32 = 100_000;
+
 /// What is asked of a planner.
 #[derive(Clone, Copy, PartialEq, Eq, Debug)]
 pub struct Search {

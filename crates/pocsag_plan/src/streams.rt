@@ -71,7 +71,7 @@ pub fn plan_stream<S: Source, T: Sink, C: Sink>(
     }
 }
 
-/// Reads a page file up to its end, plans its round as `plan_always` does, and writes the transmission
+/// Reads a page file up to its end, plans its round as `bounded_plan` does with `Always`, and writes the transmission
 /// whole and then the certificate, which is for the bound. Faults in order: `BadLimit`, before anything is
 /// read; `Round`; `OutOfMemory`; `Transmission`; `Certificate`; never `SearchLimit`. Nothing is written
 /// before the plan stands, and nothing grows after the first byte is written.

@@ -20,10 +20,11 @@ use Rattle.pocsag_pager.specs.declared.fault.PagerFault.{PagerFault}
 use Rattle.pocsag_shell.specs.declared.fault.FileFault.TheVariants as file
 use Rattle.pocsag_show.specs.declared.view.View.{View}
 use Rattle.pocsag_receiver.specs.Captures.{ExplainsCapture, ExplainsCaptureFor, ExplainsOne, ListsCaught, ListsCaughtPart, of_address}
-use Rattle.pocsag_receiver.specs.Listings.{Decoded, DecodedPart, ExplainsDecoding, ExplainsHearing, HeardAndListed, HeardPart}
+use Rattle.pocsag_receiver.specs.Listings.{Decoded, DecodedPart, ExplainsDecoding, ExplainsHearing, HeardIn, HeardPartIn}
 use Rattle.pocsag_receiver.specs.Views.{ExplainsShowing}
 use Rattle.pocsag_receiver.specs.declared.fault.ReceiverFault.{ReceiverFault}
 use Rattle.pocsag_receiver.specs.declared.fault.ReceiverFault.TheVariants as fault
+use Rattle.pocsag_receiver.specs.declared.form.ListForm.TheVariants as forms
 use Rattle.pocsag_receiver.proofs.Received.{batches_long, listed_as_sent}
 
 pub decode_explained : (capture bytes : List ℕ) (e : ReceiverFault) → length capture ≤ input_limit → IsFaultless bytes → ExplainsDecoding bytes e
@@ -96,14 +97,14 @@ decodes_part law capture l bytes out out' same f d = record {
 abbrev pub ShownAre : List ℕ → ℕ → List Page → Type 0
 ShownAre X a ps = (qs : List Page) → AreShown (words_of (after_preamble X)) a qs → qs ≡ of_address a ps
 
-pub hears_as_sent : (a : ℕ) (X bytes : List ℕ) (ps : List Page) (out out' : List ℕ) → ShownAre X a ps → bytes ≡ X → HeardAndListed a bytes out out'
+pub hears_as_sent : (a : ℕ) (X bytes : List ℕ) (ps : List Page) (out out' : List ℕ) → ShownAre X a ps → bytes ≡ X → HeardIn forms.Listing a bytes out out'
     → out' ≡ out ++ listing (of_address a ps)
 hears_as_sent a X bytes ps out out' one same d =
     d.listed ∙ ap (λ (qs : List Page). out ++ listing qs)
     (one d.pages (subst (λ (l : List ℕ). AreShown (words_of (after_preamble l)) a d.pages) same d.shown))
 
 pub hears_caught : (a : ℕ) (capture : List ℕ) (l : Extracted) (bytes out out' : List ℕ) → bytes ≡ l.bytes.items → (f : LiftsAll capture l)
-    → ShownAre l.bytes.items a f.pages → HeardAndListed a bytes out out' → ListsCaught capture (of_address a) l.heard.items out out'
+    → ShownAre l.bytes.items a f.pages → HeardIn forms.Listing a bytes out out' → ListsCaught capture (of_address a) l.heard.items out out'
 hears_caught a capture l bytes out out' same f one d = record {
   pages = f.pages;
   caught = f.caught;
@@ -112,7 +113,7 @@ hears_caught a capture l bytes out out' same f one d = record {
 }
 
 pub hears_part : (a : ℕ) (capture : List ℕ) (l : Extracted) (bytes out out' : List ℕ) → bytes ≡ l.bytes.items → (f : LiftsAll capture l)
-    → ShownAre l.bytes.items a f.pages → HeardPart a bytes out out' → ListsCaughtPart capture (of_address a) out out'
+    → ShownAre l.bytes.items a f.pages → HeardPartIn forms.Listing a bytes out out' → ListsCaughtPart capture (of_address a) out out'
 hears_part a capture l bytes out out' same f one d = record {
   receptions = map (λ (h : ReceptionStats). h.reception) l.heard.items;
   pages = f.pages;

@@ -54,13 +54,6 @@ pub record HeardPartIn (form : ListForm) (address : ℕ) (bytes out_before out_a
   pub shown : AreShown (words_of (after_preamble bytes)) address pages
   pub part : TookPrefix out_before out_after (listed_in form pages)
 
--- The same with the listing itself.
-abbrev pub HeardAndListed : (address : ℕ) → (bytes out_before out_after : List ℕ) → Type 0
-HeardAndListed address bytes out_before out_after = HeardIn forms.Listing address bytes out_before out_after
-
-abbrev pub HeardPart : (address : ℕ) → (bytes out_before out_after : List ℕ) → Type 0
-HeardPart address bytes out_before out_after = HeardPartIn forms.Listing address bytes out_before out_after
-
 -- Memory refused a page that the pager shows.
 pub record IsUnheard (address : ℕ) (bytes : List ℕ) : Type 0 where
   pub taken : hearing_fault address bytes ≡ None

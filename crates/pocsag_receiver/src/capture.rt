@@ -13,7 +13,8 @@ ghost use Rattle.pocsag_receiver.specs.declared.fault.ReceiverFault.TheVariants 
 
 use crate::decode::list_decoded;
 use crate::fault::ReceiverFault;
-use crate::hear::list_heard;
+use crate::form::ListForm;
+use crate::hear::{Hearing, list_heard};
 use crate::show::show_bytes;
 use crate::transmission::{read_transmission, refuse_long};
 use pocsag_capture::{Extracted, ReceptionStats, caught_pages_are_shown, lift_all, lift_one};
@@ -140,7 +141,11 @@ fn hear_caught<O: Sink>(
     caught_pages_are_shown();
     let Extracted { bytes, heard } = lift_all(alloc, capture)?;
     listening.heard = heard;
-    match list_heard(alloc, listening.address, bytes.as_slice(), out) {
+    let hearing = Hearing {
+        form: ListForm::Listing,
+        address: listening.address,
+    };
+    match list_heard(alloc, hearing, bytes.as_slice(), out) {
         Ok(status) => Ok(status),
         Err(fault) => Err(fault),
     }

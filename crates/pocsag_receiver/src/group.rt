@@ -14,8 +14,8 @@ use pocsag_capture::{Polarity, Reception, ReceptionStats};
 use pocsag_decode::{DecodeFault, Repaired};
 use pocsag_pager::PagerFault;
 use pocsag_shell::{
-    Call, Context, ErrorStream, FileFault, Group, Loaded, MemoryStreams, Names, PAGES_READ, Role,
-    Shape, TX, Tables, command, load, open_source, path_of, print,
+    Call, Context, ErrorStream, Group, Loaded, MemoryStreams, Names, PAGES_READ, Role, Shape, TX,
+    Tables, command, load_file, path_of, print,
 };
 use pocsag_words::{Sink, Source};
 use std::alloc::{AllocError, Global};
@@ -57,7 +57,8 @@ impl Group for Receiver {
             tx: Some(tx),
             ..Names::NONE
         };
-        Some(Ok(match load_transmission(context, tx) {
+        let loaded = load_file(context, Role::Transmission, path_of(tx), PAGES_READ);
+        Some(Ok(match loaded {
             Ok(loaded) => receive(context, asked, loaded, names),
             Err(fault) => context.end(names, Err(fault)),
         }))
@@ -117,12 +118,6 @@ fn words_error(
 ) -> Result<Error, AllocError> {
     let mut command = command(alloc, shape)?.bin_name(name)?;
     command.error(ErrorKind::ValueValidation, text)
-}
-
-// Opens a transmission and reads it.
-fn load_transmission(context: Context<'_>, tx: &str) -> Result<Loaded, FileFault> {
-    let mut source = open_source(context, Role::Transmission, path_of(tx))?;
-    Ok(load(context, &mut source, PAGES_READ)?)
 }
 
 // Returns what is asked of a transmission. Returns the exit status.

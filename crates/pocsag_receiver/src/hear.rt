@@ -4,13 +4,12 @@ ghost use Rattle.pocsag_shell.specs.ErrorStreams.{stream_of, printed_by};
 ghost use Rattle.pocsag_shell.specs.declared.fault.FileFault.TheVariants as file;
 ghost use Rattle.pocsag_receiver.specs.Faults.{receiver_status};
 ghost use Rattle.pocsag_receiver.specs.Files.{ExplainsUnread};
-ghost use Rattle.pocsag_receiver.specs.Listings.{ExplainsHearing, HeardAndListed, HeardIn, HeardPart, HeardPartIn};
+ghost use Rattle.pocsag_receiver.specs.Listings.{ExplainsHearing, HeardIn, HeardPartIn};
 ghost use Rattle.pocsag_receiver.specs.declared.fault.ReceiverFault.TheVariants as fault;
 
 use crate::fault::ReceiverFault;
 use crate::form::{ListForm, list_in};
 use crate::transmission::{read_transmission, refuse_long};
-use pocsag_decode::list_owned;
 use pocsag_pager::hear_all;
 use pocsag_shell::ErrorStream;
 use pocsag_words::{Sink, Source};
@@ -23,30 +22,8 @@ pub struct Hearing {
     pub address: u32,
 }
 
-/// Lists what the pager of the address shows of the bytes of a transmission.
+/// Lists what the pager of the address shows of the bytes of a transmission, in a form.
 pub(crate) fn list_heard<O: Sink>(
-    alloc: Global,
-    address: u32,
-    bytes: &[u8],
-    out: &mut O,
-) -> Result<u8, ReceiverFault>
-    ensures status { IfOk result (λ status. status ≡ 0) }
-    ensures listed { O.is_known → OnOk result
-        (HeardAndListed address bytes.now (O.taken out.old) (O.taken out.new)) }
-    ensures part { O.is_known → IsErrOf result (fault.File file.Write) →
-        HeardPart address bytes.now (O.taken out.old) (O.taken out.new) }
-    ensures explained { IfErr result (ExplainsHearing address bytes.now) }
-    ensures refused { IfErr result (λ e. receiver_status e ≡ 1 → out.new ≡ out.old) }
-    ensures write_failed { IsErrOf result (fault.File file.Write) →
-        HasFailed (O.failures out.old) (O.failures out.new) }
-{
-    let pages = hear_all(alloc, bytes, address)?;
-    list_owned(alloc, pages, out)?;
-    Ok(0)
-}
-
-// The same in a form.
-fn list_heard_in<O: Sink>(
     alloc: Global,
     hearing: Hearing,
     bytes: &[u8],
@@ -95,14 +72,14 @@ pub fn run_hear<T: Source, O: Sink, E: Sink + Drop>(
     let done = 'heard: {
         let Some(bytes) = tx.lent() else {
             break 'heard match read_transmission(alloc, tx) {
-                Ok(bytes) => list_heard_in(alloc, hearing, bytes.as_slice(), out),
+                Ok(bytes) => list_heard(alloc, hearing, bytes.as_slice(), out),
                 Err(refused) => Err(ReceiverFault::File(refused)),
             };
         };
         if let Err(refused) = refuse_long(bytes) {
             break 'heard Err(ReceiverFault::File(refused));
         }
-        let heard = list_heard_in(alloc, hearing, bytes, out);
+        let heard = list_heard(alloc, hearing, bytes, out);
         tx.release();
         heard
     };

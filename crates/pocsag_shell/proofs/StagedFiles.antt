@@ -120,9 +120,6 @@ module _ (name file : List ℕ) where
   pub none_made : (r : Option ℕ) → r ≡ None → ((n : ℕ) → IsStagedName name n file → ⊥) → (n : ℕ) → (r ≡ Some n) ↔ IsStagedName name n file
   none_made r is denied n = (λ (e : r ≡ Some n). cc (e, is), λ made. absurd (denied n made))
 
-  pub without_name : ((rest : List ℕ) → file ≢ name ++ rest) → (n : ℕ) → IsStagedName name n file → ⊥
-  without_name denied n made = elim made.named [ inl e ↦ denied _ e | inr e ↦ denied _ e ]
-
   pub without_dot : (rest : List ℕ) → file ≡ name ++ rest → ((more : List ℕ) → rest ≢ 46 ∷ more) → (n : ℕ) → IsStagedName name n file → ⊥
   without_dot rest parts denied n made = elim made.named [
     | inl e ↦ denied _ (append_cancel_left name rest (46 ∷ (decimal n ++ codes ".new")) (sym parts ∙ e))

@@ -8,7 +8,7 @@ use crate::role::Role;
 use crate::streams::{Input, Output};
 use crate::words::{STANDARD, path_of};
 use pocsag_pages::FILE_LIMIT;
-use pocsag_words::{OutOfMemory, Sink, Source};
+use pocsag_words::{Sink, Source};
 use std::fs::{self, File, Metadata, OpenFile, OpenOptions};
 use std::io::{self, Read};
 use std::rt::Files;
@@ -23,8 +23,8 @@ pub const PAGES_READ: usize = FILE_LIMIT + 1;
 /// fault among these.
 pub const CERT_READ: usize = 8_000_000;
 
-// The system's error number for a folder in place of a file.
-const IS_FOLDER: i32 = 21;
+/// The system's error number for a folder in place of a file.
+pub(crate) const IS_FOLDER: i32 = 21;
 
 /// The two outputs of a plan.
 #[derive(Drop)]
@@ -73,7 +73,7 @@ pub fn load<R: Read>(
     context: Context<'_>,
     source: &mut ReaderSource<'_, R>,
     limit: usize,
-) -> Result<Loaded, OutOfMemory> {
+) -> Result<Loaded, FileFault> {
     let mut bytes = Vec::new(context.alloc);
     let mut piece = [0u8; PIECE];
     while bytes.len() < limit {
@@ -86,6 +86,17 @@ pub fn load<R: Read>(
         bytes.extend_from_slice(&piece[..count])?;
     }
     Ok(Loaded::new(context.alloc, bytes, false))
+}
+
+/// What a file holds, or standard input if there is no path: opens it, and then reads it as `load` does.
+pub fn load_file(
+    context: Context<'_>,
+    role: Role,
+    path: Option<&str>,
+    limit: usize,
+) -> Result<Loaded, FileFault> {
+    let mut source = open_source(context, role, path)?;
+    load(context, &mut source, limit)
 }
 
 /// Opens a page file and a certificate, of which one may be standard input, and then reads both.

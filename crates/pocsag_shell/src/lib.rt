@@ -29,7 +29,7 @@ pub use error_stream::ErrorStream;
 pub use fault::{Failure, FileFault};
 pub use files::{
     CERT_READ, Opened, Outputs, PAGES_READ, is_regular, is_regular_or_none, load, load_both,
-    make_outputs, open_output, open_outputs, open_source, refuse_input, refuse_one_file,
+    load_file, make_outputs, open_output, open_outputs, open_source, refuse_input, refuse_one_file,
     refuse_shared, write_over,
 };
 pub use group::{Both, Call, Group, Tables};

@@ -1,14 +1,12 @@
 use crate::context::Context;
 use crate::fault::FileFault;
+use crate::files::IS_FOLDER;
 use crate::left_over::remove_left_over;
 use crate::role::Role;
 use std::fs::{self, File, Metadata, OpenFile, OpenOptions};
 use std::io::{self, ErrorKind};
 use std::os::unix::fs::{MetadataExt, OpenOptionsExt, fchown};
 use std::process;
-
-// The system's error number for a folder in place of a file.
-const IS_FOLDER: i32 = 21;
 
 // The mode that lets nobody but the owner read and write.
 const OWNER_ALONE: u32 = 0o600;

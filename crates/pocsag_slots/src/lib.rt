@@ -17,7 +17,7 @@ pub use boundary::{finish, frame, rest, start};
 pub use class::{CLASSES, Choice, Class, Classes, SLOTS};
 pub use count::{class_of, classes_of, whole_turns};
 pub use limit::{Limits, all_limits, below_split, from_split, narrow};
-pub use load::{carries, least_by_class, least_load, loads, overloads, total_cap};
+pub use load::{least_by_class, least_load, loads, overloads, total_cap};
 pub use set::{crosses, holds, size, touches, with_member};
 pub use step::Step;
 pub use way::{WAYS, Way, closing_ways, ending_ways, is_certain, ways};

@@ -1,6 +1,6 @@
 ghost use Rattle.std.specs.Prelude.{◌≡◌, ℕ, ◌+◌, ◌*◌, ◌^◌, ◌<◌, ◌≤◌, ◌↔◌, IsTrue, if◌then◌else◌, length, slice_index};
 ghost use Rattle.pocsag_slots.specs.Cover.{covered};
-ghost use Rattle.pocsag_slots.specs.Loads.{AreCarried, AreInOrder, class_load, early_of, IsChoice, IsLeastLoad, least_of_class, load, load_limit, Overloads};
+ghost use Rattle.pocsag_slots.specs.Loads.{AreInOrder, class_load, early_of, IsChoice, IsLeastLoad, least_of_class, load, load_limit, Overloads};
 ghost use Rattle.pocsag_slots.specs.Classes.{slot_count};
 ghost use Rattle.pocsag_slots.specs.Sums.{holds, sum_over};
 ghost use Rattle.pocsag_slots.specs.Tables.{turn_limit};
@@ -57,19 +57,6 @@ pub fn loads(classes: &Classes, choice: &Choice) -> [u32; SLOTS]
         found[slot] = load;
     }
     found
-}
-
-/// Whether so many batches carry the loads of the choice: no slot is loaded above them.
-pub fn carries(classes: &Classes, choice: &Choice, batches: u32) -> bool
-    requires { IsChoice classes.now (early_of choice.now) }
-    ensures { IsTrue result ↔ AreCarried classes.now (early_of choice.now) batches }
-{
-    for load in loads(classes, choice) {
-        if load > batches {
-            return false;
-        }
-    }
-    true
 }
 
 // How many of so many codewords from a slot on, at most one turn, stand in slots of the set.

@@ -2,7 +2,6 @@ ghost use Rattle.std.specs.Prelude.{◌≡◌};
 ghost use Rattle.pocsag_sound.specs.declared.fault.SoundFault.TheVariants as fault;
 
 use pocsag_decode::DecodeFault;
-use pocsag_pages::WholeFault;
 use pocsag_shell::{Failure, FileFault};
 use pocsag_wav::NoSound;
 use thiserror::Error;
@@ -45,16 +44,6 @@ impl From<FileFault> for SoundFault {
 
     fn from(refused: FileFault) -> SoundFault {
         SoundFault::File(refused)
-    }
-}
-
-impl From<WholeFault> for SoundFault {
-    ghost use Rattle.pocsag_shell.specs.Faults.{fault_of_whole};
-
-    ghost from_gives = { λ refused e. e ≡ fault.File (fault_of_whole refused) };
-
-    fn from(refused: WholeFault) -> SoundFault {
-        SoundFault::File(FileFault::from(refused))
     }
 }
 

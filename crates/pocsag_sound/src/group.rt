@@ -4,7 +4,7 @@ use crate::words::{BIT_RATE, INVERT, LEAD, SAMPLES, SOUND_COMMANDS, WAV};
 use clap::{ArgMatches, Error};
 use pocsag_shell::{
     Call, Context, ErrorStream, Group, Loaded, MemoryStreams, Names, PAGES_READ, Role, TX, Tables,
-    load, open_source, path_of,
+    load_file, path_of,
 };
 use pocsag_wav::{Keying, NoSound};
 use pocsag_words::Source;
@@ -54,11 +54,8 @@ fn load_keyed(
     tx: &str,
 ) -> Result<(Keying, Loaded), SoundFault> {
     let keying = keying?;
-    let mut source = open_source(context, Role::Transmission, path_of(tx))?;
-    match load(context, &mut source, PAGES_READ) {
-        Ok(loaded) => Ok((keying, loaded)),
-        Err(refused) => Err(SoundFault::File(refused.into())),
-    }
+    let loaded = load_file(context, Role::Transmission, path_of(tx), PAGES_READ)?;
+    Ok((keying, loaded))
 }
 
 // Writes the sound of a transmission to standard output.

@@ -58,7 +58,7 @@ pub fn run_wav<T: Source, O: Sink, E: Sink + Drop>(
         let Some(bytes) = tx.lent() else {
             break 'written match read_whole(alloc, tx, INPUT_LIMIT) {
                 Ok(bytes) => put_sound(keying, bytes.as_slice(), out),
-                Err(refused) => Err(SoundFault::from(refused)),
+                Err(refused) => Err(SoundFault::File(FileFault::from(refused))),
             };
         };
         if bytes.len() > INPUT_LIMIT {

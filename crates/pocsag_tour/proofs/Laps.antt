@@ -6,7 +6,7 @@ use Rattle.std.proofs.lemmas.List.{append-nil}
 use Rattle.std.proofs.lemmas.List.Sums.{sum_by-append, sum_by-cons, sum_by_more, sum_by_more_le}
 use Rattle.pocsag_slots.specs.Sums.{AddsMember}
 use Rattle.pocsag_slots.proofs.SumLemmas.{sum_below-bump, sum_below-le}
-use Rattle.pocsag_tour.specs.Laps.{ArePassed, AreTaken, IsLap, IsPassed, IsPath, often}
+use Rattle.pocsag_tour.specs.Laps.{ArePassed, AreTaken, IsLap, IsPath, often}
 use Rattle.pocsag_tour.proofs.Joined.{cond_few}
 use Rattle.pocsag_tour.proofs.Walks.{IsLess, hit, less_le, no_hit, walk_on}
 
@@ -140,19 +140,6 @@ pub passed_less : (left less exits kinds : ℕ → ℕ) → ((b : ℕ) → less 
 passed_less left less exits kinds low passed p h j m ne =
     let none : left (arc_at p j) ≡ 0 = passed p h j m ne in
     omega (arith, low (arc_at p j))
-
-pub passed_set : (left exits : ℕ → ℕ) (kinds : List ℕ) (p kind : ℕ) → ArePassed left exits (slice_index kinds) → p < length kinds →
-    IsPassed left (exits p) p kind → ArePassed left exits (slice_index (slice_set kinds p kind))
-passed_set left exits kinds p kind passed here is q h =
-    elim (cases_eq q p) [
-      | inl same ↦
-          let now : slice_index (slice_set kinds p kind) p ≡ kind = get_or-set_same kinds p kind 0 here in
-          subst (λ (n : ℕ). IsPassed left (exits n) n (slice_index (slice_set kinds p kind) n)) (sym same)
-          (subst (λ (k : ℕ). IsPassed left (exits p) p k) (sym now) is)
-      | inr other ↦
-          let kept : slice_index (slice_set kinds p kind) q ≡ slice_index kinds q = get_or-set_other kinds p q kind 0 other in
-          subst (λ (k : ℕ). IsPassed left (exits q) q k) (sym kept) (passed q h)
-    ]
 
 -- taking a lap leaves enough for its next arc
 times_more : (t x y : ℕ) → x ≤ y → t * x ≤ t * y

@@ -1,6 +1,5 @@
 ghost use Rattle.std.specs.Prelude.{◌≡◌};
 ghost use Rattle.pocsag_tree.specs.declared.refusals.CertificateFault.TheVariants as read;
-ghost use Rattle.pocsag_tree.specs.declared.refusals.TreeWriteFault.TheVariants as write;
 
 use pocsag_words::DeviceFault;
 use std::alloc::{AllocError, AllocFailed};
@@ -73,13 +72,5 @@ impl From<DeviceFault> for CertificateFault {
 
     fn from(_e: DeviceFault) -> CertificateFault {
         CertificateFault::ReadFault
-    }
-}
-
-impl From<DeviceFault> for TreeWriteFault {
-    ghost from_gives = { λ _ e. e ≡ write.WriteFault };
-
-    fn from(_e: DeviceFault) -> TreeWriteFault {
-        TreeWriteFault::WriteFault
     }
 }

@@ -289,6 +289,8 @@ pub fn write_certificate<S: Sink>(
     if !has_text(batches, tree) {
         return Err(TreeWriteFault::BadTree);
     }
-    write_text(end, batches, tree, writer)?;
-    Ok(())
+    match write_text(end, batches, tree, writer) {
+        Ok(()) => Ok(()),
+        Err(_) => Err(TreeWriteFault::WriteFault),
+    }
 }

@@ -124,10 +124,8 @@ const TRIALS: [Trial; 58] = [
     Trial::Planning(Planning::StreamAlwaysToOneNode),
     Trial::Planning(Planning::BookOfTight),
     Trial::Planning(Planning::AddToBook),
-    Trial::Planning(Planning::EditBook),
     Trial::Planning(Planning::PlanBook),
     Trial::Planning(Planning::PlanKept),
-    Trial::Planning(Planning::AlwaysKept),
     Trial::Planning(Planning::StreamKept),
     Trial::Planning(Planning::StreamAlwaysKept),
 ];
@@ -190,7 +188,7 @@ fn name_of(trial: Trial) -> &'static str {
         Trial::ReadManyNodes => "read_certificate of 1,000,000 nodes",
         Trial::SearchMany => "search and search_freely of 20,000 tones",
         Trial::SearchManyNodes => "search of eight pages to 1,000,000 nodes",
-        Trial::PlanLong => "plan and plan_always of 20,000 pages of 1,400 items",
+        Trial::PlanLong => "plan and bounded_plan of 20,000 pages of 1,400 items",
         Trial::PlanFullBook => "Book::add and Book::plan of 20,000 tones",
         Trial::StreamLong => "plan_stream of 20,000 pages of 1,400 items",
     }

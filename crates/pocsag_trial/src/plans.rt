@@ -5,8 +5,8 @@ use crate::pages::show_no_round;
 use pocsag_core_cases::{THREE_PAGES_TIGHT, ones, round_of};
 use pocsag_pages::{Round, RoundFault};
 use pocsag_plan::{
-    AddFault, Book, BookFault, Bounded, Edit, Plan, PlanFault, StreamFault, plan, plan_always,
-    plan_stream, plan_stream_always,
+    AddFault, Book, BookFault, Bounded, OnLimit, Plan, PlanFault, Search, StreamFault,
+    bounded_plan, plan, plan_stream, plan_stream_always,
 };
 use pocsag_slots::Classes;
 use pocsag_words::{End, MemorySink, MemorySource, OutOfMemory};
@@ -27,10 +27,8 @@ pub enum Planning {
     StreamAlwaysToOneNode,
     BookOfTight,
     AddToBook,
-    EditBook,
     PlanBook,
     PlanKept,
-    AlwaysKept,
     StreamKept,
     StreamAlwaysKept,
 }
@@ -41,8 +39,8 @@ pub fn name_of(planning: Planning) -> &'static str {
     match planning {
         Planning::PlanTight => "plan of three-pages-tight",
         Planning::PlanFourPages => "plan of four pages",
-        Planning::AlwaysFourPages => "plan_always of four pages",
-        Planning::AlwaysToOneNode => "plan_always of four pages to 1 node",
+        Planning::AlwaysFourPages => "bounded_plan of four pages, always",
+        Planning::AlwaysToOneNode => "bounded_plan of four pages to 1 node, always",
         Planning::StreamTwoNumeric => "plan_stream of two-numeric-exact",
         Planning::StreamLoopsApart => "plan_stream of loops-apart",
         Planning::StreamClosed => "plan_stream of closed-both-ways",
@@ -51,12 +49,10 @@ pub fn name_of(planning: Planning) -> &'static str {
         Planning::StreamAlwaysToOneNode => "plan_stream_always of loops-apart to 1 node",
         Planning::BookOfTight => "Book::of_round of three-pages-tight",
         Planning::AddToBook => "Book::add of open-round",
-        Planning::EditBook => "Book::edit_all of open-round",
         Planning::PlanBook => "Book::plan of open-round",
         Planning::PlanKept => "Book::plan of kept-table",
-        Planning::AlwaysKept => "Book::plan_always of kept-table",
-        Planning::StreamKept => "Book::plan_stream of kept-table",
-        Planning::StreamAlwaysKept => "Book::plan_stream_always of kept-table",
+        Planning::StreamKept => "Book::bounded_stream of kept-table",
+        Planning::StreamAlwaysKept => "Book::bounded_stream of kept-table, always",
     }
 }
 
@@ -74,12 +70,10 @@ pub fn run(alloc: Global, planning: Planning, line: &mut Line) -> Result<(), Out
         Planning::StreamAlwaysToOneNode => show_stream_always(alloc, LOOPS_APART, 1, line),
         Planning::BookOfTight => show_book_of_tight(alloc, line),
         Planning::AddToBook => show_added(alloc, line),
-        Planning::EditBook => show_edited(alloc, line),
         Planning::PlanBook => show_open_round(alloc, line),
         Planning::PlanKept => show_kept_table(alloc, line),
-        Planning::AlwaysKept => show_kept_always(alloc, line),
-        Planning::StreamKept => show_kept_stream(alloc, line),
-        Planning::StreamAlwaysKept => show_kept_stream_always(alloc, line),
+        Planning::StreamKept => show_kept_stream(alloc, End::Closed, OnLimit::Fewest, line),
+        Planning::StreamAlwaysKept => show_kept_stream(alloc, End::Open, OnLimit::Always, line),
     }
 }
 
@@ -137,7 +131,12 @@ pub fn put_always(
     limit: u32,
     line: &mut Line,
 ) -> Result<(), OutOfMemory> {
-    match plan_always(alloc, round, limit, End::Open) {
+    let search = Search {
+        limit,
+        end: End::Open,
+        on_limit: OnLimit::Always,
+    };
+    match bounded_plan(alloc, round, search) {
         Ok(bounded) => put_bounded(&bounded, line),
         Err(PlanFault::OutOfMemory) => return Err(OutOfMemory),
         Err(fault) => line.put(fault),
@@ -269,26 +268,6 @@ fn show_added(alloc: Global, line: &mut Line) -> Result<(), OutOfMemory> {
     Ok(())
 }
 
-fn put_edit(edits: &mut Vec<Edit>, edit: Edit) -> Result<(), OutOfMemory> {
-    match edits.push(edit) {
-        Ok(()) => Ok(()),
-        Err(_) => Err(OutOfMemory),
-    }
-}
-
-fn show_edited(alloc: Global, line: &mut Line) -> Result<(), OutOfMemory> {
-    let mut edits = Vec::new(alloc);
-    for address in [8, 16, 8] {
-        put_edit(&mut edits, Edit::Add(ones(alloc, address, 0)?))?;
-    }
-    put_edit(&mut edits, Edit::Cancel(8))?;
-    put_edit(&mut edits, Edit::Cancel(8))?;
-    let mut book = Book::new(alloc);
-    book.edit_all(edits)?;
-    line.put_pages(book.pages());
-    Ok(())
-}
-
 // A book of tones for these addresses.
 fn tones(alloc: Global, addresses: &[u32]) -> Result<Book, OutOfMemory> {
     let mut book = Book::new(alloc);
@@ -330,30 +309,21 @@ fn show_kept_table(alloc: Global, line: &mut Line) -> Result<(), OutOfMemory> {
     put_book_plan(&book, End::Closed, line)
 }
 
-fn show_kept_stream(alloc: Global, line: &mut Line) -> Result<(), OutOfMemory> {
+fn show_kept_stream(
+    alloc: Global,
+    end: End,
+    on_limit: OnLimit,
+    line: &mut Line,
+) -> Result<(), OutOfMemory> {
     let book = tones(alloc, &[5, 13, 21])?;
     let mut tx = MemorySink::<300>::new(64, 1000);
     let mut cert = MemorySink::<40>::new(7, 1000);
-    let answer = book.plan_stream(&mut tx, &mut cert, LIMIT, End::Closed);
-    put_stream(answer, &tx, &cert, line);
-    Ok(())
-}
-
-fn show_kept_always(alloc: Global, line: &mut Line) -> Result<(), OutOfMemory> {
-    let book = tones(alloc, &[5, 13, 21])?;
-    match book.plan_always(LIMIT, End::Closed) {
-        Ok(bounded) => put_bounded(&bounded, line),
-        Err(BookFault::Plan(PlanFault::OutOfMemory)) => return Err(OutOfMemory),
-        Err(fault) => line.put(fault),
-    }
-    Ok(())
-}
-
-fn show_kept_stream_always(alloc: Global, line: &mut Line) -> Result<(), OutOfMemory> {
-    let book = tones(alloc, &[5, 13, 21])?;
-    let mut tx = MemorySink::<300>::new(64, 1000);
-    let mut cert = MemorySink::<40>::new(7, 1000);
-    let answer = book.plan_stream_always(&mut tx, &mut cert, LIMIT, End::Open);
+    let search = Search {
+        limit: LIMIT,
+        end,
+        on_limit,
+    };
+    let answer = book.bounded_stream(&mut tx, &mut cert, search);
     put_bounded_stream(answer, &tx, &cert, line);
     Ok(())
 }

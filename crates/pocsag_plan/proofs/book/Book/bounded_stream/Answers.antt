@@ -1,6 +1,6 @@
 use Rattle.std.proofs.lemmas.Result.{err_from_is_err_and}
 use Rattle.pocsag_plan.proofs.Due.{all_as, asked_headline, certificate_part_as, has_headline, part_as}
-use Rattle.pocsag_plan.proofs.Unwritten.{answered_limit, before, its_own, no_certificate_part, no_part, ok_bad_limit, same_bad_limit, stream_explained, unsent_bad_limit, unsent_explained, unwritten}
+use Rattle.pocsag_plan.proofs.Unwritten.{answered_limit, before, book_answered, its_own, no_certificate_part, no_part, ok_bad_limit, same_bad_limit, sent_answered, stream_explained, unsent_bad_limit, unsent_explained, unwritten}
 use Rattle.pocsag_plan.specs.FaultChains.{stream_fault_of}
 use Rattle.pocsag_plan.proofs.book.Book.bounded_stream.Goals as goal
 
@@ -13,6 +13,7 @@ returns-in_err-round g c =
       headline = λ _ _. rw p.1 tt;
       plan = rw p.1 tt;
       explained = rw (p.1, p.2) (stream_explained _ _ _ _ e said.fault);
+      answered = λ always. rw (p.1, p.2) (book_answered _ _ _ _ e said.fault always);
       bad_limit = rw (p.1, p.2) (same_bad_limit _ e said.bad_limit);
       writers = rw (p.1, p.2) (unwritten _ _ _ _ (stream_fault_of e) (before e));
       part = λ _. rw (p.1, p.2) (no_part (stream_fault_of e) (before e) _ _ _);
@@ -35,6 +36,7 @@ returns-in_err-send g c =
       headline = λ _ _. rw p.1 tt;
       plan = rw p.1 tt;
       explained = rw (p.1, p.2) (unsent_explained _ _ _ _ e said.unsent limited planned.ensures.round.1);
+      answered = λ _. rw (p.1, p.2) (sent_answered e said.unsent);
       bad_limit = rw (p.1, p.2) (unsent_bad_limit _ e said.unsent limited);
       writers = rw (p.1, p.2) said.writers;
       part = λ tx_tells. rw (p.1, p.2) (λ failed.
@@ -55,6 +57,7 @@ returns g c =
           (rw planned.ensures.round.0 at c.in_ok-send.ensures.whole tx_tells cert_tells);
       plan = planned.ensures.plan;
       explained = tt;
+      answered = λ _. tt;
       bad_limit = ok_bad_limit _ _ _ limited;
       writers = c.in_ok-send.ensures.writers;
       part = λ _. tt;
