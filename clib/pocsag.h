@@ -11,7 +11,8 @@
  * Numbers.  A limit, end, rate, form or address that is none of those allowed is a fault; `always` may be any number.
  * Order.    A call answers the first fault in this order. pocsag_plan: end, limit, page file, search, size of `tx`, size
  *           of `cert`. pocsag_plan_at_most: end, limit, page file, first page, search, size of `rest`, of `why`, of `tx`,
- *           of `cert`. pocsag_report: end, page file, limit, search, rate. pocsag_check: page file, certificate.
+ *           of `cert`. pocsag_report: end, page file, limit, search, rate; pocsag_frames: the same without a rate.
+ *           pocsag_check: page file, certificate.
  *           pocsag_explain: form, page file, certificate, size of `text`. pocsag_decode: transmission, size of
  *           `listing`; pocsag_hear: before them the address. pocsag_decode_as and pocsag_hear_as: before all these the
  *           reading, the capture. pocsag_show: reading, form, batches, capture, transmission, size of `text`. pocsag_wav: rate,
@@ -78,6 +79,9 @@ extern "C" {
 #define POCSAG_ALPHA 5u
 #define POCSAG_HEADER "address,kind,message\n"
 
+/* How many frames a batch has, each of two codewords. */
+#define POCSAG_FRAMES 8u
+
 /* How deep the nodes are that the program tells where no depth is given; the root alone has depth 1. */
 #define POCSAG_DEFAULT_DEPTH 3u
 
@@ -91,7 +95,7 @@ extern "C" {
  * the measured rounds and fronts take in all. What is left of a mebibyte is added. */
 #define POCSAG_CHECK_STACK 372736u
 #define POCSAG_EXPLAIN_STACK 372736u
-#define POCSAG_PLAN_STACK 1048576u      /* pocsag_plan_at_most and pocsag_report too */
+#define POCSAG_PLAN_STACK 1048576u      /* pocsag_plan_at_most, pocsag_report and pocsag_frames too */
 #define POCSAG_LISTING_STACK 196608u    /* all others, as measured 121,192 */
 
 /* Statuses. */
@@ -206,6 +210,22 @@ struct pocsag_report_info {
     struct pocsag_place place;
 };
 
+/* One frame of a plan. The pages of an address start in the frame that is the address modulo 8. */
+struct pocsag_frame {
+    uint32_t frame;     /* 0 to 7 */
+    uint32_t pages;     /* of the round that start in it */
+    uint64_t codewords; /* of these pages, also those that stand in other frames */
+    uint64_t room;      /* how many codewords of the frame are idle, of 2 in each batch */
+};
+
+/* The frames of a plan. Where there is none, all but the place is 0. */
+struct pocsag_frames_info {
+    struct pocsag_frame frames[POCSAG_FRAMES]; /* in the order of the frames: frames[k].frame is k */
+    uint32_t batches;                          /* of the transmission */
+    uint32_t bound;                            /* no transmission of the round has fewer; batches, or one less */
+    struct pocsag_place place;
+};
+
 /* POCSAG_VERSION of the library that is linked. */
 uint32_t pocsag_version(void);
 
@@ -262,6 +282,13 @@ POCSAG_CALL uint32_t pocsag_hear(uint32_t address, const uint8_t *tx, size_t tx_
 POCSAG_CALL uint32_t pocsag_report(const uint8_t *pages, size_t pages_len,
                                    uint32_t rate, uint32_t limit, uint32_t end, uint32_t always,
                                    struct pocsag_report_info *info);
+
+/* Plans the page file as pocsag_plan does, and fills `info` with the eight frames of the plan: how many pages start in each,
+ * how many codewords these have, and how many codewords of the frame are idle. New addresses should go to the frames with the
+ * most room. `pocsag report --frames` prints the same numbers, the least room first. */
+POCSAG_CALL uint32_t pocsag_frames(const uint8_t *pages, size_t pages_len,
+                                   uint32_t limit, uint32_t end, uint32_t always,
+                                   struct pocsag_frames_info *info);
 
 /* The same two listings of what is read of `tx` by a reading: POCSAG_PLAIN, POCSAG_REPAIRED or POCSAG_CAPTURED. */
 POCSAG_CALL uint32_t pocsag_decode_as(uint32_t reading, const uint8_t *tx, size_t tx_len,

@@ -41,6 +41,14 @@ class ReportInfo(ctypes.Structure):
     ]
 
 
+class FrameInfo(ctypes.Structure):
+    _fields_ = [("frame", ctypes.c_uint32), ("pages", ctypes.c_uint32), ("codewords", ctypes.c_uint64), ("room", ctypes.c_uint64)]
+
+
+class FramesInfo(ctypes.Structure):
+    _fields_ = [("frames", FrameInfo * 8), ("batches", ctypes.c_uint32), ("bound", ctypes.c_uint32), ("place", Place)]
+
+
 class Fault(Exception):
     """Why a call did nothing: its status, and where the fault stands."""
 
@@ -109,6 +117,8 @@ globals().update({fault.__name__: fault for fault in FAULTS.values()})
 Plan = namedtuple("Plan", "transmission certificate pages codewords in_order batches bound")
 Front = namedtuple("Front", "transmission certificate rest why pages left codewords in_order batches bound beyond")
 Report = namedtuple("Report", "pages codewords in_order batches idles bits airtime_ms bound")
+Frame = namedtuple("Frame", "frame pages codewords room")
+Frames = namedtuple("Frames", "frames batches bound")
 Shown = namedtuple("Shown", "is_shown end batches")
 Explanation = namedtuple("Explanation", "is_shown end batches text")
 LIBRARY = "libpocsag.so.1"
@@ -220,6 +230,17 @@ class Pocsag:
         if status:
             raise raised(status, info.place)
         return Report(*(getattr(info, name) for name in Report._fields))
+
+    def frames(self, pages, limit=100_000, end=OPEN, always=True, strict=False):
+        """The eight frames of the plan of a page file, in their order: how many pages start in each, how many codewords these have,
+        and as its room how many of its codewords are idle, of two in each batch."""
+        info = FramesInfo()
+        words = number_in(limit, 5), number_in(end, 2), ctypes.c_uint32(bool(always))
+        status = self.library.pocsag_frames(*self._pages(pages, strict), *words, ctypes.byref(info))
+        if status:
+            raise raised(status, info.place)
+        frames = [Frame(*(getattr(frame, name) for name in Frame._fields)) for frame in info.frames]
+        return Frames(frames, info.batches, info.bound)
 
     def check(self, pages, certificate, strict=False):
         """Whether the certificate shows its number of batches for the page file."""

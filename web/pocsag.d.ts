@@ -62,6 +62,24 @@ export interface Report {
   airtimeMs: number;
 }
 
+export interface Frame {
+  /** 0 to 7. The pages of an address start in the frame that is the address modulo 8. */
+  frame: number;
+  /** How many pages start in it. */
+  pages: number;
+  /** Of these pages, also those that stand in other frames. */
+  codewords: number;
+  /** How many codewords of the frame are idle, of two in each batch. */
+  room: number;
+}
+
+export interface Frames {
+  /** The eight frames, in their order. */
+  frames: Frame[];
+  batches: number;
+  bound: number;
+}
+
 export interface Verdict {
   /** Whether the certificate shows its batches for the page file. */
   isShown: boolean;
@@ -100,6 +118,8 @@ export class Pocsag {
   planAtMost(pages: Data, batches: number, search?: Search): Front;
   /** What the plan of a page file takes on the air at 512, 1200 or 2400 bits a second. */
   report(pages: Data, rate: number, search?: Search): Report;
+  /** The frames of the plan of a page file: where pages start, and where there is room for more. */
+  frames(pages: Data, search?: Search): Frames;
   /** Whether a certificate shows its batches for a page file. */
   check(pages: Data, certificate: Data, how?: Strict): Verdict;
   /** Why fewer batches do not suffice, by the nodes no deeper than `depth` (3 where it is not given), or which node does not hold. */
@@ -142,6 +162,7 @@ export const version: Pocsag["version"];
 export const plan: Pocsag["plan"];
 export const planAtMost: Pocsag["planAtMost"];
 export const report: Pocsag["report"];
+export const frames: Pocsag["frames"];
 export const check: Pocsag["check"];
 export const explain: Pocsag["explain"];
 export const decode: Pocsag["decode"];

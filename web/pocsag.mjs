@@ -85,6 +85,9 @@ const FRONT = fields(4, "pages", "left", "codewords", "inOrder", "batches", "bou
 const CHECK = fields(4, "end", "batches");
 const BATCHES = fields(4, "batches");
 const REPORT = [...PLAN, ...fields(8, "idles", "bits", "airtimeMs")];
+const FRAME = [...fields(4, "frame", "pages"), ...fields(8, "codewords", "room")];
+const NUMBERS = [0, 1, 2, 3, 4, 5, 6, 7];
+const FRAMES = [...NUMBERS.flatMap((k) => FRAME.map(([name, size]) => [name + k, size])), ...fields(4, "batches", "bound")];
 
 /* Where each field stands, as a C compiler lays them out, and where the next structure may begin. */
 function layout(listed, start = 0) {
@@ -272,6 +275,13 @@ export class Pocsag {
     return this.#call("pocsag_report", REPORT, { reads: [this.#pages(pages, strict)], first }).info;
   }
 
+  frames(pages, { limit = DEFAULT_LIMIT, end = "open", always = true, strict = false } = {}) {
+    const first = [number(limit, 5), placeIn(ENDS, end, 2), Number(Boolean(always))];
+    const { info } = this.#call("pocsag_frames", FRAMES, { reads: [this.#pages(pages, strict)], first });
+    const frames = NUMBERS.map((k) => Object.fromEntries(FRAME.map(([name]) => [name, info[name + k]])));
+    return { frames, batches: info.batches, bound: info.bound };
+  }
+
   check(pages, certificate, { strict = false } = {}) {
     const { status, info } = this.#call("pocsag_check", CHECK, { reads: [this.#pages(pages, strict), bytesOf(certificate)] });
     return { isShown: status === 0, end: ENDS[info.end], batches: info.batches };
@@ -343,6 +353,7 @@ export const version = () => library.version();
 export const plan = (pages, search) => library.plan(pages, search);
 export const planAtMost = (pages, batches, search) => library.planAtMost(pages, batches, search);
 export const report = (pages, rate, search) => library.report(pages, rate, search);
+export const frames = (pages, search) => library.frames(pages, search);
 export const check = (pages, certificate, how) => library.check(pages, certificate, how);
 export const explain = (pages, certificate, how) => library.explain(pages, certificate, how);
 export const decode = (transmission, reading) => library.decode(transmission, reading);

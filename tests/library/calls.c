@@ -145,7 +145,7 @@ static uint32_t text_of(int call, const uint8_t *tx, size_t tx_len, uint8_t *tex
 }
 
 /* How many calls take memory. */
-#define CALLS (6 + TEXTS)
+#define CALLS (7 + TEXTS)
 
 /* One of them, its texts into t. */
 static uint32_t call_of(int call, const struct texts *whole, struct texts *t)
@@ -173,8 +173,15 @@ static uint32_t call_of(int call, const struct texts *whole, struct texts *t)
     }
     case 5:
         return pocsag_report(pages, pages_len, 1200, 100000, end, always, &report);
+    case 6: {
+        struct pocsag_frames_info frames;
+        uint32_t status = pocsag_frames(pages, pages_len, 100000, end, always, &frames);
+        if (status == POCSAG_OK)
+            memcpy(t->tx, frames.frames, sizeof frames.frames);
+        return status;
+    }
     default:
-        return text_of(call - 6, whole->tx, whole->tx_len, t->tx, LARGE, &t->tx_len);
+        return text_of(call - 7, whole->tx, whole->tx_len, t->tx, LARGE, &t->tx_len);
     }
 }
 
@@ -288,6 +295,31 @@ static void try_fronts(const struct texts *whole)
     }
 }
 
+/* The frames of the round, in a structure that ends where a page begins that may not be touched; and where there are none. */
+static void try_frames(const struct texts *whole)
+{
+    struct pocsag_frames_info *info = (void *)guarded(sizeof *info);
+    uint64_t count = 0, codewords = 0, room = 0;
+    if (pocsag_frames(pages, pages_len, 100000, end, always, info) != POCSAG_OK)
+        wrong("the frames", 0);
+    for (uint32_t frame = 0; frame < POCSAG_FRAMES; frame++) {
+        if (info->frames[frame].frame != frame || info->frames[frame].room > 2 * (uint64_t)info->batches)
+            wrong("a frame", (long)frame);
+        count += info->frames[frame].pages;
+        codewords += info->frames[frame].codewords;
+        room += info->frames[frame].room;
+    }
+    if (count != whole->info.pages || codewords != whole->info.codewords || codewords + room != 16 * (uint64_t)info->batches ||
+        info->batches != whole->info.batches || info->bound != whole->info.bound)
+        wrong("the numbers of the frames", (long)count);
+    memset(info, 0x5a, sizeof *info);
+    if (pocsag_frames(pages, pages_len, 0, end, always, info) != POCSAG_BAD_LIMIT || info->batches != 0 || info->bound != 0)
+        wrong("no frames", 0);
+    for (uint32_t frame = 0; frame < POCSAG_FRAMES; frame++)
+        if (info->frames[frame].frame + info->frames[frame].pages + info->frames[frame].codewords + info->frames[frame].room != 0)
+            wrong("a frame of no plan", (long)frame);
+}
+
 static void try_buffers(const struct texts *whole)
 {
     struct pocsag_plan_info info;
@@ -309,6 +341,7 @@ static void try_buffers(const struct texts *whole)
     try_texts(whole);
     try_explanations(whole);
     try_fronts(whole);
+    try_frames(whole);
     struct pocsag_check_info check;
     uint8_t *file = guarded(pages_len), *cert = guarded(whole->cert_len);
     memcpy(file, pages, pages_len);
@@ -325,6 +358,7 @@ static void try_too_large(const struct texts *whole)
     static struct texts t;
     struct pocsag_check_info check;
     struct pocsag_report_info report;
+    struct pocsag_frames_info frames;
     size_t told;
     if (large == MAP_FAILED)
         wrong("no memory for the test", (long)size);
@@ -332,6 +366,7 @@ static void try_too_large(const struct texts *whole)
     if (pocsag_check(large, size, whole->cert, whole->cert_len, &check) != POCSAG_PAGES_TOO_LARGE ||
         pocsag_explain(large, size, whole->cert, whole->cert_len, 0, 3, none, 0, &told, &check) != POCSAG_PAGES_TOO_LARGE ||
         pocsag_report(large, size, 1200, 100000, end, always, &report) != POCSAG_PAGES_TOO_LARGE ||
+        pocsag_frames(large, size, 100000, end, always, &frames) != POCSAG_PAGES_TOO_LARGE ||
         pocsag_plan(large, size, t.tx, LARGE, &t.tx_len, t.cert, LARGE, &t.cert_len, 100000, end, always, &t.info) !=
             POCSAG_PAGES_TOO_LARGE)
         wrong("a page file that is too large", 0);

@@ -37,7 +37,7 @@ ROUND = TOP / "examples/round.csv"
 ROUNDS, CHANGED = 1_200, 400
 ROUNDS_OF_BOTH, CHANGED_OF_BOTH = 2_000, 8_000
 CALLS = {"airtime_batches", "check", "decode", "decode_as", "explain", "hear", "hear_as", "lay_in_order", "plan", "plan_at_most"}
-CALLS |= {"report", "show", "strict", "text_of_status", "text_of_version", "version", "wav", "write_page"}
+CALLS |= {"frames", "report", "show", "strict", "text_of_status", "text_of_version", "version", "wav", "write_page"}
 CALLS = {f"pocsag_{name}" for name in CALLS}
 
 # The words of the program for each end, and what its `check` tells of it.
@@ -413,6 +413,7 @@ def try_stack(tally, folder, room):
         on_stack("plan", "PLAN", {0}, name)
         on_stack("front", "PLAN", {0}, name)
         on_stack("report", "PLAN", {0}, name)
+        on_stack("frames", "PLAN", {0}, name)
         on_stack("decode", "LISTING", {0}, name)
         on_stack("hear", "LISTING", {0}, name)
         for call in ("repaired", "captured", "heard", "text", "list", "drawing", "sound", "order", "row"):
@@ -448,6 +449,43 @@ def try_reports(tally, library):
         tally.check(f"the report at {rate}", (0, text) == program("report", ROUND, "--rate", rate), told)
     fault = attempt(library.pocsag.report, ROUND.read_bytes(), 1201)
     tally.check("a rate that is none", type(fault) is pocsag.BadRate, fault)
+
+
+def try_frames(tally, library, plans, seed):
+    """The frames of plans, as the program prints them with the least room first; and those of a round worked by hand."""
+    source, call, wrong = random.Random(seed), library.pocsag.frames, []
+    for number, (pages, plan) in enumerate(plans[::4]):
+        end, always = source.randrange(3), source.randrange(4) == 0
+        library.pages.write_bytes(pages)
+        told = program("report", library.pages, "--rate", 1200, "--frames", *WORDS[end], *["--always"] * always)
+        given = attempt(call, pages, end=end, always=always)
+        if isinstance(given, pocsag.Fault):
+            wrong += [number] * (told[0] == 0 or said(given) != told[1])
+            continue
+        rows = sorted(given.frames, key=lambda frame: frame.room)
+        lines = [b"frame %d pages %d codewords %d room %d\n" % frame for frame in rows]
+        same = told[0] == 0 and told[1].endswith(b"".join(lines)) and b"\nbatches %d\n" % given.batches in told[1]
+        bound = b"at least %d batches\n" % given.bound * (given.bound < given.batches)
+        same = same and [frame.frame for frame in given.frames] == list(range(8)) and bound in told[1]
+        wrong += [number] * (not same or sum(frame.codewords + frame.room for frame in given.frames) != 16 * given.batches)
+    tally.check(f"{len(plans[::4])} plans have the frames that the program prints", not wrong, wrong[:5])
+    # Five tones of frame 0 need three batches, in which that frame has six codewords. The numeric page has three codewords: two in
+    # frame 7 and one in frame 0, since two of them would be one too many there.
+    tones = b"".join(b"%d,tone0,\n" % (8 * number) for number in range(1, 6))
+    given = call(pocsag.HEADER + tones + b"15,numeric,5550199\n")
+    wanted = [(0, 5, 5, 0), *((frame, 0, 0, 6) for frame in range(1, 7)), (7, 1, 3, 4)]
+    tally.check("the frames of a round by hand", (given.frames, given.batches, given.bound) == (wanted, 3, 3), given)
+    for wanted, words, named in (
+        (pocsag.BadEnd, (pocsag.HEADER + tones,), dict(end=3, limit=0)),
+        (pocsag.BadKind, (pocsag.HEADER + b"8,tone9,\n",), dict(limit=0)),
+        (pocsag.BadLimit, (pocsag.HEADER + tones,), dict(limit=0)),
+        (pocsag.SearchLimit, ((TOP / "examples/loops-apart.csv").read_bytes(),), dict(limit=2, always=False)),
+        (pocsag.QuoteInside, (pocsag.HEADER + b'8,alpha,a"b\n',), dict(strict=True)),
+    ):
+        fault = attempt(call, *words, **named)
+        tally.check(f"no frames: {wanted.__name__}", type(fault) is wanted, fault)
+    loose = call((TOP / "examples/loops-apart.csv").read_bytes(), limit=2)
+    tally.check("the frames of a plan above its bound", (loose.batches, loose.bound) == (3, 2), loose)
 
 
 def try_explanations(tally, library):
@@ -722,6 +760,7 @@ def all_answers(library, pages, tx, cert, address, end, always):
         attempt(library.decode, tx),
         attempt(library.hear, address, tx),
         attempt(library.report, pages, 1200, end=end, always=always),
+        attempt(library.frames, pages, end=end, always=always),
         attempt(library.plan_at_most, pages, address % 8, end=end, always=always),
         attempt(library.wav, tx, 1200, 2_400 + address % 9_000, inverted=address % 2),
         attempt(library.lay_in_order, pages),
@@ -803,6 +842,7 @@ def try_library(tally, room):
     try_calls(tally, folder, room, ways_to_try())
     plans = try_bytes(tally, library, ROUNDS, 1)
     try_fronts(tally, library, plans, 4)
+    try_frames(tally, library, plans, 8)
     try_readings(tally, library, plans, 5)
     try_sounds(tally, library, plans, 7)
     try_orders(tally, library, plans)

@@ -2,9 +2,9 @@
  *
  *     stack CALL BYTES PAGES CERT
  *
- * CALL is plan, front, report, check, words, json, order or row, or else decode, hear, repaired, captured, heard, text, list,
- * drawing or sound, which read CERT as a transmission. It prints the status of the call and how many bytes of the stack were written, the
- * thread's own part included. */
+ * CALL is plan, front, report, frames, check, words, json, order or row, or else decode, hear, repaired, captured, heard, text,
+ * list, drawing or sound, which read CERT as a transmission. It prints the status of the call and how many bytes of the stack were
+ * written, the thread's own part included. */
 #define _GNU_SOURCE
 #include <pthread.h>
 #include <stdio.h>
@@ -42,6 +42,7 @@ static void *run(void *status)
     static struct pocsag_plan_info plan;
     static struct pocsag_front_info front;
     static struct pocsag_report_info report;
+    static struct pocsag_frames_info frames;
     static struct pocsag_check_info check;
     static struct pocsag_place place;
     static size_t len, other_len, rest_len, why_len;
@@ -54,6 +55,8 @@ static void *run(void *status)
                                     &rest_len, fourth, LARGE, &why_len, POCSAG_DEFAULT_LIMIT, POCSAG_END_CLOSED, 1, &front);
     else if (strcmp(call, "report") == 0)
         *told = pocsag_report(pages.bytes, pages.len, 1200, POCSAG_DEFAULT_LIMIT, POCSAG_END_CLOSED, 1, &report);
+    else if (strcmp(call, "frames") == 0)
+        *told = pocsag_frames(pages.bytes, pages.len, POCSAG_DEFAULT_LIMIT, POCSAG_END_CLOSED, 1, &frames);
     else if (strcmp(call, "check") == 0)
         *told = pocsag_check(pages.bytes, pages.len, other.bytes, other.len, &check);
     else if (strcmp(call, "decode") == 0)

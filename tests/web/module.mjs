@@ -64,6 +64,8 @@ const faults = [
   [() => pocsag.planAtMost(rounds["loops-apart"][0], 0), "POCSAG_FIRST_PAGE", "page 1 needs 1 batches", { found: 1 }],
   [() => pocsag.report(SAMPLE, 1201), "POCSAG_BAD_RATE", "the rate must be 512, 1200 or 2400", {}],
   [() => pocsag.report(SAMPLE, 2 ** 32 + 512), "POCSAG_BAD_RATE", "the rate must be 512, 1200 or 2400", {}],
+  [() => pocsag.frames(SAMPLE, { end: "none" }), "POCSAG_BAD_END", "the end must be open, closed or idle", {}],
+  [() => pocsag.frames(HEADER + "1,tone0,\n2,tone9,\n"), "POCSAG_BAD_KIND", "record 2: unknown kind", { recordNumber: 2 }],
   [() => pocsag.explain(SAMPLE, proof, { form: "verse" }), "POCSAG_BAD_FORM", "the form must be words or json", {}],
   [() => pocsag.check(SAMPLE, new Uint8Array(4)), "POCSAG_NOT_CERTIFICATE", "not a certificate", {}],
   [() => pocsag.decode(sent.subarray(0, 139)), "POCSAG_TRUNCATED", "the transmission is cut short", {}],
@@ -105,6 +107,10 @@ tally.is("a batch more than the bound", [bound.batches, bound.bound], [3, 2]);
 const front = pocsag.planAtMost(SAMPLE + "16,tone0,\n24,tone0,\n", 1);
 tally.is("a front", [front.pages, front.left, front.batches, front.beyond, front.rest], [2, 1, 1, 2, HEADER + "24,tone0,\n"]);
 tally.is("why not one page more", pocsag.check(SAMPLE + "16,tone0,\n24,tone0,\n", front.why), { isShown: true, end: "open", batches: 2 });
+const { frames: rooms, ...counts } = pocsag.frames(SAMPLE + "13,tone0,\n21,tone0,\n");
+tally.is("the frames of a plan", rooms.map(({ frame, pages, codewords, room }) => [frame, pages, codewords, room]),
+  [[0, 1, 1, 1], [1, 0, 0, 2], [2, 0, 0, 2], [3, 0, 0, 2], [4, 0, 0, 2], [5, 2, 2, 0], [6, 0, 0, 2], [7, 0, 0, 2]]);
+tally.is("and its batches", counts, { batches: 1, bound: 1 });
 const quotes = HEADER + '8,alpha,a\n16,alpha,"' + '""'.repeat(3_000) + '"\n';
 tally.is("the pages that are left, with their quotes", pocsag.planAtMost(quotes, 1).rest, HEADER + '16,alpha,"' + '""'.repeat(3_000) + '"\n');
 const every = HEADER + `8,alpha,"${String.fromCharCode(...Array(127).keys()).slice(1).replace('"', '""')}\x7f"\n`;
@@ -164,7 +170,7 @@ function limited(most) {
 }
 const tones = HEADER + [...Array(3_000).keys()].map((k) => `${k},tone0,\n`).join(""), ample = pocsag.plan(tones, { limit: 100 });
 const calls = {
-  plan: [tones, { limit: 100 }], planAtMost: [tones, 5, { limit: 100 }], report: [tones, 512], check: [tones, ample.certificate],
+  plan: [tones, { limit: 100 }], planAtMost: [tones, 5, { limit: 100 }], report: [tones, 512], frames: [tones, { limit: 100 }], check: [tones, ample.certificate],
   explain: [tones, ample.certificate], decode: [ample.transmission, "repaired"], hear: [8, ample.transmission, "captured"],
   show: [ample.transmission, { form: "drawing" }], layInOrder: [tones], wav: [sent, 1200],
 };

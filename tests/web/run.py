@@ -37,7 +37,7 @@ def script_at(name, path):
 
 ROUNDS, PER_BATCH = 2_000, 500
 NODE, CHROMIUM, FIREFOX = shutil.which("node"), shutil.which("chromium"), shutil.which("firefox-esr") or shutil.which("firefox")
-SIZES = {"plan": 48, "front": 56, "check": 32, "report": 72, "place": 24, "number": 4}
+SIZES = {"plan": 48, "front": 56, "check": 32, "report": 72, "frames": 224, "place": 24, "number": 4}
 
 
 def run(*words, **how):
@@ -77,6 +77,7 @@ def planning_calls(source, pages):
         ["pocsag_plan", hexed(pages), *rooms(source, 4_096, 4_096), *searched(source), info("plan")],
         ["pocsag_plan_at_most", hexed(pages), number(source.randrange(6)), *rooms(source, 4_096, 4_096, 4_096, 4_096), *searched(source), info("front")],
         ["pocsag_report", hexed(pages), number(source.choice([512, 1200, 2400, 1201])), *searched(source), info("report")],
+        ["pocsag_frames", hexed(pages), *searched(source), info("frames")],
         ["pocsag_lay_in_order", hexed(pages), *rooms(source, 4_096), info("place")],
         ["pocsag_strict", hexed(source.choice([pages, pages.replace(b",", b'"', 3), pages + b'8,alpha,"x"y', pages + b'8,alpha,"'])), info("place")],
     ]

@@ -1,5 +1,6 @@
 pub mod Answers
 pub mod Explain
+pub mod Frames
 pub mod Fronts
 pub mod Listings
 pub mod Orders

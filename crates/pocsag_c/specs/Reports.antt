@@ -40,7 +40,7 @@ ExplainsUnreported file search (stream.Plan f) = IsOfRound file (λ round. Expla
 ExplainsUnreported file search (stream.Transmission f) = ⊥
 ExplainsUnreported file search (stream.Certificate f) = ⊥
 
--- Why there is no report of a page file, though the rate may be one.
+-- Why there is no plan of a page file to report of, though the end is one.
 pub record ExplainsReport (file : List ℕ) (number limit always : ℕ) (f : StreamFault) : Type 0 where
   pub search : Search
   pub asked : IsAsked number limit always search

@@ -8,13 +8,13 @@ ghost use Rattle.pocsag_c.specs.Records.{ExplainsNoRecord, IsRecordOf, word_of_k
 ghost use Rattle.pocsag_c.specs.Statuses.{IsOfBytes, IsRefusing, nowhere, page_refusal};
 
 use crate::buffer::hand_out_text;
-use crate::refusal::{Place, StatusAt, refused_page};
+use crate::refusal::{Place, StatusAt, refused_record};
 use csv::Writer;
 use itoa::Buffer;
 use pocsag_decode::{
     kind_of_page, page_files_are_read_back, pages_of_files_are_spellable, whole_message,
 };
-use pocsag_pages::{FieldFault, Page, page_of_fields};
+use pocsag_pages::{FieldFault, Page, RecordFault, page_of_fields};
 use std::alloc::{AllocError, Global};
 
 // The kind of a number, as a page file spells it.
@@ -100,7 +100,7 @@ pub extern "C" fn pocsag_write_page(
 {
     let made = match record_spelled(alloc, address, kind, message) {
         Ok(text) => Ok(text),
-        Err(fault) => Err(refused_page(fault)),
+        Err(fault) => Err(refused_record(0, RecordFault::Field(fault))),
     };
     hand_out_text(made, 10, row, row_len, place)
 }

@@ -2,7 +2,7 @@ ghost use Rattle.std.specs.Prelude.{◌≡◌, ◌≢◌};
 ghost use Rattle.pocsag_pages.specs.declared.fault.RoundFault.TheVariants as round_fault;
 ghost use Rattle.pocsag_plan.specs.declared.fault.StreamFault.TheVariants as stream_fault;
 ghost use Rattle.pocsag_decode.specs.declared.fault.DecodeFault.TheVariants as decode_fault;
-ghost use Rattle.pocsag_c.specs.Statuses.{IsOfBytes, IsRefusing, capture_refusal, certificate_refusal, front_refusal, index_refusal, page_refusal, pager_refusal, plain_refusal, record_refusal, refusal_of_record, round_refusal, show_refusal, stream_refusal, transmission_refusal, wav_refusal};
+ghost use Rattle.pocsag_c.specs.Statuses.{IsOfBytes, IsRefusing, capture_refusal, certificate_refusal, front_refusal, index_refusal, pager_refusal, plain_refusal, record_refusal, refusal_of_record, round_refusal, show_refusal, stream_refusal, transmission_refusal, wav_refusal};
 
 use pocsag_capture::CaptureFault;
 use pocsag_decode::DecodeFault;
@@ -74,8 +74,8 @@ fn of_index(status: u32, at: u64) -> StatusAt
     }
 }
 
-// A refusal for a record of this number.
-fn refused_record(number: u32, fault: RecordFault) -> StatusAt
+// A refusal for a record of this number, which is 0 for a page that stands in no file yet.
+pub(crate) fn refused_record(number: u32, fault: RecordFault) -> StatusAt
     ensures value { result ≡ refusal_of_record number fault }
     ensures refusing { IsRefusing result.status }
     ensures of_bytes { IsOfBytes result.status }
@@ -103,15 +103,6 @@ fn refused_record(number: u32, fault: RecordFault) -> StatusAt
         RecordFault::DuplicateAddress => of_record(27, number),
         RecordFault::TooManyPages => of_record(28, number),
     }
-}
-
-// A refusal for a page that stands in no file yet.
-pub(crate) fn refused_page(fault: FieldFault) -> StatusAt
-    ensures value { result ≡ page_refusal fault }
-    ensures refusing { IsRefusing result.status }
-    ensures of_bytes { IsOfBytes result.status }
-{
-    refused_record(0, RecordFault::Field(fault))
 }
 
 pub(crate) fn refused_round(fault: RoundFault) -> StatusAt

@@ -1,14 +1,14 @@
-ghost use Rattle.std.specs.Prelude.{◌≡◌, ◌≢◌, ◌⊎◌, ◌↔◌, IfErr, IfOk};
+ghost use Rattle.std.specs.Prelude.{◌≡◌, ◌≢◌, ◌⊎◌, ◌↔◌, IfErr, IfOk, Ok};
+ghost use Rattle.pocsag_pages.specs.PageFile.{verdict};
 ghost use Rattle.pocsag_pages.specs.declared.fault.RoundFault.TheVariants as round_fault;
 ghost use Rattle.pocsag_plan.specs.Plans.{IsPlanFor};
-ghost use Rattle.pocsag_plan.specs.Streams.{IsOfRound};
 ghost use Rattle.pocsag_c.specs.Answers.{IsNoEnd, PrintsFault};
 ghost use Rattle.pocsag_c.specs.Reports.{ExplainsReport, ExplainsUnreported, IsBadRate, PrintsReport, no_report};
 ghost use Rattle.pocsag_c.specs.Statuses.{IsOfBytes, nowhere, stream_refusal};
 
 use crate::plan::{end_of, on_limit_of};
 use crate::refusal::{NOWHERE, Place, refused_stream};
-use pocsag_pages::read_round;
+use pocsag_pages::{Round, read_round};
 use pocsag_plan::{Bounded, Search, StreamFault, bounded_plan, report};
 use pocsag_words::SliceSource;
 use std::alloc::Global;
@@ -49,9 +49,21 @@ const NO_REPORT: ReportInfo = ReportInfo {
     place: NOWHERE,
 };
 
-// The plan of a page file, which is judged before the limit.
-fn plan_in(alloc: Global, pages: &[u8], search: Search) -> Result<Bounded, StreamFault>
-    ensures plan { IfOk result (λ bounded. IsOfRound pages.now (λ round. IsPlanFor search round bounded)) }
+// A round and its plan.
+#[derive(Drop)]
+pub(crate) struct PlannedRound {
+    pub(crate) round: Round,
+    pub(crate) bounded: Bounded,
+}
+
+// The round of a page file and its plan. The file is judged before the limit.
+pub(crate) fn plan_in(
+    alloc: Global,
+    pages: &[u8],
+    search: Search,
+) -> Result<PlannedRound, StreamFault>
+    ensures read { IfOk result (λ found. verdict pages.now ≡ Ok found.round) }
+    ensures plan { IfOk result (λ found. IsPlanFor search found.round found.bounded) }
     ensures explained { IfErr result (ExplainsUnreported pages.now search) }
     ensures unread { IfErr result (λ e. e ≢ StreamFault.Round round_fault.ReadFault) }
 {
@@ -60,7 +72,7 @@ fn plan_in(alloc: Global, pages: &[u8], search: Search) -> Result<Bounded, Strea
         Err(fault) => return Err(StreamFault::Round(fault)),
     };
     match bounded_plan(alloc, &round, search) {
-        Ok(bounded) => Ok(bounded),
+        Ok(bounded) => Ok(PlannedRound { round, bounded }),
         Err(fault) => Err(StreamFault::Plan(fault)),
     }
 }
@@ -102,7 +114,7 @@ pub extern "C" fn pocsag_report(
             on_limit,
         },
     ) {
-        Ok(bounded) => bounded,
+        Ok(found) => found.bounded,
         Err(fault) => {
             let refusal = refused_stream(fault);
             info.place = refusal.place;

@@ -5,6 +5,5 @@ mod Judged
 pub mod Plans
 pub mod QueueRounds
 pub mod ReportLines
-pub mod Rooms
 pub mod Shown
 pub mod Verified

@@ -5,11 +5,11 @@ use Rattle.pocsag_pages.specs.PageFile.{verdict}
 use Rattle.pocsag_pages.specs.declared.page.Page.{Page}
 use Rattle.pocsag_plan.specs.declared.airtime.Report.{Report}
 use Rattle.pocsag_plan.specs.declared.bounded.Bounded.{Bounded}
+use Rattle.pocsag_plan.specs.declared.frames.FrameRoom.{FrameRoom}
 use Rattle.pocsag_plan.specs.declared.search.Search.{Search}
 use Rattle.pocsag_plan.specs.Plans.{IsPlanFor}
 use Rattle.pocsag_plan.specs.Reports.{IsReport, report_text}
 use Rattle.pocsag_centre.specs.Lines.{below_text}
-use Rattle.pocsag_centre.specs.declared.frames.FrameRoom.{FrameRoom}
 use Rattle.pocsag_centre.specs.Frames.{AreByRoom, frame_text}
 
 -- The report at a rate of the plan that is required for what is asked of the page file's round was reported, its bound where that is

@@ -7,7 +7,7 @@ use Rattle.pocsag_words.specs.declared.ending.End.TheVariants as ends
 use Rattle.pocsag_pages.specs.declared.page.Page.{Page}
 use Rattle.pocsag_pages.specs.Queues.{held_pages}
 use Rattle.pocsag_pages.specs.Reading.{batch_length, page_length}
-use Rattle.pocsag_centre.specs.Frames.{frame_count}
+use Rattle.pocsag_plan.specs.Frames.{frame_count}
 use Rattle.pocsag_centre.specs.FrontFiles.{IsPageFileOf}
 use Rattle.pocsag_centre.specs.declared.oversized.PartedFile.{PartedFile}
 use Rattle.pocsag_centre.specs.declared.front.FrontAsked.{FrontAsked}

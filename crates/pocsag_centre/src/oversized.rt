@@ -5,10 +5,10 @@ ghost use Rattle.pocsag_centre.specs.FrontFiles.{ExplainsFirst};
 ghost use Rattle.pocsag_centre.specs.Oversized.{IsParted, aside_of, fits_alone, planned_of};
 
 use crate::fault::CentreFault;
-use crate::frames::FRAME_COUNT;
 use crate::front::{FrontAsked, written_pages};
 use pocsag_decode::{page_files_are_read_back, pages_of_files_are_spellable};
 use pocsag_pages::{Page, held_pages};
+use pocsag_plan::FRAMES;
 use pocsag_shell::FileFault;
 use pocsag_words::{End, OutOfMemory};
 use std::alloc::Global;
@@ -102,6 +102,6 @@ fn fits_alone(page: &Page, end: End, batches: u32) -> bool
         End::Closed => u64::from(items != 0),
         End::Idle => 1,
     };
-    let least = u64::from(2 * (page.address % FRAME_COUNT)) + 1 + items + idles;
+    let least = u64::from(2 * (page.address % FRAMES as u32)) + 1 + items + idles;
     least <= BATCH_ROOM * u64::from(batches)
 }

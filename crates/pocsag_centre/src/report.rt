@@ -2,22 +2,22 @@ ghost use Rattle.std.specs.Prelude.{◌≡◌, ◌≢◌, ◌++◌, [], IfErr, I
 ghost use Rattle.std.specs.List.{flat_map};
 ghost use Rattle.pocsag_words.specs.Devices.{CountsFailures, HasFailed};
 ghost use Rattle.pocsag_pages.specs.declared.fault.RoundFault.TheVariants as round_fault;
+ghost use Rattle.pocsag_plan.specs.Frames.{HasClasses};
 ghost use Rattle.pocsag_plan.specs.Reports.{report_text};
 ghost use Rattle.pocsag_shell.specs.declared.fault.FileFault.TheVariants as file_fault;
 ghost use Rattle.pocsag_shell.specs.ErrorStreams.{stream_of, printed_by};
 ghost use Rattle.pocsag_centre.specs.Commands.{Reported};
 ghost use Rattle.pocsag_centre.specs.Faults.{centre_status};
-ghost use Rattle.pocsag_centre.specs.Frames.{frame_text, AreByRoom, HasClasses};
+ghost use Rattle.pocsag_centre.specs.Frames.{frame_text, AreByRoom};
 ghost use Rattle.pocsag_centre.specs.FramesPrinted.{ReportedFrames};
 ghost use Rattle.pocsag_centre.specs.Lines.{below_text};
 ghost use Rattle.pocsag_centre.specs.Refusals.{OrDevice};
 ghost use Rattle.pocsag_centre.specs.Reports.{ExplainsReporting};
 
 use crate::fault::CentreFault;
-use crate::frames::{FrameRoom, frames_of};
 use crate::lines::print_below;
 use crate::plan::{RoundPlan, read_plan};
-use pocsag_plan::{Report, Search, report};
+use pocsag_plan::{FrameRoom, Report, Search, frames_of, report};
 use pocsag_shell::{ErrorStream, FileFault, print_numbers};
 use pocsag_words::{OutOfMemory, Sink, Source};
 use std::alloc::Global;
@@ -88,10 +88,13 @@ fn rooms_asked(
     ensures all { IsTrue frames → IfOk result (λ rooms.
         AreByRoom found.now.round found.now.bounded.plan.steps.items rooms.items) }
 {
-    if frames {
-        return frames_of(alloc, &found.round, found.bounded.plan.steps.as_slice());
+    if !frames {
+        return Ok(Vec::new(alloc));
     }
-    Ok(Vec::new(alloc))
+    let by_number = frames_of(&found.round, found.bounded.plan.steps.as_slice());
+    let mut rooms = Vec::from_slice(alloc, &by_number)?;
+    rooms.sort_by_key(|room| room.room)?;
+    Ok(rooms)
 }
 
 // Prints a report, and the bound where it is below the batches.
@@ -149,8 +152,8 @@ fn print_frame<O: Sink>(room: &FrameRoom, out: &mut O) -> Result<(), FileFault>
     let numbers = [
         ("frame ", room.frame as u64),
         (" pages ", room.pages as u64),
-        (" codewords ", room.codewords as u64),
-        (" room ", room.room as u64),
+        (" codewords ", room.codewords),
+        (" room ", room.room),
     ];
     print_numbers(out, &numbers, "\n")
 }

@@ -4,6 +4,7 @@ pub mod Due
 pub mod Edits
 pub mod Entries
 pub mod Explained
+pub mod FrameRooms
 pub mod FrontTries
 pub mod Refusals
 pub mod Rooms

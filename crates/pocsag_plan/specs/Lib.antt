@@ -3,6 +3,7 @@ pub mod BookPlans
 pub mod Books
 pub mod BoundedHeadline
 pub mod FaultChains
+pub mod Frames
 pub mod Fronts
 pub mod Headline
 pub mod OpenRound

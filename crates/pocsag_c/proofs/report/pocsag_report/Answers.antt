@@ -18,7 +18,10 @@ pub returns-in_default-report-clause-bad_rate : goal.returns-in_default-report-c
 returns-in_default-report-clause-bad_rate c = λ _. record {
   search = record { limit = c.args.limit; end = c.in-Some.end; on_limit = c.on_limit_of-on_limit.result };
   asked = record { same_end = c.in-Some.ensures; same_limit = refl; same_on_limit = c.on_limit_of-on_limit.ensures.value };
-  planned = record { bounded = c.in-Ok.bounded; plan_of = c.in-Ok.ensures.plan };
+  planned = record {
+    bounded = c.in-Ok.found.bounded;
+    plan_of = record { round = c.in-Ok.found.round; read = c.in-Ok.ensures.read; holds = c.in-Ok.ensures.plan };
+  };
   no_rate = c.in_default-report.ensures.bad.0 refl;
 }
 
@@ -26,10 +29,10 @@ pub returns-clause-told : goal.returns-clause-told
 returns-clause-told c = λ _. record {
   search = record { limit = c.args.limit; end = c.in-Some.end; on_limit = c.on_limit_of-on_limit.result };
   asked = record { same_end = c.in-Some.ensures; same_limit = refl; same_on_limit = c.on_limit_of-on_limit.ensures.value };
-  answered = record { report = c.in-Ok-report.report; bound = c.in-Ok.bounded.bound };
+  answered = record { report = c.in-Ok-report.report; bound = c.in-Ok.found.bounded.bound };
   is = record {
-    bounded = c.in-Ok.bounded;
-    plan_of = c.in-Ok.ensures.plan;
+    bounded = c.in-Ok.found.bounded;
+    plan_of = record { round = c.in-Ok.found.round; read = c.in-Ok.ensures.read; holds = c.in-Ok.ensures.plan };
     same_bound = refl;
     report_of = c.in-Ok-report.ensures.report;
   };

@@ -2,7 +2,7 @@ use Rattle.std.proofs.Common.{rules, ◌++◌, ◌∙◌, List, ap, refl}
 use Rattle.std.proofs.lemmas.List.{append-nil}
 use Rattle.std.specs.List.{flat_map}
 use Rattle.pocsag_plan.specs.Reports.{report_text}
-use Rattle.pocsag_centre.specs.declared.frames.FrameRoom.{FrameRoom}
+use Rattle.pocsag_plan.specs.declared.frames.FrameRoom.{FrameRoom}
 use Rattle.pocsag_centre.specs.Frames.{frame_text}
 use Rattle.pocsag_centre.specs.Lines.{below_text}
 use Rattle.pocsag_centre.specs.Commands.{Reported}

@@ -1,6 +1,6 @@
 use Rattle.std.proofs.Common.{◌≡◌, ◌*◌, ◌≤◌, take}
-use Rattle.pocsag_centre.specs.Frames.{frame_codewords, frame_pages}
-use Rattle.pocsag_centre.proofs.frames.frame_room.Given as goal
+use Rattle.pocsag_plan.specs.Frames.{frame_codewords, frame_pages}
+use Rattle.pocsag_plan.proofs.frames.frame_room.Given as goal
 
 -- the counts are those of the pages so far, of which each has 1,401 codewords at most
 abbrev pub invariant-loop-page : goal.invariant-loop-page

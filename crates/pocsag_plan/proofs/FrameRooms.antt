@@ -1,12 +1,11 @@
--- The idles of a frame, step by step.
-use Rattle.std.proofs.Common.{◌≡◌, ℕ, ◌+◌, ◌*◌, ◌%◌, ◌<◌, ◌≤◌, ◌==◌, Bool, true, false, List, [], ◌∷◌, ◌++◌, cond, arith, ap, sym, subst, ◌∙◌, refl, eq-eqb, drop, get_or, length, map, take, inl, inr}
+-- The frames of a plan, one after the other, and the idles of each, step by step.
+use Rattle.std.proofs.Common.{◌≡◌, ℕ, ◌+◌, ◌*◌, ◌%◌, ◌<◌, ◌≤◌, ◌==◌, Bool, true, false, List, ◌∷◌, cond, arith, ap, sym, subst, ◌∙◌, refl, eq-eqb, drop, get_or, length, length-set, slice_set, take, inl, inr}
 use Rattle.std.proofs.lemmas.Bool.{cases_lt}
 use Rattle.std.proofs.lemmas.List.{drop_more}
+use Rattle.std.proofs.lemmas.List.Edits.{fill_by_more}
 use Rattle.std.proofs.lemmas.List.Elements.{All-get_or}
-use Rattle.std.proofs.lemmas.List.FromFn.{map-range_with_len_more}
+use Rattle.std.proofs.lemmas.List.FromFn.{fill_by_all}
 use Rattle.std.proofs.lemmas.List.Sums.{count_by_more_no, count_by_more_yes, sum_by_more}
-use Rattle.std.specs.List.{range_with_len}
-use Rattle.std.specs.List.Sorted.{IsPermutation}
 use Rattle.pocsag_pages.specs.declared.page.Page.{Page}
 use Rattle.pocsag_pages.specs.Pages.{AreGood, IsGoodPage}
 use Rattle.pocsag_pages.specs.Reading.{page_length}
@@ -15,8 +14,8 @@ use Rattle.pocsag_slots.specs.declared.step.Step.{Step}
 use Rattle.pocsag_slots.specs.declared.step.Step.TheVariants.{Idle as Stay, Run}
 use Rattle.pocsag_slots.specs.Classes.{finish_of}
 use Rattle.pocsag_slots.specs.Tours.{idles}
-use Rattle.pocsag_centre.specs.declared.frames.FrameRoom.{FrameRoom}
-use Rattle.pocsag_centre.specs.Frames.{HasClasses, frame_codewords, frame_pages, frame_row, starts_in}
+use Rattle.pocsag_plan.specs.declared.frames.FrameRoom.{FrameRoom}
+use Rattle.pocsag_plan.specs.Frames.{HasClasses, frame_codewords, frame_pages, frame_row, frames_of, starts_in}
 
 -- how many idles stand in the two slots of a frame, where the steps start at boundary p
 abbrev pub room_from : ℕ → ℕ → List Step → ℕ
@@ -63,22 +62,27 @@ run_keeps frame total steps i p room c q e h is value small keeps =
     let classes : HasClasses (Run c e ∷ drop (i + 1) steps) = rw next at keeps.1 in
     (rw value all, classes_behind (Run c e) (drop (i + 1) steps) classes, small, omega (arith, keeps.3))
 
--- the eight frames, one more of them
-pub rooms_more : (R S : List Page) (steps : List Step) (n : ℕ) (rooms after : List FrameRoom) (r : FrameRoom) → S ≡ R
-    → rooms ≡ map (frame_row R steps) (range_with_len 0 n) → r ≡ frame_row S steps n → after ≡ rooms ++ r ∷ [] →
-    after ≡ map (frame_row R steps) (range_with_len 0 (n + 1))
-rooms_more R S steps n rooms after r same so_far is pushed =
-    let this : r ≡ frame_row R steps n = is ∙ ap (λ (v : List Page). frame_row v steps n) same in
-    pushed ∙ ap (λ (v : List FrameRoom). v ++ r ∷ []) so_far
-    ∙ ap (λ (v : FrameRoom). map (frame_row R steps) (range_with_len 0 n) ++ v ∷ []) this
-    ∙ sym (map-range_with_len_more (frame_row R steps) 0 n n (omega arith))
+-- the eight frames, with one more of them written; and all of them
+pub rooms_more : (R S : List Page) (steps : List Step) (n : ℕ) (rooms : List FrameRoom) (r : FrameRoom) → S ≡ R → n < 8 → length rooms ≡ 8
+    → r ≡ frame_row S steps n → ((k : ℕ) → k < n → get_or rooms k (frame_row R steps 0) ≡ frame_row R steps k) → (
+    record {
+      long : length (slice_set rooms n r) ≡ 8;
+      rows : (k : ℕ) → k < n + 1 → get_or (slice_set rooms n r) k (frame_row R steps 0) ≡ frame_row R steps k;
+    }
+    )
+rooms_more R S steps n rooms r same low long is so_far =
+    let f : ℕ → FrameRoom = frame_row R steps in
+    let this : r ≡ f n = is ∙ ap (λ (v : List Page). frame_row v steps n) same in
+    record {
+      long = length-set rooms n r ∙ long;
+      rows = subst (λ (x : FrameRoom). (k : ℕ) → k < n + 1 → get_or (slice_set rooms n x) k (f 0) ≡ f k) (sym this)
+          (fill_by_more f rooms n (f 0) (omega (arith, low, long)) so_far);
+    }
 
-pub all_rooms : (R : List Page) (steps : List Step) (n : ℕ) (rooms sorted : List FrameRoom) → 8 ≤ n → n ≤ 8
-    → rooms ≡ map (frame_row R steps) (range_with_len 0 n) → IsPermutation rooms sorted →
-    IsPermutation (map (frame_row R steps) (range_with_len 0 8)) sorted
-all_rooms R steps n rooms sorted low high all same =
-    let eight : n ≡ 8 = omega arith in
-    subst (λ (v : List FrameRoom). IsPermutation v sorted) (all ∙ ap (λ (m : ℕ). map (frame_row R steps) (range_with_len 0 m)) eight) same
+pub all_rooms : (R : List Page) (steps : List Step) (n : ℕ) (rooms : List FrameRoom) → 8 ≤ n → length rooms ≡ 8
+    → ((k : ℕ) → k < n → get_or rooms k (frame_row R steps 0) ≡ frame_row R steps k) → rooms ≡ frames_of R steps
+all_rooms R steps n rooms all long rows =
+    fill_by_all (frame_row R steps) rooms 8 (frame_row R steps 0) long (λ k low. rows k (omega (arith, low, all)))
 
 -- the pages of a frame and their codewords, with one page more
 module _ (frame : ℕ) (R : List Page) (i : ℕ) (p : Page) (within : i < length R) (here : p ≡ get_or R i p) where

@@ -1,9 +1,9 @@
 use Rattle.std.proofs.Common.{◌+◌, drop, List}
 use Rattle.pocsag_slots.specs.declared.step.Step.{Step}
-use Rattle.pocsag_centre.specs.Frames.{frame_idles}
-use Rattle.pocsag_centre.proofs.Rooms.{class_small, idle_keeps, next_step, run_keeps}
-use Rattle.pocsag_centre.proofs.frames.room_left.Goals.{in-Idle, in-Run}
-use Rattle.pocsag_centre.proofs.frames.room_left.Goals as goal
+use Rattle.pocsag_plan.specs.Frames.{frame_idles}
+use Rattle.pocsag_plan.proofs.FrameRooms.{class_small, idle_keeps, next_step, run_keeps}
+use Rattle.pocsag_plan.proofs.frames.room_left.Goals.{in-Idle, in-Run}
+use Rattle.pocsag_plan.proofs.frames.room_left.Goals as goal
 
 pub finish-place-requires : goal.finish-place-requires
 finish-place-requires c =

@@ -1,7 +1,7 @@
 use Rattle.std.proofs.Common.{◌≡◌, ◌+◌, ◌<◌, ◌≤◌, drop}
-use Rattle.pocsag_centre.specs.Frames.{HasClasses, frame_idles}
-use Rattle.pocsag_centre.proofs.Rooms.{room_from}
-use Rattle.pocsag_centre.proofs.frames.room_left.Given as goal
+use Rattle.pocsag_plan.specs.Frames.{HasClasses, frame_idles}
+use Rattle.pocsag_plan.proofs.FrameRooms.{room_from}
+use Rattle.pocsag_plan.proofs.frames.room_left.Given as goal
 
 -- the idles so far, and those of the steps that are left, are all
 abbrev pub invariant-loop-step : goal.invariant-loop-step

@@ -1,10 +1,10 @@
 use Rattle.std.proofs.Common.{◌≡◌, ◌≤◌, true, false, ap, arith, length, rules}
 use Rattle.pocsag_pages.specs.declared.page.Page.{Page}
 use Rattle.pocsag_pages.specs.Reading.{page_length}
-use Rattle.pocsag_centre.specs.Frames.{starts_in}
-use Rattle.pocsag_centre.proofs.Rooms.{counted_in, counted_out, page_short}
-use Rattle.pocsag_centre.proofs.frames.frame_room.Goals.{then-page-frame, else-page-frame}
-use Rattle.pocsag_centre.proofs.frames.frame_room.Goals as goal
+use Rattle.pocsag_plan.specs.Frames.{starts_in}
+use Rattle.pocsag_plan.proofs.FrameRooms.{counted_in, counted_out, page_short}
+use Rattle.pocsag_plan.proofs.frames.frame_room.Goals.{then-page-frame, else-page-frame}
+use Rattle.pocsag_plan.proofs.frames.frame_room.Goals as goal
 
 pub loop-page-preserved : goal.loop-page-preserved
 loop-page-preserved c =

@@ -1,0 +1,90 @@
+ghost use Rattle.std.specs.Prelude.{◌≡◌, ◌≢◌, ◌⊎◌, ◌↔◌};
+ghost use Rattle.pocsag_c.specs.Answers.{IsNoEnd, PrintsFault};
+ghost use Rattle.pocsag_c.specs.Frames.{HasFramesOf, no_frames};
+ghost use Rattle.pocsag_c.specs.Reports.{ExplainsReport};
+ghost use Rattle.pocsag_c.specs.Statuses.{IsOfBytes, nowhere, stream_refusal};
+
+use crate::plan::{end_of, on_limit_of};
+use crate::refusal::{NOWHERE, Place, refused_stream};
+use crate::report::plan_in;
+use pocsag_plan::{FRAMES, FrameRoom, Search, frames_of};
+use std::alloc::Global;
+
+/// What a plan puts into the frames; all but the place is 0 where there is none.
+#[repr(C)]
+#[derive(Clone, Copy)]
+pub struct FramesInfo {
+    /// The eight frames, in their order.
+    pub frames: [FrameRoom; FRAMES],
+    /// How many batches the transmission has.
+    pub batches: u32,
+    /// No transmission of the round has fewer batches than these.
+    pub bound: u32,
+    /// Where the fault stands, and what the search knew at its limit.
+    pub place: Place,
+}
+
+const EMPTY_FRAME: FrameRoom = FrameRoom {
+    frame: 0,
+    pages: 0,
+    codewords: 0,
+    room: 0,
+};
+
+const NO_FRAMES: FramesInfo = FramesInfo {
+    frames: [EMPTY_FRAME; FRAMES],
+    batches: 0,
+    bound: 0,
+    place: NOWHERE,
+};
+
+/// Plans a page file as `pocsag_plan` does, and gives for each frame how many pages start in it, how many codewords these have,
+/// and how many idle codewords stand in its two slots.
+#[unsafe(no_mangle)]
+pub extern "C" fn pocsag_frames(
+    alloc: Global,
+    pages: &[u8],
+    limit: u32,
+    end: u32,
+    always: u32,
+    info: &mut FramesInfo,
+) -> u32
+    ensures frames { result ≡ 0 → HasFramesOf pages.now end limit always info.new }
+    ensures fewest { result ≡ 0 → always ≡ 0 → info.new.bound ≡ info.new.batches }
+    ensures bad_end { result ≡ 2 ↔ IsNoEnd end }
+    ensures fault { result ≢ 0 → result ≢ 2 →
+        PrintsFault stream_refusal (ExplainsReport pages.now end limit always) result info.new.place }
+    ensures answered { always ≢ 0 → result ≢ 6 }
+    ensures placeless { (result ≡ 0) ⊎ (result ≡ 2) → info.new.place ≡ nowhere }
+    ensures nothing { result ≢ 0 → info.new ≡ no_frames info.new.place }
+    ensures of_bytes { IsOfBytes result }
+{
+    *info = NO_FRAMES;
+    let Some(end) = end_of(end) else {
+        return 2;
+    };
+    let on_limit = on_limit_of(always);
+    let found = match plan_in(
+        alloc,
+        pages,
+        Search {
+            limit,
+            end,
+            on_limit,
+        },
+    ) {
+        Ok(found) => found,
+        Err(fault) => {
+            let refusal = refused_stream(fault);
+            info.place = refusal.place;
+            return refusal.status;
+        }
+    };
+    *info = FramesInfo {
+        frames: frames_of(&found.round, found.bounded.plan.steps.as_slice()),
+        batches: found.bounded.plan.batches,
+        bound: found.bounded.bound,
+        place: NOWHERE,
+    };
+    0
+}
