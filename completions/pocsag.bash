@@ -30,7 +30,7 @@ _pocsag() {
         [hear]='--capture --json --text --verbose --help -h'
         [show]='--svg --list --rows --repair --capture --nth --verbose --help -h'
         [wav]='--rate --samples --invert --preamble --verbose --help -h'
-        [open]='--journal --read-only --always --keep --verbose --help -h'
+        [open]='--journal --read-only --expect --strict --always --keep --verbose --help -h'
         [report]='--rate --limit --end --idle-last --expect --strict --always --frames --verbose --help -h'
         [help]=''
     )

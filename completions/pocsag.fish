@@ -9,7 +9,7 @@ set -l options \
     hear='--capture --json --text --verbose --help -h' \
     show='--svg --list --rows --repair --capture --nth --verbose --help -h' \
     wav='--rate --samples --invert --preamble --verbose --help -h' \
-    open='--journal --read-only --always --keep --verbose --help -h' \
+    open='--journal --read-only --expect --strict --always --keep --verbose --help -h' \
     report='--rate --limit --end --idle-last --expect --strict --always --frames --verbose --help -h'
 
 # Whether the words before the cursor begin with this command; for pocsag, whether there are none.

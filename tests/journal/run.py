@@ -433,7 +433,7 @@ def try_harms(tally, folder):
             harm(path)
             left = {other.name: other.read_bytes() for other in place.iterdir()}
             out, err = process.communicate(b"add,16,tone0,\nadd,24,tone0,\n", timeout=60)
-            due = read_line(0, 0) + told(MOVED.decode(), [])
+            due = read_line(0, 0) + told(MOVED.decode(), ["journal round.journal"] if more else [])
             tally.check(f"harm {number} {more}", (out, err, process.returncode) == (b"", due, 3), (out, err, process.returncode))
             stands = {other.name: other.read_bytes() for other in place.iterdir()}
             tally.check(f"harm {number} {more}: the files", stands == left, (stands, left))
@@ -691,24 +691,24 @@ BEGUN = "the journal holds edits, so the round cannot begin with PAGES"
 TWICE = "the same file is named twice"
 CANNOT = "cannot read or open a file"
 
-# The words behind `open`, the status, what is told without `--verbose`, and the note behind it: the file that the system refused.
+# The words behind `open`, the status, what is told without `--verbose`, and the note behind it: the file that was refused.
 REFUSED = [
     (["--journal", "none/j"], 3, CANNOT, [f"journal none/j: {NO_FILE}"]),
     (["--journal", "folder"], 3, CANNOT, [f"journal folder: {IS_FOLDER}"]),
-    (["--journal", "link"], 3, CANNOT, []),
-    (["--journal", "/dev/full"], 3, CANNOT, []),
-    (["--journal", "fifo"], 3, CANNOT, []),
+    (["--journal", "link"], 3, CANNOT, ["journal link: no regular file"]),
+    (["--journal", "/dev/full"], 3, CANNOT, ["journal /dev/full: no regular file"]),
+    (["--journal", "fifo"], 3, CANNOT, ["journal fifo: no regular file"]),
     (["--journal", "a\nb/\x1b[2J"], 3, CANNOT, [f"journal a?b/?[2J: {NO_FILE}"]),
-    (["--journal", "-"], 1, TWICE, []),
-    (["pages.csv", "--journal", "pages.csv"], 1, TWICE, []),
-    (["pages.csv", "--journal", "./pages.csv"], 1, TWICE, []),
-    (["-", "--journal", "new"], 1, TWICE, []),
+    (["--journal", "-"], 1, TWICE, ["journal -"]),
+    (["pages.csv", "--journal", "pages.csv"], 1, TWICE, ["page file pages.csv and journal pages.csv are one file"]),
+    (["pages.csv", "--journal", "./pages.csv"], 1, TWICE, ["page file pages.csv and journal ./pages.csv are one file"]),
+    (["-", "--journal", "new"], 1, TWICE, ["page file -: standard input holds the lines"]),
     (["none.csv", "--journal", "new"], 3, CANNOT, [f"page file none.csv: {NO_FILE}"]),
-    (["pages.csv", "--journal", "held"], 1, BEGUN, []),
-    (["--journal", "bad"], 1, BAD % 3, []),
-    (["--journal", "other"], 1, "not a journal", []),
-    (["--journal", "later"], 1, "a journal of another version", []),
-    (["feed.csv", "--journal", "new"], 1, "page 1: no line of a journal holds its message", []),
+    (["pages.csv", "--journal", "held"], 1, BEGUN, ["journal held"]),
+    (["--journal", "bad"], 1, BAD % 3, ["journal bad"]),
+    (["--journal", "other"], 1, "not a journal", ["journal other"]),
+    (["--journal", "later"], 1, "a journal of another version", ["journal later"]),
+    (["feed.csv", "--journal", "new"], 1, "page 1: no line of a journal holds its message", ["page file feed.csv"]),
 ]
 
 
@@ -748,9 +748,9 @@ def try_verbose_later(tally, folder):
     held = "another program holds the journal"
     process = start(place)
     process.stderr.readline()
-    for more in ([], ["--verbose"]):
+    for more, notes in (([], []), (["--verbose"], ["journal round.journal"])):
         done = run(place, [b"list"], *more)
-        tally.check(f"told of a journal that is held {more}", done == (b"", told(held, []), 1), done)
+        tally.check(f"told of a journal that is held {more}", done == (b"", told(held, notes), 1), done)
     process.kill()
     process.wait()
     read = read_line(0, 0)

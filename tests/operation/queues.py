@@ -4,12 +4,15 @@ and on full disks. Each page that `enqueue` took must be sent once, in order.
 
     tests/operation/queues.py          ends a script at each call that changes something outside its process
     tests/operation/queues.py --all    at each system call
+    tests/operation/queues.py 10000    runs next-slot so often, ends most runs at random moments, and does nothing else
 
 Where strace is missing, commands are killed before and behind their work, and not at their calls. It takes the binary that
 the gate left in crates/pocsag_app/out. The last line is 'N passed, M failed'.
 """
 
+import concurrent.futures
 import contextlib
+import fcntl
 import os
 import pathlib
 import random
@@ -26,6 +29,8 @@ from channel import HEADER, KILLS, Channel, calls_of, can_trace, pages_of
 from tally import run_parts
 
 IS_EACH = sys.argv[1:] == ["--all"]
+RUNS = sum(int(word) for word in sys.argv[1:] if word.isdigit())  # of next-slot, where nothing else is tried
+CHANNELS = min(4, os.cpu_count() or 1)  # that run at the same time
 SECOND = "/dev/shm"  # where the superuser is missing, a second file system
 PAGES = 150  # that are sent under random kills
 
@@ -187,6 +192,52 @@ def try_random(tally, folder):
         tally.check("each page is sent once, in order", channel.is_balanced() and not channel.waiting(), channel.told())
         tally.check("the last runs say nothing", done == channel.send() == (0, "", ""), done)
         tally.check("next-slot was ended at times", PAGES // 4 < ended < PAGES, ended)
+
+
+def run_often(channel, runs, chance):
+    """Runs next-slot so often, each time with pages that wait, and ends it at a random moment, its shell alone or all of it; gives
+    how often it was ended, and whether each slot was whole."""
+    silent = {"stdout": subprocess.DEVNULL, "stderr": subprocess.DEVNULL}
+    ended, are_good, longest = 0, True, 0.05
+    folder = os.open(channel.folder, os.O_RDONLY)
+    for _ in range(runs):
+        fcntl.flock(folder, fcntl.LOCK_EX)  # until the last command of the run before has ended
+        if not {"slot.bin", "rest.csv"} <= {*os.listdir(channel.folder)}:
+            channel.fill()
+        are_good &= channel.take()
+        fcntl.flock(folder, fcntl.LOCK_UN)
+        sending = channel.start("next-slot", **silent)
+        time.sleep(chance.uniform(0, longest))
+        if sending.poll() is None:
+            chance.choice([os.kill, os.killpg])(sending.pid, signal.SIGKILL)
+        was_ended = sending.wait(60) < 0
+        ended += was_ended
+        longest = min(longest * (1.05 if was_ended else 0.9), 1.0)
+    fcntl.flock(folder, fcntl.LOCK_EX)
+    os.close(folder)
+    return ended, are_good
+
+
+def try_runs(tally, folder):
+    """Thousands of runs of next-slot, in several channels at the same time: each page is sent once, in order, and no file of an
+    ended run is left."""
+    channels = [Channel(folder / f"channel {number}", options="--at-most 1") for number in range(CHANNELS)]
+    shares = [(RUNS + number) // CHANNELS for number in range(CHANNELS)]
+    start = time.monotonic()
+    with concurrent.futures.ThreadPoolExecutor(CHANNELS) as pool:
+        found = list(pool.map(run_often, channels, shares, map(random.Random, range(CHANNELS))))
+    for number, (channel, share, (ended, are_good)) in enumerate(zip(channels, shares, found)):
+        is_done = (1, "", "")
+        for _ in range(9):
+            is_done = channel.send()
+            are_good &= channel.take()
+        left = [name for name in os.listdir(channel.folder) if ".pocsag" in name]
+        holds = channel.is_balanced() and not channel.waiting() and is_done == (0, "", "")
+        tally.check(f"channel {number}: each page is sent once, in order", holds and are_good, (is_done, are_good, channel.told()))
+        tally.check(f"channel {number}: no file is left", not left, left)
+        tally.check(f"channel {number}: many runs were ended", share // 4 < ended <= share, (ended, share))
+    pages, ended = sum(len(channel.added) for channel in channels), sum(it[0] for it in found)
+    print(f"{RUNS} runs, {ended} of them ended, {pages} pages, {time.monotonic() - start:.0f} s")
 
 
 def crowd(folder):
@@ -394,6 +445,9 @@ def try_oversized(tally, folder):
 
 
 def main():
+    if RUNS:
+        tempfile.tempdir = SECOND if os.path.isdir(SECOND) else None
+        return run_parts(try_runs)
     return run_parts(try_statuses, try_outgoing, try_enqueue, try_again, try_oversized, try_kills, try_calls, try_additions, try_random, try_full_disks)
 
 

@@ -24,6 +24,7 @@ sys.path.insert(0, str(pathlib.Path(__file__).resolve().parents[1]))
 sys.path.insert(0, str(pathlib.Path(__file__).resolve().parent))
 import doors
 import slots
+import turns
 from tally import PROGRAM, TOP, run_parts
 
 HEADER = b"address,kind,message\n"
@@ -414,7 +415,7 @@ def try_recipe(tally, folder):
 
 
 def main():
-    return run_parts(try_keep, try_keep_open, try_kills, try_single_calls, try_order, try_expect, try_verify, try_pipes, try_terminal, try_page, try_recipe, *doors.PARTS, *slots.PARTS)
+    return run_parts(try_keep, try_keep_open, try_kills, try_single_calls, try_order, try_expect, try_verify, try_pipes, try_terminal, try_page, try_recipe, *doors.PARTS, *slots.PARTS, *turns.PARTS)
 
 
 if __name__ == "__main__":

@@ -191,9 +191,10 @@ def try_words(tally, folder):
             tally.check(f"{command} {option} --capture", (done.returncode, done.stdout) == (2, b""), done)
             for more in ([], ["--repair"])[: 1 + (command == ["decode"])]:
                 words = [*command, "short.bin", *option, *more]
-                note = b"pocsag: transmission short.bin: for bits off the air that begin anywhere, give --capture\n"
+                note = b"pocsag: transmission short.bin"
+                note += b": for bits off the air that begin anywhere, give --capture\n" if more or command != ["decode"] else b"\n"
                 for verbose in ([], ["--verbose"]):
-                    told = b"pocsag: the preamble is too short\n" + (note if verbose and (more or command != ["decode"]) else b"")
+                    told = b"pocsag: the preamble is too short\n" + (note if verbose else b"")
                     done = run([*words, *verbose], folder)
                     tally.check(f"{words} {verbose}", (done.returncode, done.stdout, done.stderr) == (1, b"", told), (done, told))
     for option in (["--json"], ["--text", "0"]):

@@ -489,6 +489,44 @@ def worked_session(tally, folder):
     tally.check("it has no more lines", (status, rest, err) == (0, b"", b""), (status, rest, err))
 
 
+# Page files, options, the fault and the line behind it.
+DEMANDS = [
+    (b'8,tone0,\n9,alpha,"Ward 3\n', ["--strict"], "record 2: the quote in line 3 is not closed", "page file pages.csv"),
+    (b'8,tone0,\n9,alpha,"Ward 3\n', ["--expect", "3"], "pages 2, where 3 were expected", "page file pages.csv"),
+    (b'8,tone0,\n9,alpha,"Ward 3\n', ["--expect", "3", "--strict"], "record 2: the quote in line 3 is not closed", "page file pages.csv"),
+    (b"8,tone0,\n9,tone0,\n", ["--expect", "0"], "pages 2, where 0 were expected", "page file pages.csv"),
+    (b"8,tone0,\n9,tone0,\n", ["--expect", "4294967295"], "pages 2, where 4294967295 were expected", "page file pages.csv"),
+    (b"8,tone0,\n8,tone0,\n", ["--expect", "2", "--strict"], "record 2: the address is already there", "page file pages.csv: line 3: 8,tone0,"),
+    (b"", ["--expect", "0"], "there are no pages", "page file pages.csv"),
+    (b"8,tone9,\n", [], "record 1: unknown kind", "page file pages.csv: line 2: 8,tone9,"),
+]
+
+
+def demands(tally, folder):
+    """`--strict` and `--expect` judge PAGES before a line is read, with and without a journal, and change no round that meets them."""
+    room = folder / "demands"
+    room.mkdir()
+    for journal in ([], ["--journal", "round.journal"]):
+        for text, words, fault, note in DEMANDS:
+            (room / "pages.csv").write_bytes(HEADER + text)
+            for more in ([], ["--verbose"]):
+                done = subprocess.run([str(PROGRAM), "open", "pages.csv", *words, *journal, *more], input=b"list\n", capture_output=True, cwd=room, timeout=60)
+                told = "".join(f"pocsag: {line}\n" for line in ([fault, note] if more else [fault]))
+                holds = (done.returncode, done.stdout, done.stderr.decode()) == (1, b"", told) and os.listdir(room) == ["pages.csv"]
+                tally.check(f"{words} {journal} {more} {text}", holds, (done, os.listdir(room)))
+        (room / "pages.csv").write_bytes(HEADER + b'8,tone0,\n9,alpha,"Ward 3, bed 2"\n')
+        for more in ([], ["--verbose"]):
+            words = ["open", "pages.csv", "--strict", "--expect", "2", *journal, *more]
+            done = subprocess.run([str(PROGRAM), *words], input=b"list\ncancel,8\n", capture_output=True, cwd=room, timeout=60)
+            due = (room / "pages.csv").read_bytes() + b"ok 2\nok 1\n"
+            told = b"pocsag: 0 edits read, 2 pages\n" if journal else b""
+            tally.check(f"a round that meets what is asked {journal} {more}", (done.returncode, done.stdout, done.stderr) == (0, due, told), done)
+            (room / "round.journal").unlink(missing_ok=True)
+    for words in (["--strict"], ["--expect", "2"], ["--journal", "j", "--strict"], ["--journal", "j", "--read-only", "--expect", "2"]):
+        done = subprocess.run([str(PROGRAM), "open", *words], input=b"", capture_output=True, cwd=room, timeout=60)
+        tally.check(f"no PAGES {words}", done.returncode == 2 and done.stdout == b"" and os.listdir(room) == ["pages.csv"], done)
+
+
 def main():
     return run_parts(
         words_of_answers,
@@ -501,6 +539,7 @@ def main():
         slots_of_a_day,
         hard_slots,
         begins_with_pages,
+        demands,
         last_line,
         worked_session,
     )

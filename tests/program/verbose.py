@@ -12,10 +12,20 @@ HEADER = b"address,kind,message\n"
 APART = HEADER + b"0,numeric," + b"1" * 75 + b"\n3,numeric," + b"1" * 75 + b"\n"
 PLAN = ["plan", "p.csv", "tx.bin", "cert.bin"]
 
+NO_HEADER = "the header must be address,kind,message"
 # Page files that are refused: what stands in them, the fault, and the line and the text of the record behind it.
 PAGE_FILES = [
-    (b"", "the header must be address,kind,message", None),
-    (b"address;kind;message\n8;tone0;\n", "the header must be address,kind,message", None),
+    (b"", NO_HEADER, None),
+    (b"address;kind;message\n8;tone0;\n", NO_HEADER, "line 1: address;kind;message: semicolons in place of commas"),
+    (b"\n\naddress\tkind\tmessage\n8\ttone0\t\n", NO_HEADER, "line 3: address?kind?message: tabs in place of commas"),
+    (b"\xef\xbb\xbfAddress,Kind,Message\n8,tone0,\n", NO_HEADER, "line 1: ???Address,Kind,Message: capitals"),
+    ("\ufeffaddress,kind".encode("utf-16-le"), NO_HEADER, "line 1: ??a?d?d?r?e?s?s?,?k?i?n?d?: UTF-16, not ASCII"),
+    ("\ufeffaddress".encode("utf-16-be"), NO_HEADER, "line 1: ???a?d?d?r?e?s?s: UTF-16, not ASCII"),
+    ("address".encode("utf-16-le"), NO_HEADER, "line 1: a?d?d?r?e?s?s?: UTF-16 or UTF-32, not ASCII"),
+    ("\ufeffaddress".encode("utf-32-be"), NO_HEADER, "line 1: ???????a???d???d???r???e???s???s: UTF-16 or UTF-32, not ASCII"),
+    (b"\x84\x31\x95\x33" + HEADER, NO_HEADER, "line 1: ?1?3address,kind,message: a byte order mark of another code, not of UTF-8"),
+    (b"8,tone0,\n", NO_HEADER, "line 1: 8,tone0,: a page, and no header before it"),
+    (b"address,kind\n8,tone0,\n", NO_HEADER, "line 1: address,kind"),
     (HEADER, "there are no pages", None),
     (HEADER + b"\n8,tone0\n", "record 1: three fields are wanted", "line 3: 8,tone0"),
     (HEADER + b"8\n", "record 1: three fields are wanted", "line 2: 8"),
@@ -34,12 +44,13 @@ PAGE_FILES = [
     (HEADER.replace(b"\n", b"\r") + b"8,tone0,\r\r9,tone0\r10", "record 2: three fields are wanted", "line 1: 9,tone0"),
     (HEADER + b"7,tone1,x\n", "record 1: a tone page has no message", "line 2: 7,tone1,x"),
     (HEADER + b"7,alpha,\n", "record 1: the message is empty", "line 2: 7,alpha,"),
-    (HEADER + b"7,numeric,12a\n", "record 1: bad character at 2", "line 2: 7,numeric,12a"),
+    (HEADER + b"7,numeric,12a\n", "record 1: bad character at 2", "line 2: 7,numeric,12a: byte 0x61"),
     # No byte of the record moves the cursor of a terminal.
-    (HEADER + b"7,alpha,a\xc3\xa4\x1b\n", "record 1: bad character at 1", "line 2: 7,alpha,a???"),
+    (HEADER + b"7,alpha,a\xc3\xa4\x1b\n", "record 1: bad character at 1", "line 2: 7,alpha,a???: byte 0xC3, not ASCII"),
+    (HEADER + b'7,alpha,"a\nb""\x00"\n', "record 1: bad character at 4", 'line 2: 7,alpha,"a: byte 0x00'),
     (HEADER + b"7,alpha," + b"a" * 4001 + b"\n", "record 1: the message is too long", "line 2: 7,alpha," + "a" * 72),
     (HEADER + b"8,tone0,\n9,tone0,\n0000008,tone1,\n", "record 3: the address is already there", "line 4: 0000008,tone1,"),
-    (HEADER + b'8,numeric,"1\n2\n3\n\n', "record 1: bad character at 1", 'line 2: 8,numeric,"1'),
+    (HEADER + b'8,numeric,"1\n2\n3\n\n', "record 1: bad character at 1", 'line 2: 8,numeric,"1: byte 0x0A'),
     (HEADER + b"".join(b"%d,tone0,\n" % k for k in range(20001)), "record 20001: too many pages", "line 20002: 20000,tone0,"),
 ]
 
@@ -47,6 +58,7 @@ PAGE_FILES = [
 TWICE_DAMAGED, BEYOND_REPAIR = (b"\xaa" * 72 + bytes.fromhex("7CD215D9" + "7A89C197" * 15 + last) for last in ("7A89C194", "7A89C190"))
 
 # Files, words, standard input, status, what is told on standard output, the fault, and the notes.
+TWICE = "the same file is named twice"
 ANYWHERE = "transmission p.csv: for bits off the air that begin anywhere, give --capture"
 NO_FILE, IS_FOLDER, NO_SPACE = (f"{os.strerror(code)} (os error {code})" for code in (2, 21, 28))
 CASES = [
@@ -58,12 +70,26 @@ CASES = [
     (APART, ["plan", "p.csv", "/dev/full", "cert.bin"], b"", 3, "", "cannot write", [f"transmission /dev/full: {NO_SPACE}"]),
     (APART, ["plan", "p.csv", "tx.bin", "/dev/full"], b"", 3, "", "cannot write", [f"certificate /dev/full: {NO_SPACE}"]),
     (APART, ["plan", "p.csv", "a\nb/\x1b[2J", "cert.bin"], b"", 3, "", "cannot read or open a file", [f"transmission a?b/?[2J: {NO_FILE}"]),
-    (APART, ["plan", "p.csv", "p.csv", "cert.bin"], b"", 1, "", "the same file is named twice", []),
-    (APART, ["plan", "p.csv", "-", "-"], b"", 1, "", "the same file is named twice", []),
-    (APART, ["open", "-"], b"", 1, "", "the same file is named twice", []),
-    (APART, ["check", "-", "-"], b"", 1, "", "the same file is named twice", []),
-    (APART, [*PLAN, "--limit", "1"], b"", 1, "", "search limit reached: at least 2 batches, 3 would do", []),
-    (APART, [*PLAN, "--expect", "3"], b"", 1, "", "pages 2, where 3 were expected", []),
+    (APART, ["plan", "p.csv", "p.csv", "cert.bin"], b"", 1, "", TWICE, ["page file p.csv and transmission p.csv are one file"]),
+    (APART, ["plan", "p.csv", "t", "././t"], b"", 1, "", TWICE, ["transmission t and certificate ././t are one file"]),
+    (APART, ["plan", "p.csv", "t", "./p.csv", "--keep"], b"", 1, "", TWICE, ["page file p.csv and certificate ./p.csv are one file"]),
+    (APART, [*PLAN, "--at-most", "2", "--rest", "r", "--why", "./p.csv"], b"", 1, "", TWICE, ["page file p.csv and certificate of one page more ./p.csv are one file"]),
+    (APART, [*PLAN, "--at-most", "2", "--rest", "r", "--oversized", "r"], b"", 1, "", TWICE, ["page file of the rest r and page file of the oversized r are one file"]),
+    (APART, ["plan", "p.csv", "-", "-"], b"", 1, "", TWICE, ["transmission - and certificate - are one file"]),
+    (APART, ["open", "-"], b"", 1, "", TWICE, ["page file -: standard input holds the lines"]),
+    (APART, ["open", "p.csv", "--journal", "./p.csv"], b"", 1, "", TWICE, ["page file p.csv and journal ./p.csv are one file"]),
+    (APART, ["open", "--journal", "-"], b"", 1, "", TWICE, ["journal -"]),
+    (APART, ["check", "-", "-"], b"", 1, "", TWICE, ["page file - and certificate - are one file"]),
+    (APART, ["explain", "-", "-"], b"", 1, "", TWICE, ["page file - and certificate - are one file"]),
+    (APART, [*PLAN, "--limit", "1"], b"", 1, "", "search limit reached: at least 2 batches, 3 would do", ["page file p.csv"]),
+    (APART, [*PLAN, "--limit", "0"], b"", 1, "", "the limit must be 1 to 1000000", []),
+    (APART, [*PLAN, "--expect", "3"], b"", 1, "", "pages 2, where 3 were expected", ["page file p.csv"]),
+    (HEADER + b'8,alpha,"x\n', [*PLAN, "--strict"], b"", 1, "", "record 1: the quote in line 2 is not closed", ["page file p.csv"]),
+    (b"\n" + APART, [*PLAN, "--at-most", "1"], b"", 1, "", "page 1 needs 2 batches", ["page file p.csv: line 3: address 0 needs 2 batches, allowed are 1"]),
+    (APART, [*PLAN, "--airtime", "1000", "--rate", "1200", "--rest", "r", "--later", "--oversized", "o"], b"", 1, "", "page 1 needs 2 batches",
+     ["page file p.csv: line 2: address 0 needs 2 batches, allowed are 1 in 1000 ms at 1200 bit/s"]),
+    (APART, ["plan", "-", "tx.bin", "cert.bin", "--at-most", "0"], APART, 1, "", "page 1 needs 2 batches",
+     ["page file -: line 2: address 0 needs 2 batches, allowed are 0"]),
     (HEADER + b"7,alpha,\n", [*PLAN, "--expect", "3"], b"", 1, "", "record 1: the message is empty", ["page file p.csv: line 2: 7,alpha,"]),
     (HEADER + b'8,tone0,\n\n9,alpha,"Pump 4\n16,tone0,\n', [*PLAN, "--verify"], b"", 0, "pages 2\nbatches 1\nverified\n", None,
      ["page file p.csv: record 2: the quote in line 4 is not closed"]),
@@ -74,26 +100,39 @@ CASES = [
     (APART, ["report", "none.csv", "--rate", "512"], b"", 3, "", "cannot read or open a file", [f"page file none.csv: {NO_FILE}"]),
     (APART, ["report", "p.csv", "--rate", "9"], b"", 1, "", "the rate must be 512, 1200 or 2400", []),
     (APART, ["check", "p.csv", "none"], b"", 3, "", "cannot read or open a file", [f"certificate none: {NO_FILE}"]),
-    (APART, ["check", "p.csv", "p.csv"], b"", 1, "", "not a certificate", []),
+    (APART, ["check", "p.csv", "other.csv"], b"", 1, "", "not a certificate", ["certificate other.csv"]),
+    (APART, ["explain", "p.csv", "other.csv"], b"", 1, "", "not a certificate", ["certificate other.csv"]),
+    (APART, ["check", "p.csv", "p.csv"], b"", 1, "", "not a certificate", ["page file p.csv and certificate p.csv are one file"]),
     (APART, ["check", "p.csv", "other.cert"], b"", 1, "not shown\n", None, []),
     (HEADER + b"8,tone9,\n", ["check", "p.csv", "other.cert"], b"", 1, "", "record 1: unknown kind", ["page file p.csv: line 2: 8,tone9,"]),
     (HEADER + b"8,tone9,\n", ["explain", "p.csv", "other.cert"], b"", 1, "", "record 1: unknown kind", ["page file p.csv: line 2: 8,tone9,"]),
     (APART, ["explain", "p.csv", "none"], b"", 3, "", "cannot read or open a file", [f"certificate none: {NO_FILE}"]),
     (APART, ["decode", "none"], b"", 3, "", "cannot read or open a file", [f"transmission none: {NO_FILE}"]),
-    (APART, ["decode", "p.csv"], b"", 1, "", "the preamble is too short", []),
+    (APART, ["decode", "p.csv"], b"", 1, "", "the preamble is too short", ["transmission p.csv"]),
     (APART, ["decode", "-", "--repair"], TWICE_DAMAGED, 0, HEADER.decode(), None, ["transmission -: corrected bits 3, words 2"]),
     (APART, ["show", "-", "--repair", "--list"], TWICE_DAMAGED, 0, "batch,frame,slot,codewords,address,kind,message\n", None,
      ["transmission -: corrected bits 3, words 2"]),
-    (APART, ["show", "-", "--repair"], BEYOND_REPAIR, 1, "", "codeword 15: not a codeword", []),
+    (APART, ["show", "-", "--repair"], BEYOND_REPAIR, 1, "", "codeword 15: not a codeword", ["transmission -"]),
     (APART, ["decode", "p.csv", "--repair"], b"", 1, "", "the preamble is too short", [ANYWHERE]),
-    (APART, ["show", "p.csv", "--repair"], b"", 1, "", "the preamble is too short", []),
+    (APART, ["show", "p.csv", "--repair"], b"", 1, "", "the preamble is too short", ["transmission p.csv"]),
     (APART, ["decode", "none", "--repair"], b"", 3, "", "cannot read or open a file", [f"transmission none: {NO_FILE}"]),
     (APART, ["show", "none", "--svg"], b"", 3, "", "cannot read or open a file", [f"transmission none: {NO_FILE}"]),
     (APART, ["wav", "none"], b"", 3, "", "cannot read or open a file", [f"transmission none: {NO_FILE}"]),
     (APART, ["wav", "none", "--rate", "9"], b"", 1, "", "the rate must be 512, 1200 or 2400", []),
-    (APART, ["wav", "p.csv"], b"", 1, "", "the preamble is too short", []),
+    (APART, ["wav", "p.csv"], b"", 1, "", "the preamble is too short", ["transmission p.csv"]),
     (APART, ["hear", "2097152", "p.csv"], b"", 1, "", "bad address", []),
     (APART, ["hear", "8", "p.csv"], b"", 1, "", "the preamble is too short", [ANYWHERE]),
+    (APART, ["open", "p.csv", "--journal", "other.csv"], b"", 1, "", "not a journal", ["journal other.csv"]),
+    (HEADER + b'8,alpha,"a\nb"\n', ["open", "p.csv", "--journal", "new.journal"], b"", 1, "", "page 1: no line of a journal holds its message", ["page file p.csv"]),
+    (APART, ["open", "--journal", "/dev/null"], b"", 3, "", "cannot read or open a file", ["journal /dev/null: no regular file"]),
+    (APART, ["open", "p.csv", "--keep"], b"plan,./p.csv,c\nplan,t,t\nplan,-,c\nplan,/dev/null,c\n", 0,
+     3 * f"refused: {TWICE}\n" + "refused: cannot read or open a file\n", None,
+     ["page file p.csv and transmission ./p.csv are one file", "transmission t and certificate t are one file", "-: standard output takes the answers",
+      "transmission /dev/null: no regular file"]),
+    (APART, ["open"], b"plan\nplan,t\nplan,t,\xff\nplan,t,c,Open\nplan,t,c,,1\nplan,t,c,open,01\nplan,t,c,idle,4294967296\nplan,t,c,open,1,\nplam,t,c\n", 0,
+     9 * "refused: unknown edit\n", None,
+     2 * ["plan: TX and CERT are wanted"] + ["plan: TX and CERT must be UTF-8"] + 2 * ["plan: END must be open, closed or idle"]
+     + 2 * ["plan: B must be a number from 1 to 4294967295, without a sign or leading zeros"] + ["plan: nothing follows TX, CERT, END and B"]),
     (APART, ["open", "none.csv"], b"", 3, "", "cannot read or open a file", [f"page file none.csv: {NO_FILE}"]),
     (APART, ["open"], b"add,8,tone0,\nplan,none/tx.bin,cert.bin\nplan,tx.bin,none/c\nadd,9,tone0,\nplan,/dev/full,cert.bin\n", 0,
      "ok 1\nrefused: cannot read or open a file\nrefused: cannot read or open a file\nok 2\nrefused: cannot write\n", None,
@@ -127,7 +166,7 @@ def try_case(tally, folder, case):
 
 def try_verbose(tally, folder):
     for file, fault, record in PAGE_FILES:
-        named, unnamed = ([f"page file {name}: {record}"] if record else [] for name in ("p.csv", "-"))
+        named, unnamed = ([f"page file {name}: {record}" if record else f"page file {name}"] for name in ("p.csv", "-"))
         try_case(tally, folder, (file, PLAN, b"", 1, "", fault, named))
         try_case(tally, folder, (APART, ["report", "-", "--rate", "512", "--always"], file, 1, "", fault, unnamed))
     for case in CASES:

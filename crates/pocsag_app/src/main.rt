@@ -23,8 +23,8 @@ Page files are CSV with the header address,kind,message. Kinds of pages:
 Limits: 1 to 20000 pages, one to an address, addresses 0 to 2097151 (sixteen are
 reserved), page files and transmissions of at most 268435456 bytes.
 With --always the commands plan, report and open do not stop at the limit of the
-search. With --strict the commands plan and report, and the program with no
-words, refuse a page file with a quote that is not closed.
+search. With --strict the commands plan, report and open, and the program with
+no words, refuse a page file with a quote that is not closed.
 Exit status: 0 done, 1 refused or not shown, 2 usage, 3 a file or memory.
 
 Example:

@@ -1,13 +1,13 @@
 //! What the words of a command ask for.
 
 use crate::words::{
-    AIRTIME, AT_MOST, CLOSED_END, DEPTH, EACH_FRAME, END, EXPECT, IDLE_END, IDLE_LAST, JSON, LATER,
-    LIMIT, OPEN_END, OVERSIZED, RATE, REST, STRICT, VERIFY, WHY,
+    AIRTIME, AT_MOST, CLOSED_END, DEPTH, EACH_FRAME, END, IDLE_END, IDLE_LAST, JSON, LATER, LIMIT,
+    OPEN_END, OVERSIZED, RATE, REST, VERIFY, WHY,
 };
 use clap::ArgMatches;
 use pocsag_findings::Format;
 use pocsag_plan::{OnLimit, Search};
-use pocsag_shell::{ALWAYS, CERT, KEEP, PAGES, SVG, TX, path_of};
+use pocsag_shell::{ALWAYS, CERT, EXPECT, KEEP, PAGES, STRICT, SVG, TX, path_of};
 use pocsag_words::End;
 
 /// What is asked of the planner, and of the page file.
@@ -66,23 +66,18 @@ pub(crate) struct ReportArgs<'a> {
     pub(crate) frames: bool,
 }
 
-fn end_in(found: &ArgMatches<'_>) -> Option<End> {
-    if found.get_flag(IDLE_LAST) {
-        return Some(End::Idle);
-    }
-    match found.get_str(END)? {
-        OPEN_END => Some(End::Open),
-        CLOSED_END => Some(End::Closed),
-        IDLE_END => Some(End::Idle),
-        _ => None,
-    }
-}
-
 fn search_in(found: &ArgMatches<'_>) -> Option<SearchArgs> {
     let on_limit = if found.get_flag(ALWAYS) {
         OnLimit::Always
     } else {
         OnLimit::Fewest
+    };
+    let end = match found.get_str(END)? {
+        _ if found.get_flag(IDLE_LAST) => End::Idle,
+        OPEN_END => End::Open,
+        CLOSED_END => End::Closed,
+        IDLE_END => End::Idle,
+        _ => return None,
     };
     Some(SearchArgs {
         expect: found.get_one::<u32>(EXPECT),
@@ -90,25 +85,22 @@ fn search_in(found: &ArgMatches<'_>) -> Option<SearchArgs> {
         may_wait: found.get_flag(LATER),
         search: Search {
             limit: found.get_one::<u32>(LIMIT)?,
-            end: end_in(found)?,
+            end,
             on_limit,
         },
     })
 }
 
-fn front_in(found: &ArgMatches<'_>) -> Option<FrontLimit> {
-    if let Some(batches) = found.get_one::<u32>(AT_MOST) {
-        return Some(FrontLimit::Batches(batches));
-    }
-    if let Some(ms) = found.get_one::<u32>(AIRTIME) {
-        let rate = found.get_one::<u32>(RATE)?;
-        return Some(FrontLimit::Airtime { ms, rate });
-    }
-    found.get_flag(LATER).then_some(FrontLimit::All)
-}
-
 /// The order of the words of `plan`; none where a word is not there, which clap has seen to.
 pub(crate) fn plan_args<'a>(found: &ArgMatches<'a>) -> Option<PlanArgs<'a>> {
+    let front = if let Some(batches) = found.get_one::<u32>(AT_MOST) {
+        Some(FrontLimit::Batches(batches))
+    } else if let Some(ms) = found.get_one::<u32>(AIRTIME) {
+        let rate = found.get_one::<u32>(RATE)?;
+        Some(FrontLimit::Airtime { ms, rate })
+    } else {
+        found.get_flag(LATER).then_some(FrontLimit::All)
+    };
     Some(PlanArgs {
         pages: path_of(found.get_str(PAGES)?),
         tx: found.get_str(TX)?,
@@ -116,7 +108,7 @@ pub(crate) fn plan_args<'a>(found: &ArgMatches<'a>) -> Option<PlanArgs<'a>> {
         search: search_in(found)?,
         verify: found.get_flag(VERIFY),
         keep: found.get_flag(KEEP),
-        front: front_in(found),
+        front,
         rest: found.get_str(REST),
         oversized: found.get_str(OVERSIZED),
         why: found.get_str(WHY),

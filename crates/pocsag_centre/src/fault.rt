@@ -4,7 +4,7 @@ ghost use Rattle.pocsag_centre.specs.declared.fault.CentreFault.TheVariants as f
 use pocsag_decode::DecodeFault;
 use pocsag_pages::{QuoteFault, RoundFault};
 use pocsag_plan::{NoFront, PlanFault, StreamFault};
-use pocsag_shell::{Failure, FileFault};
+use pocsag_shell::{Failure, FileFault, Role};
 use pocsag_tree::CertificateFault;
 use thiserror::Error;
 
@@ -64,6 +64,21 @@ impl Failure for CentreFault {
             CentreFault::Certificate(CertificateFault::ReadFault | CertificateFault::OutOfMemory) =>
                 3,
             _ => 1,
+        }
+    }
+}
+
+impl CentreFault {
+    /// The file that the command refuses by this fault, if it refuses one.
+    pub fn refused(self) -> Option<Role> {
+        match self {
+            CentreFault::BadLimit | CentreFault::BadRate => None,
+            CentreFault::Certificate(_) | CentreFault::NotTheBound => Some(Role::Certificate),
+            CentreFault::Transmission(_)
+            | CentreFault::NotThePages
+            | CentreFault::NotTheEnd
+            | CentreFault::File(FileFault::TooLarge) => Some(Role::Transmission),
+            _ => Some(Role::PageFile),
         }
     }
 }

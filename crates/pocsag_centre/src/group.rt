@@ -9,13 +9,13 @@ use crate::report::{ReportAsked, run_report};
 use crate::texts::EARLY_STRICT;
 use crate::words::{
     CHECK, CHECK_COMMAND, EXPLAIN, EXPLAIN_COMMAND, OVERSIZED, PLAN, PLAN_COMMAND, REPORT,
-    REPORT_COMMAND, REST, STRICT, STRICT_FLAG, WHY,
+    REPORT_COMMAND, REST, STRICT_FLAG, WHY,
 };
 use clap::{ArgMatches, Error};
 use pocsag_findings::Format;
 use pocsag_shell::{
-    CERT, Call, Context, Group, Names, PAGES, PAGES_READ, Role, STANDARD, TX, Tables, load_both,
-    load_file, path_of, print,
+    CERT, Call, Context, Group, Names, PAGES, PAGES_READ, Role, STANDARD, STRICT, TX, Tables,
+    load_both, load_file, path_of, print,
 };
 use std::alloc::AllocError;
 use std::io::IsTerminal;
@@ -59,6 +59,13 @@ impl Group for Centre {
             }
             _ => return None,
         };
+        let fault = match &done {
+            Ok(_) => streams.err.fault(),
+            Err(fault) => Some(*fault),
+        };
+        if let Some(Some(role)) = fault.map(|fault| fault.refused()) {
+            context.diagnostics.refuse(role);
+        }
         Some(Ok(streams.end(context, names_of(call), done)))
     }
 }

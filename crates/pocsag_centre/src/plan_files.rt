@@ -6,7 +6,7 @@ use crate::args::{FrontLimit, PlanArgs, SearchArgs};
 use crate::checks::{expected_file, refuse_bad_limit, strict_file};
 use crate::fault::CentreFault;
 use crate::front::{FrontAsked, FrontFiles, first_file, run_front};
-use crate::note::{note_file, quote_asked};
+use crate::note::{note_file, note_first, quote_asked};
 use crate::oversized::part_file;
 use crate::plan::{PlanFiles, run_plan};
 use crate::readback::run_verify;
@@ -14,7 +14,7 @@ use pocsag_pages::FILE_LIMIT;
 use pocsag_plan::most_batches;
 use pocsag_shell::{
     CERT_READ, Context, FileFault, Loaded, MemoryStreams, Output, Outputs, PAGES_READ, Role,
-    STANDARD, StagedFile, is_regular, is_regular_or_none, load, load_file, make_outputs,
+    STANDARD, StagedFile, first_asked, is_regular, is_regular_or_none, load, load_file,
     open_output, open_outputs, open_source, path_of, print, print_numbers, put_files, put_whole,
     refuse_equal, refuse_input, refuse_one_file, refuse_shared, write_over,
 };
@@ -83,7 +83,13 @@ pub(crate) fn plan_command(
         );
         return Ok(2);
     }
-    plan_paths(context, args, streams)
+    if args.tx == STANDARD || args.cert == STANDARD {
+        plan_files(context, args, streams, &mut context.err())
+    } else if args.keep {
+        plan_staged(context, args, streams)
+    } else {
+        plan_files(context, args, streams, &mut context.out())
+    }
 }
 
 // The files that a plan writes, in the order in which `--keep` puts them at their places. The page file of the rest goes
@@ -130,21 +136,6 @@ fn misuse(context: Context<'_>, args: PlanArgs<'_>) -> Option<&'static str> {
     None
 }
 
-// Plans, where the files serve the options.
-fn plan_paths(
-    context: Context<'_>,
-    args: PlanArgs<'_>,
-    streams: &mut Streams,
-) -> Result<u8, CentreFault> {
-    if args.tx == STANDARD || args.cert == STANDARD {
-        plan_files(context, args, streams, &mut context.err())
-    } else if args.keep {
-        plan_staged(context, args, streams)
-    } else {
-        plan_files(context, args, streams, &mut context.out())
-    }
-}
-
 // Plans, and reads back what was planned where that is asked for.
 fn plan_files<O: Sink>(
     context: Context<'_>,
@@ -170,7 +161,7 @@ fn write_plan<O: Sink>(
     out: &mut O,
 ) -> Result<u8, CentreFault> {
     let mut source = open_source(context, Role::PageFile, args.pages)?;
-    let outputs = make_outputs(context, args.pages, args.tx, args.cert)?;
+    let mut outputs = open_outputs(context, args.pages, args.tx, args.cert)?.emptied(context)?;
     let pages = load(context, &mut source, PAGES_READ)?;
     refuse_unmet(context, args.pages, &pages, args.search)?;
     let quote = quote_asked(context, &pages);
@@ -196,21 +187,11 @@ fn write_plan<O: Sink>(
         streams.err.fault(),
     );
     if status == 0 {
-        put_outputs(outputs, files.tx, files.cert)?;
+        put_whole(&mut outputs.tx, files.tx.into_bytes().as_slice())?;
+        put_whole(&mut outputs.cert, files.cert.into_bytes().as_slice())?;
         put_whole(out, lines.bytes())?;
     }
     Ok(status)
-}
-
-// Puts the transmission and then the certificate.
-fn put_outputs<S: Sink + Drop>(
-    outputs: Outputs<S>,
-    tx: GrowingSink,
-    cert: GrowingSink,
-) -> Result<(), FileFault> {
-    let mut outputs = outputs;
-    put_whole(&mut outputs.tx, tx.into_bytes().as_slice())?;
-    put_whole(&mut outputs.cert, cert.into_bytes().as_slice())
 }
 
 // Plans the front of a page file, and then writes it. Returns how many pages it has too.
@@ -230,9 +211,9 @@ fn write_front<O: Sink>(
     let pages = load(context, &mut source, PAGES_READ)?;
     refuse_unmet(context, args.pages, &pages, args.search)?;
     let quote = quote_asked(context, &pages);
-    let Aside { pages, file, count } = set_aside(context, args, asked, pages)?;
+    let aside = set_aside(context, args, asked, pages)?;
     let mut files = FrontFiles {
-        pages,
+        pages: aside.pages,
         tx: GrowingSink::new(context.alloc),
         cert: GrowingSink::new(context.alloc),
         rest: GrowingSink::new(context.alloc),
@@ -254,12 +235,13 @@ fn write_front<O: Sink>(
         quote,
         streams.err.fault(),
     );
+    note_first(context, args, asked, aside.begins, streams.err.fault());
     let first = files.count;
     if status == 0 {
         if args.oversized.is_some() {
-            print_numbers(&mut lines, &[("oversized ", count as u64)], "\n")?;
+            print_numbers(&mut lines, &[("oversized ", aside.count as u64)], "\n")?;
         }
-        put_front_files(context, others, outputs, file, files)?;
+        put_front_files(context, others, outputs, aside.file, files)?;
         put_whole(out, lines.bytes())?;
     }
     Ok((status, Some(first)))
@@ -282,12 +264,14 @@ fn front_asked(args: PlanArgs<'_>, limit: FrontLimit) -> Result<FrontAsked, Cent
     })
 }
 
-// The page file that is planned, the page file of the pages that are set aside, and how many these are.
+// The page file that is planned, the page file of the pages that are set aside, and how many these are; and, where `--verbose`
+// asks for it, how the page file begins.
 #[derive(Drop)]
 struct Aside {
     pages: Loaded,
     file: Vec<u8>,
     count: usize,
+    begins: Option<String>,
 }
 
 // Sets the pages aside that alone need too many batches, where that is asked for. What cannot be read is for the command to
@@ -298,11 +282,13 @@ fn set_aside(
     asked: FrontAsked,
     pages: Loaded,
 ) -> Result<Aside, CentreFault> {
+    let begins = first_asked(context, pages.lent().unwrap_or(&[]));
     let (Some(_), Some(bytes)) = (args.oversized, pages.lent()) else {
         return Ok(Aside {
             pages,
             file: Vec::new(context.alloc),
             count: 0,
+            begins,
         });
     };
     refuse_bad_limit(asked.search)?;
@@ -311,6 +297,7 @@ fn set_aside(
             pages: Loaded::new(context.alloc, parted.planned, false),
             file: parted.aside,
             count: parted.count,
+            begins,
         }),
         Err(fault) => {
             note_file(context, args.pages, &pages, None, Some(fault));
@@ -369,7 +356,9 @@ fn put_front_files<S: Sink + Drop>(
         };
         write_over(context, role, output, bytes)?;
     }
-    put_outputs(outputs, tx, cert)
+    let mut outputs = outputs;
+    put_whole(&mut outputs.tx, tx.into_bytes().as_slice())?;
+    put_whole(&mut outputs.cert, cert.into_bytes().as_slice())
 }
 
 // Refuses a word for the rest, for the pages that are set aside, or for the certificate of one page more, that names another
@@ -471,10 +460,10 @@ fn plan_staged(
 }
 
 // The same, with a list of the files beside the places, which the caller takes away.
-fn plan_among<'a, O: Sink>(
+fn plan_among<O: Sink>(
     context: Context<'_>,
-    args: PlanArgs<'a>,
-    files: &mut Vec<StagedFile<'a>>,
+    args: PlanArgs<'_>,
+    files: &mut Vec<StagedFile>,
     streams: &mut Streams,
     lines: &mut O,
 ) -> Result<u8, CentreFault> {
@@ -487,17 +476,8 @@ fn plan_among<'a, O: Sink>(
             return Err(CentreFault::File(FileFault::OutOfMemory));
         }
     }
-    let status = plan_files(context, staged_file(args, files.as_slice()), streams, lines)?;
-    if status == 0 {
-        put_files(context, files.as_slice())?;
-    }
-    Ok(status)
-}
-
-// The order with the files beside the places.
-fn staged_file<'a>(args: PlanArgs<'a>, files: &'a [StagedFile<'_>]) -> PlanArgs<'a> {
     let mut staged_file = args;
-    for file in files {
+    for file in files.as_slice() {
         match file.role {
             Role::Rest => staged_file.rest = Some(file.path()),
             Role::Oversized => staged_file.oversized = Some(file.path()),
@@ -506,5 +486,9 @@ fn staged_file<'a>(args: PlanArgs<'a>, files: &'a [StagedFile<'_>]) -> PlanArgs<
             _ => staged_file.tx = file.path(),
         }
     }
-    staged_file
+    let status = plan_files(context, staged_file, streams, lines)?;
+    if status == 0 {
+        put_files(context, files.as_slice())?;
+    }
+    Ok(status)
 }

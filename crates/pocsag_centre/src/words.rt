@@ -7,8 +7,8 @@ use crate::texts::{
     STRICT_HELP, VERIFY_HELP, WHY_HELP,
 };
 use pocsag_shell::{
-    ALWAYS_FLAG, CERT_PLACE, Content, FLAG, Given, KEEP_FLAG, LineWord, PAGES_PLACE, PLACE, SVG,
-    Shape, TX_PLACE,
+    ALWAYS_FLAG, CERT_PLACE, Content, EXPECT, FLAG, Given, KEEP_FLAG, LineWord, PAGES_PLACE, PLACE,
+    STRICT, SVG, Shape, TX_PLACE,
 };
 
 // The commands.
@@ -30,10 +30,6 @@ pub(crate) const END: &str = "end";
 pub(crate) const IDLE_LAST: &str = "idle-last";
 
 pub(crate) const VERIFY: &str = "verify";
-
-pub(crate) const EXPECT: &str = "expect";
-
-pub(crate) const STRICT: &str = "strict";
 
 pub(crate) const EACH_FRAME: &str = "frames";
 

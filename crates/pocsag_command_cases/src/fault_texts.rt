@@ -316,6 +316,16 @@ fn open_rounds(rt: HostRuntime) {
             (3, OpenFault::Round(RoundFault::OutOfMemory), NO_MEMORY),
             (
                 1,
+                OpenFault::Quotes(QuoteFault::Unclosed { number: 1, line: 2 }),
+                "record 1: the quote in line 2 is not closed",
+            ),
+            (
+                1,
+                OpenFault::Unexpected(2, 3),
+                "pages 2, where 3 were expected",
+            ),
+            (
+                1,
                 OpenFault::HeldByAnother,
                 "another program holds the journal",
             ),

@@ -2,8 +2,8 @@ ghost use Rattle.std.specs.Prelude.{◌≡◌};
 ghost use Rattle.pocsag_open.specs.declared.fault.OpenFault.TheVariants as fault;
 
 use pocsag_journal::JournalFault;
-use pocsag_pages::RoundFault;
-use pocsag_shell::{Failure, FileFault};
+use pocsag_pages::{QuoteFault, RoundFault};
+use pocsag_shell::{Failure, FileFault, Role};
 use thiserror::Error;
 
 /// Why an open round does not begin, or ends before its input does.
@@ -17,6 +17,12 @@ pub enum OpenFault {
     /// The page file that the round begins with.
     #[error(transparent)]
     Round(RoundFault),
+    /// A quote of the page file is misplaced, where `--strict` is given.
+    #[error(transparent)]
+    Quotes(QuoteFault),
+    /// The page file has so many pages, where `--expect` names another number.
+    #[error("pages {0}, where {1} were expected")]
+    Unexpected(u32, u32),
     #[error("another program holds the journal")]
     HeldByAnother,
     #[error("the journal holds edits, so the round cannot begin with PAGES")]
@@ -39,6 +45,21 @@ impl Failure for OpenFault {
                 JournalFault::ReadFault | JournalFault::WriteFault | JournalFault::OutOfMemory,
             ) => 3,
             _ => 1,
+        }
+    }
+}
+
+impl OpenFault {
+    /// The file that the command refuses by this fault, if it refuses one.
+    pub fn refused(self) -> Option<Role> {
+        match self {
+            OpenFault::Round(_) | OpenFault::Quotes(_) | OpenFault::Unexpected(..) => Some(
+                Role::PageFile,
+            ),
+            OpenFault::Journal(JournalFault::NoLine(_)) => Some(Role::PageFile),
+            OpenFault::File(FileFault::EqualPaths) => Some(Role::Journal),
+            OpenFault::File(_) => None,
+            _ => Some(Role::Journal),
         }
     }
 }

@@ -1,11 +1,13 @@
 use crate::fault::OpenFault;
 use crate::kept_round::open_journal;
-use crate::round_files::{OpenArgs, RoundFiles, open_pages};
+use crate::round_files::{OpenArgs, RoundFiles, load_pages};
 use crate::session::{PlanSettings, run_open, run_open_pages};
 use crate::words::{JOURNAL, READ_ONLY, ROUND, ROUND_SHAPES};
 use clap::{ArgMatches, Error};
 use pocsag_plan::OnLimit;
-use pocsag_shell::{ALWAYS, Call, Context, Group, KEEP, Names, PAGES, ReaderSource, Role, Tables};
+use pocsag_shell::{
+    ALWAYS, Call, Context, EXPECT, Group, KEEP, Names, PAGES, ReaderSource, Role, STRICT, Tables,
+};
 use std::alloc::AllocError;
 
 /// The group of the open round: the command `open`.
@@ -28,6 +30,8 @@ impl Group for RoundGroup {
             pages: call.found.get_str(PAGES),
             journal: call.found.get_str(JOURNAL),
             read_only: call.found.get_flag(READ_ONLY),
+            expect: call.found.get_one::<u32>(EXPECT),
+            strict: call.found.get_flag(STRICT),
             on_limit: if call.found.get_flag(ALWAYS) {
                 OnLimit::Always
             } else {
@@ -44,6 +48,11 @@ impl Group for RoundGroup {
             Some(path) => open_journal(context, args, path),
             None => open_round(context, args),
         };
+        if let Err(fault) = &done {
+            if let Some(role) = fault.refused() {
+                context.diagnostics.refuse(role);
+            }
+        }
         Some(Ok(context.end(names, done)))
     }
 }
@@ -51,7 +60,11 @@ impl Group for RoundGroup {
 // Keeps an open round in memory alone. Returns the exit status.
 fn open_round(context: Context<'_>, args: OpenArgs<'_>) -> Result<u8, OpenFault> {
     let mut settings = PlanSettings {
-        store: RoundFiles { context, args },
+        store: RoundFiles {
+            context,
+            args,
+            made: Vec::new(context.alloc),
+        },
         on_limit: args.on_limit,
     };
     let mut input = ReaderSource::new(context.rt.stdin(), Role::Lines, context.diagnostics);
@@ -60,7 +73,7 @@ fn open_round(context: Context<'_>, args: OpenArgs<'_>) -> Result<u8, OpenFault>
         run_open(context.alloc, &mut settings, &mut input, &mut out)?;
         return Ok(0);
     };
-    let mut pages = open_pages(context, path)?;
+    let mut pages = load_pages(context, args, path)?;
     run_open_pages(
         context.alloc,
         &mut settings,

@@ -1,10 +1,10 @@
 ghost use Rattle.std.specs.Prelude.{◌≡◌, ◌≤◌, [], length, IfOk};
 
 use crate::fault::OpenFault;
-use crate::round_files::open_pages;
+use crate::round_files::{OpenArgs, load_pages};
 use pocsag_journal::Disk;
 use pocsag_pages::{WholeFault, read_whole};
-use pocsag_shell::{Context, FileFault, Input, Named, ReaderSource, Role, StagedFile, WriterSink};
+use pocsag_shell::{Context, FileFault, Loaded, Named, ReaderSource, Role, StagedFile, WriterSink};
 use pocsag_words::{DeviceFault, Source, write_all};
 use std::alloc::Global;
 use std::cell::Cell;
@@ -92,7 +92,9 @@ impl<'a, 'w> JournalFile<'a, 'w> {
     // Puts a file of the text at the path, and holds it.
     fn put(&mut self, text: &[u8]) -> Result<(), OpenFault> {
         let context = self.place.context;
-        let staged_file = StagedFile::make(context, ROLE, self.place.path)?;
+        let mut staged_file = StagedFile::make(context, ROLE, self.place.path)?;
+        // The journal's own lock comes in place of that of the file.
+        staged_file.file = None;
         match self.put_staged(&staged_file, text) {
             Ok((file, named)) => {
                 self.file = file;
@@ -110,7 +112,7 @@ impl<'a, 'w> JournalFile<'a, 'w> {
     // Writes the text to the file beside the path, and puts it there once it is on the disk. It is locked before.
     fn put_staged(
         &self,
-        staged_file: &StagedFile<'_>,
+        staged_file: &StagedFile,
         text: &[u8],
     ) -> Result<(File, Named), OpenFault> {
         let mut options = OpenOptions::new();
@@ -125,7 +127,7 @@ impl<'a, 'w> JournalFile<'a, 'w> {
     fn fill(
         &self,
         file: &mut File,
-        staged_file: &StagedFile<'_>,
+        staged_file: &StagedFile,
         text: &[u8],
     ) -> Result<Named, OpenFault> {
         let context = self.place.context;
@@ -199,16 +201,22 @@ impl Disk for JournalFile<'_, '_> {
 #[derive(Drop)]
 pub(crate) struct FirstPages<'a, 'w> {
     place: JournalPlace<'a, 'w>,
+    args: OpenArgs<'a>,
     path: &'a str,
-    file: Option<ReaderSource<'a, Input<File>>>,
+    file: Option<Loaded>,
     calls: u64,
     failures: u64,
 }
 
 impl<'a, 'w> FirstPages<'a, 'w> {
-    pub fn new(place: JournalPlace<'a, 'w>, path: &'a str) -> FirstPages<'a, 'w> {
+    pub fn new(
+        place: JournalPlace<'a, 'w>,
+        args: OpenArgs<'a>,
+        path: &'a str,
+    ) -> FirstPages<'a, 'w> {
         FirstPages {
             place,
+            args,
             path,
             file: None,
             calls: 0,
@@ -225,14 +233,14 @@ impl<'a, 'w> FirstPages<'a, 'w> {
         if let Some(file) = &mut self.file {
             return file.read(buffer);
         }
-        match open_pages(self.place.context, self.path) {
+        match load_pages(self.place.context, self.args, self.path) {
             Ok(mut file) => {
                 let count = file.read(buffer);
                 self.file = Some(file);
                 count
             }
             Err(fault) => {
-                self.place.why.set(Some(OpenFault::File(fault)));
+                self.place.why.set(Some(fault));
                 Err(DeviceFault)
             }
         }

@@ -29,6 +29,7 @@ pub(crate) fn open_journal(
     refuse_equal(pages, path, STANDARD)?;
     refuse_one_file(context.rt, pages, path, STANDARD)?;
     if !is_regular_or_none(context.rt, path) {
+        context.note(format_args!("journal {path}: no regular file"));
         return Err(OpenFault::File(FileFault::Device));
     }
     let why = Cell::new(None);
@@ -47,9 +48,7 @@ pub(crate) fn open_journal(
             Err(OpenFault::File(FileFault::Write)),
             Some(known @ (OpenFault::NotHeld | OpenFault::File(FileFault::Owner))),
         ) => Err(known),
-        (Err(OpenFault::Round(RoundFault::ReadFault)), Some(known @ OpenFault::File(_))) => Err(
-            known,
-        ),
+        (Err(OpenFault::Round(RoundFault::ReadFault)), Some(known)) => Err(known),
         (done, _) => done,
     }
 }
@@ -78,12 +77,16 @@ fn keep_on(place: JournalPlace<'_, '_>, args: OpenArgs<'_>) -> Result<u8, OpenFa
         keeper: Journal::on(file),
     };
     let mut settings = PlanSettings {
-        store: RoundFiles { context, args },
+        store: RoundFiles {
+            context,
+            args,
+            made: Vec::new(context.alloc),
+        },
         on_limit: args.on_limit,
     };
     let mut streams = KeptStreams {
         pages: match args.pages {
-            Some(path) => Some(FirstPages::new(place, path)),
+            Some(path) => Some(FirstPages::new(place, args, path)),
             None => None,
         },
         input: ReaderSource::new(context.rt.stdin(), Role::Lines, context.diagnostics),

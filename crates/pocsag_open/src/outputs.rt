@@ -2,6 +2,7 @@ ghost use Rattle.std.specs.Prelude.{◌≡◌, ℕ, List, [], ◌∷◌, ◌++�
 ghost use Rattle.pocsag_words.specs.Devices.{CountsFailures};
 ghost use Rattle.pocsag_open.specs.Plans.{PlaceFault, PlaceNames, PlacedPlan, placed_plan};
 
+use csv::ByteRecord;
 use pocsag_shell::{FileFault, Outputs};
 use pocsag_words::Sink;
 
@@ -43,6 +44,9 @@ pub trait OutputStore {
         ensures none_left { is_known → made_for self.old ≡ Some (tx.now, cert.now) → made_for self.new ≡ None }
         ensures fault { is_known → IfErr result (λ fault. last_fault self.new ≡ Some ((tx.now, cert.now), fault)) }
         ensures failures { is_known → CountsFailures result (failures self.old) (failures self.new) };
+
+    /// Is shown the record of a line that is no plan, before it is answered. It changes nothing.
+    fn pass(&self, _row: &ByteRecord) {}
 
     /// Leaves the places as they are, and removes what was made for them, if the outputs were not made or are not whole.
     fn leave<'n>(&mut self, tx: &'n str, cert: &'n str)

@@ -2,13 +2,17 @@ ghost use Rattle.std.specs.Prelude.{◌≡◌, [], ◌∷◌, ◌++◌, None, If
 ghost use Rattle.pocsag_words.specs.Devices.{CountsFailures};
 ghost use Rattle.pocsag_open.specs.Plans.{no_bytes, no_fault, no_names, no_plans, placed_plan};
 
+use crate::fault::OpenFault;
 use crate::outputs::OutputStore;
+use csv::ByteRecord;
+use pocsag_pages::{FILE_LIMIT, held_pages, quote_fault};
 use pocsag_plan::OnLimit;
 use pocsag_shell::{
-    Context, FileFault, Input, Names, Output, Outputs, ReaderSource, Role, STANDARD, StagedFile,
-    WriterSink, is_regular_or_none, make_outputs, open_source, put_files, refuse_equal,
-    refuse_one_file, refuse_shared,
+    Context, FileFault, Loaded, NamedFile, Names, Output, Outputs, PAGES_READ, Role, STANDARD,
+    StagedFile, WriterSink, is_regular_or_none, load, note_record, open_outputs, open_source,
+    put_files, refuse_equal, refuse_one_file, refuse_shared,
 };
+use pocsag_words::Source;
 use std::fs::File;
 
 /// What `open` is asked for.
@@ -20,21 +24,71 @@ pub(crate) struct OpenArgs<'a> {
     pub journal: Option<&'a str>,
     /// Whether the journal is only listed.
     pub read_only: bool,
+    /// How many pages the page file must have, if that is given.
+    pub expect: Option<u32>,
+    /// Whether a misplaced quote refuses the page file.
+    pub strict: bool,
     /// What is answered where the search of a plan reaches its limit.
     pub on_limit: OnLimit,
     /// Whether what stands there before is kept until both files of a plan are whole.
     pub keep: bool,
 }
 
-/// Opens the page file that a round begins with, which is not standard input: that holds the lines.
-pub(crate) fn open_pages<'a>(
-    context: Context<'a>,
+/// Reads the page file that a round begins with, which is not standard input: that holds the lines. It refuses one that does not
+/// meet what is asked of it.
+pub(crate) fn load_pages(
+    context: Context<'_>,
+    args: OpenArgs<'_>,
     path: &str,
-) -> Result<ReaderSource<'a, Input<File>>, FileFault> {
+) -> Result<Loaded, OpenFault> {
     if path == STANDARD {
-        return Err(FileFault::EqualPaths);
+        context.note("page file -: standard input holds the lines");
+        return Err(OpenFault::File(FileFault::EqualPaths));
     }
-    open_source(context, Role::PageFile, Some(path))
+    let mut source = open_source(context, Role::PageFile, Some(path))?;
+    let Ok(pages) = load(context, &mut source, PAGES_READ) else {
+        return Err(OpenFault::File(FileFault::OutOfMemory));
+    };
+    if let Some(file) = pages.lent() {
+        refuse_pages(context, args, path, file)?;
+    }
+    Ok(pages)
+}
+
+// Refuses the bytes of a page file that do not meet what is asked of them. What else is wrong with them is for the round to refuse,
+// unless `--verbose` asks for the record.
+fn refuse_pages(
+    context: Context<'_>,
+    args: OpenArgs<'_>,
+    path: &str,
+    file: &[u8],
+) -> Result<(), OpenFault> {
+    if file.len() > FILE_LIMIT {
+        return Ok(());
+    }
+    if args.strict {
+        if let Some(quote) = quote_fault(file) {
+            return Err(OpenFault::Quotes(quote));
+        }
+    }
+    if args.expect.is_none() && !context.diagnostics.is_asked() {
+        return Ok(());
+    }
+    let found = match held_pages(context.alloc, false, file) {
+        Ok(queue) => queue.len() as u32,
+        Err(fault) => {
+            let place = NamedFile {
+                role: Role::PageFile,
+                name: Some(path),
+            };
+            note_record(context, place, file, fault);
+            return Err(OpenFault::Round(fault));
+        }
+    };
+    match args.expect {
+        Some(expected) if found != expected => Err(OpenFault::Unexpected(found, expected)),
+        _ => Ok(()),
+    }
 }
 
 /// The files that the plans of an open round are written to, none of which is the page file that the round
@@ -43,6 +97,25 @@ pub(crate) fn open_pages<'a>(
 pub(crate) struct RoundFiles<'a> {
     pub context: Context<'a>,
     pub args: OpenArgs<'a>,
+    /// What was made beside the places of a plan and is not put there yet, the certificate first.
+    pub made: Vec<StagedFile>,
+}
+
+// What is wrong with the record of a line `plan` that is none.
+fn wrong_field(row: &ByteRecord) -> &'static str {
+    let (Some(tx), Some(cert)) = (row.get(1), row.get(2)) else {
+        return "TX and CERT are wanted";
+    };
+    if str::from_utf8(tx).is_err() || str::from_utf8(cert).is_err() {
+        return "TX and CERT must be UTF-8";
+    }
+    let ends: [&[u8]; 3] = [b"open", b"closed", b"idle"];
+    let names_end = ends.iter().any(|end| row.get(3) == Some(*end));
+    match row.len() {
+        4 | 5 if !names_end => "END must be open, closed or idle",
+        5 => "B must be a number from 1 to 4294967295, without a sign or leading zeros",
+        _ => "nothing follows TX, CERT, END and B",
+    }
 }
 
 impl<'a> RoundFiles<'a> {
@@ -53,44 +126,11 @@ impl<'a> RoundFiles<'a> {
         refuse_equal(journal, tx, cert)?;
         refuse_one_file(self.context.rt, journal, tx, cert)?;
         if tx == STANDARD || cert == STANDARD {
+            self.context.note("-: standard output takes the answers");
             return Err(FileFault::EqualPaths);
         }
         Ok(())
     }
-
-    // Puts the files that were made beside their places there, and takes away what is not put.
-    fn finish(&self, tx: &str, cert: &str, are_whole: bool) -> Result<(), FileFault> {
-        // No transmission ever stands without its certificate.
-        let files = [
-            StagedFile::of(self.context, Role::Certificate, cert)?,
-            StagedFile::of(self.context, Role::Transmission, tx)?,
-        ];
-        let done = if are_whole {
-            put_files(self.context, &files)
-        } else {
-            Ok(())
-        };
-        for file in &files {
-            file.remove(self.context);
-        }
-        done
-    }
-}
-
-// Makes both outputs as files beside their places.
-fn make_staged<'a>(
-    context: Context<'a>,
-    pages: Option<&str>,
-    tx: &str,
-    cert: &str,
-) -> Result<Outputs<WriterSink<'a, Output<File>>>, FileFault> {
-    if !is_regular_or_none(context.rt, tx) || !is_regular_or_none(context.rt, cert) {
-        return Err(FileFault::Device);
-    }
-    refuse_shared(context, pages, tx, cert)?;
-    let tx = StagedFile::make(context, Role::Transmission, tx)?;
-    let cert = StagedFile::make(context, Role::Certificate, cert)?;
-    make_outputs(context, pages, tx.path(), cert.path())
 }
 
 impl<'a> OutputStore for RoundFiles<'a> {
@@ -111,12 +151,31 @@ impl<'a> OutputStore for RoundFiles<'a> {
         tx: &str,
         cert: &str,
     ) -> Result<Outputs<WriterSink<'a, Output<File>>>, FileFault> {
+        let OpenArgs { pages, keep, .. } = self.args;
+        let context = self.context;
+        context.diagnostics.refuse(Role::Transmission);
         self.refuse_taken(tx, cert)?;
-        if self.args.keep {
-            make_staged(self.context, self.args.pages, tx, cert)
-        } else {
-            make_outputs(self.context, self.args.pages, tx, cert)
+        let (mut tx, mut cert) = (tx, cert);
+        if keep {
+            for (role, place) in [(Role::Transmission, tx), (Role::Certificate, cert)] {
+                if !is_regular_or_none(context.rt, place) {
+                    context.note(format_args!("{role} {place}: no regular file"));
+                    return Err(FileFault::Device);
+                }
+            }
+            refuse_shared(context, pages, tx, cert)?;
+            // No transmission ever stands without its certificate.
+            for (role, place) in [(Role::Certificate, cert), (Role::Transmission, tx)] {
+                self.made.push(StagedFile::make(context, role, place)?)?;
+            }
+            if let [made_cert, made_tx] = self.made.as_slice() {
+                tx = made_tx.path();
+                cert = made_cert.path();
+            }
         }
+        let outputs = open_outputs(context, pages, tx, cert)?.emptied(context)?;
+        context.forget_trouble();
+        Ok(outputs)
     }
 
     fn put(
@@ -134,22 +193,31 @@ impl<'a> OutputStore for RoundFiles<'a> {
         ensures failures { ⊥ → CountsFailures result 0 0 }
     {
         drop(outputs);
-        let done = if self.args.keep {
-            self.finish(tx, cert, true)
-        } else {
-            Ok(())
-        };
+        let done = put_files(self.context, self.made.as_slice());
         self.leave(tx, cert);
         done
     }
 
-    fn leave<'n>(&mut self, tx: &'n str, cert: &'n str) {
-        if self.args.keep {
-            let _ = self.finish(tx, cert, false);
+    // With `--verbose` tells which field of a line `plan` keeps it from being one.
+    fn pass(&self, row: &ByteRecord) {
+        if !self.context.diagnostics.is_asked() || row.get(0) != Some(b"plan".as_slice()) {
+            return;
         }
+        let wrong = wrong_field(row);
+        self.context.note(format_args!("plan: {wrong}"));
+        self.context.print_more(Names::NONE);
+    }
+
+    fn leave<'n>(&mut self, tx: &'n str, cert: &'n str) {
+        for file in &self.made {
+            file.remove(self.context);
+        }
+        self.made.clear();
         self.context.print_more(Names {
+            pages: self.args.pages,
             tx: Some(tx),
             cert: Some(cert),
+            journal: self.args.journal,
             ..Names::NONE
         });
     }

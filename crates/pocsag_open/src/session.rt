@@ -238,6 +238,9 @@ fn answer_line<P: OutputStore + Drop, K: Keeper + Drop, O: Sink>(
             Err(ListFault::WriteFault) => Err(FileFault::Write),
         },
         Line::Journal => print_pages(&round.book, out),
-        _ => answer_edit(alloc, round, &row, out),
+        _ => {
+            settings.store.pass(&row);
+            answer_edit(alloc, round, &row, out)
+        }
     }
 }

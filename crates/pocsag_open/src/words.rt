@@ -1,7 +1,8 @@
 //! The words of `open`.
 
 use pocsag_shell::{
-    ALWAYS, ALWAYS_FLAG, FLAG, Given, KEEP, KEEP_FLAG, LineWord, PAGES, PLACE, Shape,
+    ALWAYS, ALWAYS_FLAG, Content, EXPECT, FLAG, Given, KEEP, KEEP_FLAG, LineWord, PAGES, PLACE,
+    STRICT, Shape,
 };
 
 pub(crate) const ROUND: &str = "open";
@@ -56,6 +57,26 @@ ends; FILE is neither locked nor changed",
     ..FLAG
 };
 
+const PAGES_EXPECTED_OPTION: LineWord = LineWord {
+    id: EXPECT,
+    help: "\
+How many pages PAGES must have: a page file of another
+number is refused",
+    given: Given::Option("N", &[]),
+    content: Content::Number,
+    needs: &[PAGES],
+    ..FLAG
+};
+
+const STRICT_PAGES_FLAG: LineWord = LineWord {
+    id: STRICT,
+    help: "\
+Refuses PAGES with a quote that is not closed or stands
+inside a field",
+    needs: &[PAGES],
+    ..FLAG
+};
+
 pub(crate) const ROUND_SHAPES: &[Shape] = &[Shape {
     name: ROUND,
     about: "Keeps an open round, which lines of standard input edit and plan",
@@ -64,6 +85,8 @@ pub(crate) const ROUND_SHAPES: &[Shape] = &[Shape {
         FIRST_PAGES_PLACE,
         JOURNAL_OPTION,
         READ_ONLY_FLAG,
+        PAGES_EXPECTED_OPTION,
+        STRICT_PAGES_FLAG,
         ALWAYS_FLAG,
         KEEP_FLAG,
     ],

@@ -190,13 +190,19 @@ fn print_received(context: Context<'_>, asked: &Receiving, names: Names<'_>) {
     }
 }
 
-// Where the preamble is too short for what reads damaged bytes, keeps the note that names `--capture`.
+// Records that the transmission was refused, and where its preamble is too short for what reads damaged bytes, keeps the note
+// that names `--capture`.
 fn note_capture(
     context: Context<'_>,
     names: Names<'_>,
     asked: &Receiving,
     fault: Option<ReceiverFault>,
 ) {
+    match fault {
+        None | Some(ReceiverFault::Pager(PagerFault::BadAddress | PagerFault::ReservedAddress)) =>
+            {}
+        Some(_) => context.diagnostics.refuse(Role::Transmission),
+    }
     let is_short = match fault {
         Some(ReceiverFault::Transmission(DecodeFault::ShortPreamble)) => true,
         Some(ReceiverFault::Pager(PagerFault::ShortPreamble)) => true,

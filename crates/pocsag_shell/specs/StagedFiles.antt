@@ -2,8 +2,8 @@
 use Rattle.std.specs.Prelude.{◌≡◌, ◌⊎◌, ℕ, ◌^◌, ◌<◌, List, ◌++◌, codes}
 use Rattle.std.specs.Fmt.{decimal}
 
--- The file that the process of a number makes beside the place of a name: `NAME.NUMBER.new`, or `NAME.NUMBER.old` for what
--- stood there before.
+-- The name that the process of a number gives to a file which it makes beside a place: `NAME.NUMBER.new`, or `NAME.NUMBER.old`
+-- for what stood there before.
 pub record IsStagedName (name : List ℕ) (number : ℕ) (file : List ℕ) : Type 0 where
   pub some : 0 < number
   pub small : number < 2 ^ 32

@@ -1,12 +1,13 @@
 ghost use Rattle.std.specs.Prelude.{◌≡◌, ◌⊎◌, IfErr, IfOk, IsErrAnd, IsErrOf, Ok, OnErr};
 
 use crate::devices::WriterSink;
-use crate::diagnostics::{Diagnostics, Trouble};
+use crate::diagnostics::{Diagnostics, OWN_REFUSAL, Trouble};
 use crate::fault::{Failure, FileFault};
+use crate::files::one_file;
 use crate::lines::print_fault;
 use crate::note::print_note;
 use crate::role::{Names, Role};
-use std::alloc::Global;
+use std::alloc::{AllocError, Global};
 use std::fmt::Display;
 use std::io::{self, ErrorKind, Stderr, Stdout};
 
@@ -70,29 +71,36 @@ impl<'a> Context<'a> {
     }
 
     /// Adds the line of `--verbose` on standard error: the note that was kept, or else which file the system refused last
-    /// and why. Both are then forgotten. If standard error fails the line is lost.
+    /// and why, or which file the command refused. All are then forgotten. If standard error fails the line is lost.
     pub fn print_more(&self, names: Names<'_>) {
         if !self.diagnostics.is_asked() {
             return;
         }
         let kept = self.diagnostics.note.try_replace(None).ok().flatten();
         let printed = match (kept, self.diagnostics.take_trouble()) {
-            (None, Some(Trouble { role, code })) => {
-                let place = names.place(role);
-                let printed = match code.map(io::Error::from_raw_os_error) {
-                    Some(reason) => format!(in self.alloc; "{place}: {reason}"),
-                    None => {
-                        format!(in self.alloc;
-                            "{place}: the system took nothing and told no reason"
-                        )
-                    }
-                };
-                printed.ok()
-            }
+            (None, Some(trouble)) => self.trouble_text(names, trouble).ok(),
             (kept, _) => kept,
         };
         if let Some(printed) = printed {
             let _ = print_note(self.alloc, &mut self.err(), printed.as_str());
+        }
+    }
+
+    // The file of a trouble, and the system's reason; or, where the command refused it, the two files that are one, if two are.
+    fn trouble_text(&self, names: Names<'_>, trouble: Trouble) -> Result<String, AllocError> {
+        let place = names.place(trouble.role);
+        match trouble.code {
+            Some(OWN_REFUSAL) => match one_file(self.rt, names) {
+                Some((one, other)) => { format!(in self.alloc; "{one} and {other} are one file") }
+                None => format!(in self.alloc; "{place}"),
+            },
+            Some(code) => {
+                let reason = io::Error::from_raw_os_error(code);
+                format!(in self.alloc; "{place}: {reason}")
+            }
+            None => {
+                format!(in self.alloc; "{place}: the system took nothing and told no reason")
+            }
         }
     }
 

@@ -1,7 +1,10 @@
 use crate::role::Role;
 use std::cell::{Cell, RefCell};
 
-/// The system refused a call on a file or a stream.
+/// In place of the system's error number: the command itself refuses the file.
+pub(crate) const OWN_REFUSAL: i32 = 0;
+
+/// The system refused a call on a file or a stream, or the command refuses the file.
 #[derive(Clone, Copy)]
 pub(crate) struct Trouble {
     /// What the file is to the command.
@@ -32,6 +35,16 @@ impl Diagnostics {
     /// Records that the system refused a call on a file or a stream.
     pub fn meet(&self, role: Role, code: Option<i32>) {
         self.trouble.set(Some(Trouble { role, code }));
+    }
+
+    /// Records that the command refuses a file, unless the system refused a call before.
+    pub fn refuse(&self, role: Role) {
+        let refused = Trouble {
+            role,
+            code: Some(OWN_REFUSAL),
+        };
+        let trouble = self.take_trouble().unwrap_or(refused);
+        self.trouble.set(Some(trouble));
     }
 
     /// The last refused call. The watch forgets it.

@@ -4,7 +4,7 @@ use crate::fault::FileFault;
 use crate::lines::put_whole;
 use crate::loaded::Loaded;
 use crate::paths::{Named, are_one, name_one_file};
-use crate::role::Role;
+use crate::role::{NAMED_ROLES, NamedFile, Names, Role};
 use crate::streams::{Input, Output};
 use crate::words::{STANDARD, path_of};
 use pocsag_pages::FILE_LIMIT;
@@ -42,11 +42,14 @@ const OUTPUT_STREAM: &str = "/proc/self/fd/1";
 
 const ERROR_STREAM: &str = "/proc/self/fd/2";
 
-// What --verbose adds where a word names such a file.
+// What --verbose adds where a word names such a file, and where both streams are needed and are one.
 const BEHIND_STREAM: &str =
-    "a file is the one behind standard output or standard error; to write to standard output, give '-' in place of TX or CERT";
+    "the file behind standard output or standard error; to write to standard output, give '-' in place of TX or CERT";
 
-const BEHIND_INPUT: &str = "a file to write is the one behind standard input";
+const BEHIND_INPUT: &str = "the file behind standard input";
+
+const ONE_STREAM: &str =
+    "standard output takes a file, and standard error, which is to take the lines, is the same file";
 
 /// Opens a file for reading, or standard input if there is no path. It refuses a folder.
 pub fn open_source<'a>(
@@ -183,16 +186,6 @@ pub fn open_outputs(
     })
 }
 
-/// Opens or makes the two files of a plan, and empties them once both are open.
-pub fn make_outputs<'a>(
-    context: Context<'a>,
-    pages: Option<&str>,
-    tx: &str,
-    cert: &str,
-) -> Result<Outputs<WriterSink<'a, Output<File>>>, FileFault> {
-    open_outputs(context, pages, tx, cert)?.emptied(context)
-}
-
 /// Writes the bytes in place of those that an open file has.
 pub fn write_over(
     context: Context<'_>,
@@ -222,7 +215,8 @@ pub fn refuse_shared(
     for path in [pages, path_of(tx), path_of(cert)] {
         let named = named_at(rt, path);
         if are_one(named, output) || are_one(named, errors) {
-            context.note(BEHIND_STREAM);
+            let path = path.unwrap_or(STANDARD);
+            context.note(format_args!("{path}: {BEHIND_STREAM}"));
             return Err(FileFault::EqualPaths);
         }
     }
@@ -231,6 +225,7 @@ pub fn refuse_shared(
     }
     // If standard output takes a file, standard error takes the lines.
     if (tx == STANDARD || cert == STANDARD) && are_one(output, errors) {
+        context.note(ONE_STREAM);
         return Err(FileFault::EqualPaths);
     }
     Ok(())
@@ -240,7 +235,7 @@ pub fn refuse_shared(
 pub fn refuse_input(context: Context<'_>, word: &str) -> Result<(), FileFault> {
     let rt = context.rt;
     if are_one(named_at(rt, path_of(word)), Named::behind(rt, INPUT_STREAM)) {
-        context.note(BEHIND_INPUT);
+        context.note(format_args!("{word}: {BEHIND_INPUT}"));
         return Err(FileFault::EqualPaths);
     }
     Ok(())
@@ -259,6 +254,26 @@ pub fn refuse_one_file<R: Files>(
         return Err(FileFault::EqualPaths);
     }
     Ok(())
+}
+
+/// Two of the named files that are one, if two are: by the same word, or as the system knows them.
+pub(crate) fn one_file<'n>(
+    rt: &HostRuntime,
+    names: Names<'n>,
+) -> Option<(NamedFile<'n>, NamedFile<'n>)> {
+    for later in 1..NAMED_ROLES.len() {
+        for earlier in 0..later {
+            let one = names.place(NAMED_ROLES[earlier]);
+            let other = names.place(NAMED_ROLES[later]);
+            let (Some(first), Some(second)) = (one.name, other.name) else {
+                continue;
+            };
+            if first == second || refuse_one_file(rt, path_of(first), second, STANDARD).is_err() {
+                return Some((one, other));
+            }
+        }
+    }
+    None
 }
 
 fn named_at<R: Files>(rt: &R, path: Option<&str>) -> Option<Named> {

@@ -2,12 +2,18 @@ ghost use Rattle.std.specs.Prelude.{◌≡◌, ◌↔◌, ◌^◌, ◌<◌, ℕ,
 ghost use Rattle.std.specs.Fmt.{decimal};
 ghost use Rattle.pocsag_shell.specs.StagedFiles.{IsStagedName};
 
+use crate::files::is_regular_or_none;
+use crate::paths::Named;
 use crate::staged_file::parts_of;
-use std::fs;
+use std::fs::{self, File, TryLockError};
 use std::io::ErrorKind;
 
-/// Removes `PLACE.NUMBER.new` and `PLACE.NUMBER.old` of runs that were killed: files whose process number no process has
-/// now. It removes nothing if the system does not show its processes.
+// The ending of the locks of places.
+const LOCK: &str = ".lock";
+
+/// Removes what runs that were killed left in the folder of a place, and what nobody holds: the locks of places, the files that
+/// runs made beside any place, `PLACE.pocsag.NUMBER.new`, and, of this place alone, the older file that they kept,
+/// `PLACE.pocsag.NUMBER.old`. No process has the number now. It removes nothing if the system does not show its processes.
 pub(crate) fn remove_left_over(rt: &HostRuntime, place: &str) {
     if fs::metadata(rt, "/proc/self/stat").is_err() {
         return;
@@ -20,13 +26,69 @@ pub(crate) fn remove_left_over(rt: &HostRuntime, place: &str) {
         let Ok(entry) = entry else {
             continue;
         };
-        let Some(number) = process_of(name, entry.file_name()) else {
+        let path = entry.path();
+        let path = path.as_str();
+        if !may_be_left(rt, name, entry.file_name()) {
             continue;
-        };
-        if is_gone(rt, number) {
-            let _ = fs::remove_file(rt, entry.path());
+        }
+        // The lock lasts until the file is removed.
+        if let Some(_file) = locked(rt, path, false) {
+            let _ = fs::remove_file(rt, path);
         }
     }
+}
+
+// Whether the name is that of the lock of a place, or of a file that a process which is gone made beside the place of a name or
+// beside another one.
+fn may_be_left(rt: &HostRuntime, name: &str, file: &str) -> bool {
+    let number = match file.rsplit_once(".pocsag") {
+        Some((_, rest)) if rest == LOCK => return true,
+        Some((place, rest)) if place == name || rest.ends_with(".new") => process_of("", rest),
+        Some(_) => None,
+        // Earlier versions marked no name, and nobody but the user knows whose such a name is beside another place.
+        None => process_of(name, file),
+    };
+    let Some(number) = number else {
+        return false;
+    };
+    let Ok(path) = format!(in rt.alloc(); "/proc/{number}") else {
+        return false;
+    };
+    match fs::metadata(rt, path.as_str()) {
+        Ok(_) => false,
+        Err(error) => error.kind() == ErrorKind::NotFound,
+    }
+}
+
+/// Opens a file that is not there or that runs lock, and locks it. None where another run holds it, or has just removed it. A file
+/// system that has no locks has that of nobody, where `may_lack` says so.
+pub(crate) fn locked(rt: &HostRuntime, path: &str, may_lack: bool) -> Option<File> {
+    let opened = match File::create_new(rt, path) {
+        // Opening a pipe would wait for who writes to it.
+        Err(_) if is_regular_or_none(rt, path) => fs::open(rt, path),
+        made => made,
+    };
+    let file = match opened {
+        Ok(file) => file,
+        Err(error) => {
+            // The lock of another user's run, which that user's mask keeps from all others.
+            if error.kind() == ErrorKind::PermissionDenied && path.ends_with(LOCK) {
+                let _ = fs::remove_file(rt, path);
+            }
+            return None;
+        }
+    };
+    match file.try_lock() {
+        Ok(()) => {}
+        Err(TryLockError::Error(_)) if may_lack => {}
+        Err(_) => return None,
+    }
+    // Who held it may have removed it since it was opened.
+    let named = Named::of(&file.metadata().ok()?);
+    if Named::at(rt, path) != Some(named) {
+        return None;
+    }
+    Some(file)
 }
 
 // The number of the process that made the file beside the place of a name, if a process made it.
@@ -52,15 +114,4 @@ fn written_number(digits: &str) -> Option<u32>
         return None;
     }
     digits.parse::<u32>().ok()
-}
-
-// Whether no process has the number.
-fn is_gone(rt: &HostRuntime, number: u32) -> bool {
-    let Ok(path) = format!(in rt.alloc(); "/proc/{number}") else {
-        return false;
-    };
-    match fs::metadata(rt, path.as_str()) {
-        Ok(_) => false,
-        Err(error) => error.kind() == ErrorKind::NotFound,
-    }
 }

@@ -14,6 +14,7 @@ mod lines;
 mod loaded;
 mod memory_streams;
 mod note;
+mod page_note;
 mod paths;
 mod program;
 mod role;
@@ -29,13 +30,14 @@ pub use error_stream::ErrorStream;
 pub use fault::{Failure, FileFault};
 pub use files::{
     CERT_READ, Opened, Outputs, PAGES_READ, is_regular, is_regular_or_none, load, load_both,
-    load_file, make_outputs, open_output, open_outputs, open_source, refuse_input, refuse_one_file,
+    load_file, open_output, open_outputs, open_source, refuse_input, refuse_one_file,
     refuse_shared, write_over,
 };
 pub use group::{Both, Call, Group, Tables};
 pub use lines::{print, print_fault, print_numbers, put_whole};
 pub use loaded::Loaded;
 pub use memory_streams::MemoryStreams;
+pub use page_note::{first_asked, note_record};
 pub use paths::{Named, equal_paths, refuse_equal};
 pub use program::run;
 pub use role::{NamedFile, Names, Role};
@@ -43,6 +45,6 @@ pub use staged_file::{StagedFile, put_files};
 pub use streams::{Input, Output};
 pub use tables::command;
 pub use words::{
-    ALWAYS, ALWAYS_FLAG, CERT, CERT_PLACE, Content, FLAG, Given, KEEP, KEEP_FLAG, LineWord, PAGES,
-    PAGES_PLACE, PLACE, STANDARD, SVG, Shape, TX, TX_PLACE, path_of,
+    ALWAYS, ALWAYS_FLAG, CERT, CERT_PLACE, Content, EXPECT, FLAG, Given, KEEP, KEEP_FLAG, LineWord,
+    PAGES, PAGES_PLACE, PLACE, STANDARD, STRICT, SVG, Shape, TX, TX_PLACE, path_of,
 };

@@ -36,6 +36,17 @@ impl Display for Role {
     }
 }
 
+/// The roles of the files that words name.
+pub(crate) const NAMED_ROLES: [Role; 7] = [
+    Role::PageFile,
+    Role::Transmission,
+    Role::Certificate,
+    Role::Rest,
+    Role::Oversized,
+    Role::Why,
+    Role::Journal,
+];
+
 /// The words that name the files of a command, for each file that the command has.
 #[derive(Clone, Copy)]
 pub struct Names<'a> {

@@ -89,6 +89,10 @@ pub const ALWAYS: &str = "always";
 
 pub const KEEP: &str = "keep";
 
+pub const EXPECT: &str = "expect";
+
+pub const STRICT: &str = "strict";
+
 pub const SVG: &str = "svg";
 
 pub(crate) const VERBOSE: &str = "verbose";

@@ -60,6 +60,8 @@ fn load_keyed(
 
 // Writes the sound of a transmission to standard output.
 fn key(context: Context<'_>, keying: Keying, mut tx: Loaded, names: Names<'_>) -> u8 {
+    // A fault from here on is one of the transmission, or of standard output.
+    context.diagnostics.refuse(Role::Transmission);
     if is_short(keying, &tx) {
         let mut streams = MemoryStreams::new(context.alloc);
         let status = run_wav(
