@@ -1,7 +1,7 @@
 #!/usr/bin/env python3
 """Makes the WebAssembly module from the proved crate pocsag_c, and the page around it.
 
-    web/make.py FOLDER    puts pocsag.wasm, pocsag.mjs, pocsag.d.ts, cli.mjs and pocsag.html into FOLDER
+    web/make.py FOLDER    puts pocsag.wasm, pocsag.mjs and its types, the command line and pocsag.html into FOLDER
 
 It needs `rt`, by which the crate is proved and built with what it stands on, where that is not done yet, and `wasm-opt` of
 Binaryen. The same sources give the same bytes in every folder.
@@ -28,9 +28,10 @@ sys.path[:0] = [str(TOP / "tools")]
 import kit
 
 CRATE = TOP / "crates/pocsag_c"
-COPIED = ("pocsag.mjs", "pocsag.d.ts", "cli.mjs")
+COMMAND = ("cli.mjs", "commands.mjs", "words.mjs", "context.mjs", "reading.mjs")
+COPIED = ("pocsag.mjs", "pocsag.d.ts", *COMMAND)
 C_FILES = ("heap.c", "wide.c")
-PAGE = ("page/library.js", "page/rows.js", "page/files.js", "page/page.js")
+PAGE = ("page/library.js", "page/rows.js", "reading.mjs", "page/files.js", "page/page.js")
 AS_MODULE = "/* == From here on as an ES module"  # what stands behind it in pocsag.mjs loads the file pocsag.wasm
 EXAMPLES = {"a hospital's round": "round.csv", "loops apart": "loops-apart.csv"}
 STACK = 1 << 20  # bytes, as POCSAG_PLAN_STACK of the header

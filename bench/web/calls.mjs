@@ -16,8 +16,9 @@ for (const { call, words, runs } of JSON.parse(readFileSync(process.argv[3]))) {
   let least = Infinity;
   for (let k = 0; k < runs; k++) {
     const begun = performance.now();
-    exports[call](...given);
+    const status = exports[call](...given);
     least = Math.min(least, performance.now() - begun);
+    if (status) throw new Error(`${call}: status ${status}`);
   }
   console.log(least);
 }

@@ -7,7 +7,8 @@ import { Tally } from "./tally.mjs";
 
 const [folder, examples, vectors] = process.argv.slice(2).map((it) => resolve(it));
 const pocsag = await import(pathToFileURL(join(folder, "pocsag.mjs")));
-const files = await import(pathToFileURL(join(import.meta.dirname ?? new URL(".", import.meta.url).pathname, "../../web/page/files.js")));
+const source = (path) => import(new URL(`../../web/${path}`, import.meta.url));
+const files = { ...(await source("page/files.js")), ...(await source("reading.mjs")) };
 const wasm = readFileSync(join(folder, "pocsag.wasm"));
 const tally = new Tally();
 const { Fault, Pocsag } = pocsag, HEADER = "address,kind,message\n", SAMPLE = HEADER + "8,tone0,\n";

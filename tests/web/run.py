@@ -117,11 +117,12 @@ def reading_calls(source, pages, tx, cert, address):
 
 
 class Made:
-    """What the tests share: the native library and the module, made in folders of their own."""
+    """What the tests share: the native library and the module, made in folders of their own, and the scripts of other tests."""
 
     def __init__(self, room):
         self.library = script_at("library_tests", "tests/library/run.py")
         self.web = script_at("web_make", "web/make.py")
+        self.program = script_at("program_tests", "tests/program/run.py")
         (room / "native").mkdir()
         if LIBRARY:
             shutil.copytree(pathlib.Path(LIBRARY) / "lib", room / "native", dirs_exist_ok=True)
@@ -147,7 +148,7 @@ def try_made(tally, made):
         done = run(sys.executable, TOP / "web/make.py", folder)
         tally.check(f"made in {folder.name}", done.returncode == 0, done)
     names = sorted(path.name for path in made.folder.iterdir())
-    tally.check("the files that are made", names == ["cli.mjs", "pocsag.d.ts", "pocsag.html", "pocsag.mjs", "pocsag.wasm"], names)
+    tally.check("the files that are made", names == sorted(["pocsag.wasm", "pocsag.html", *made.web.COPIED]), names)
     for name in names:
         tally.check(f"{name} is the same in two folders", (made.folder / name).read_bytes() == (other / name).read_bytes())
     for words, status in (([], 2), (["--help"], 2), (["a", "b"], 2)):
@@ -223,7 +224,7 @@ def try_large(tally, made):
 
 def try_node(tally, made):
     """The ES module, by what stands in module.mjs, with the files of the vectors and the worked examples."""
-    program = script_at("program_tests", "tests/program/run.py")
+    program = made.program
     rounds = {name: [(program.HEADER + row[0]).decode(), row[1], row[2], program.IDLE_LAST.get(name), row[3]] for name, row in program.ROUNDS.items()}
     refused = {name: [(text or b"").decode("latin-1"), fault.decode()] for name, (text, fault) in program.REFUSED.items()}
     (made.room / "examples.json").write_text(json.dumps({"rounds": rounds, "refused": refused}))
@@ -267,7 +268,7 @@ def main(tally, room):
     try_rounds(tally, made)
     try_large(tally, made)
     try_node(tally, made)
-    command.try_command(tally, made.folder, room, NODE)
+    command.try_command(tally, made, room, NODE)
     for name, what, browser, least in (("page", "chromium", CHROMIUM, 60), ("firefox", "firefox", FIREFOX, 10)):
         if browser:
             try_page(tally, made, name, browser, least)

@@ -1,8 +1,8 @@
 /* The page: a round on the left, its transmissions on the right, and why it takes no fewer batches. */
 import { Library } from "./library.js";
 import { Rows } from "./rows.js";
-import { airtimeOf, fileOf, HEADER, KINDS, labelOf, labelsOf, nodesOf, readingOf, recordsOf } from "./files.js";
-import { pictured, unpictured } from "./files.js";
+import { airtimeOf, fileOf, HEADER, KINDS, labelOf, labelsOf, nodesOf, pictured, unpictured } from "./files.js";
+import { readingOf, recordsOf } from "../reading.mjs";
 
 const EXAMPLES = {} /*EXAMPLES*/;
 const MOST_SOUND = 200_000_000; // bytes that are played or taken along
