@@ -20,8 +20,10 @@ class Tally:
     def __init__(self):
         self.passed = 0
         self.failed = 0
+        self.names = set()
 
     def check(self, name, holds, told=""):
+        self.names.add(name)
         if holds:
             self.passed += 1
         else:

@@ -1,14 +1,18 @@
 #!/usr/bin/env python3
 """Reads from the sources that the calls by name are the calls that run: each `run_NAME` of a group is called by the group itself
 and not by tests alone, `plan` of the program and of the C library call `plan_stream` and `plan_stream_always`, and the C library
-stands on no group of commands. The last line is 'N passed, M failed'."""
+stands on no group of commands; and that each call that may return want of memory has a run at its largest size, and one between, in
+the table `largest.txt`. What reads this table is tried on a small tree. The last line is 'N passed, M failed'."""
 
 import pathlib
 import re
 import sys
+import tempfile
 
 sys.dont_write_bytecode = True
 sys.path[:0] = [str(pathlib.Path(__file__).resolve().parents[1]), str(pathlib.Path(__file__).resolve().parents[2] / "tools")]
+import selftest
+import sizes
 import workspace
 from tally import Tally
 
@@ -42,6 +46,10 @@ def main():
             tally.check(f"{crate} plans by {name}", re.search(rf"\b{name}\(", code_of(crates[crate])))
     above = ABOVE & {*workspace.below(crates, "pocsag_c")}
     tally.check("the C library stands on no commands", not above, above)
+    wrong = sizes.problems(sizes.TOP)
+    tally.check("each call that may lack memory has its largest run", not wrong, "\n".join(wrong))
+    with tempfile.TemporaryDirectory() as folder:
+        selftest.try_changes(tally, pathlib.Path(folder))
     return tally.end()
 
 

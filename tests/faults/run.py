@@ -147,41 +147,57 @@ def batches_in_order(frames, length):
     return (index + 15) // 16
 
 
+class Numbers:
+    """What is known of a round of so many pages of 1,400 items, and of as many tones, for the addresses from 0."""
+
+    def __init__(self, count):
+        self.count = count
+        self.in_order, self.tones_in_order = (batches_in_order((address % 8 for address in range(count)), it) for it in (1_401, 1))
+        # Half of each frame starts early: all slots are loaded alike, and the runs lead to every boundary. With the
+        # closed end it takes one batch more, since no slot is left behind the last message.
+        self.fewest = count * 1_401 // 16
+        self.listed = len("address,kind,message\n") + sum(len(f"{address},numeric,") + 7_001 for address in range(count))
+        self.counts = f"{count} {count * 1_401} {self.in_order}"
+
+
+def book_told(numbers, last):
+    """What is told of an open round of tones, which fill their batches: a plan, two streams with their bytes, and one tone more."""
+    batches = numbers.count // 16
+    counts = f"{numbers.count} {numbers.count} {numbers.tones_in_order} {batches}"
+    stream = f"{batches} {72 + 68 * batches} 12"
+    return f"{counts} {batches} {stream} {stream} {last}"
+
+
 def try_large_trial(tally, library):
-    """The calls at the largest sizes that their limits allow, against numbers from outside."""
+    """The calls at the largest sizes that their limits allow, and at one between, against numbers from outside."""
     done, _ = run([str(TRIAL)], library, stdin=b"x")
-    in_order = batches_in_order((address % 8 for address in range(20_000)), 1_401)
-    sent = 72 + 68 * in_order
-    codewords = 20_000 * 1_401
-    # Half of each frame starts early: all slots are loaded alike, and the runs lead to every boundary. With the
-    # closed end it takes one batch more, since no slot is left behind the last message.
-    fewest = codewords // 16
-    listed = len("address,kind,message\n") + sum(len(f"{address},numeric,") + 7_001 for address in range(20_000))
     header = len("address,kind,message\n")
     data = [(8, 1_400), (16, 1_401), (24, 1_400), (32, 1_401)]
     data_listed = header + sum(len(f"{address},data1,") + 5 * items + 1 for address, items in data)
     # Two tones to a frame, the last alone: that of slot 2f is for address 8 + f.
     tones_listed = header + sum(len(f"{8 + place % 16 // 2},tone0,\n") for place in range(20_001))
-    tones_in_order = batches_in_order((address % 8 for address in range(20_000)), 1)
+    rounds = [Numbers(count) for count in (2_000, 20_000)]
+    few, many = rounds
     wanted = [
         "Page::copy of 1,400 items: 1400",
-        "tour, order_of and lay_out of 20,000 tones: 40000 20000 2500",
+        "tour, order_of and lay_out of 2,000 and 20,000 tones: 40000 2000 2500 40000 20000 2500",
         # Each tone starts its batch, and the idles behind it lead to the next.
         f"tour of 20,000 tones of one frame: {16 * 20_000}",
         # A transmission of at most 268,435,456 bytes: the preamble, and as many batches of 68 bytes as fit.
         f"feed and finish of 3,947,579 batches: {(268_435_456 - 72) // 68}",
-        f"write, decode, list and hear_all of 20,000 pages of 1,400 items: {sent} true {listed} 19999 1400",
+        "write, decode, list and hear_all of 2,000 and 20,000 pages of 1,400 items: "
+        + " ".join(f"{72 + 68 * it.in_order} true {it.listed} {it.count - 1} 1400" for it in rounds),
         f"decode, list and hear_all of pages of 1,400 and 1,401 items: 4 {data_listed} 16 1401 48 1401",
         f"hear_all, decode and list of 20,001 tones: {2 * 1_250 + 1} 20001 {tones_listed}",
-        f"first_stream of 20,000 tones, and of one more: {tones_in_order} {72 + 68 * tones_in_order} "
-        "record 20001: too many pages 0",
+        f"first_stream of 2,000 and 20,000 tones, and of one more: {few.tones_in_order} {72 + 68 * few.tones_in_order} "
+        f"{many.tones_in_order} {72 + 68 * many.tones_in_order} record 20001: too many pages 0",
         "read_certificate of 1,000,000 nodes: 1000000 58",
-        "search and search_freely of 20,000 tones: 1250 20000 1 true 1250 20000 1 true",
+        "search and search_freely of 2,000 and 20,000 tones: 125 2000 1 true 125 2000 1 true 1250 20000 1 true 1250 20000 1 true",
         "search of eight pages to 1,000,000 nodes: 12 13 1000000 true",
-        "plan and bounded_plan of 20,000 pages of 1,400 items: "
-        f"20000 {codewords} {in_order} {fewest + 1} 20000 {fewest} 20000 {codewords} {in_order} {fewest}",
-        "Book::add and Book::plan of 20,000 tones: 20000 20000 2500 1250 too many pages",
-        f"plan_stream of 20,000 pages of 1,400 items: 20000 {codewords} {in_order} {fewest} {72 + 68 * fewest} 12",
+        "plan and bounded_plan of 2,000 and 20,000 pages of 1,400 items: " + " ".join(
+            f"{it.counts} {it.fewest + 1} {it.count} {it.fewest} {it.counts} {it.fewest}" for it in rounds),
+        "a book of 2,000 and 20,000 tones, and its plans: " + " ".join(map(book_told, rounds, ("added", "too many pages"))),
+        f"plan_stream of 20,000 pages of 1,400 items: {many.counts} {many.fewest} {72 + 68 * many.fewest} 12",
     ]
     told = done.stdout.decode().splitlines()
     tally.check("trial: as many large calls", done.returncode == 0 and len(told) == len(wanted), done)

@@ -22,7 +22,8 @@ import sys
 sys.dont_write_bytecode = True
 HERE = pathlib.Path(__file__).resolve().parent
 TOP = HERE.parents[1]
-sys.path[:0] = [str(HERE.parent / it) for it in (".", "certificates", "wrong_bodies", "../clib", "../tools")]
+sys.path[:0] = [str(HERE.parent / it) for it in (".", "certificates", "library", "wrong_bodies", "../clib", "../tools")]
+import greatest
 import kit
 import make
 import pocsag
@@ -430,16 +431,6 @@ def try_large(tally, room):
     tally.check("the example in C reads a large file whole", ran.stdout.startswith(b"pages 20000\n"), ran.stdout)
 
 
-def try_greatest(tally, library):
-    """The listings of the greatest transmission, whose pages of 4,000 characters are all of one address."""
-    header, line = b"address,kind,message\n", b"8,alpha,%s\n" % (b"a" * 4_000)
-    first = library.pocsag.plan(header + line).transmission
-    count = (268_435_456 - 72) // (len(first) - 72)
-    sent, listing = first[:72] + first[72:] * count, header + line * count
-    for name, told in (("decode", attempt(library.pocsag.decode, sent)), ("hear", attempt(library.pocsag.hear, 8, sent))):
-        tally.check(f"{name} of {len(sent)} bytes", told == listing, str(told)[:200])
-
-
 def try_reports(tally, library):
     """The seven numbers of the sample round, as the program prints them."""
     names = pocsag.Report._fields[:-1]
@@ -835,7 +826,7 @@ def try_library(tally, room):
     try_bound(tally, library, room)
     try_stack(tally, folder, room)
     try_reports(tally, library)
-    try_greatest(tally, library)
+    greatest.try_greatest(tally, library)
     try_explanations(tally, library)
     try_examples(tally, folder, room)
     try_page(tally, folder, room)

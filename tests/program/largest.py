@@ -1,21 +1,40 @@
-"""Each command once at the largest size that its limits allow, and once at one between: contracts cannot exclude that a call gives
-up for want of memory above some size. All numbers are worked by hand."""
+#!/usr/bin/env python3
+"""Each command with each option at the largest size that its limits allow, and at one between: contracts cannot exclude that a call
+gives up for want of memory above some size. `tests/calls/largest.txt` says which of these runs is the largest of each call. All numbers
+are worked by hand, and transmissions are made by `forms.py`. The last line is 'N passed, M failed'."""
 
+import pathlib
 import subprocess
 import sys
 
 sys.dont_write_bytecode = True
-from tally import PROGRAM
+HERE = pathlib.Path(__file__).resolve().parent
+sys.path[:0] = [str(HERE), *(str(HERE.parent / it) for it in (".", "calls", "certificates"))]
+import checker
+import sizes
+import trees
+from forms import IDLE, SYNC, codeword, due_of, items_of, sent
+from tally import PROGRAM, run_parts
 
 HEADER = b"address,kind,message\n"
-PREAMBLE = b"\xaa" * 72
-SYNC, IDLE, TONE = "7CD215D8", "7A89C197", "000026EC"
 LARGEST = 268_435_456
 PAGES = 20_000
+# The pages of a round, the letters of each, and the codewords that these take with their address. Each fills batches to the last slot,
+# since each frame has an even number of them, as many as the others; and so does each half.
+ROUNDS = [(3_200, 400, 141), (PAGES, 4_000, 1_401)]
 
 
 def run(words, folder, **more):
     return subprocess.run([str(PROGRAM), *words], capture_output=True, cwd=folder, timeout=110, **more)
+
+
+def said(done):
+    return done.returncode, done.stdout, done.stderr
+
+
+def brief(done):
+    """What is shown of a run that failed."""
+    return done.returncode, done.stdout[:300], done.stderr[:300]
 
 
 def tones(first, last):
@@ -32,79 +51,339 @@ def try_fronts(tally, folder):
     codewords, an odd number, so an even number of them in each frame fills batches to the last slot."""
     long_batches = PAGES // 2 * 1_401 // 16
     cases = [
-        (tones, 4_000, 125, 2_000, 126),
-        (tones, PAGES, 625, 10_000, 626),
-        (lambda first, last: texts(first, last, 4_000), PAGES, long_batches, 10_000, -(-10_001 * 1_401 // 16)),
+        ("tones", tones, 4_000, 125, 2_000, 126),
+        ("tones", tones, PAGES, 625, 10_000, 626),
+        ("texts", lambda first, last: texts(first, last, 4_000), PAGES, long_batches, 10_000, -(-10_001 * 1_401 // 16)),
     ]
-    for records, pages, batches, first, more in cases:
+    for kind, records, pages, batches, first, more in cases:
         (folder / "pages.csv").write_bytes(HEADER + records(0, pages))
         plan = ["plan", "pages.csv", "tx.bin", "cert.bin", "--at-most", str(batches)]
         done = run([*plan, "--rest", "rest.csv", "--why", "why.bin", "--verify"], folder)
         due = (0, b"pages %d\nbatches %d\nleft %d\nverified\n" % (first, batches, pages - first), b"")
-        tally.check(f"{first} of {pages} pages", (done.returncode, done.stdout, done.stderr) == due, done)
+        tally.check(f"a front of {first} of {pages} {kind}", said(done) == due, brief(done))
         left = (folder / "rest.csv").read_bytes() if (folder / "rest.csv").exists() else b""
-        tally.check(f"the other {pages - first} pages", left == HEADER + records(first, pages), len(left))
+        tally.check(f"the other {pages - first} {kind}", left == HEADER + records(first, pages), len(left))
         (folder / "front.csv").write_bytes(HEADER + records(0, first))
         (folder / "more.csv").write_bytes(HEADER + records(0, first + 1))
         for name, cert, least in (("front.csv", "cert.bin", batches), ("more.csv", "why.bin", more)):
-            done = run(["check", name, cert], folder)
-            tally.check(f"check of {name}", (done.returncode, done.stdout) == (0, b"at least %d batches\n" % least), done)
+            done = run(["check", name, cert, "--verbose"], folder)
+            tally.check(f"check of {name}, {pages} {kind}", said(done) == (0, b"at least %d batches\n" % least, b""), brief(done))
 
 
-def try_verified(tally, folder):
-    """`--verify` and `--expect` of a round of 80 MB, and of one between."""
-    for pages, letters, codewords in ((2_000, 400, 2_000 * 141), (PAGES, 4_000, PAGES * 1_401)):
+def try_queues(tally, folder):
+    """A file with each page twice: a page waits for the one before it of its address, and the pages of the last frames do not fit into so
+    many batches, with the idles in front of them. The first page leaves no room for another in the batches that it needs."""
+    for pages, letters, codewords in ROUNDS:
+        batches = -(-codewords // 16)
+        records = texts(0, pages // 2, letters).splitlines(True)
+        parts = {False: [], True: []}
+        for place, record in enumerate(records):
+            parts[2 * (place % 8) + codewords <= 16 * batches].append(record)
+        aside, fitting = parts.values()
+        (folder / "pages.csv").write_bytes(b"".join([HEADER, *records, *records]))
+        airtime = -(-(576 + 544 * batches) * 1_000 // 512)
+        words = ["--airtime", str(airtime), "--rate", "512", "--later", "--rest", "rest.csv", "--oversized", "over.csv", "--why", "why.bin"]
+        words += ["--verify", "--strict", "--keep", "--always", "--verbose", "--expect", str(pages)]
+        done = run(["plan", "pages.csv", "tx.bin", "cert.bin", *words], folder)
+        left = 2 * len(fitting) - 1
+        due = (0, b"pages 1\nbatches %d\nleft %d\noversized %d\nverified\n" % (batches, left, 2 * len(aside)), b"")
+        tally.check(f"a queue of {pages} pages", said(done) == due and len(fitting) > pages // 10, (brief(done), due))
+        for name, wanted in (("rest.csv", [*fitting[1:], *fitting]), ("over.csv", [*aside, *aside])):
+            found = (folder / name).read_bytes() if (folder / name).exists() else b""
+            tally.check(f"{name} of a queue of {pages} pages", found == b"".join([HEADER, *wanted]), len(found))
+
+
+def try_plans(tally, folder):
+    """All that is asked of a whole round, and what its report says: with an idle last it takes a batch more than it fills, whose
+    other codewords are idle too."""
+    for pages, letters, codewords in ROUNDS:
+        full = pages * codewords // 16
         (folder / "pages.csv").write_bytes(HEADER + texts(0, pages, letters))
-        plan = ["plan", "pages.csv", "tx.bin", "cert.bin", "--verify", "--expect"]
-        done = run([*plan, str(pages)], folder)
-        due = (0, b"pages %d\nbatches %d\nverified\n" % (pages, codewords // 16), b"")
-        tally.check(f"verified: {pages} pages", (done.returncode, done.stdout, done.stderr) == due, done)
-        done = run([*plan, str(pages - 1)], folder)
-        tally.check(f"{pages} pages where one fewer is expected", done.returncode == 1 and not done.stdout, done)
+        plan = ["plan", "pages.csv", "tx.bin", "cert.bin"]
+        options = ["--strict", "--limit", "1000000", "--verbose", "--expect", str(pages)]
+        for words, batches in ((["--idle-last", "--always"], full + 1), (["--end", "open"], full)):
+            done = run([*plan, *options, *words, "--verify", *["--keep"] * (batches > full)], folder)
+            due = (0, b"pages %d\nbatches %d\nverified\n" % (pages, batches), b"")
+            tally.check(f"plan {words[0]} of {pages} pages", said(done) == due, brief(done))
+            done = run(["report", "pages.csv", "--rate", "2400", "--frames", *options, *words], folder)
+            counts = [f"pages {pages}", f"codewords {pages * codewords}", f"batches {batches}", f"idles {16 * (batches - full)}"]
+            frames = [f"frame {it} pages {pages // 8} codewords {pages // 8 * codewords} room {2 * (batches - full)}" for it in range(8)]
+            told = done.stdout.decode().splitlines()
+            holds = (done.returncode, done.stderr, told[:2] + told[3:5]) == (0, b"", counts) and sorted(told[7:]) == frames
+            tally.check(f"report {words[0]} of {pages} pages", holds, brief(done))
+        done = run([*plan, "--expect", str(pages - 1)], folder)
+        tally.check(f"{pages} pages where one fewer is expected", done.returncode == 1 and not done.stdout, brief(done))
+        with open(folder / "pages.csv", "rb") as file:
+            done = run([], folder, stdin=file)
+        tally.check(f"no words, {pages} pages", said(done) == (0, b"pages %d\nbatches %d\n" % (pages, full), b""), brief(done))
 
 
-def captured(size):
-    """A capture of so many bytes of an empty channel, whose last batch carries a tone."""
-    batch = bytes.fromhex(SYNC + TONE + 15 * IDLE)
-    return b"\xaa" * (size - len(batch)) + batch
+def try_faults(tally, folder):
+    """The line of a fault in the last record."""
+    for pages, letters, _ in ROUNDS:
+        (folder / "bad.csv").write_bytes(HEADER + texts(1, pages, letters) + b"0,alpha,%s\x00\n" % (b"a" * (letters - 1)))
+        told = b"pocsag: record %d: bad character at %d\npocsag: page file bad.csv: line %d: " % (pages, letters - 1, pages + 1)
+        for words in (["plan", "bad.csv", "tx.bin", "cert.bin"], ["report", "bad.csv", "--rate", "512"]):
+            done = run([*words, "--verbose"], folder)
+            holds = (done.returncode, done.stdout) == (1, b"") and done.stderr.startswith(told)
+            tally.check(f"{words[0]} --verbose of a fault in record {pages}", holds, brief(done))
+
+
+# Pages for which the tree of the search has more than a million nodes, and pages for which that of the free search has 319: of each its
+# frame and its codewords.
+HARD = [(0, 21), (0, 29), (2, 31), (3, 24), (6, 15), (1, 31), (5, 15), (4, 14)]
+FREE = [(1, 13), (6, 21), (5, 5), (2, 30), (1, 1), (7, 30), (0, 11), (3, 31), (7, 9), (6, 21), (4, 14), (0, 29), (5, 32), (5, 16), (3, 3), (7, 2)]
+
+
+def shaped(shapes, pages):
+    """A page file of pages of these shapes. The others fill a batch each, and start where the transmission does, so that they make
+    nothing easier."""
+    shapes = [*shapes, *[(0, 16)] * (pages - len(shapes))]
+    rows = ((8 * place + frame, b"numeric," + b"1" * (5 * length - 5) if length > 1 else b"tone0,") for place, (frame, length) in enumerate(shapes))
+    return HEADER + b"".join(b"%d,%s\n" % row for row in rows)
+
+
+def try_hard(tally, folder):
+    """Rounds whose search goes to the greatest limit: the eight pages need 12 batches at least, and 13 would do. The free search shows
+    that the sixteen need 18."""
+    for pages in (2_000, PAGES):
+        least = pages - len(HARD) + 12
+        (folder / "pages.csv").write_bytes(shaped(HARD, pages))
+        plan = ["plan", "pages.csv", "tx.bin", "cert.bin", "--limit"]
+        done = run([*plan, "1000000"], folder)
+        due = (1, b"", b"pocsag: search limit reached: at least %d batches, %d would do\n" % (least, least + 1))
+        tally.check(f"a search of {pages} pages to 1,000,000 nodes", said(done) == due, brief(done))
+        done = run([*plan, "10", "--always"], folder)
+        due = (0, b"pages %d\nbatches %d\nat least %d batches\n" % (pages, least + 1, least), b"")
+        tally.check(f"a plan of {pages} pages that is one batch above its bound", said(done) == due, brief(done))
+        (folder / "pages.csv").write_bytes(shaped(FREE, pages))
+        done = run([*plan, "1000000", "--always"], folder)
+        due = (0, b"pages %d\nbatches %d\n" % (pages, pages - len(FREE) + 18), b"")
+        length = (folder / "cert.bin").stat().st_size
+        tally.check(f"a free search of {pages} pages", said(done) == due and length > 3 * 319, (brief(done), length))
+
+
+def halved(number, first, last, leaf):
+    """A tree whose splits part how many pages of a class start early, one leaf for each number from the first to the last."""
+    if first == last:
+        return leaf
+    middle = (first + last + 1) // 2
+    head = bytes([checker.SPLIT, number]) + middle.to_bytes(2, "big")
+    return head + halved(number, first, middle - 1, leaf) + halved(number, middle, last, leaf)
+
+
+def certificates():
+    """A page file and certificates of so many nodes: below a closing node the tones of frame 0 are split, and below each of these those
+    of frame 1. Each leaf says that the 10,000 tones of frame 0 do not fit into its two slots 4,999 times, whatever else holds."""
+    pages = HEADER + b"".join(b"%d,tone0,\n%d,tone0,\n" % (8 * place, 8 * place + 1) for place in range(PAGES // 2))
+    leaf = trees.spelled(trees.overload(0b11))
+    for outer in (50, 500):
+        tree = bytes([checker.CLOSE, 1]) + halved(1, 0, outer - 1, halved(17, 0, 999, leaf))
+        yield 2 * 1_000 * outer, pages, b"PCB4" + (5_000).to_bytes(4, "big") + tree
+
+
+def try_certificates(tally, folder):
+    """A certificate of as many nodes as there may be, and one of fewer, judged and explained."""
+    for count, pages, certificate in certificates():
+        (folder / "pages.csv").write_bytes(pages)
+        (folder / "cert.bin").write_bytes(certificate)
+        done = run(["check", "pages.csv", "cert.bin", "--verbose"], folder)
+        tally.check(f"check of {count} nodes", said(done) == (0, b"at least 5000 batches with an idle last\n", b""), brief(done))
+        for words, start, end in (
+            ([], b"at least 5000 batches", b"\nso 4999 batches do not suffice with an idle last\n"),
+            (["--depth", "300"], b"at least 5000 batches", b"\nso 4999 batches do not suffice with an idle last\n"),
+            (["--depth", "300", "--json"], b"{", b"}\n"),
+            (["--svg"], b"<svg", b"</svg>\n"),
+        ):
+            done = run(["explain", "pages.csv", "cert.bin", *words, "--verbose"], folder)
+            holds = (done.returncode, done.stderr) == (0, b"") and done.stdout.startswith(start) and done.stdout.endswith(end)
+            holds = holds and ("--depth" not in words or done.stdout.count(b"{" if "--json" in words else b"\n") > count)
+            tally.check(f"explain {' '.join(words) or 'alone'} of {count} nodes", holds, (brief(done), done.stdout[-100:]))
+
+
+def repeated(pages, size):
+    """A transmission of at most so many bytes that sends the pages again and again, and how often."""
+    once = sent(pages)
+    count = (size - 72) // (len(once) - 72)
+    return once[:72] + count * once[72:], count
+
+
+def try_readings(tally, folder):
+    """Transmissions of pages of 4,000 letters, as text and, for function 0, as 7,000 digits: up to 4,000,000 bytes, whose answer is kept
+    in memory, and LARGEST, whose answer is written as it is made."""
+    items = items_of(b"a" * 4_000, 7, 0)
+    pages = [(8, 3, items), (8, 0, items)]
+    for size in (4_000_000, LARGEST):
+        tx, count = repeated(pages, size)
+        (folder / "tx.bin").write_bytes(tx)
+        repaired = ["--repair", "--verbose"], "", False, b"pocsag: transmission tx.bin: corrected bits 0, words 0\n"
+        for words, as_text, is_json, told in ((["--verbose"], "", False, b""), repaired, (["--json"], "", True, b""), (["--text", "0,1,2"], "012", False, b"")):
+            head, text = (b"" if is_json else HEADER), due_of(pages, as_text, is_json)[0].encode()
+            due = head + count * text[len(head):]
+            for command in (["decode"], ["hear", "8"])[:1 if told else 2]:
+                done = run([*command, "tx.bin", *words], folder)
+                tally.check(f"{command[0]} {words[0]} of {size} bytes", said(done) == (0, due, told), brief(done))
+
+
+def long_message(function, codes, width, batches):
+    """A transmission of one page whose message fills so many batches, the codes again and again, and how many codes there are."""
+    words = [codeword(1 << 20 | it) for it in items_of(codes, width, 0)]
+
+    def batch(number):
+        """The batch of this number behind the first."""
+        return SYNC + b"".join(words[(15 + 16 * number + place) % len(words)] for place in range(16))
+
+    group = b"".join(map(batch, range(len(words))))
+    times, rest = divmod(batches - 1, len(words))
+    first = SYNC + codeword(1 << 2 | function) + b"".join(words[place % len(words)] for place in range(15))
+    return b"\xaa" * 72 + first + times * group + b"".join(map(batch, range(rest))), 20 * (16 * batches - 1) // width
+
+
+def try_long_message(tally, folder):
+    """One message that fills a transmission."""
+    for size in (4_000_000, LARGEST):
+        for function, kind, codes, width, calls in ((0, "numeric", [1] * 5, 4, (["decode"], ["hear", "8"])), (3, "alpha", b"a" * 20, 7, (["decode"],))):
+            tx, count = long_message(function, codes, width, (size - 72) // 68)
+            (folder / "tx.bin").write_bytes(tx)
+            due = HEADER + b"8,%s," % kind.encode() + count * (b"1" if width == 4 else b"a") + b"\n"
+            for words in calls:
+                done = run([*words, "tx.bin"], folder)
+                tally.check(f"{words[0]}, {kind}, a message of {size} bytes", said(done) == (0, due, b""), brief(done))
+
+
+def try_shows(tally, folder):
+    """The grid, the places and the drawing of transmissions, of which 89 batches show a page of 1,401 codewords and a tone of frame 1."""
+    pages = [(8, 3, items_of(b"a" * 4_000, 7, 0)), (9, 1, [])]
+    for size in (4_000_000, LARGEST):
+        tx, count = repeated(pages, size)
+        (folder / "tx.bin").write_bytes(tx)
+        batches = len(tx) // 68 - 1
+        rows = {b"Aa" + 7 * b" aa": 1, b" aa aa" + 6 * b" aa": 86, b"aa aa aa aa a. .. .. ..": 1}
+        for words in ([], ["--repair", "--verbose"], ["--capture", "--nth", "1"]):
+            done = run(["show", "tx.bin", *words], folder)
+            holds = done.returncode == 0 and done.stdout.count(b"\n") == batches + 2
+            holds = holds and all(done.stdout.count(row + b"\n") == count * times for row, times in rows.items())
+            tally.check(f"show {(words or ['alone'])[0]} of {size} bytes", holds, brief(done))
+        done = run(["show", "tx.bin", "--list"], folder)
+        first = b"batch,frame,slot,codewords,address,kind,message\n1,0,0,1401,8,alpha,%s\n89,1,2,1,9,tone1,\n" % (b"a" * 4_000)
+        holds = (done.returncode, done.stdout.count(b"\n")) == (0, 2 * count + 1) and done.stdout.startswith(first)
+        tally.check(f"show --list of {size} bytes", holds, brief(done))
+        drawn = 1_000 if size == LARGEST else batches
+        done = run(["show", "tx.bin", "--svg", "--rows", f"{batches - drawn + 1}-{batches}"], folder)
+        holds = done.returncode == 0 and done.stdout.startswith(b"<svg") and done.stdout.endswith(b"</svg>\n")
+        holds = holds and done.stdout.count(b"a" * 4_000) >= drawn // 89
+        tally.check(f"show --svg --rows of {size} bytes", holds, (brief(done), done.stdout[-100:]))
+
+
+def tone_batch(address):
+    """A batch that begins with a tone of frame 0 and is idle from there on."""
+    return SYNC + codeword(address // 8 << 2) + 15 * IDLE
 
 
 def try_captures(tally, folder):
-    """Captures, of which the largest are LARGEST bytes, and one of 20,000 pages."""
+    """Captures of so many bytes, of as many transmissions as fit, each of a batch."""
+    call = b"\xaa" * 8 + tone_batch(8)
     for size in (2_000_000, LARGEST):
-        (folder / "capture").write_bytes(captured(size))
+        count = size // len(call)
+        (folder / "capture").write_bytes(b"\xaa" * (size - count * len(call)) + count * call)
+        told = ["--verbose"] * (size < LARGEST)  # a line for each transmission
         for words in (["decode"], ["hear", "8"]):
-            done = run([*words, "--capture", "capture"], folder)
-            lines = done.stdout.splitlines()
-            holds = done.returncode == 0 and len(lines) == 2 and lines[1].startswith(b"8,tone0,")
-            tally.check(f"{words[0]} --capture, {size} bytes", holds, done)
-        done = run(["show", "--list", "--capture", "capture"], folder)
+            done = run([*words, "--capture", "capture", *told], folder)
+            holds = (done.returncode, done.stdout) == (0, HEADER + count * b"8,tone0,\n") and done.stderr.count(b"\n") == count * len(told)
+            tally.check(f"{words[0]} --capture of {count} calls", holds, brief(done))
+        done = run(["show", "--list", "--capture", "--nth", str(count), "capture", "--verbose"], folder)
         shown = b"batch,frame,slot,codewords,address,kind,message\n1,0,0,1,8,tone0,\n"
-        tally.check(f"show --capture, {size} bytes", (done.returncode, done.stdout) == (0, shown), done)
+        tally.check(f"show --nth of {count} calls", (done.returncode, done.stdout) == (0, shown), brief(done))
     (folder / "capture").unlink()
-    (folder / "pages.csv").write_bytes(HEADER + texts(0, PAGES, 400))
-    run(["plan", "pages.csv", "tx.bin", "cert.bin"], folder)
-    for words in (["decode", "tx.bin"], ["decode", "--repair", "tx.bin"], ["decode", "--capture", "tx.bin"]):
-        done = run(words, folder)
-        holds = done.returncode == 0 and done.stdout.count(b"\n") == PAGES + 1 and done.stdout.count(b"a" * 400) == PAGES
-        tally.check(f"{' '.join(words)}: {PAGES} pages", holds, done.stderr)
-    # A header of 44 bytes, two bytes for each of two samples a bit, and the time of a batch in silence.
-    bits = 576 + 544 * (PAGES * 141 // 16)
-    done = run(["wav", "tx.bin", "--rate", "1200", "--samples", "2400"], folder)
-    tally.check("wav of 20,000 pages", (done.returncode, len(done.stdout)) == (0, 44 + 4 * (bits + 544)), done.stderr)
+
+
+def try_sounds(tally, folder):
+    """A sound that is kept in memory, one that is written as it is made, and the longest that a WAV file holds, each of a sample a
+    bit: a header of 44 bytes, and behind the bits the time of a batch in silence."""
+    for batches in (20_000, 200_000, 3_947_578):
+        (folder / "tx.bin").write_bytes(b"\xaa" * 72 + batches * tone_batch(8))
+        words = ["wav", "tx.bin", "--rate", "2400", "--samples", "2400", "--invert", "--preamble", "584", "--verbose"]
+        with subprocess.Popen([str(PROGRAM), *words], cwd=folder, stdout=subprocess.PIPE) as process:
+            length = sum(map(len, iter(lambda: process.stdout.read(1 << 20), b"")))
+        due = 44 + 2 * (584 + 544 * (batches + 1))
+        tally.check(f"wav of {batches} batches", (process.returncode, length) == (0, due), (process.returncode, length, due))
+
+
+def read_again(edits, pages):
+    """What is said of a journal."""
+    return b"pocsag: %d edits read, %d pages\n" % (edits, pages)
 
 
 def try_open(tally, folder):
-    """An open round of 20,000 tones, planned slot by slot, and what its journal keeps."""
-    adds = b"".join(b"add,%d,tone0,\n" % address for address in range(PAGES))
-    lines = adds + b"plan,tx.bin,cert.bin,open,625\nsent,9000\n"
-    done = run(["open", "--journal", "journal"], folder, input=lines)
-    told = done.stdout.splitlines()[PAGES:]
-    due = [b"batches 625, sent 10000", b"ok 1000"]
-    tally.check("a front of 20,000 pages", done.returncode == 0 and told == due, (told, done.stderr))
-    done = run(["open", "--journal", "journal"], folder, input=b"list\n")
-    due = HEADER + tones(19_000, PAGES) + b"ok 1000\n"
-    tally.check("what its journal keeps", (done.returncode, done.stdout) == (0, due), done.stderr)
+    """An open round of a page file, edited and planned, and what its journal keeps."""
+    for pages, letters, codewords in ROUNDS:
+        records = texts(0, pages, letters).splitlines(True)
+        (folder / "pages.csv").write_bytes(b"".join([HEADER, *records]))
+        (folder / "journal").unlink(missing_ok=True)
+        half, journal = pages // 2, ["--journal", "journal", "--always", "--keep", "--verbose"]
+        batches = half * codewords // 16
+        lines = b"plan,tx.bin,cert.bin,idle\ncancel,%d\nadd,%splan,front.bin,front.cert,open,%d\nsent,5\nlist\n" % (pages - 1, records[-1], batches)
+        told = b"batches %d\nok %d\nok %d\nbatches %d, sent %d\n" % (2 * batches + 1, pages - 1, pages, batches, half)
+        kept, count, again = b"".join([HEADER, *records[half + 5:]]), b"ok %d\n" % (half - 5), read_again(pages + 4, half - 5)
+        checked = ["--strict", "--expect", str(pages)]
+        for words, name, noted in ((journal, "with", read_again(0, pages)), (checked, "without", b"")):
+            done = run(["open", *words, "pages.csv"], folder, input=lines)
+            tally.check(f"an open round of {pages} pages {name} a journal", said(done) == (0, told + count + kept + count, noted), brief(done))
+        done = run(["open", "--journal", "journal", "--read-only"], folder)
+        tally.check(f"the journal of {pages} pages, read only", said(done) == (0, kept, again), brief(done))
+        done = run(["open", *journal], folder, input=b"list\nclear\n")
+        tally.check(f"the journal of {pages} pages", said(done) == (0, kept + count + b"ok 0\n", again), brief(done))
 
 
-PARTS = (try_fronts, try_verified, try_captures, try_open)
+def try_edits(tally, folder):
+    """An open round of tones, added one by one, planned slot by slot, and what its journal keeps; and the longest line."""
+    for pages in (2_000, PAGES):
+        (folder / "journal").unlink(missing_ok=True)
+        first, then = pages // 32 * 16, pages // 2 - 100
+        lines = b"".join(b"add,%d,tone0,\n" % address for address in range(pages))
+        lines += b"plan,tx.bin,cert.bin,open,%d\nsent,%d\n" % (pages // 32, then)
+        due = b"".join(b"ok %d\n" % (count + 1) for count in range(pages))
+        due += b"batches %d, sent %d\nok %d\n" % (pages // 32, first, pages - first - then)
+        for words, name, noted in ((["--journal", "journal"], "with", read_again(0, 0)), ([], "without", b"")):
+            done = run(["open", *words], folder, input=lines)
+            tally.check(f"{pages} edits {name} a journal", said(done) == (0, due, noted), (brief(done), done.stdout[-100:]))
+        done = run(["open", "--journal", "journal", "--read-only"], folder)
+        kept = HEADER + tones(first + then, pages)
+        tally.check(f"the journal of {pages} edits", said(done) == (0, kept, read_again(pages + 2, pages - first - then)), brief(done))
+    for message, due in ((b'"' + b'""' * 4_000 + b'"', b"ok 1\n"), (b"a" * (65_536 - len(b"add,8,alpha,")), b"refused: the message is too long\n")):
+        line = b"add,8,alpha," + message
+        done = run(["open"], folder, input=line + b"\n")
+        tally.check(f"a line of {len(line)} bytes", said(done) == (0, due, b""), brief(done))
+
+
+def try_journals(tally, folder):
+    """Journals of so many bytes, of which the greatest is the largest that is read: one page comes and goes again and again."""
+    edits = b"add,8,alpha,%s\ncancel,8\n" % (b"a" * 4_000)
+    for size in (10_000_000, 1_073_741_824):
+        first, last = b"pocsag journal,1\n", b"add,8,tone0,\n"
+        count, rest = divmod(size - len(first) - len(last), len(edits))
+        letters = rest + len(edits) - 2 * (len(edits) - 4_000)
+        others = b"".join(b"add,8,alpha,%s\ncancel,8\n" % (b"b" * it) for it in (letters // 2, letters - letters // 2))
+        with open(folder / "journal", "wb") as file:
+            file.write(first)
+            for _ in range((count - 1) // 1_000):
+                file.write(1_000 * edits)
+            file.write((count - 1) % 1_000 * edits + others + last)
+        done = run(["open", "--journal", "journal", "--read-only"], folder)
+        is_size = (folder / "journal").stat().st_size == size
+        told = b"pocsag: %d edits read, 1 page\n" % (2 * count + 3)
+        tally.check(f"a journal of {size} bytes", is_size and said(done) == (0, HEADER + b"8,tone0,\n", told), (is_size, brief(done)))
+    (folder / "journal").unlink()
+
+
+def try_table(tally, _):
+    """The table of the largest runs names checks that were made."""
+    missing = sizes.runs_of("tests/program/largest.py") - tally.names
+    tally.check("each run that tests/calls/largest.txt names was made", not missing, missing)
+
+
+PARTS = (try_fronts, try_queues, try_plans, try_faults, try_hard, try_certificates, try_readings, try_long_message, try_shows, try_captures, try_sounds,
+         try_open, try_edits, try_journals, try_table)
+
+if __name__ == "__main__":
+    sys.exit(run_parts(*PARTS))

@@ -16,7 +16,6 @@ import doors
 import edges
 import forms
 import fronts
-import largest
 import options
 import repair
 import usage
@@ -499,7 +498,6 @@ def main():
         *edges.PARTS,
         *forms.PARTS,
         *fronts.PARTS,
-        *largest.PARTS,
         *options.PARTS,
         *repair.PARTS,
         *verbose.PARTS,

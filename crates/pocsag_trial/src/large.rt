@@ -1,4 +1,4 @@
-//! Calls at the largest sizes that their limits allow.
+//! Calls at the largest sizes that their limits allow, and those of rounds also at one between.
 
 use crate::kept::Kept;
 use crate::line::Line;
@@ -12,7 +12,7 @@ use pocsag_core_cases::{ones, round_of, tour_of};
 use pocsag_decode::{DecodeFault, Decoder, ListFault, decode, list};
 use pocsag_pager::{PagerFault, hear_all};
 use pocsag_pages::{Page, Round, RoundFault, SYNC_WORD};
-use pocsag_plan::{Book, PlanFault, StreamFault, plan, plan_stream};
+use pocsag_plan::{Book, OnLimit, PlanFault, Search, StreamFault, plan, plan_stream};
 use pocsag_tree::{CertificateFault, depth, nodes, read_certificate};
 use pocsag_words::{End, MemorySource, OutOfMemory, Word, address_word, message_word};
 use std::alloc::Global;
@@ -20,12 +20,15 @@ use std::fmt::Write;
 
 const PAGES: u32 = 20_000;
 
+// The pages of a round at its limit, and of one between.
+const SIZES: [u32; 2] = [2_000, PAGES];
+
 const ITEMS: usize = 1_400;
 
-// A round of 20,000 pages of so many items each, for the addresses from 0.
-fn many_pages(alloc: Global, items: usize) -> Result<Round, RoundFault> {
+// A round of so many pages of so many items each, for the addresses from 0.
+fn many_pages(alloc: Global, count: u32, items: usize) -> Result<Round, RoundFault> {
     let mut pages = Vec::new(alloc);
-    for address in 0..PAGES {
+    for address in 0..count {
         let Ok(page) = ones(alloc, address, items) else {
             return Err(RoundFault::OutOfMemory);
         };
@@ -42,17 +45,19 @@ pub fn copy_long_page(alloc: Global, line: &mut Line) -> Result<(), OutOfMemory>
     Ok(())
 }
 
-/// The tour of 20,000 tones that all start early, their order and their layout.
+/// The tour of 2,000 tones and of 20,000 that all start early, their order and their layout.
 pub fn tour_many_tones(alloc: Global, line: &mut Line) -> Result<(), OutOfMemory> {
-    let Ok(round) = many_pages(alloc, 0) else {
-        return Err(OutOfMemory);
-    };
-    let Ok(steps) = tour_of(alloc, &round, None, 2_500, End::Open) else {
-        return Err(OutOfMemory);
-    };
-    line.put(steps.len());
-    line.put(order_of(alloc, &round, steps.as_slice(), End::Open)?.len());
-    line.put(lay_out(alloc, &round, steps.as_slice(), End::Open)?.count());
+    for count in SIZES {
+        let Ok(round) = many_pages(alloc, count, 0) else {
+            return Err(OutOfMemory);
+        };
+        let Ok(steps) = tour_of(alloc, &round, None, 2_500, End::Open) else {
+            return Err(OutOfMemory);
+        };
+        line.put(steps.len());
+        line.put(order_of(alloc, &round, steps.as_slice(), End::Open)?.len());
+        line.put(lay_out(alloc, &round, steps.as_slice(), End::Open)?.count());
+    }
     Ok(())
 }
 
@@ -140,10 +145,18 @@ fn put_heard(heard: Result<Vec<Page>, PagerFault>, line: &mut Line) -> Result<()
     Ok(())
 }
 
-/// The longest round in file order: how many bytes are written, whether they are decoded to its pages,
-/// how many bytes the listing of these has, and what the pager of the last page shows.
+/// A long round and the longest one.
 pub fn send_long_pages(alloc: Global, line: &mut Line) -> Result<(), OutOfMemory> {
-    let Ok(round) = many_pages(alloc, ITEMS) else {
+    for count in SIZES {
+        put_sent(alloc, count, line)?;
+    }
+    Ok(())
+}
+
+// So many long pages in file order: how many bytes are written, whether they are decoded to the pages, how many bytes
+// the listing of these has, and what the pager of the last page shows.
+fn put_sent(alloc: Global, count: u32, line: &mut Line) -> Result<(), OutOfMemory> {
+    let Ok(round) = many_pages(alloc, count, ITEMS) else {
         return Err(OutOfMemory);
     };
     let sent = bytes_of(alloc, &round)?;
@@ -158,7 +171,7 @@ pub fn send_long_pages(alloc: Global, line: &mut Line) -> Result<(), OutOfMemory
         Err(DecodeFault::OutOfMemory) => return Err(OutOfMemory),
         Err(fault) => line.put(fault),
     }
-    put_heard(hear_all(alloc, sent.bytes(), PAGES - 1), line)
+    put_heard(hear_all(alloc, sent.bytes(), count.saturating_sub(1)), line)
 }
 
 // So many codewords that begin with this address codeword, and idles up to the end of the batch.
@@ -250,10 +263,10 @@ fn tone_file(alloc: Global, count: u32) -> Result<Vec<u8>, OutOfMemory> {
     Ok(bytes)
 }
 
-/// The page file of 20,000 tones in file order, and that of one more: the batches or the fault, and how many
-/// bytes are written.
+/// The page files of 2,000 tones and of 20,000 in file order, and that of one more: the batches or the fault, and how
+/// many bytes are written.
 pub fn stream_many_tones(alloc: Global, line: &mut Line) -> Result<(), OutOfMemory> {
-    for count in [PAGES, PAGES + 1] {
+    for count in [2_000, PAGES, PAGES + 1] {
         let file = tone_file(alloc, count)?;
         let mut source = MemorySource::new(file.as_slice(), 65_536, u64::MAX);
         let mut tx = Kept::new(alloc);
@@ -331,13 +344,16 @@ const EIGHT_PAGES: [(u32, usize); 8] = [
     (4, 13),
 ];
 
-/// The search and the free search of 20,000 tones, which fill 1,250 batches.
+/// The search and the free search of 2,000 tones and of 20,000, which fill 125 batches and 1,250.
 pub fn search_many_tones(alloc: Global, line: &mut Line) -> Result<(), OutOfMemory> {
-    let Ok(round) = many_pages(alloc, 0) else {
-        return Err(OutOfMemory);
-    };
-    put_search(alloc, &round, NODE_LIMIT, End::Closed, line)?;
-    put_free_search(alloc, &round, NODE_LIMIT, line)
+    for count in SIZES {
+        let Ok(round) = many_pages(alloc, count, 0) else {
+            return Err(OutOfMemory);
+        };
+        put_search(alloc, &round, NODE_LIMIT, End::Closed, line)?;
+        put_free_search(alloc, &round, NODE_LIMIT, line)?;
+    }
+    Ok(())
 }
 
 /// A search that stops at the greatest node limit.
@@ -348,10 +364,18 @@ pub fn search_many_nodes(alloc: Global, line: &mut Line) -> Result<(), OutOfMemo
     }
 }
 
-/// The plan of 20,000 pages of 1,400 items for the closed end, with how many places its order has, and the
-/// one that is never refused for the open end, with its bound.
+/// The plans of 2,000 pages and of 20,000, each of 1,400 items.
 pub fn plan_long_pages(alloc: Global, line: &mut Line) -> Result<(), OutOfMemory> {
-    let Ok(round) = many_pages(alloc, ITEMS) else {
+    for count in SIZES {
+        put_plans(alloc, count, line)?;
+    }
+    Ok(())
+}
+
+// The plan of so many pages for the closed end, with how many places its order has, and the one that is never refused for
+// the open end, with its bound.
+fn put_plans(alloc: Global, count: u32, line: &mut Line) -> Result<(), OutOfMemory> {
+    let Ok(round) = many_pages(alloc, count, ITEMS) else {
         return Err(OutOfMemory);
     };
     match plan(alloc, &round, NODE_LIMIT, End::Closed) {
@@ -365,19 +389,53 @@ pub fn plan_long_pages(alloc: Global, line: &mut Line) -> Result<(), OutOfMemory
     put_always(alloc, &round, NODE_LIMIT, line)
 }
 
-/// An open round of 20,000 tones, its plan, and the fault of one more.
+/// Open rounds of 2,000 tones and of 20,000, and the fault of one more.
 pub fn plan_full_book(alloc: Global, line: &mut Line) -> Result<(), OutOfMemory> {
+    for count in SIZES {
+        put_book(alloc, count, line)?;
+    }
+    Ok(())
+}
+
+// An open round of so many tones, its plan, its streams, and what comes of one tone more.
+fn put_book(alloc: Global, count: u32, line: &mut Line) -> Result<(), OutOfMemory> {
     let mut book = Book::new(alloc);
-    for address in 0..PAGES {
+    for address in 0..count {
         if book.add(ones(alloc, address, 0)?).is_err() {
             return Err(OutOfMemory);
         }
     }
     put_book_plan(&book, End::Open, line)?;
-    match book.add(ones(alloc, PAGES, 0)?) {
+    put_book_stream(alloc, &book, OnLimit::Fewest, line)?;
+    put_book_stream(alloc, &book, OnLimit::Always, line)?;
+    match book.add(ones(alloc, count, 0)?) {
         Ok(()) => line.put("added"),
         Err(refused) => line.put(refused.fault),
     }
+    Ok(())
+}
+
+// The stream of an open round: its batches, and how many bytes the transmission and the certificate have.
+fn put_book_stream(
+    alloc: Global,
+    book: &Book,
+    on_limit: OnLimit,
+    line: &mut Line,
+) -> Result<(), OutOfMemory> {
+    let mut tx = Kept::new(alloc);
+    let mut cert = Kept::new(alloc);
+    let search = Search {
+        limit: NODE_LIMIT,
+        end: End::Open,
+        on_limit,
+    };
+    match book.bounded_stream(&mut tx, &mut cert, search) {
+        Ok(bounded) => line.put(bounded.plan.batches),
+        Err(StreamFault::Plan(PlanFault::OutOfMemory)) => return Err(OutOfMemory),
+        Err(fault) => line.put(fault),
+    }
+    line.put(tx.bytes().len());
+    line.put(cert.bytes().len());
     Ok(())
 }
 

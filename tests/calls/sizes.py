@@ -1,0 +1,272 @@
+"""Which public calls may return want of memory, as the sources say, and at which sizes each is run, as `largest.txt` says.
+
+Contracts cannot exclude want of memory: a body that gives up above some size is proved. So each such call is run at the largest
+size that its limits allow, and at one between. The table has a section for the runs, each with its size, the script that makes it
+and the name of a check there; a section for each crate of the library, with the calls; and one for the program, with each command,
+its options and the lines of `open`. A call and its two runs stand in a line."""
+
+import ast
+import functools
+import pathlib
+import re
+import sys
+import typing
+
+sys.dont_write_bytecode = True
+HERE = pathlib.Path(__file__).resolve().parent
+TOP = HERE.parents[1]
+sys.path[:0] = [str(TOP / "tests"), str(TOP / "tools")]
+from sources import HEAD, ITEM, RUST, all_functions, called_in, cleaned, own_name, parts_of, statement, texts_of, type_of
+from workspace import below, read_crates
+
+TABLE, TEXTS = "tests/calls/largest.txt", "tests/program/texts"
+RUNS, COMMANDS, LIBRARY, PROGRAM = "runs", "commands", "pocsag_c", "pocsag"
+PRODUCTS = {"tests/program": "pocsag_app", "tests/library": LIBRARY, "tests/faults": "pocsag_trial"}  # what the scripts there run
+NOT_LIBRARY = re.compile(r"_(?:cases|trial|laws|app)$")  # crates of tests, of laws, and of the program
+# The types of the language and of its libraries that say that memory was refused, and the crates' own; `Error` is that of `clap`.
+WANTS = {"AllocError", "AllocFailed", "Error", "OutOfMemory"}
+# What says it as another fault.
+ALSO = {("pocsag_words", "GrowingSink::write")}
+NAME = re.compile(r"\b[A-Z]\w*")
+EXPORT = re.compile(r"^pub use ([\w:]+?)(?:::\{([^}]*)\})?;", re.MULTILINE)
+CLAUSES = re.compile(r"^ *(?:ensures|requires|where)\b", re.MULTILINE)
+OPTION = re.compile(r"^ +(?:-\w, )?--([\w-]+)", re.MULTILINE)
+LINE = re.compile(r"^  ([a-z]+)(?:,\S+)?  +\S", re.MULTILINE)
+STRING = re.compile(r'"((?:\\.|[^"\\])*)"')
+# In the place of the run between: of a call without a size, and where the one run makes both sizes.
+NONE, SAME = "-", "same"
+
+
+class Call(typing.NamedTuple):
+    """A function of a crate: its name behind that of its type, if it has one, and its text without the body."""
+
+    crate: str
+    name: str
+    text: str
+
+    def told(self):
+        """The types that it may return, those of what it may change among them, and those in its contract."""
+        head, *clauses = CLAUSES.split(self.text, 1)
+        parameters, result = parted(head[head.index("fn "):])
+        changed = re.findall(r"&mut [^,]*", parameters)
+        return {*NAME.findall(" ".join([result, *changed]))} | {it for it in NAME.findall("".join(clauses)) if it == "OutOfMemory"}
+
+    def has_size(self):
+        """Whether it takes memory or what may be longer and shorter."""
+        return re.search(r"\bGlobal\b|&(?:mut )?\[|\bself\b|<", parted(CLAUSES.split(self.text, 1)[0])[0])
+
+
+def parted(head):
+    """The parameters of a function, and its result."""
+    depth = 0
+    for place, letter in enumerate(head):
+        depth += (letter in "([{") - (letter in ")]}")
+        if depth == 0 and head.startswith("->", place):
+            return head[:place], head[place:]
+    return head, ""
+
+
+class Source:
+    """The types of a crate, each with its text, and its public functions."""
+
+    def __init__(self, name, texts):
+        self.name, self.types, self.calls = name, {}, []
+        texts = {path: cleaned(text, RUST) for path, text in texts.items() if path.startswith("src/")}
+        self.exported = {it for found in EXPORT.finditer(texts.get("src/lib.rt", "")) for it in exported(found)}
+        for path, text in texts.items():
+            for lines in parts_of(text.split("\n"), ITEM):
+                self.read_item(lines, path == "src/lib.rt")
+
+    def read_item(self, lines, is_root):
+        head = next((it for it in map(ITEM.match, lines) if it and not it[1]), None)
+        kind, name = (head[2], head[3]) if head else ("", "")
+        if kind in ("struct", "enum"):
+            self.types[name] = "\n".join(lines)
+        elif kind == "fn" and (name in self.exported or is_root and head[0].startswith("pub ")):
+            self.calls.append(Call(self.name, name, statement(lines)))
+        elif kind in ("impl", "trait"):
+            self.read_block(lines, name if kind == "trait" else "")
+
+    def read_block(self, lines, trait):
+        """The functions of a trait, or of an `impl` but for a conversion, which returns the fault that it is given."""
+        opens = next(at for at, line in enumerate(lines) if line.endswith(("{", "{}")))
+        header = " ".join(it.strip() for it in lines[: opens + 1])
+        owner = trait or type_of(header)
+        if owner not in self.exported or re.search(r"\bFrom<.*> for ", header):
+            return
+        is_shared = trait or " for " in header
+        for part in parts_of([it[4:] for it in lines[opens + 1 : -1]], ITEM):
+            head = next((it for it in map(HEAD.match, part) if it), None)
+            if head and (is_shared or head[0].startswith("pub fn") or head[0].startswith("pub const fn")):
+                self.calls.append(Call(self.name, f"{owner}::{head[2]}", statement(part)))
+
+
+def exported(found):
+    """The names that a line `pub use` gives."""
+    listed = found[2].split(",") if found[2] is not None else [found[1].rpartition("::")[2]]
+    return [it.split()[-1] for it in listed if it.strip()]
+
+
+def wanting(sources):
+    """The types that may say that memory was refused: those of the language, and each fault that has one of them in it."""
+    found = set(WANTS)
+    while True:
+        more = {name for it in sources for name, text in it.types.items() if may_want(name, text, found)} - found
+        if not more:
+            return found
+        found |= more
+
+
+def may_want(name, text, found):
+    """Whether a type is a fault with one of these in it. A structure is where it has a field for a fault."""
+    body = text[re.search(rf"\b{name}\b", text).end():]
+    return bool(found & {*NAME.findall(body)}) and ("enum " in text.partition("{")[0] or re.search(r"\bfault:", body))
+
+
+def calls_of(sources):
+    """The public calls that may return want of memory, and each of the library for C; by crate and name."""
+    wants = wanting(sources)
+    calls = [it for source in sources for it in source.calls]
+    return {it[:2]: it for it in calls if it.crate == LIBRARY or it[:2] in ALSO or it.told() & wants}
+
+
+def sources_of(top):
+    return [Source(it.name, texts_of(it)) for it in read_crates(top).values() if not NOT_LIBRARY.search(it.name)]
+
+
+def commands_of(top):
+    """Each command, with each option and line that its help names, as it is compared with the program's."""
+    found = []
+    for file in sorted((top / TEXTS).glob("*.txt")):
+        text = file.read_text().partition("\n\n$ ")[0]
+        found += [PROGRAM] if file.stem == PROGRAM else [file.stem, *(f"{file.stem} --{it}" for it in OPTION.findall(text) if it != "help")]
+        found += [f"{file.stem} {it}" for it in LINE.findall(text.partition("Options:")[2].partition("\n\n")[2])]
+    return found
+
+
+class Table(typing.NamedTuple):
+    """The runs by name, each with its size, its script and its check; and the calls by crate and name, each with two runs."""
+
+    runs: dict
+    calls: dict
+    wrong: list
+
+
+def read_table(text):
+    table, section = Table({}, {}, []), ""
+    for number, line in enumerate(text.splitlines(), 1):
+        if not line or line.startswith("#"):
+            continue
+        if line.startswith("[") and line.endswith("]"):
+            section = line[1:-1]
+            continue
+        name, *row = (it.strip() for it in line.split(" | "))
+        rows, key = (table.runs, name) if section == RUNS else (table.calls, (section, name))
+        if len(row) != (3 if section == RUNS else 2) or not all(row):
+            table.wrong.append(f"line {number}: it has other columns than its section")
+        elif key in rows:
+            table.wrong.append(f"line {number}: {name} stands there twice")
+        else:
+            rows[key] = row
+    return table
+
+
+@functools.lru_cache(100)
+def names_in(text, is_python):
+    """The texts of a script that may be names of checks, as expressions; of a source of Rattle those of strings, and functions."""
+    if not is_python:
+        return [re.escape(it) for it in STRING.findall(text)] + re.findall(r"\bfn (\w+)", text)
+    found = []
+    for node in ast.walk(ast.parse(text)):
+        if isinstance(node, ast.Constant) and isinstance(node.value, str):
+            found.append(re.escape(node.value))
+        elif isinstance(node, ast.JoinedStr):
+            found.append("".join(re.escape(it.value) if isinstance(it, ast.Constant) else ".+" for it in node.values))
+    return [it for it in found if re.search(r"[a-z]{3}", it)]
+
+
+def has_check(text, name, is_python):
+    """Whether a script has a check of this name, whole or up to a colon."""
+    return any(re.fullmatch(f"{it}(?:: .*)?", name, re.DOTALL) or it.startswith(re.escape(name) + ":") for it in names_in(text, is_python))
+
+
+def missing_runs(top, table):
+    """What is wrong with the runs of a table."""
+    used = {it for row in table.calls.values() for it in row}
+    for name, (_, script, check) in table.runs.items():
+        file = top / script
+        if not file.is_file():
+            yield f"run {name}: there is no {script}"
+        elif not has_check(file.read_text(), check, script.endswith(".py")):
+            yield f"run {name}: {script} has no check '{check}'"
+        if name not in used:
+            yield f"run {name}: no call names it"
+
+
+def wrong_calls(table, calls, commands):
+    """What is wrong with the calls of a table, beside those of the sources and of the program."""
+    due = {**calls, **{(COMMANDS, name): None for name in commands}}
+    for crate, name in due.keys() - table.calls.keys():
+        yield f"{crate} {name}: it is not in the table"
+    for (crate, name), row in table.calls.items():
+        if (crate, name) not in due:
+            yield f"{crate} {name}: there is no such call that may return want of memory"
+            continue
+        missing = {*row} - table.runs.keys() - {NONE, SAME}
+        yield from (f"{crate} {name}: there is no run {it}" for it in missing)
+        if not missing and not has_two(table, row, due[crate, name]):
+            yield f"{crate} {name}: it wants two runs"
+
+
+def has_two(table, row, call):
+    """Whether a row names two runs, or one that makes both sizes, or one of a call without a size."""
+    first, second = row
+    if first not in table.runs or first == second:
+        return False
+    return second in table.runs or second == SAME and " and " in table.runs[first][0] or second == NONE and call and not call.has_size()
+
+
+def product_of(script):
+    """The crate that a script runs, or that a file of tests in Rattle belongs to."""
+    folder = script.rpartition("/")[0]
+    return PRODUCTS.get(folder) or re.sub(r"^crates/(\w+)/.*", r"\1", script)
+
+
+def reached(crates, product):
+    """The names of all functions that those of a crate call, and what these call. (A name stands for each function that has it.)"""
+    calls = {}
+    for crate in below(crates, product).values():
+        texts = texts_of(crate)
+        for name, (path, it) in all_functions(texts).items():
+            body = "\n".join(texts[path].split("\n")[it.first : it.last + 1])
+            calls.setdefault(own_name(name), set()).update(name for _, name in called_in(body))
+    seen, left = set(), [own_name(it) for it in all_functions(texts_of(crates[product]))]
+    while left:
+        name = left.pop()
+        if name not in seen:
+            seen.add(name)
+            left += calls.get(name, ())
+    return seen
+
+
+def unreached(top, table):
+    """The calls for which the table names a run of a product that never makes them."""
+    crates = read_crates(top)
+    names = {it: reached(crates, it) for it in {product_of(script) for _, script, _ in table.runs.values()} if it in crates}
+    for (crate, name), row in table.calls.items():
+        for run in row:
+            product = product_of(table.runs[run][1]) if run in table.runs else None
+            if product in names and crate in crates and own_name(name) not in names[product]:
+                yield f"{crate} {name}: {product} does not call it, which run {run} runs"
+
+
+def problems(top):
+    """What is wrong with the table of a tree."""
+    table = read_table((top / TABLE).read_text())
+    wrong = wrong_calls(table, calls_of(sources_of(top)), commands_of(top))
+    return [*table.wrong, *missing_runs(top, table), *sorted(wrong), *unreached(top, table)]
+
+
+def runs_of(script, top=TOP):
+    """The checks that the table names of a script."""
+    return {check for _, path, check in read_table((top / TABLE).read_text()).runs.values() if path == script}
