@@ -3,8 +3,8 @@ import { readFileSync } from "node:fs";
 import { isatty } from "node:tty";
 import { Context, isRegular, Refusal, STANDARD } from "./context.mjs";
 import {
-  airtimeBatches, check, decode, DEFAULT_DEPTH, DEFAULT_LIMIT, explain, Fault, GREATEST_LIMIT, HEADER, hear, layInOrder, plan, planAtMost,
-  release, report, show, strict, wav, writePage,
+  airtimeBatches, check, decode, DEFAULT_DEPTH, DEFAULT_LIMIT, explain, Fault, frames, GREATEST_LIMIT, HEADER, hear, layInOrder, plan,
+  planAtMost, release, report, show, strict, wav, writePage,
 } from "./pocsag.mjs";
 import { readingOf, recordsOf } from "./reading.mjs";
 import { COMMANDS, PROGRAM, Reader, Request, WrongWords } from "./words.mjs";
@@ -204,16 +204,10 @@ function runExplain(given, context) {
   return isShown ? 0 : 1;
 }
 
-/* A line for each frame of a transmission, the least room first. */
-function framesOf(transmission) {
-  const { owners, pages } = readingOf(transmission);
-  const frames = [...Array(8).keys()].map((frame) => ({ frame, pages: 0, codewords: 0, room: 0 }));
-  for (const { address, length } of pages) {
-    frames[address % 8].pages++;
-    frames[address % 8].codewords += length;
-  }
-  for (const [k, owner] of owners.entries()) if (owner < 0) frames[(k % 16) >> 1].room++;
-  return frames.sort((a, b) => a.room - b.room).map((it) => `${Object.entries(it).flat().join(" ")}\n`).join("");
+/* A line for each frame of the plan of a page file, the least room first. */
+function frameLines(file, search) {
+  const listed = frames(file, search).frames.sort((a, b) => a.room - b.room);
+  return listed.map((it) => `${Object.entries(it).flat().join(" ")}\n`).join("");
 }
 
 function runReport(given, context) {
@@ -222,8 +216,7 @@ function runReport(given, context) {
   const { pages, codewords, inOrder, batches, idles, bits, airtimeMs, bound } = report(loaded.whole, given.rate, search);
   const numbers = { pages, codewords, in_order: inOrder, batches, idles, bits, airtime_ms: airtimeMs };
   const lines = Object.entries(numbers).map((it) => `${it.join(" ")}\n`).join("");
-  const frames = given.frames ? framesOf(plan(loaded.whole, search).transmission) : "";
-  context.print(context.output, lines + boundLine({ bound, batches }) + frames);
+  context.print(context.output, lines + boundLine({ bound, batches }) + (given.frames ? frameLines(loaded.whole, search) : ""));
   return 0;
 }
 
