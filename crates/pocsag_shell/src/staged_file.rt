@@ -232,8 +232,8 @@ fn rename_all(
     renamed
 }
 
-// Gives a new file the owner, group and mode of an old one. The mode comes last, because a change of the owner clears bits of it. Some file systems refuse to change the owner at all,
-// so an owner that is right already is left alone.
+// Gives a new file the owner, group and mode of an old one. The mode comes last, because a change of the owner clears bits of
+// it. Some file systems refuse to change the owner at all, so an owner that is right already is left alone.
 fn copy_ownership(new: &File, old: &Metadata) -> io::Result<()> {
     let made = new.metadata()?;
     if (made.uid(), made.gid()) != (old.uid(), old.gid()) {
