@@ -79,7 +79,7 @@ pub decodes_caught : ReadingsAreOne → (capture : List ℕ) (l : Extracted) (by
 decodes_caught law capture l bytes out out' same f d = record {
   pages = f.pages;
   caught = f.caught;
-  printed = f.printed;
+  printed = f.told;
   listed = listed_as_sent l.bytes.items bytes f.pages out out' (λ qs h. law l.bytes.items qs f.pages h f.reads) same d;
 }
 
@@ -108,7 +108,7 @@ pub hears_caught : (a : ℕ) (capture : List ℕ) (l : Extracted) (bytes out out
 hears_caught a capture l bytes out out' same f one d = record {
   pages = f.pages;
   caught = f.caught;
-  printed = f.printed;
+  printed = f.told;
   listed = hears_as_sent a l.bytes.items bytes f.pages out out' one same d;
 }
 
