@@ -1,5 +1,4 @@
-use Rattle.std.proofs.Common.{◌∙◌, List, ap, refl, subst, sym}
-use Rattle.pocsag_slots.specs.declared.step.Step.{Step}
+use Rattle.std.proofs.Common.{◌∙◌, ap, refl, subst, sym}
 use Rattle.pocsag_plan.specs.Frames.{HasClasses, frames_of}
 use Rattle.pocsag_c.specs.declared.refusal.StatusAt.{StatusAt}
 use Rattle.pocsag_c.proofs.frames.pocsag_frames.Goals as goal
@@ -27,7 +26,7 @@ returns-clause-frames c = λ _. record {
   read = c.in-Ok.ensures.read;
   bounded = c.in-Ok.found.bounded;
   plan_of = c.in-Ok.ensures.plan;
-  frames = c.frames_of.ensures ∙ ap (λ (steps : List Step). frames_of c.in-Ok.found.round steps) c.as_slice.ensures.value;
+  frames = c.frames_of.ensures ∙ ap (frames_of c.in-Ok.found.round) c.as_slice.ensures.value;
   batches = refl;
   bound = refl;
 }
