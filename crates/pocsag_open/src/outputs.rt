@@ -45,8 +45,8 @@ pub trait OutputStore {
         ensures fault { is_known → IfErr result (λ fault. last_fault self.new ≡ Some ((tx.now, cert.now), fault)) }
         ensures failures { is_known → CountsFailures result (failures self.old) (failures self.new) };
 
-    /// Is shown the record of a line that is no plan, before it is answered. It changes nothing.
-    fn pass(&self, _row: &ByteRecord) {}
+    /// Keeps a note on the record of a line that is no plan, before it is answered. It changes nothing else.
+    fn note_line(&self, _row: &ByteRecord) {}
 
     /// Leaves the places as they are, and removes what was made for them, if the outputs were not made or are not whole.
     fn leave<'n>(&mut self, tx: &'n str, cert: &'n str)

@@ -199,7 +199,7 @@ impl<'a> OutputStore for RoundFiles<'a> {
     }
 
     // With `--verbose` tells which field of a line `plan` keeps it from being one.
-    fn pass(&self, row: &ByteRecord) {
+    fn note_line(&self, row: &ByteRecord) {
         if !self.context.diagnostics.is_asked() || row.get(0) != Some(b"plan".as_slice()) {
             return;
         }

@@ -239,7 +239,7 @@ fn answer_line<P: OutputStore + Drop, K: Keeper + Drop, O: Sink>(
         },
         Line::Journal => print_pages(&round.book, out),
         _ => {
-            settings.store.pass(&row);
+            settings.store.note_line(&row);
             answer_edit(alloc, round, &row, out)
         }
     }

@@ -5,11 +5,15 @@ ghost use Rattle.pocsag_shell.specs.StagedFiles.{IsStagedName};
 use crate::files::is_regular_or_none;
 use crate::paths::Named;
 use crate::staged_file::parts_of;
-use std::fs::{self, File, TryLockError};
+use std::fs::{self, File, Permissions, TryLockError};
 use std::io::ErrorKind;
+use std::os::unix::fs::PermissionsExt;
 
 // The ending of the locks of places.
 const LOCK: &str = ".lock";
+
+// The mode that lets everybody read.
+const ALL_READ: u32 = 0o444;
 
 /// Removes what runs that were killed left in the folder of a place, and what nobody holds: the locks of places, the files that
 /// runs made beside any place, `PLACE.pocsag.NUMBER.new`, and, of this place alone, the older file that they kept,
@@ -63,20 +67,15 @@ fn may_be_left(rt: &HostRuntime, name: &str, file: &str) -> bool {
 /// Opens a file that is not there or that runs lock, and locks it. None where another run holds it, or has just removed it. A file
 /// system that has no locks has that of nobody, where `may_lack` says so.
 pub(crate) fn locked(rt: &HostRuntime, path: &str, may_lack: bool) -> Option<File> {
-    let opened = match File::create_new(rt, path) {
-        // Opening a pipe would wait for who writes to it.
-        Err(_) if is_regular_or_none(rt, path) => fs::open(rt, path),
-        made => made,
-    };
-    let file = match opened {
-        Ok(file) => file,
-        Err(error) => {
-            // The lock of another user's run, which that user's mask keeps from all others.
-            if error.kind() == ErrorKind::PermissionDenied && path.ends_with(LOCK) {
-                let _ = fs::remove_file(rt, path);
-            }
-            return None;
+    let file = match File::create_new(rt, path) {
+        Ok(file) => {
+            // Runs of other users open it too, whatever the mask of this one.
+            let _ = file.set_permissions(Permissions::from_mode(ALL_READ));
+            file
         }
+        // Opening a pipe would wait for who writes to it.
+        Err(_) if is_regular_or_none(rt, path) => fs::open(rt, path).ok()?,
+        Err(_) => return None,
     };
     match file.try_lock() {
         Ok(()) => {}
