@@ -6,6 +6,7 @@ import os
 import pwd
 import shutil
 import signal
+import stat
 import subprocess
 import tempfile
 import time
@@ -103,7 +104,7 @@ def try_held(tally, folder):
         done = subprocess.run([str(PROGRAM), "open", "0.csv", "--keep"], cwd=room, input=b"plan,tx.bin,cert.bin\nlist\n", capture_output=True, timeout=60)
         holds = done.stdout.startswith(b"refused: cannot write\n") and done.returncode == 0
         tally.check("a lock that is held, of a round", holds and stand(room) == dues[1] and left_in(room) == [lock.name], (done, left_in(room)))
-    for mode in (0o600, 0o000):
+    for mode in (0o600, 0o444):
         lock.touch()
         lock.chmod(mode)
         done = subprocess.run(plan(0), cwd=room, capture_output=True, timeout=60)
@@ -121,6 +122,11 @@ def try_held(tally, folder):
         done = subprocess.run(plan(number % 2), cwd=room, capture_output=True, timeout=60)
         holds = any(name.endswith(".lock") for name in left) and done.returncode == 0 and stand(room) == dues[number % 2] and not left_in(room)
         tally.check(f"the locks of a run that was killed at renaming {number}", holds, (left, done, left_in(room)))
+    trace = ["strace", "-f", "-qq", "-o", "/dev/null", "-e", "trace=rename,renameat,renameat2", "-e", "inject=rename,renameat,renameat2:signal=KILL:when=1"]
+    subprocess.run([*trace, *plan(0)], cwd=room, capture_output=True, timeout=60, umask=0o077)
+    modes = {stat.S_IMODE((room / name).stat().st_mode) for name in left_in(room) if name.endswith(".lock")}
+    tally.check("whatever the mask, other users can open the locks", modes == {0o444}, modes)
+    subprocess.run(plan(0), cwd=room, check=True, capture_output=True, timeout=60)
     for fault in ("error=ENOLCK", "error=ENOSYS"):
         trace = ["strace", "-f", "-qq", "-o", "/dev/null", "-e", "trace=flock", "-e", f"inject=flock:{fault}"]
         done = subprocess.run([*trace, *plan(0)], cwd=room, capture_output=True, timeout=60)
@@ -140,12 +146,19 @@ def try_others(tally, folder):
     room, dues = fresh(folder, "others")
     for path in (room, *room.iterdir()):
         os.chown(path, nobody.pw_uid, nobody.pw_gid)
-    for mode in (0o644, 0o600):
+    for mode in (0o644, 0o444):
         for name in NAMES:
             (room / f"{name}.pocsag.lock").touch()
             (room / f"{name}.pocsag.lock").chmod(mode)
         done = subprocess.run(words, cwd=room, capture_output=True, timeout=60, **who)
         tally.check(f"locks of the superuser, {mode:o}", done.returncode == 0 and stand(room) == dues[0] and not left_in(room), (done, left_in(room)))
+    lock = room / "tx.bin.pocsag.lock"
+    with lock.open("w") as held:
+        lock.chmod(0o444)
+        fcntl.flock(held, fcntl.LOCK_EX)
+        done = subprocess.run([*words, "--always"], cwd=room, capture_output=True, timeout=60, **who)
+    tally.check("a lock that the superuser holds", (done.returncode, done.stderr) == (3, CANNOT_WRITE) and stand(room) == dues[0], (done, left_in(room)))
+    lock.unlink()
     before = stand(room)
     room.chmod(0o555)
     done = subprocess.run(words, cwd=room, capture_output=True, timeout=60, **who)
