@@ -130,6 +130,7 @@ plan tones.csv a.bin a.cert --at-most 2 --rest ./tones.csv
 plan tones.csv a.bin a.cert --at-most 2 --rest a.bin
 plan tones.csv a.bin a.cert --at-most 2 --rest ./a.cert
 plan tones.csv a.bin ./a.bin --at-most 2
+plan folder ./folder a.cert --at-most 2
 plan tones.csv a.bin a.cert --at-most 2 --rest r --why ./r
 plan tones.csv a.bin a.cert --at-most 2 --rest r --why r
 plan tones.csv a.bin a.cert --at-most 2 --oversized r --why ./r
@@ -163,6 +164,8 @@ check apart.csv closed.cert
 check apart.csv idle.cert
 check apart.csv apart.bin
 check apart.csv empty.csv
+check apart.csv apart.csv
+explain apart.cert apart.cert
 check bad.csv apart.cert
 check bad.csv none.cert
 check none.csv apart.cert
@@ -349,6 +352,8 @@ def try_streams(both):
     for words in (check, "decode apart.bin --json", plan, f"{plan} --verify", piped, "report apart.csv --rate 512", "wav apart.bin", ""):
         both.check(words, stdin=APART, output="/dev/full")
         both.check(words, stdin=APART, errors="/dev/full")
+    for stream, words in itertools.product(("output", "errors"), (plan, front, f"{plan} --verify", check, "report apart.csv --rate 512")):
+        both.check(words, **{stream: "apart.csv"})
     for stream in ("output", "errors"):  # a device keeps no bytes, so it is none of the files that may not be named
         both.check("plan apart.csv /dev/full a.cert", **{stream: "/dev/full"})
         both.check("plan apart.csv /dev/null a.cert", **{stream: "/dev/null"})
