@@ -80,4 +80,6 @@ ExplainsKept bytes (Some file) file_failed Ends fault.HoldsEdits = HoldsEdits by
 ExplainsKept bytes None file_failed Ends fault.HoldsEdits = ⊥
 ExplainsKept bytes file file_failed Ends (fault.Journal f) = IsPrintedOfJournal bytes file f
 ExplainsKept bytes file file_failed Ends fault.NotHeld = ⊥
+ExplainsKept bytes file file_failed Ends (fault.Quotes f) = ⊥
+ExplainsKept bytes file file_failed Ends (fault.Unexpected found expected) = ⊥
 ExplainsKept bytes file file_failed Ends fault.HeldByAnother = ⊥

@@ -87,8 +87,8 @@ returns-in_err-answer_line-in-Kept-clause-any_moment g c = λ keeps reads is_kno
     (c.loop-answered.invariant.moments keeps reads is_known stands) more
     (λ left is. read_next _ _ _ _ _ _ _ _ _ _ _ _ _ left (c.loop-answered.invariant.answered reads is_known) found.0 is)
 
-pub returns-in_err-settle-clause-survives : goal.returns-in_err-settle-clause-survives
-returns-in_err-settle-clause-survives g c = λ keeps reads is_known stands.
+pub returns-in_err-compact_if_due-clause-survives : goal.returns-in_err-compact_if_due-clause-survives
+returns-in_err-compact_if_due-clause-survives g c = λ keeps reads is_known stands.
     let answered : Answered g.P.OutputStore.is_known c.args.settings.now.on_limit (g.I.Source.held c.args.input.now) (ahead_of c.read_line.new.self ++ g.I.Source.held c.read_line.new.source)
     c.args.round.now.book c.match-branch-3.round.book (g.O.Sink.taken c.args.out.now) (g.O.Sink.taken c.match-branch-3.out)
     (g.P.OutputStore.placed c.args.settings.now.store) (g.P.OutputStore.placed c.match-branch-3.settings.store) = elim c.match-branch-3.branch [
@@ -109,13 +109,13 @@ returns-in_err-settle-clause-survives g c = λ keeps reads is_known stands.
       | in-Kept+in_ok-answer_line-in-Kept w ↦
           rw w.round-is (w.in_ok-answer_line-in-Kept.ensures.stands (c.loop-answered.invariant.stands stands))
     ] in
-    let settling = c.settle.ensures.any_moment keeps now_stands in
+    let settling = c.compact_if_due.ensures.any_moment keeps now_stands in
     survives_between _ _ _ _ _ _ _ _ _ _ _ _ answered
     (λ left now.
-    settling.each left (g.K.Keeper.counts_now c.settle.new.self (g.K.Keeper.moment c.match-branch-3.round.keeper) left keeps settling.later now))
+    settling.each left (g.K.Keeper.counts_now c.compact_if_due.new.self (g.K.Keeper.moment c.match-branch-3.round.keeper) left keeps settling.later now))
 
-pub returns-in_err-settle-clause-any_moment : goal.returns-in_err-settle-clause-any_moment
-returns-in_err-settle-clause-any_moment g c = λ keeps reads is_known stands.
+pub returns-in_err-compact_if_due-clause-any_moment : goal.returns-in_err-compact_if_due-clause-any_moment
+returns-in_err-compact_if_due-clause-any_moment g c = λ keeps reads is_known stands.
     let answered : Answered g.P.OutputStore.is_known c.args.settings.now.on_limit (g.I.Source.held c.args.input.now) (ahead_of c.read_line.new.self ++ g.I.Source.held c.read_line.new.source)
     c.args.round.now.book c.match-branch-3.round.book (g.O.Sink.taken c.args.out.now) (g.O.Sink.taken c.match-branch-3.out)
     (g.P.OutputStore.placed c.args.settings.now.store) (g.P.OutputStore.placed c.match-branch-3.settings.store) = elim c.match-branch-3.branch [
@@ -147,8 +147,8 @@ returns-in_err-settle-clause-any_moment g c = λ keeps reads is_known stands.
           (c.loop-answered.invariant.moments keeps reads is_known stands) more
           (λ left is. read_next _ _ _ _ _ _ _ _ _ _ _ _ _ left (c.loop-answered.invariant.answered reads is_known) found.0 is))
     ] in
-    then_on g.K.Keeper.moment g.K.Keeper.left_since _ c.match-branch-3.round.keeper c.settle.new.self _ _ so_far
-    (c.settle.ensures.any_moment keeps now_stands) (λ left is. read_now _ _ _ _ _ _ _ _ _ _ _ left answered is)
+    then_on g.K.Keeper.moment g.K.Keeper.left_since _ c.match-branch-3.round.keeper c.compact_if_due.new.self _ _ so_far
+    (c.compact_if_due.ensures.any_moment keeps now_stands) (λ left is. read_now _ _ _ _ _ _ _ _ _ _ _ left answered is)
 
 pub loop-answered-preserved : goal.loop-answered-preserved
 loop-answered-preserved g c = record {
@@ -175,7 +175,7 @@ loop-answered-preserved g c = record {
         | in-Kept+in_ok-answer_line-in-Kept w ↦
             rw w.round-is (w.in_ok-answer_line-in-Kept.ensures.stands (c.loop-answered.invariant.stands stands))
       ] in
-      c.in_ok-settle.ensures.stands now_stands;
+      c.in_ok-compact_if_due.ensures.stands now_stands;
   answered = λ reads is_known.
       let answered : Answered g.P.OutputStore.is_known c.args.settings.now.on_limit (g.I.Source.held c.args.input.now) (ahead_of c.read_line.new.self ++ g.I.Source.held c.read_line.new.source)
       c.args.round.now.book c.match-branch-3.round.book (g.O.Sink.taken c.args.out.now) (g.O.Sink.taken c.match-branch-3.out)
@@ -225,6 +225,6 @@ loop-answered-preserved g c = record {
             (c.loop-answered.invariant.moments keeps reads is_known stands) more
             (λ left is. read_next _ _ _ _ _ _ _ _ _ _ _ _ _ left (c.loop-answered.invariant.answered reads is_known) found.0 is))
       ] in
-      then_on g.K.Keeper.moment g.K.Keeper.left_since _ c.match-branch-3.round.keeper c.settle.new.self _ _ so_far
-      (c.settle.ensures.any_moment keeps now_stands) (λ left is. read_now _ _ _ _ _ _ _ _ _ _ _ left answered is);
+      then_on g.K.Keeper.moment g.K.Keeper.left_since _ c.match-branch-3.round.keeper c.compact_if_due.new.self _ _ so_far
+      (c.compact_if_due.ensures.any_moment keeps now_stands) (λ left is. read_now _ _ _ _ _ _ _ _ _ _ _ left answered is);
 }
