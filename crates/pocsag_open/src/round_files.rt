@@ -153,27 +153,35 @@ impl<'a> OutputStore for RoundFiles<'a> {
     ) -> Result<Outputs<WriterSink<'a, Output<File>>>, FileFault> {
         let OpenArgs { pages, keep, .. } = self.args;
         let context = self.context;
-        context.diagnostics.refuse(Role::Transmission);
+        let role = match refuse_one_file(context.rt, pages, cert, STANDARD) {
+            Ok(()) => Role::Transmission,
+            Err(_) => Role::Certificate,
+        };
+        context.diagnostics.refuse(role);
         self.refuse_taken(tx, cert)?;
-        let (mut tx, mut cert) = (tx, cert);
-        if keep {
-            for (role, place) in [(Role::Transmission, tx), (Role::Certificate, cert)] {
-                if !is_regular_or_none(context.rt, place) {
-                    context.note(format_args!("{role} {place}: no regular file"));
-                    return Err(FileFault::Device);
-                }
+        let opened = if keep {
+            if !is_regular_or_none(context.rt, tx) {
+                context.note(format_args!("transmission {tx}: no regular file"));
+                return Err(FileFault::Device);
+            }
+            if !is_regular_or_none(context.rt, cert) {
+                context.note(format_args!("certificate {cert}: no regular file"));
+                return Err(FileFault::Device);
             }
             refuse_shared(context, pages, tx, cert)?;
             // No transmission ever stands without its certificate.
-            for (role, place) in [(Role::Certificate, cert), (Role::Transmission, tx)] {
-                self.made.push(StagedFile::make(context, role, place)?)?;
-            }
-            if let [made_cert, made_tx] = self.made.as_slice() {
-                tx = made_tx.path();
-                cert = made_cert.path();
-            }
-        }
-        let outputs = open_outputs(context, pages, tx, cert)?.emptied(context)?;
+            self.made
+                .push(StagedFile::make(context, Role::Certificate, cert)?)?;
+            self.made
+                .push(StagedFile::make(context, Role::Transmission, tx)?)?;
+            let [made_cert, made_tx] = self.made.as_slice() else {
+                return Err(FileFault::Device);
+            };
+            open_outputs(context, pages, made_tx.path(), made_cert.path())?
+        } else {
+            open_outputs(context, pages, tx, cert)?
+        };
+        let outputs = opened.emptied(context)?;
         context.forget_trouble();
         Ok(outputs)
     }
@@ -214,10 +222,8 @@ impl<'a> OutputStore for RoundFiles<'a> {
         }
         self.made.clear();
         self.context.print_more(Names {
-            pages: self.args.pages,
             tx: Some(tx),
             cert: Some(cert),
-            journal: self.args.journal,
             ..Names::NONE
         });
     }
