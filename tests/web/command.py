@@ -388,6 +388,8 @@ SPOILED = [
     ("apart.csv", "", {"a.cert": "below.cert"}, "the certificate does not show the batches of the transmission"),
     ("apart.csv", "--always", {"a.cert": "below.cert"}, None),
     ("tones.csv", "", {"a.cert": "apart.cert"}, "the certificate does not show the batches of the transmission"),
+    ("apart.csv", "", {"a.cert": "ended.cert"}, "the certificate does not show the batches of the transmission"),
+    ("apart.csv", "", {"a.cert": "five.cert"}, "the certificate does not show the batches of the transmission"),
     ("one.csv", "", {"a.cert": "one.bin"}, "not a certificate"),
     ("one.csv", "", {"a.cert": "none.cert"}, "cannot read or open a file"),
     ("one.csv", "", {"a.cert": "/proc/self/mem"}, "cannot read or open a file"),
@@ -404,6 +406,11 @@ def try_verified(both):
     both.make("plan more.csv more.bin more.cert", "more.bin")
     both.make("plan one.csv closed.bin closed.cert --end closed", "closed.bin", "closed.cert")
     both.make("plan apart.csv below.bin below.cert --always --limit 1", "below.cert")
+    both.make("plan apart.csv ended.bin ended.cert --end closed", "ended.cert")
+    both.files["five.csv"] = HEADER + b"".join(b"%d,tone0,\n" % (8 * k + 5) for k in range(5))
+    both.make("plan five.csv five.bin five.cert", "five.cert")
+    batches = [both.files[f"{name}.cert"][5:9] for name in ("apart", "ended", "five")]
+    both.tally.check("certificates of as many batches", batches == 3 * [bytes([0, 0, 0, 3])], batches)
     side = both.lines
     for name, words, instead, fault in SPOILED:
         side.restore(both.files)
@@ -505,6 +512,15 @@ def try_hard(both, hard):
         both.tally.check(f"the limit of {words}", told[0] == 1 and told[2].startswith(b"pocsag: search limit reached"), told)
 
 
+def try_deep(both, deep):
+    """`explain` of certificates of 300 levels."""
+    for k, (_, _, pages, certificate) in enumerate(deep):
+        both.files |= {"deep.csv": pages, "deep.cert": certificate}
+        both.check("check deep.csv deep.cert")
+        for words in ("", "--depth 1", "--depth 2 --json", "--depth 299", "--depth 4294967295")[: 5 if k % 4 == 0 else 2]:
+            both.check(f"explain deep.csv deep.cert {words}")
+
+
 def try_certificates(both, source, rounds, change):
     """`check` and `explain` of certificates that are whole and changed, for the rounds and for others."""
     for name in rounds:
@@ -594,6 +610,7 @@ def try_command(tally, made, room, node):
     try_plans(both, source, [name for name in rounds if len(both.files[name]) < 10_000])
     try_received(both, source, [name for name in both.files if name.endswith(".bin")] + ["empty.csv", "apart.csv"])
     try_certificates(both, source, rounds, made.library.changed)
+    try_deep(both, made.library.deep_certificates())
     try_verified(both)
     tally.check("one process to its end", both.lines.end() == 0)
     try_process(tally, both, made.folder, node)
