@@ -77,10 +77,16 @@ def try_certificates(tally, call):
     for count, pages, certificate in largest.certificates():
         shown = attempt(call.check, pages, certificate)
         tally.check(f"check of {count} nodes", shown == (True, pocsag.IDLE, 5_000), shown)
-        for name, form in (("words", pocsag.IN_WORDS), ("JSON", pocsag.AS_JSON)):
-            told = attempt(call.explain, pages, certificate, form, 300)
-            holds = isinstance(told, pocsag.Explanation) and told.is_shown and told.text.count(b"\n{"[form:form + 1]) > count
-            tally.check(f"explain of {count} nodes in {name}", holds, str(told)[:200])
+        if count < 1_000_000:
+            told = attempt(call.explain, pages, certificate, pocsag.AS_JSON, 300)
+            holds = isinstance(told, pocsag.Explanation) and told.is_shown and told.text.count(b"{") > count
+            tally.check(f"explain of {count} nodes", holds, str(told)[:200])
+            continue
+        # The length alone, of a text that is made once: with a buffer for it the test would take 3 GB.
+        length, info = ctypes.c_size_t(), pocsag.CheckInfo()
+        words = [*pocsag.bytes_in(pages), *pocsag.bytes_in(certificate), *map(ctypes.c_uint32, (pocsag.IN_WORDS, 300))]
+        status = call.library.pocsag_explain(*words, *pocsag.buffer_of(0), ctypes.byref(length), ctypes.byref(info))
+        tally.check(f"explain of {count} nodes", (status, length.value > 100 * count) == (10, True), (status, length.value))
 
 
 def told_by(call, words, size):
@@ -110,7 +116,7 @@ def try_readings(tally, call):
 
 def try_sounds(tally, call):
     """Sounds, of which the length alone is told: that of 4 GB, the longest, does not fit into the memory of each machine."""
-    for batches in (20_000, 900_000):
+    for batches in (20_000, 450_000):
         length, place = ctypes.c_size_t(), pocsag.Place()
         words = [*pocsag.bytes_in(b"\xaa" * 72 + batches * tone_batch(8)), *map(ctypes.c_uint32, (2400, 2400, 0, 0))]
         status = call.library.pocsag_wav(*words, *pocsag.buffer_of(0), ctypes.byref(length), ctypes.byref(place))

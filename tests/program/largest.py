@@ -113,8 +113,9 @@ def try_plans(tally, folder):
             told = done.stdout.decode().splitlines()
             holds = (done.returncode, done.stderr, told[:2] + told[3:5]) == (0, b"", counts) and sorted(told[7:]) == frames
             tally.check(f"report {words[0]} of {pages} pages", holds, brief(done))
-        done = run([*plan, "--expect", str(pages - 1)], folder)
-        tally.check(f"{pages} pages where one fewer is expected", done.returncode == 1 and not done.stdout, brief(done))
+        if pages < PAGES:
+            done = run([*plan, "--expect", str(pages - 1)], folder)
+            tally.check(f"{pages} pages where one fewer is expected", done.returncode == 1 and not done.stdout, brief(done))
         with open(folder / "pages.csv", "rb") as file:
             done = run([], folder, stdin=file)
         tally.check(f"no words, {pages} pages", said(done) == (0, b"pages %d\nbatches %d\n" % (pages, full), b""), brief(done))
@@ -215,16 +216,19 @@ def try_readings(tally, folder):
     in memory, and LARGEST, whose answer is written as it is made."""
     items = items_of(b"a" * 4_000, 7, 0)
     pages = [(8, 3, items), (8, 0, items)]
+    forms = [
+        (["decode", "tx.bin", "--repair", "--verbose"], "", False, b"pocsag: transmission tx.bin: corrected bits 0, words 0\n"),
+        (["decode", "tx.bin", "--json"], "", True, b""),
+        (["decode", "tx.bin", "--text", "0,1,2"], "012", False, b""),
+        (["hear", "8", "tx.bin", "--json", "--text", "0,1,2"], "012", True, b""),
+    ]
     for size in (4_000_000, LARGEST):
         tx, count = repeated(pages, size)
         (folder / "tx.bin").write_bytes(tx)
-        repaired = ["--repair", "--verbose"], "", False, b"pocsag: transmission tx.bin: corrected bits 0, words 0\n"
-        for words, as_text, is_json, told in ((["--verbose"], "", False, b""), repaired, (["--json"], "", True, b""), (["--text", "0,1,2"], "012", False, b"")):
+        for words, as_text, is_json, noted in forms:
             head, text = (b"" if is_json else HEADER), due_of(pages, as_text, is_json)[0].encode()
-            due = head + count * text[len(head):]
-            for command in (["decode"], ["hear", "8"])[:1 if told else 2]:
-                done = run([*command, "tx.bin", *words], folder)
-                tally.check(f"{command[0]} {words[0]} of {size} bytes", said(done) == (0, due, told), brief(done))
+            done, option = run(words, folder), next(it for it in words if it.startswith("--"))
+            tally.check(f"{words[0]} {option} of {size} bytes", said(done) == (0, head + count * text[len(head):], noted), brief(done))
 
 
 def long_message(function, codes, width, batches):
@@ -249,7 +253,7 @@ def try_long_message(tally, folder):
             (folder / "tx.bin").write_bytes(tx)
             due = HEADER + b"8,%s," % kind.encode() + count * (b"1" if width == 4 else b"a") + b"\n"
             for words in calls:
-                done = run([*words, "tx.bin"], folder)
+                done = run([*words, "tx.bin", "--verbose"], folder)
                 tally.check(f"{words[0]}, {kind}, a message of {size} bytes", said(done) == (0, due, b""), brief(done))
 
 
@@ -261,11 +265,11 @@ def try_shows(tally, folder):
         (folder / "tx.bin").write_bytes(tx)
         batches = len(tx) // 68 - 1
         rows = {b"Aa" + 7 * b" aa": 1, b" aa aa" + 6 * b" aa": 86, b"aa aa aa aa a. .. .. ..": 1}
-        for words in ([], ["--repair", "--verbose"], ["--capture", "--nth", "1"]):
+        for words in (["--repair", "--verbose"], ["--capture", "--nth", "1"]):
             done = run(["show", "tx.bin", *words], folder)
             holds = done.returncode == 0 and done.stdout.count(b"\n") == batches + 2
             holds = holds and all(done.stdout.count(row + b"\n") == count * times for row, times in rows.items())
-            tally.check(f"show {(words or ['alone'])[0]} of {size} bytes", holds, brief(done))
+            tally.check(f"show {words[0]} of {size} bytes", holds, brief(done))
         done = run(["show", "tx.bin", "--list"], folder)
         first = b"batch,frame,slot,codewords,address,kind,message\n1,0,0,1401,8,alpha,%s\n89,1,2,1,9,tone1,\n" % (b"a" * 4_000)
         holds = (done.returncode, done.stdout.count(b"\n")) == (0, 2 * count + 1) and done.stdout.startswith(first)
@@ -300,14 +304,12 @@ def try_captures(tally, folder):
 
 
 def try_sounds(tally, folder):
-    """A sound that is kept in memory, one that is written as it is made, and the longest that a WAV file holds, which goes nowhere;
-    each of a sample a bit: a header of 44 bytes, and behind the bits the time of a batch in silence."""
+    """A sound that is kept in memory, and the longest that a WAV file holds, which goes nowhere; each of a sample a bit: a header of
+    44 bytes, and behind the bits the time of a batch in silence."""
     words = ["wav", "tx.bin", "--rate", "2400", "--samples", "2400", "--invert", "--preamble", "584", "--verbose"]
-    for batches in (20_000, 200_000):
-        (folder / "tx.bin").write_bytes(b"\xaa" * 72 + batches * tone_batch(8))
-        done = run(words, folder)
-        due = 44 + 2 * (584 + 544 * (batches + 1))
-        tally.check(f"wav of {batches} batches", (done.returncode, len(done.stdout), done.stderr) == (0, due, b""), (brief(done), due))
+    (folder / "tx.bin").write_bytes(b"\xaa" * 72 + 20_000 * tone_batch(8))
+    done, due = run(words, folder), 44 + 2 * (584 + 544 * 20_001)
+    tally.check("wav of 20000 batches", (done.returncode, len(done.stdout), done.stderr) == (0, due, b""), (brief(done), due))
     (folder / "tx.bin").write_bytes(b"\xaa" * 72 + 3_947_578 * tone_batch(8))
     with open("/dev/null", "wb") as nowhere:
         done = subprocess.run([str(PROGRAM), *words], cwd=folder, stdout=nowhere, stderr=subprocess.PIPE, timeout=110)
