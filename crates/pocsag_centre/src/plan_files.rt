@@ -476,19 +476,24 @@ fn plan_among<O: Sink>(
             return Err(CentreFault::File(FileFault::OutOfMemory));
         }
     }
-    let mut staged_file = args;
-    for file in files.as_slice() {
-        match file.role {
-            Role::Rest => staged_file.rest = Some(file.path()),
-            Role::Oversized => staged_file.oversized = Some(file.path()),
-            Role::Why => staged_file.why = Some(file.path()),
-            Role::Certificate => staged_file.cert = file.path(),
-            _ => staged_file.tx = file.path(),
-        }
-    }
-    let status = plan_files(context, staged_file, streams, lines)?;
+    let status = plan_files(context, staged(args, files.as_slice()), streams, lines)?;
     if status == 0 {
         put_files(context, files.as_slice())?;
     }
     Ok(status)
+}
+
+// The words with the files beside the places.
+fn staged<'a>(args: PlanArgs<'a>, files: &'a [StagedFile]) -> PlanArgs<'a> {
+    let mut staged = args;
+    for file in files {
+        match file.role {
+            Role::Rest => staged.rest = Some(file.path()),
+            Role::Oversized => staged.oversized = Some(file.path()),
+            Role::Why => staged.why = Some(file.path()),
+            Role::Certificate => staged.cert = file.path(),
+            _ => staged.tx = file.path(),
+        }
+    }
+    staged
 }
