@@ -16,7 +16,7 @@ ghost use Rattle.pocsag_journal.specs.LineTexts.{HasNoLineFeed, IsRowText, IsUnr
 ghost use Rattle.pocsag_journal.specs.PageLines.{HaveLines};
 
 use pocsag_journal::{Refusal, UndoneFault};
-use pocsag_open::Places;
+use pocsag_open::OutputStore;
 
 /// Bytes read as one list of records at most, with one torn end, and only where they begin with the first line or are a part of
 /// it; and where the records are a run, no line is bad.
@@ -70,7 +70,7 @@ pub fn texts_have_one_reason()
 {}
 
 /// `open` over the text of a journal: the session leaves the pages of the journal, unless it reported that memory was wanting.
-pub fn a_journal_opens_as_its_pages<P: Places>()
+pub fn a_journal_opens_as_its_pages<P: OutputStore>()
     ensures { (on_limit : OnLimit) (rows : List Row) (pages after : List Page) (told : List ℕ)
         (placed : List PlacedPlan) → AllByRecursion IsLine rows → IsRun rows [] pages →
         IsSession P.is_known on_limit (journal_text rows) [] after told placed → (after ≡ pages) ⊎ NamesNoMemory told }
@@ -78,7 +78,7 @@ pub fn a_journal_opens_as_its_pages<P: Places>()
 
 /// A session is a run of edits whose records are lines. So where all pages before it have lines in a journal, as no pages
 /// and those of a journal have, all pages after it have.
-pub fn sessions_are_runs<P: Places>()
+pub fn sessions_are_runs<P: OutputStore>()
     ensures run { (on_limit : OnLimit) (input told : List ℕ) (before after : List Page) (placed : List PlacedPlan) →
         IsSession P.is_known on_limit input before after told placed →
         (rows : List Row) × AllByRecursion IsLine rows × IsRun rows before after }

@@ -2,4 +2,4 @@ use Rattle.pocsag_laws.proofs.Reopened.{reopened}
 use Rattle.pocsag_laws.proofs.journal.a_journal_opens_as_its_pages.Goals as goal
 
 pub returns : goal.returns
-returns g c = reopened g.P.Places.is_known
+returns g c = reopened g.P.OutputStore.is_known
