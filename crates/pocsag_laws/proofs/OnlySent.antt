@@ -48,13 +48,13 @@ word_behind A B n q e = ap (word_on (A ++ B)) e ∙ ap (λ (l : List ℕ). high_
 back_at : (A B : List ℕ) (n q : ℕ) (p : Polarity) → n ≡ length A + q → IsSynchronised (A ++ B) n p → IsSynchronised B q p
 back_at A B n q p e f = record {
   within = omega (arith, f.within, length-append A B);
-  fallback = subst (λ (w : ℕ). IsNear sync_word (as_sent p w)) (word_behind A B n q e) f.fallback;
+  near = subst (λ (w : ℕ). IsNear sync_word (as_sent p w)) (word_behind A B n q e) f.near;
 }
 
 on_at : (A B : List ℕ) (n q : ℕ) (p : Polarity) → n ≡ length A + q → IsSynchronised B q p → IsSynchronised (A ++ B) n p
 on_at A B n q p e f = record {
   within = omega (arith, f.within, length-append A B);
-  fallback = subst (λ (w : ℕ). IsNear sync_word (as_sent p w)) (sym (word_behind A B n q e)) f.fallback;
+  near = subst (λ (w : ℕ). IsNear sync_word (as_sent p w)) (sym (word_behind A B n q e)) f.near;
 }
 
 like_at : (A B : List ℕ) (n q : ℕ) (p : Polarity) → n ≡ length A + q → IsLikeSynchronised (A ++ B) n p → IsLikeSynchronised B q p
@@ -208,25 +208,25 @@ abbrev NearAndFits : ℕ → ℕ → Type 0
 NearAndFits t y = IsNear t y × (y < 2 ^ 32)
 
 near_and_fits : (ts ys : List ℕ) → AllZip IsNear ts ys → All (λ y. y < 2 ^ 32) ys → AllZip NearAndFits ts ys
-near_and_fits [] [] fallback fit = tt
-near_and_fits [] (y ∷ ys) fallback fit = absurd fallback
-near_and_fits (t ∷ ts) [] fallback fit = absurd fallback
-near_and_fits (t ∷ ts) (y ∷ ys) fallback fit =
-    ((fallback.0, All-head (λ v. v < 2 ^ 32) y ys fit), near_and_fits ts ys fallback.1 (All-tail (λ v. v < 2 ^ 32) y ys fit))
+near_and_fits [] [] near fit = tt
+near_and_fits [] (y ∷ ys) near fit = absurd near
+near_and_fits (t ∷ ts) [] near fit = absurd near
+near_and_fits (t ∷ ts) (y ∷ ys) near fit =
+    ((near.0, All-head (λ v. v < 2 ^ 32) y ys fit), near_and_fits ts ys near.1 (All-tail (λ v. v < 2 ^ 32) y ys fit))
 
 only_near : (t y : ℕ) → IsCodeword t → NearAndFits t y → IsOnlyNear y t
-only_near t y is fallback =
-    elim (numbers_are_repaired_lem y fallback.1) [
-      | inl none ↦ absurd (none t is fallback.0)
-      | inr only ↦ subst (IsOnlyNear y) (sym (only.1.only t is fallback.0)) only.1
+only_near t y is near =
+    elim (numbers_are_repaired_lem y near.1) [
+      | inl none ↦ absurd (none t is near.0)
+      | inr only ↦ subst (IsOnlyNear y) (sym (only.1.only t is near.0)) only.1
     ]
 
 each_mended : (T ys : List ℕ) → All IsCodeword T → AllZip NearAndFits T ys → AllZip IsMended ys (map Some T)
-each_mended [] [] are fallback = tt
-each_mended [] (y ∷ ys) are fallback = absurd fallback
-each_mended (t ∷ T) [] are fallback = absurd fallback
-each_mended (t ∷ T) (y ∷ ys) are fallback =
-    (only_near t y (All-head IsCodeword t T are) fallback.0, each_mended T ys (All-tail IsCodeword t T are) fallback.1)
+each_mended [] [] are near = tt
+each_mended [] (y ∷ ys) are near = absurd near
+each_mended (t ∷ T) [] are near = absurd near
+each_mended (t ∷ T) (y ∷ ys) are near =
+    (only_near t y (All-head IsCodeword t T are) near.0, each_mended T ys (All-tail IsCodeword t T are) near.1)
 
 without_orphans_one : (b : Bool) (k : Kind) (ms : List (Option Kind)) (ks : List Kind) → ((c : Bool) → HasNoOrphan c ks → without_orphans c ms ≡ ks)
     → HasNoOrphan b (k ∷ ks) → without_orphans b (Some k ∷ ms) ≡ k ∷ ks
@@ -396,7 +396,7 @@ module _ (A R : List ℕ) (p : Polarity) (ps : List Page) (X : List ℕ) (f : Is
       × (length (A ++ (X ++ R)) ≡ length A + 544 * f.batches + length R)
   how_long =
       let sent_words : length (synced 0 f.codewords) ≡ 17 * f.batches = omega (arith, synced_count 0 f.codewords, f.whole.1) in
-      let words : length f.words ≡ 17 * f.batches = omega (arith, AllZip-long IsNear (synced 0 f.codewords) f.words f.fallback, sent_words) in
+      let words : length f.words ≡ 17 * f.batches = omega (arith, AllZip-long IsNear (synced 0 f.codewords) f.words f.near, sent_words) in
       let bits : length (word_bits p f.words) ≡ 32 * length (map (as_sent p) f.words) =
       length-flat_map-wide 32 (high_first 32) (map (as_sent p) f.words) (λ x. length-high_first 32 x) in
       let batches : length X ≡ 544 * f.batches = omega (arith, ap length f.sent, bits, length-map f.words (as_sent p), words) in
@@ -414,7 +414,7 @@ module _ (A R : List ℕ) (p : Polarity) (ps : List Page) (X : List ℕ) (f : Is
   mended_at q j e below =
       let long = how_long in
       let here : NearAndFits (get_or (synced 0 f.codewords) j 0) (get_or f.words j 0) =
-      AllZip-get_or NearAndFits (synced 0 f.codewords) f.words j 0 0 (near_and_fits (synced 0 f.codewords) f.words f.fallback f.fit) (omega (arith, long.0)) in
+      AllZip-get_or NearAndFits (synced 0 f.codewords) f.words j 0 0 (near_and_fits (synced 0 f.codewords) f.words f.near f.fit) (omega (arith, long.0)) in
       let codeword = All-get_or IsCodeword (synced 0 f.codewords) j 0 (omega (arith, long.0)) (synced_all IsCodeword 0 f.codewords sync_codeword f.are) in
       subst (λ (w : ℕ). IsOnlyNear w (get_or (synced 0 f.codewords) j 0)) (sym (read_at q j e below))
       (only_near (get_or (synced 0 f.codewords) j 0) (get_or f.words j 0) codeword here)
@@ -424,11 +424,11 @@ module _ (A R : List ℕ) (p : Polarity) (ps : List Page) (X : List ℕ) (f : Is
       let long = how_long in
       let sync = sync_of_batch f.codewords k (omega (arith, f.whole.1)) in
       let within : q + 32 ≤ length (A ++ (X ++ R)) = omega (arith, long.3) in
-      let fallback = (mended_at q (17 * k) (omega arith) (omega arith)).fallback in
+      let near = (mended_at q (17 * k) (omega arith) (omega arith)).near in
       record {
         within = within;
-        fallback = subst (λ (w : ℕ). IsNear sync_word w) (word_there (A ++ (X ++ R)) p q within)
-            (subst (λ (s : ℕ). IsNear s (sent_at (A ++ (X ++ R)) p q)) sync fallback);
+        near = subst (λ (w : ℕ). IsNear sync_word w) (word_there (A ++ (X ++ R)) p q within)
+            (subst (λ (s : ℕ). IsNear s (sent_at (A ++ (X ++ R)) p q)) sync near);
       }
 
   over_at : (n : ℕ) → NothingFollows p R → n ≡ length A + 544 * f.batches
@@ -467,7 +467,7 @@ module _ (A R : List ℕ) (p : Polarity) (ps : List Page) (X : List ℕ) (f : Is
         (λ there.
         let here : IsSynchronised (A ++ (X ++ R)) (u.bit + 544 * f.batches) p =
         subst (λ (q : Polarity). IsSynchronised (A ++ (X ++ R)) (u.bit + 544 * f.batches) q) polarity there in
-        let fallback = here.fallback in
+        let near = here.near in
         none.0 (record { within = here.within; like = omega arith }))
         (λ bridged. none.1 (subst (λ (q : Polarity). IsSynchronised (A ++ (X ++ R)) (u.bit + 544 * f.batches + 544) q) polarity
         (subst (λ (n : ℕ). IsSynchronised (A ++ (X ++ R)) n u.polarity) later bridged.there))) in
@@ -492,8 +492,8 @@ module _ (A R : List ℕ) (p : Polarity) (ps : List Page) (X : List ℕ) (f : Is
             | inl all ↦ omega (arith, all, own_batches)
             | inr broken ↦
                 let far = subst (λ (q : Polarity). HasNoneNear (sent_at (A ++ (X ++ R)) q (u.bit + 32 * r.words))) polarity broken.here in
-                let fallback = mended_at (u.bit + 32 * r.words) r.words (omega (arith, bit)) (omega (arith, broken.two, own_batches)) in
-                absurd (far (get_or (synced 0 f.codewords) r.words 0) fallback.codeword fallback.fallback)
+                let near = mended_at (u.bit + 32 * r.words) r.words (omega (arith, bit)) (omega (arith, broken.two, own_batches)) in
+                absurd (far (get_or (synced 0 f.codewords) r.words 0) near.codeword near.near)
           ]
 
       own_words : received (A ++ (X ++ R)) r ≡ f.words
@@ -514,7 +514,7 @@ module _ (A R : List ℕ) (p : Polarity) (ps : List Page) (X : List ℕ) (f : Is
           subst (λ (ws : List ℕ). AreCaught ws ps) (sym own_words) (record {
             mended = map Some f.codewords;
             each = each_mended f.codewords (unsynced 0 f.words) f.are
-                (zip_unsynced NearAndFits 0 0 f.codewords f.words (omega arith) (near_and_fits (synced 0 f.codewords) f.words f.fallback f.fit));
+                (zip_unsynced NearAndFits 0 0 f.codewords f.words (omega arith) (near_and_fits (synced 0 f.codewords) f.words f.near f.fit));
             holds = subst (λ (ks : List Kind). Reads ks 0 ps) (sym same) f.reads;
           })
 

@@ -69,13 +69,13 @@ far_at (suc n) (suc i) bits all below =
 
 not_near : (w : ℕ) (p : Polarity) → is_far w ≡ true → ¬ (count_ones (bit_xor sync_word (as_sent p w)) ≤ 2)
 unfolding is_far
-not_near w Upright far fallback =
+not_near w Upright far near =
     let parts = and_parts (ltb w (2 ^ 32)) (leb 3 (low_ones 32 (bit_xor sync_word w)) && leb (low_ones 32 (bit_xor sync_word w)) 29) far in
     let bounds = and_parts (leb 3 (low_ones 32 (bit_xor sync_word w))) (leb (low_ones 32 (bit_xor sync_word w)) 29) parts.1 in
     let small = ltb-true w (2 ^ 32) parts.0 in
     let count = low_ones_are 32 (bit_xor sync_word w) (xor_lt 32 sync_word w (omega arith) small) in
     omega (arith, count, leb-true _ _ bounds.0)
-not_near w Inverted far fallback =
+not_near w Inverted far near =
     let parts = and_parts (ltb w (2 ^ 32)) (leb 3 (low_ones 32 (bit_xor sync_word w)) && leb (low_ones 32 (bit_xor sync_word w)) 29) far in
     let bounds = and_parts (leb 3 (low_ones 32 (bit_xor sync_word w))) (leb (low_ones 32 (bit_xor sync_word w)) 29) parts.1 in
     let small = ltb-true w (2 ^ 32) parts.0 in
@@ -99,4 +99,4 @@ preamble_quiet before rest p = λ bit low high polarity there.
     let here : is_far (high_number 0 (take 32 (drop (32 + i) (clean_start p)))) ≡ true =
     subst (λ (l : List ℕ). is_far (high_number 0 (take 32 l)) ≡ true) (drop-drop i 32 (clean_start p)) far in
     not_near (high_number 0 (take 32 (drop (32 + i) (clean_start p)))) polarity here
-    (subst (λ (w : ℕ). count_ones (bit_xor sync_word (as_sent polarity w)) ≤ 2) word there.fallback)
+    (subst (λ (w : ℕ). count_ones (bit_xor sync_word (as_sent polarity w)) ≤ 2) word there.near)
