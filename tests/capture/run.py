@@ -2,13 +2,14 @@
 """Runs `decode`, `hear` and `show` with `--capture` on captures that a keyer of this script made: 2,000 with several
 transmissions at any bit and in either polarity, with noise around them and up to two wrong bits in each word; 400 with
 words past repair, ends cut off and bits lost, beside a receiver of this script; cases worked by hand; refusals; and the
-time that 100 MB of noise takes.
+time that 100 MB of noise takes. Of each page the state is wanted too, and of captures of each kind the other forms.
 
 It takes the binary that the gate left in crates/pocsag_app/out. The last line is 'N passed, M failed'.
 """
 
 import csv
 import io
+import json
 import pathlib
 import random
 import resource
@@ -23,6 +24,7 @@ SYNC, IDLE, ONES = 0x7CD215D8, 0x7A89C197, 0xFFFFFFFF
 CAPTURES, DAMAGED = 2_000, 400
 NOISE_BYTES, NOISE_SECONDS = 100_000_000, 6.0  # on a busy host; BENCHMARKS.md has the speed
 KINDS = {0: "numeric", 1: "data1", 2: "data2", 3: "alpha"}
+HEADER = b"address,kind,message,state\n"
 
 
 # ---- the keyer
@@ -179,7 +181,7 @@ def words_read(bits, at, polarity, batches):
 def read_words(bits, start, polarity, batches):
     """What is told of a transmission: corrected bits, lost words and cut pages, and its pages."""
     corrected = lost = cut = 0
-    pages, page = [], None
+    pages, page = [], None  # an open page counts as cut until a codeword ends it
     end = words_read(bits, start, polarity, batches)
     for place in range(17 * batches):
         at = start + 32 * place
@@ -193,13 +195,15 @@ def read_words(bits, start, polarity, batches):
             lost, cut, page = lost + 1, cut + (page is not None), None
             continue
         corrected += (word ^ mended).bit_count()
-        if mended == IDLE:
-            page = None
-        elif mended >> 31:
+        if mended >> 31:
             if page is not None:
                 page[2].append(mended >> 11 & 0xFFFFF)
-        else:
-            page = [8 * (mended >> 13 & 0x3FFFF) + (place % 17 - 1) // 2, mended >> 11 & 3, []]
+            continue
+        if page is not None:
+            page[3] = "whole"
+        page = None
+        if mended != IDLE:
+            page = [8 * (mended >> 13 & 0x3FFFF) + (place % 17 - 1) // 2, mended >> 11 & 3, [], "cut"]
             pages.append(page)
     return corrected, lost, cut + (page is not None), pages
 
@@ -218,20 +222,29 @@ def heard(bits):
     return found
 
 
-def read_row(page):
-    address, function, items = page
+def read_row(page, texts=()):
+    """The record of a page; the messages of the functions of `texts` are read as alphanumeric text."""
+    address, function, items, state = page
     bits = "".join(f"{item:020b}" for item in items)
     if not items:
-        return [str(address), f"tone{function}", ""]
-    if function == 0:
+        return [str(address), f"tone{function}", "", state]
+    if function == 0 and function not in texts:
         codes = [int(bits[i : i + 4][::-1], 2) for i in range(0, len(bits), 4)]
         message = "".join("0123456789*U -]["[code] for code in codes).rstrip(" ")
-    elif function == 3:
+    elif function == 3 or function in texts:
         codes = [int(bits[i : i + 7][::-1], 2) for i in range(0, len(bits) // 7 * 7, 7)]
         message = "".join(map(chr, codes)).rstrip("\0")
     else:
         message = "".join(f"{item:05X}" for item in items)
-    return [str(address), KINDS[function], message]
+    return [str(address), f"text{function}" if function in texts else KINDS[function], message, state]
+
+
+def read_object(page, transmission, texts=()):
+    """What the line of JSON of a page has, where its transmission is one of `heard` with a number before it."""
+    address, kind, message, state = read_row(page, texts)
+    number, bit, polarity = transmission
+    told = {"address": int(address), "function": page[1], "kind": kind, "message": message, "state": state}
+    return told | {"transmission": number, "inverted": polarity == "inverted", "bit": bit}
 
 
 # ---- the program
@@ -242,7 +255,18 @@ def run(words, **more):
 
 
 def rows_in(listing):
+    """The rows of a listing of a capture."""
+    if not listing.startswith(HEADER):
+        return listing
     return list(csv.reader(io.StringIO(listing.decode("latin-1"), newline="")))[1:]
+
+
+def with_states(some, cut):
+    """The rows of the pages of a transmission that was received whole; behind the last page the end may stand."""
+    rows = [[*row_of(page), "whole"] for page in some]
+    if cut:
+        rows[-1][3] = "cut"
+    return rows
 
 
 def told_lines(found):
@@ -284,7 +308,7 @@ def try_captures(tally, folder):
         bits, pages, told, sent = some_capture(chance)
         (folder / "air.bin").write_bytes(file_of(bits))
         done = run(["decode", "--capture", "air.bin", "--verbose"], cwd=folder)
-        due = [row_of(page) for some in pages for page in some]
+        due = [row for some, (*_, cut) in zip(pages, told) for row in with_states(some, cut)]
         holds = (done.returncode, rows_in(done.stdout), done.stderr) == (0, due, told_lines(told))
         tally.check(f"capture {count}", holds, (due, told, done))
         if count % 10 == 0:
@@ -324,6 +348,25 @@ def try_damaged(tally, folder):
         due = [read_row(page) for one in found for page in one[6]]
         holds = (done.returncode, rows_in(done.stdout), done.stderr) == (0, due, told_lines([one[:6] for one in found]))
         tally.check(f"damaged capture {count}", holds, (due, found, done))
+        if count % 4 == 0:
+            try_forms(tally, folder, f"damaged capture {count}", found)
+
+
+def try_forms(tally, folder, name, found):
+    """The capture in air.bin, of which this was found, as lines of JSON and with functions as text; of one address too."""
+    pages = [(page, (number, one[0], one[1])) for number, one in enumerate(found, 1) for page in one[6]]
+    for texts in ((), (0,), (1, 2)):
+        option = ["--text", ",".join(map(str, texts))] if texts else []
+        for only in [None, *[page[0] for page, _ in pages[:1]]]:
+            words = ["decode"] if only is None else ["hear", only]
+            kept = [(page, where) for page, where in pages if only in (None, page[0])]
+            done = run([*words, "air.bin", "--capture", "--json", *option], cwd=folder)
+            lines = [json.loads(line) for line in done.stdout.decode("latin-1").split("\n")[:-1]]
+            due = [read_object(page, where, texts) for page, where in kept]
+            tally.check(f"{name} as JSON {texts} of {only}", (done.returncode, done.stderr) == (0, b"") and lines == due, (due, done))
+            done = run([*words, "air.bin", "--capture", *option], cwd=folder)
+            due = [read_row(page, texts) for page, _ in kept]
+            tally.check(f"{name} as text {texts} of {only}", (done.returncode, rows_in(done.stdout)) == (0, due), (due, done))
 
 
 def try_by_hand(tally, folder):
@@ -339,8 +382,9 @@ def try_by_hand(tally, folder):
         holds = (done.returncode, rows_in(done.stdout)) == (0, due) and (told is None or done.stderr == told_lines(told))
         tally.check(name, holds, (due, done))
 
-    two = [["8", "numeric", numeric([0x12345, 0x12345])]]
-    one = [["8", "numeric", numeric([0x12345])]]
+    two = [["8", "numeric", numeric([0x12345, 0x12345]), "whole"]]
+    one = [["8", "numeric", numeric([0x12345]), "whole"]]
+    cut = [["8", "numeric", numeric([0x12345]), "cut"]]
     listed("nothing", b"", [], [])
     listed("three bytes", b"\x7c\xd2\x15", [], [])
     listed("all zeros", bytes(1_000), [], [])
@@ -351,17 +395,28 @@ def try_by_hand(tally, folder):
         listed(f"one batch from bit {offset}", "0" * offset + bits_of(batch), two, [(offset, "upright", 1, 0, 0, 0)])
         listed(f"inverted from bit {offset}", inverted("0" * offset + bits_of(batch)), two, [(offset, "inverted", 1, 0, 0, 0)])
     ended = [SYNC, tone, more, lost, more] + [IDLE] * 12
-    listed("a word past repair ends the page", bits_of(ended), one, [(0, "upright", 1, 0, 1, 1)])
+    listed("a word past repair ends the page", bits_of(ended), cut, [(0, "upright", 1, 0, 1, 1)])
+    late = [SYNC, tone, more, IDLE, lost] + [IDLE] * 12
+    listed("a word past repair behind the end of the page", bits_of(late), one, [(0, "upright", 1, 0, 1, 0)])
+    called = [SYNC, tone, tone, lost, tone, more] + [IDLE] * 11
+    calls = [["8", "tone0", "", "whole"], ["8", "tone0", "", "cut"], ["9", "numeric", numeric([0x12345]), "whole"]]
+    listed("an address codeword ends a page, and a word past repair the next", bits_of(called), calls, [(0, "upright", 1, 0, 1, 1)])
+    within = [SYNC, tone, more, IDLE ^ 3, tone ^ 3 << 9] + [IDLE] * 12
+    ends = [*one, ["9", "tone0", "", "whole"]]
+    listed("codewords with two wrong bits end pages", bits_of(within), ends, [(0, "upright", 1, 4, 0, 0)])
+    last = [SYNC, *[IDLE] * 15, tone]
+    listed("a call at the end of the reception", bits_of(last), [["15", "tone0", "", "cut"]], [(0, "upright", 1, 0, 0, 1)])
+    listed("and with a batch behind it", bits_of([*last, SYNC, *[IDLE] * 16]), [["15", "tone0", "", "whole"]], [(0, "upright", 2, 0, 0, 0)])
     gone = [SYNC, tone ^ 0b1011 << 7, more, more] + [IDLE] * 13
     listed("an address past repair opens none", bits_of(gone), [], [(0, "upright", 1, 0, 1, 0)])
     orphan = [SYNC, more, tone, *[IDLE] * 14]
-    listed("a message codeword without a page", bits_of(orphan), [["8", "tone0", ""]], [(0, "upright", 1, 0, 0, 0)])
+    listed("a message codeword without a page", bits_of(orphan), [["8", "tone0", "", "whole"]], [(0, "upright", 1, 0, 0, 0)])
     goes_on = [SYNC, *[IDLE] * 14, tone, more, SYNC ^ 3, more, *[IDLE] * 15]
-    over = [["15", "numeric", numeric([0x12345, 0x12345])]]
+    over = [["15", "numeric", numeric([0x12345, 0x12345]), "whole"]]
     listed("a page over two batches", bits_of(goes_on), over, [(0, "upright", 2, 2, 0, 0)])
     alike = [SYNC, *[IDLE] * 14, tone, more, SYNC ^ 0x7F, more, *[IDLE] * 15]
     listed("a last batch of seven wrong bits", bits_of(alike), over, [(0, "upright", 2, 0, 1, 0)])
-    begun = [["15", "numeric", numeric([0x12345])]]
+    begun = [["15", "numeric", numeric([0x12345]), "cut"]]
     stops = [SYNC, *[IDLE] * 14, tone, more, SYNC ^ 0xFF, more, *[IDLE] * 15]
     listed("none of eight wrong bits", bits_of(stops), begun, [(0, "upright", 1, 0, 0, 1)])
     bridged = [SYNC, *[IDLE] * 14, tone, more, SYNC ^ 0xFFFFF, more, *[IDLE] * 15, SYNC, *[IDLE] * 16]
@@ -370,14 +425,14 @@ def try_by_hand(tally, folder):
     listed("whose successor is out of step", late, begun, [(0, "upright", 1, 0, 0, 1), (1089, "upright", 1, 0, 0, 0)])
     taken = bridged[:20] + [SYNC] + bridged[21:]
     # the synchronisation codeword of the third batch is there an address codeword: 255632 with function 2, in frame 6
-    stray = [*begun, ["2045062", "tone2", ""]]
+    stray = [*begun, ["2045062", "tone2", "", "whole"]]
     listed("with another between", bits_of(taken), stray, [(0, "upright", 1, 0, 0, 1), (640, "upright", 1, 0, 0, 0)])
     turned = bits_of([SYNC, *[IDLE] * 14, tone, more]) + inverted(bits_of([SYNC, more, *[IDLE] * 15]))
     listed("the polarity changes", turned, begun, [(0, "upright", 1, 0, 0, 1), (544, "inverted", 1, 0, 0, 0)])
     call = bits_of([SYNC, *[IDLE] * 16, SYNC, tone, *[IDLE] * 15])
-    listed("a transmission that another cuts off", call[:840] + call, [["8", "tone0", ""], ["8", "tone0", ""]])
+    listed("a transmission that another cuts off", call[:840] + call, [["8", "tone0", "", "whole"]] * 2)
     lost_bit = bits_of([SYNC, tone, *[IDLE] * 15])[:543] + bits_of([SYNC, tone, more, *[IDLE] * 14])
-    listed("a bit that is lost", lost_bit, [["8", "tone0", ""], one[0]])
+    listed("a bit that is lost", lost_bit, [["8", "tone0", "", "whole"], one[0]])
     for count in (5, 6, 11):
         words = [lost if place < 2 * count - 16 or place % 2 and place < 2 * count else IDLE for place in range(16)]
         told = [(0, "upright", 1, 0, 5, 0)] if count == 5 else []
@@ -397,7 +452,7 @@ def try_by_hand(tally, folder):
 
 
 def numeric(items):
-    return read_row([0, 0, items])[2]
+    return read_row([0, 0, items, ""])[2]
 
 
 def try_words(tally, folder):
@@ -406,7 +461,21 @@ def try_words(tally, folder):
     (folder / "air.bin").write_bytes(file_of("1" + bits))
     (folder / "tx.bin").write_bytes(b"\xaa" * 72 + file_of(bits))
     piped = run(["decode", "--capture", "-"], cwd=folder, input=file_of("1" + bits))
-    tally.check("standard input", (piped.returncode, piped.stdout) == (0, b"address,kind,message\n8,tone0,\n19,alpha,ab\n"), piped)
+    tally.check("standard input", (piped.returncode, piped.stdout) == (0, HEADER + b"8,tone0,,whole\n19,alpha,ab,whole\n"), piped)
+    lines = run(["decode", "--capture", "--json", "air.bin"], cwd=folder)
+    due = b"".join(b'{"address":%s,"state":"whole","transmission":1,"inverted":false,"bit":1}\n' % page for page in (
+        b'8,"function":0,"kind":"tone0","message":""', b'19,"function":3,"kind":"alpha","message":"ab"',
+    ))
+    tally.check("lines of JSON", (lines.returncode, lines.stdout) == (0, due), lines)
+    odd = "".join(map(chr, range(1, 128)))
+    (folder / "odd.bin").write_bytes(file_of(inverted("0" + bits_of(words_of([(19, 3, odd)])))))
+    lines = run(["hear", "19", "--capture", "odd.bin", "--json"], cwd=folder)
+    told = {"address": 19, "function": 3, "kind": "alpha", "message": odd, "state": "whole"}
+    due = told | {"transmission": 1, "inverted": True, "bit": 1}
+    holds = lines.stdout.count(b"\n") == 1 and lines.stdout.isascii() and json.loads(lines.stdout) == due
+    tally.check("each byte in JSON", lines.returncode == 0 and holds, lines)
+    none = run(["decode", "--capture", "--json", "-"], cwd=folder, input=b"")
+    tally.check("no line of JSON", (none.returncode, none.stdout) == (0, b""), none)
     plain = run(["decode", "air.bin"], cwd=folder)
     tally.check("without --capture", (plain.returncode, plain.stderr) == (1, b"pocsag: the preamble is too short\n"), plain)
     none = run(["show", "air.bin", "--capture", "--nth", "2"], cwd=folder)

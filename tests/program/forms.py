@@ -187,8 +187,6 @@ def try_words(tally, folder):
                 holds = (done.returncode, done.stdout) == (2, b"") and done.stderr.decode().startswith(BAD_TEXT)
                 tally.check(f"{command} --text '{word}'", holds, done)
         for option in (["--json"], ["--text", "0"]):
-            done = run([*command, "tx.bin", *option, "--capture"], folder)
-            tally.check(f"{command} {option} --capture", (done.returncode, done.stdout) == (2, b""), done)
             for more in ([], ["--repair"])[: 1 + (command == ["decode"])]:
                 words = [*command, "short.bin", *option, *more]
                 note = b"pocsag: transmission short.bin"

@@ -3,6 +3,7 @@ pub mod Ends
 pub mod Joined
 pub mod Lifts
 pub mod Once
+pub mod PageEnds
 pub mod Polarities
 pub mod SearchLemmas
 pub mod SentBits

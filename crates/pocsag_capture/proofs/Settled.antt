@@ -24,7 +24,7 @@ abbrev pub open_after_all : Bool → List (Option Kind) → Bool
 open_after_all b [] = b
 open_after_all b (m ∷ ms) = open_after_all (stays_open b m) ms
 
-open_more : (b : Bool) (ms : List (Option Kind)) (m : Option Kind) → open_after_all b (ms ++ m ∷ []) ≡ stays_open (open_after_all b ms) m
+pub open_more : (b : Bool) (ms : List (Option Kind)) (m : Option Kind) → open_after_all b (ms ++ m ∷ []) ≡ stays_open (open_after_all b ms) m
 open_more b [] m = refl
 open_more b (k ∷ ms) m = open_more (stays_open b k) ms m
 

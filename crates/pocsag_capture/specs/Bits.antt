@@ -1,5 +1,5 @@
 -- The bits of a capture, and the words that they make: the highest bit of each byte came first.
-use Rattle.std.specs.Prelude.{ℕ, ◌-◌, List, take, drop}
+use Rattle.std.specs.Prelude.{ℕ, ◌-◌, Bool, true, false, List, take, drop}
 use Rattle.std.specs.List.{flat_map}
 use Rattle.pocsag_text.specs.Bits.{high_first, high_number}
 use Rattle.pocsag_capture.specs.declared.polarity.Polarity.{Polarity}
@@ -17,3 +17,8 @@ word_on bits bit = high_number 0 (take 32 (drop bit bits))
 abbrev pub as_sent : Polarity → ℕ → ℕ
 as_sent Upright word = word
 as_sent Inverted word = 0xffffffff - word
+
+-- Whether each bit was received as the other.
+abbrev pub inverts : Polarity → Bool
+inverts Upright = false
+inverts Inverted = true

@@ -3,6 +3,7 @@ pub mod Caught
 pub mod Extracted
 pub mod ExtractedBytes
 pub mod Lost
+pub mod PageEnds
 pub mod Receptions
 pub mod Runs
 pub mod Sent

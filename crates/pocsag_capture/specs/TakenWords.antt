@@ -39,3 +39,17 @@ pub record TakesWord (before after : WordCorrector) (word codeword : ℕ) : Type
   pub bits : after.corrected ≡ before.corrected + wrong_bits word mended
   pub beyond : after.lost ≡ before.lost + is_lost mended
   pub cuts : after.cut ≡ before.cut + cut_by before.is_open (said mended)
+
+-- Where the open page ends at a word, whether it is cut there: at a word past repair it is.
+abbrev pub end_by : (is_open : Bool) → Option Kind → Option Bool
+end_by is_open None = if is_open then Some true else None
+end_by is_open (Some Idle) = if is_open then Some false else None
+end_by is_open (Some (Address high function)) = if is_open then Some false else None
+end_by is_open (Some (Message bits)) = None
+
+-- The word was taken, where a page may be open before it and after it, and the page ends at it as this says.
+pub record TakesEnd (before after : Bool) (word : ℕ) (ended : Option Bool) : Type 0 where
+  pub mended : Option ℕ
+  pub is_mended : IsMended word mended
+  pub open_after : after ≡ stays_open before (said mended)
+  pub ends : ended ≡ end_by before (said mended)

@@ -3,17 +3,17 @@
 //! and lifted out as a transmission of whole bytes, which the decoder, the pager and the pictures read like any other.
 
 mod bits;
+mod catching;
 mod corrector;
 mod fault;
-mod laws;
 mod lift;
 mod polarity;
 mod reading;
 mod reception;
 mod search;
 
+pub use catching::{Catch, catch_pages};
 pub use fault::CaptureFault;
-pub use laws::{captures_show_what_was_sent, caught_pages_are_shown};
-pub use lift::{Extracted, lift_all, lift_one};
+pub use lift::{Extracted, lift_all, lift_one, receptions_in};
 pub use polarity::Polarity;
 pub use reception::{Reception, ReceptionStats, Run};

@@ -3,15 +3,13 @@ ghost use Rattle.std.specs.Prelude.{◌≡◌, ◌⊎◌, ℕ, ◌+◌, ◌-◌,
 ghost use Rattle.pocsag_words.specs.Frame.{input_limit, preamble_byte, preamble_length};
 ghost use Rattle.pocsag_pages.specs.declared.page.Page.{Page};
 ghost use Rattle.pocsag_capture.specs.Bits.{capture_bits};
-ghost use Rattle.pocsag_capture.specs.ExtractedBytes.{ExplainsNone, ExplainsUnlifted, LiftsAll, LiftsOne, LiftsReception, PutsLift, PutsLifts};
+ghost use Rattle.pocsag_capture.specs.ExtractedBytes.{ExplainsNone, ExplainsUnlifted, LiftsAll, LiftsOne, PutsLift, PutsLifts};
 ghost use Rattle.pocsag_capture.specs.Receptions.{AreReceptions, behind};
 ghost use Rattle.pocsag_capture.specs.Sent.{HoldsSent, ReadsAmong};
-ghost use Rattle.pocsag_capture.specs.declared.reception.ReceptionStats.{ReceptionStats};
 ghost use Rattle.pocsag_capture.specs.declared.reception.Reception.{Reception};
 
 use crate::corrector::{BATCH, WordCorrector};
 use crate::fault::CaptureFault;
-use crate::laws::captures_show_what_was_sent;
 use crate::polarity::Polarity;
 use crate::reading::received_word;
 use crate::reception::{Reception, ReceptionStats};
@@ -29,7 +27,7 @@ pub struct Extracted {
 }
 
 // Puts the batches of a reception behind the bytes, each word as it is settled.
-fn put_lift(
+pub(crate) fn put_lift(
     capture: &[u8],
     reception: Reception,
     bytes: &mut Vec<u8>,
@@ -83,50 +81,17 @@ fn put_lifts(
 }
 
 // The bytes of a preamble.
-fn preamble(alloc: Global) -> Result<Vec<u8>, AllocError>
+pub(crate) fn preamble(alloc: Global) -> Result<Vec<u8>, AllocError>
     ensures { IfOk result (λ bytes. bytes.items ≡ replicate preamble_length preamble_byte) }
 {
     Vec::from_slice(alloc, &[PREAMBLE_BYTE; PREAMBLE_BYTES])
 }
 
-// Lifts receptions out of the capture that holds them.
-fn lifted_all(alloc: Global, capture: &[u8], found: &[Reception]) -> Result<Extracted, AllocError>
-    requires few { length capture.now ≤ input_limit }
-    requires found { AreReceptions (capture_bits capture.now) found.now }
-    ensures { IfOk result (LiftsAll capture.now) }
-{
-    let mut bytes = preamble(alloc)?;
-    // A transmission has at least one batch: here one of which nothing is read.
-    let silence = Reception {
-        bit: 8 * capture.len() as u64,
-        polarity: Polarity::Upright,
-        batches: 1,
-        words: 0,
-    };
-    put_lift(capture, silence, &mut bytes)?;
-    let heard = put_lifts(alloc, capture, found, &mut bytes)?;
-    Ok(Extracted { bytes, heard })
-}
-
-// Lifts one reception.
-fn lifted_one(alloc: Global, capture: &[u8], reception: Reception) -> Result<Extracted, AllocError>
-    requires few { length capture.now ≤ input_limit }
-    requires some { 0 < reception.batches }
-    requires end { behind reception < 2 ^ 60 }
-    ensures { IfOk result (λ extracted. (told : ReceptionStats) × (extracted.heard.items ≡ told ∷ [])
-        × LiftsReception capture.now reception told extracted.bytes.items) }
-{
-    let mut bytes = preamble(alloc)?;
-    let heard = put_lift(capture, reception, &mut bytes)?;
-    Ok(Extracted {
-        bytes,
-        heard: Vec::from_slice(alloc, &[heard])?,
-    })
-}
-
-// The receptions of a capture, which may be too large.
-fn receptions_in(alloc: Global, capture: &[u8]) -> Result<Vec<Reception>, CaptureFault>
+/// The receptions of a capture, which may be too large.
+pub fn receptions_in(alloc: Global, capture: &[u8]) -> Result<Vec<Reception>, CaptureFault>
     ensures found { IfOk result (λ found. AreReceptions (capture_bits capture.now) found.items) }
+    ensures some { IfOk result (λ found. All (λ (r : Reception). 0 < r.batches) found.items) }
+    ensures ends { IfOk result (λ found. All (λ (r : Reception). behind r < 2 ^ 60) found.items) }
     ensures few { OnOk result (length capture.now ≤ input_limit) }
     ensures explained { IfErr result (ExplainsUnlifted capture.now) }
 {
@@ -147,9 +112,18 @@ pub fn lift_all(alloc: Global, capture: &[u8]) -> Result<Extracted, CaptureFault
     ensures few { OnOk result (length capture.now ≤ input_limit) }
     ensures explained { IfErr result (ExplainsUnlifted capture.now) }
 {
-    captures_show_what_was_sent();
     let found = receptions_in(alloc, capture)?;
-    Ok(lifted_all(alloc, capture, found.as_slice())?)
+    let mut bytes = preamble(alloc)?;
+    // A transmission has at least one batch: here one of which nothing is read.
+    let silence = Reception {
+        bit: 8 * capture.len() as u64,
+        polarity: Polarity::Upright,
+        batches: 1,
+        words: 0,
+    };
+    put_lift(capture, silence, &mut bytes)?;
+    let heard = put_lifts(alloc, capture, found.as_slice(), &mut bytes)?;
+    Ok(Extracted { bytes, heard })
 }
 
 // The reception of a number, counted from 1.
@@ -177,5 +151,10 @@ pub fn lift_one(alloc: Global, capture: &[u8], nth: u64) -> Result<Extracted, Ca
             found: found.len() as u64,
         });
     };
-    Ok(lifted_one(alloc, capture, reception)?)
+    let mut bytes = preamble(alloc)?;
+    let heard = put_lift(capture, reception, &mut bytes)?;
+    Ok(Extracted {
+        bytes,
+        heard: Vec::from_slice(alloc, &[heard])?,
+    })
 }

@@ -20,10 +20,8 @@ pub enum Polarity {
 }
 
 impl Polarity {
-    ghost use Rattle.std.specs.Prelude.{◌≡◌, ◌↔◌, IsTrue};
-    ghost use Rattle.pocsag_words.specs.Codeword.{IsNear};
-    ghost use Rattle.pocsag_pages.specs.Bytes.{sync_word};
-    ghost use Rattle.pocsag_capture.specs.Bits.{as_sent};
+    ghost use Rattle.std.specs.Prelude.{◌≡◌};
+    ghost use Rattle.pocsag_capture.specs.Bits.{as_sent, inverts};
 
     // What was sent where the word was received.
     #[inline(always)]
@@ -36,12 +34,14 @@ impl Polarity {
         }
     }
 
-    // Whether a word differs from the synchronisation codeword in at most two bits.
-    #[inline(always)]
-    pub(crate) fn has_sync(self, word: u32) -> bool
-        ensures { IsTrue result ↔ IsNear sync_word (as_sent self word) }
+    /// Whether each bit was received as the other.
+    pub fn is_inverted(self) -> bool
+        ensures { result ≡ inverts self }
     {
-        (SYNC_WORD ^ self.sent(word)).count_ones() <= NEAR_BITS
+        match self {
+            Polarity::Upright => false,
+            Polarity::Inverted => true,
+        }
     }
 }
 

@@ -11,10 +11,10 @@ ghost use Rattle.pocsag_capture.specs.declared.polarity.Polarity.{Polarity};
 ghost use Rattle.pocsag_capture.specs.declared.reception.Run.{Run};
 
 use crate::bits::{window_on, word_in, word_on};
-use crate::polarity::{Polarity, polarity_of};
+use crate::polarity::{NEAR_BITS, Polarity, polarity_of};
 use crate::reading::{has_few_lost, reception_of};
 use crate::reception::{Reception, Run};
-use pocsag_words::BATCH_BITS;
+use pocsag_words::{BATCH_BITS, SYNC_WORD};
 use std::alloc::{AllocError, Global};
 
 // How many bits before the end of a batch the next transmission may begin, since bits are lost.
@@ -72,7 +72,10 @@ fn is_synchronised(capture: &[u8], bit: u64, polarity: Polarity) -> bool
     requires bit { bit < 2 ^ 60 }
     ensures { IsTrue result ↔ IsSynchronised (capture_bits capture.now) bit polarity }
 {
-    bit + 32 <= 8 * capture.len() as u64 && polarity.has_sync(word_on(capture, bit))
+    if bit + 32 > 8 * capture.len() as u64 {
+        return false;
+    }
+    (SYNC_WORD ^ polarity.sent(word_on(capture, bit))).count_ones() <= NEAR_BITS
 }
 
 // Whether no synchronisation codeword begins from a bit on, before the last.

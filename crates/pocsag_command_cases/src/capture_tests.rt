@@ -1,13 +1,26 @@
 //! `decode`, `hear` and `show` of captures that are worked out by hand: a tone, inverted and one bit late, and one behind a
-//! synchronisation codeword that cannot be recognised.
+//! synchronisation codeword that cannot be recognised; and calls that are cut.
 
 use pocsag_capture::{CaptureFault, Polarity, Reception, ReceptionStats};
 use pocsag_receiver::{
-    Listening, ReceiverFault, Viewing, run_decode_capture, run_hear_capture, run_show_capture,
+    Catching, Picking, ReceiverFault, Viewing, run_list_capture, run_show_capture,
 };
 use pocsag_shell::ErrorStream;
 use pocsag_show::{Rows, View};
 use pocsag_words::{MemorySink, SliceSource};
+use std::alloc::Global;
+
+// What is asked of a capture.
+fn catching(alloc: Global, only: Option<u32>, is_json: bool) -> Catching {
+    Catching {
+        picking: Picking {
+            only,
+            texts: [false; 3],
+            is_json,
+        },
+        heard: Vec::new(alloc),
+    }
+}
 
 // A one, and then a batch with a tone of address 8 in its first codeword, each bit as the other.
 fn late_tone() -> [u8; 69] {
@@ -41,28 +54,35 @@ fn a_late_tone_is_caught(rt: HostRuntime) {
     let alloc = rt.alloc();
     let mut err = ErrorStream::new(MemorySink::<100>::new(1, 1000));
     let mut listing = MemorySink::<4000>::new(1000, 4000);
-    let mut told = Vec::new(alloc);
+    let mut told = catching(alloc, None, false);
     let tx = &mut SliceSource::new(&capture);
     assert_eq!(rt;
-        run_decode_capture(alloc, &mut told, tx, &mut listing, &mut err),
+        run_list_capture(alloc, &mut told, tx, &mut listing, &mut err),
         0
     );
-    assert_eq!(rt; told.as_slice(), [due].as_slice());
+    assert_eq!(rt; told.heard.as_slice(), [due].as_slice());
     assert_eq!(rt;
         listing.bytes(),
-        b"address,kind,message\n8,tone0,\n".as_slice()
+        b"address,kind,message,state\n8,tone0,,whole\n".as_slice()
     );
     let mut other = MemorySink::<4000>::new(1000, 4000);
-    let mut listening = Listening {
-        address: 16,
-        heard: Vec::new(alloc),
-    };
+    let mut listening = catching(alloc, Some(16), false);
     let tx = &mut SliceSource::new(&capture);
     assert_eq!(rt;
-        run_hear_capture(alloc, &mut listening, tx, &mut other, &mut err),
+        run_list_capture(alloc, &mut listening, tx, &mut other, &mut err),
         0
     );
-    assert_eq!(rt; other.bytes(), b"address,kind,message\n".as_slice());
+    assert_eq!(rt; other.bytes(), b"address,kind,message,state\n".as_slice());
+    let mut lines = MemorySink::<4000>::new(1000, 4000);
+    let mut asked = catching(alloc, Some(8), true);
+    let tx = &mut SliceSource::new(&capture);
+    assert_eq!(rt;
+        run_list_capture(alloc, &mut asked, tx, &mut lines, &mut err),
+        0
+    );
+    let due =
+        b"{\"address\":8,\"function\":0,\"kind\":\"tone0\",\"message\":\"\",\"state\":\"whole\",\"transmission\":1,\"inverted\":true,\"bit\":1}\n";
+    assert_eq!(rt; lines.bytes(), due.as_slice());
     for (nth, status) in [(1, 0), (2, 1)] {
         let mut grid = MemorySink::<4000>::new(1000, 4000);
         let mut viewing = Viewing {
@@ -114,15 +134,48 @@ fn a_bridged_tone_is_caught(rt: HostRuntime) {
     let alloc = rt.alloc();
     let mut err = ErrorStream::new(MemorySink::<100>::new(1, 1000));
     let mut listing = MemorySink::<4000>::new(1000, 4000);
-    let mut told = Vec::new(alloc);
+    let mut told = catching(alloc, None, false);
     let tx = &mut SliceSource::new(&capture);
     assert_eq!(rt;
-        run_decode_capture(alloc, &mut told, tx, &mut listing, &mut err),
+        run_list_capture(alloc, &mut told, tx, &mut listing, &mut err),
         0
     );
-    assert_eq!(rt; told.as_slice(), [due].as_slice());
+    assert_eq!(rt; told.heard.as_slice(), [due].as_slice());
     assert_eq!(rt;
         listing.bytes(),
-        b"address,kind,message\n8,tone0,\n".as_slice()
+        b"address,kind,message,state\n8,tone0,,whole\n".as_slice()
+    );
+}
+
+// A batch with a tone of address 8, directly before a word past repair, one of address 9, and one of address 15 in its last
+// codeword.
+fn cut_tones() -> [u8; 68] {
+    let mut capture = [0; 68];
+    for place in 0..68 {
+        capture[place] = match place {
+            0..=3 => [0x7c, 0xd2, 0x15, 0xd8][place],
+            8..=11 | 16..=19 | 64..=67 => [0x00, 0x00, 0x26, 0xec][place % 4],
+            12..=15 => [0x00, 0x00, 0x00, 0x0b][place % 4],
+            _ => [0x7a, 0x89, 0xc1, 0x97][place % 4],
+        };
+    }
+    capture
+}
+
+#[test]
+fn tones_are_cut(rt: HostRuntime) {
+    let capture = cut_tones();
+    let alloc = rt.alloc();
+    let mut err = ErrorStream::new(MemorySink::<100>::new(1, 1000));
+    let mut listing = MemorySink::<4000>::new(1000, 4000);
+    let mut told = catching(alloc, None, false);
+    let tx = &mut SliceSource::new(&capture);
+    assert_eq!(rt;
+        run_list_capture(alloc, &mut told, tx, &mut listing, &mut err),
+        0
+    );
+    assert_eq!(rt;
+        listing.bytes(),
+        b"address,kind,message,state\n8,tone0,,cut\n9,tone0,,whole\n15,tone0,,cut\n".as_slice()
     );
 }

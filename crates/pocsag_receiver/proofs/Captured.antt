@@ -1,63 +1,31 @@
--- Why a command does not answer for a capture.
-use Rattle.std.proofs.Common.{◌≡◌, ◌≢◌, ℕ, ◌*◌, ◌%◌, ◌<◌, ◌≤◌, List, ◌++◌, length, map, subst, Option, None, Some, Err, refl, ap, ◌∙◌, inl, inr, arith, eq-eqb}
-use Rattle.std.specs.Option.{option_or}
-use Rattle.std.specs.Result.{IsErrOf}
-use Rattle.std.proofs.lemmas.Bool.{le-ltb, ne_eqb}
+-- What is listed of a capture, and why a command does not answer for one.
+use Rattle.std.proofs.Common.{◌≡◌, ℕ, ◌+◌, ◌<◌, ◌≤◌, Bool, true, false, List, [], ◌∷◌, ◌++◌, length, get_or, map, take, All, Option, refl, sym, ap, ap₂, subst, ◌∙◌, arith, append_assoc, if◌then◌else◌}
+use Rattle.std.proofs.Math.Seq.{take-length}
+use Rattle.std.proofs.lemmas.List.{append-nil, flat_map_more, length-map, length-take-le, map-append, take_more}
+use Rattle.std.proofs.lemmas.List.Elements.{All-nil, All-push, All-weaker}
 use Rattle.pocsag_words.specs.Devices.{TookPrefix}
 use Rattle.pocsag_words.specs.Frame.{input_limit}
 use Rattle.pocsag_pages.specs.declared.page.Page.{Page}
-use Rattle.pocsag_pages.specs.Bytes.{Sent, after_preamble, body_bytes, leading, words_of}
-use Rattle.pocsag_capture.specs.ExtractedBytes.{LiftsAll, LiftsOne}
-use Rattle.pocsag_capture.specs.declared.lift.Extracted.{Extracted}
+use Rattle.pocsag_pages.specs.Bytes.{unsynced}
+use Rattle.pocsag_capture.specs.Bits.{capture_bits}
+use Rattle.pocsag_capture.specs.Caught.{HasCaught}
+use Rattle.pocsag_capture.specs.ExtractedBytes.{LiftsOne}
+use Rattle.pocsag_capture.specs.PageEnds.{AreNumbered, HasCatches, IsCatch, UncutStandWhole, pages_caught}
+use Rattle.pocsag_capture.specs.Receptions.{AreReceptions, received}
+use Rattle.pocsag_capture.specs.Sent.{HoldsSent, StandAmong}
+use Rattle.pocsag_capture.specs.declared.catching.Catch.{Catch}
 use Rattle.pocsag_capture.specs.declared.reception.ReceptionStats.{ReceptionStats}
-use Rattle.pocsag_decode.specs.Faults.{IsFaultless, ReadsAs}
-use Rattle.pocsag_decode.specs.Listing.{listing}
-use Rattle.pocsag_decode.proofs.Preambles.{leading_is}
-use Rattle.pocsag_decode.proofs.SentBytes.{body_begins}
-use Rattle.pocsag_pager.specs.Faults.{address_fault, bytes_fault}
-use Rattle.pocsag_pager.specs.Shown.{AreShown}
-use Rattle.pocsag_pager.specs.declared.fault.PagerFault.{PagerFault}
+use Rattle.pocsag_capture.specs.declared.reception.Reception.{Reception}
+use Rattle.pocsag_capture.proofs.PageEnds.{catches_are_caught_lem, uncut_pages_stand}
+use Rattle.pocsag_decode.specs.Faults.{IsFaultless}
 use Rattle.pocsag_shell.specs.declared.fault.FileFault.TheVariants as file
 use Rattle.pocsag_show.specs.declared.view.View.{View}
-use Rattle.pocsag_receiver.specs.Captures.{ExplainsCapture, ExplainsCaptureFor, ExplainsOne, ListsCaught, ListsCaughtPart, of_address}
-use Rattle.pocsag_receiver.specs.Listings.{Decoded, DecodedPart, ExplainsDecoding, ExplainsHearing, HeardIn, HeardPartIn}
+use Rattle.pocsag_receiver.specs.Captures.{ExplainsOne, ListsAmong, ListsCaught, ListsCaughtPart, ListsWhole, TextOfCatches}
+use Rattle.pocsag_receiver.specs.CaughtForms.{caught_header, caught_listing, caught_text, is_picked, picked_pages}
 use Rattle.pocsag_receiver.specs.Views.{ExplainsShowing}
+use Rattle.pocsag_receiver.specs.declared.caught.Picking.{Picking}
 use Rattle.pocsag_receiver.specs.declared.fault.ReceiverFault.{ReceiverFault}
 use Rattle.pocsag_receiver.specs.declared.fault.ReceiverFault.TheVariants as fault
-use Rattle.pocsag_receiver.specs.declared.form.ListForm.TheVariants as forms
-use Rattle.pocsag_receiver.proofs.Received.{batches_long, listed_as_sent}
-
-pub decode_explained : (capture bytes : List ℕ) (e : ReceiverFault) → length capture ≤ input_limit → IsFaultless bytes → ExplainsDecoding bytes e
-    → ExplainsCapture capture e
-decode_explained capture bytes (fault.Transmission f) few none said = absurd (none f said)
-decode_explained capture bytes (fault.File file.OutOfMemory) few none said = few
-decode_explained capture bytes (fault.File file.Write) few none said = few
-decode_explained capture bytes _ few none said = absurd said
-
--- the bytes of a transmission have no fault for a pager
-bytes_fine : (n b : ℕ) (X : List ℕ) → 72 ≤ n → 0 < b → leading X ≡ n → length (after_preamble X) ≡ 68 * b → bytes_fault X ≡ None
-unfolding bytes_fault
-bytes_fine n b X long positive e h =
-    let some : 68 * b ≢ 0 = λ wrong. absurd (omega arith) in
-    let whole : 68 * b % 68 ≡ 0 = omega arith in
-    rw (h, e, le-ltb _ _ long, ne_eqb _ _ some, eq-eqb _ _ whole) refl
-
-pub sent_fine : (X T : List ℕ) → Sent X T → bytes_fault X ≡ None
-sent_fine X T s =
-    let front : leading X ≡ s.preamble = leading_is X s.preamble (body_bytes T) (record { whole = s.bytes; other = body_begins T }) in
-    bytes_fine s.preamble s.batches X s.long s.whole.0 front (batches_long X T s)
-
-only_address : (o p : Option PagerFault) (f : PagerFault) → p ≡ None → option_or o p ≡ Some f → o ≡ Some f
-only_address None p f none is = absurd (cc)
-only_address (Some g) p f none is = is
-
-pub hear_explained : (a : ℕ) (capture bytes : List ℕ) (e : ReceiverFault) → length capture ≤ input_limit → bytes_fault bytes ≡ None
-    → ExplainsHearing a bytes e → ExplainsCaptureFor a capture e
-hear_explained a capture bytes (fault.Pager f) few fine (inl is) = inl (only_address (address_fault a) (bytes_fault bytes) f fine is)
-hear_explained a capture bytes (fault.Pager f) few fine (inr memory) = inr memory.0
-hear_explained a capture bytes (fault.File file.OutOfMemory) few fine said = few
-hear_explained a capture bytes (fault.File file.Write) few fine said = few
-hear_explained a capture bytes _ few fine said = absurd said
 
 pub show_explained : (view : View) (capture bytes : List ℕ) (nth : ℕ) (heard : List ReceptionStats) (e : ReceiverFault) → length capture ≤ input_limit
     → LiftsOne capture nth heard bytes → IsFaultless bytes → ExplainsShowing view bytes e → ExplainsOne view capture nth e
@@ -68,60 +36,139 @@ show_explained view capture bytes nth heard (fault.File file.OutOfMemory) few li
 show_explained view capture bytes nth heard (fault.File file.Write) few lifts none said = few
 show_explained view capture bytes nth heard _ few lifts none said = absurd said
 
--- ---- what is listed
+-- ---- the pages of a catch, of which the first were listed
 
--- that bytes read as one list of pages, by the law of that name
-abbrev pub ReadingsAreOne : Type 0
-ReadingsAreOne = (X : List ℕ) (ps qs : List Page) → ReadsAs X ps → ReadsAs X qs → ps ≡ qs
+-- the text of one page, where it is asked for
+abbrev pub one_picked : Option ℕ → (Bool → Page → List ℕ) → Bool → Page → List ℕ
+one_picked only T b p = if is_picked only p.address then T b p else []
 
-pub decodes_caught : ReadingsAreOne → (capture : List ℕ) (l : Extracted) (bytes out out' : List ℕ) → bytes ≡ l.bytes.items → LiftsAll capture l
-    → Decoded bytes out out' → ListsCaught capture (λ (ps : List Page). ps) l.heard.items out out'
-decodes_caught law capture l bytes out out' same f d = record {
-  pages = f.pages;
-  caught = f.caught;
-  printed = f.told;
-  listed = listed_as_sent l.bytes.items bytes f.pages out out' (λ qs h. law l.bytes.items qs f.pages h f.reads) same d;
+picked_push : (only : Option ℕ) (T : Bool → Page → List ℕ) (ps : List Page) (bs : List Bool) (p : Page) (b : Bool) → length bs ≡ length ps
+    → picked_pages only T (ps ++ p ∷ []) (bs ++ b ∷ []) ≡ picked_pages only T ps bs ++ one_picked only T b p
+picked_push only T [] [] p b long = append-nil (one_picked only T b p)
+picked_push only T [] (c ∷ bs) p b long = absurd (omega arith)
+picked_push only T (q ∷ ps) [] p b long = absurd (omega arith)
+picked_push only T (q ∷ ps) (c ∷ bs) p b long =
+    let fewer : length bs ≡ length ps = omega arith in
+    ap (λ (l : List ℕ). one_picked only T c q ++ l) (picked_push only T ps bs p b fewer)
+    ∙ sym (append_assoc (one_picked only T c q) (picked_pages only T ps bs) (one_picked only T b p))
+
+module _ (only : Option ℕ) (T : Bool → Page → List ℕ) (pages : List Page) (cuts : List Bool) (i : ℕ) (long : length cuts ≡ length pages) where
+  -- the text so far
+  abbrev pub picked_to : ℕ → List ℕ
+  picked_to n = picked_pages only T (take n pages) (take n cuts)
+
+  picked_next : (p : Page) (b : Bool) → i < length pages → p ≡ get_or pages i p → b ≡ get_or cuts i b
+      → picked_to (i + 1) ≡ picked_to i ++ one_picked only T b p
+  picked_next p b within is at =
+      let ps : take (i + 1) pages ≡ take i pages ++ p ∷ [] =
+      take_more pages i p within ∙ ap (λ (q : Page). take i pages ++ q ∷ []) (sym is) in
+      let bs : take (i + 1) cuts ≡ take i cuts ++ b ∷ [] =
+      take_more cuts i b (omega arith) ∙ ap (λ (c : Bool). take i cuts ++ c ∷ []) (sym at) in
+      let two : length (take i cuts) ≡ length (take i pages) =
+      omega (arith, length-take-le i pages (omega arith), length-take-le i cuts (omega arith)) in
+      ap₂ (λ (l : List Page) (m : List Bool). picked_pages only T l m) ps bs ∙ picked_push only T (take i pages) (take i cuts) p b two
+
+  -- a page more is listed
+  pub picked_more : (p : Page) (b : Bool) (before now after : List ℕ) → i < length pages → p ≡ get_or pages i p → b ≡ get_or cuts i b
+      → is_picked only p.address ≡ true → now ≡ before ++ picked_to i → after ≡ now ++ T b p → after ≡ before ++ picked_to (i + 1)
+  picked_more p b before now after within is at on f more =
+      more ∙ ap (λ (l : List ℕ). l ++ T b p) f ∙ append_assoc before (picked_to i) (T b p)
+      ∙ ap (λ (c : Bool). before ++ (picked_to i ++ (if c then T b p else []))) (sym on)
+      ∙ ap (λ (l : List ℕ). before ++ l) (sym (picked_next p b within is at))
+
+  -- a page is passed over
+  pub picked_past : (p : Page) (before now : List ℕ) → i < length pages → p ≡ get_or pages i p → is_picked only p.address ≡ false
+      → now ≡ before ++ picked_to i → now ≡ before ++ picked_to (i + 1)
+  picked_past p before now within is off f =
+      let b : Bool = get_or cuts i true in
+      let ps : take (i + 1) pages ≡ take i pages ++ p ∷ [] =
+      take_more pages i p within ∙ ap (λ (q : Page). take i pages ++ q ∷ []) (sym is) in
+      let bs : take (i + 1) cuts ≡ take i cuts ++ b ∷ [] = take_more cuts i true (omega arith) in
+      let two : length (take i cuts) ≡ length (take i pages) =
+      omega (arith, length-take-le i pages (omega arith), length-take-le i cuts (omega arith)) in
+      let next : picked_to (i + 1) ≡ picked_to i ++ one_picked only T b p =
+      ap₂ (λ (l : List Page) (m : List Bool). picked_pages only T l m) ps bs ∙ picked_push only T (take i pages) (take i cuts) p b two in
+      let none : picked_to (i + 1) ≡ picked_to i =
+      next ∙ ap (λ (c : Bool). picked_to i ++ (if c then T b p else [])) off ∙ append-nil (picked_to i) in
+      f ∙ ap (λ (l : List ℕ). before ++ l) (sym none)
+
+  -- all of them
+  pub picked_all : (before now : List ℕ) → i ≡ length pages → now ≡ before ++ picked_to i → now ≡ before ++ picked_pages only T pages cuts
+  picked_all before now is f =
+      f ∙ ap₂ (λ (l : List Page) (m : List Bool). before ++ picked_pages only T l m) (ap (λ (n : ℕ). take n pages) is ∙ take-length pages)
+      (ap (λ (n : ℕ). take n cuts) (is ∙ sym long) ∙ take-length cuts)
+
+-- ---- the catches, of which the first were listed
+
+numbered_push : (n : ℕ) (cs : List Catch) (c : Catch) → AreNumbered n cs → c.number ≡ n + length cs → AreNumbered n (cs ++ c ∷ [])
+numbered_push n [] c f is = (omega (arith, is), tt)
+numbered_push n (d ∷ cs) c f is =
+    let next : c.number ≡ n + 1 + length cs = omega (arith, is) in
+    (f.0, numbered_push (n + 1) cs c f.1 next)
+
+pub text_none : (bits : List ℕ) (k : Picking) (heard : List ReceptionStats) (text : List ℕ) → text ≡ caught_header k.is_json
+    → TextOfCatches bits k [] heard heard text
+text_none bits k heard text is = record {
+  catches = [];
+  of = refl;
+  each = All-nil (IsCatch bits);
+  numbers = tt;
+  printed = sym (append-nil heard);
+  written = is ∙ sym (append-nil (caught_header k.is_json));
 }
 
-pub decodes_part : ReadingsAreOne → (capture : List ℕ) (l : Extracted) (bytes out out' : List ℕ) → bytes ≡ l.bytes.items → LiftsAll capture l
-    → DecodedPart bytes out out' → ListsCaughtPart capture (λ (ps : List Page). ps) out out'
-decodes_part law capture l bytes out out' same f d = record {
-  receptions = map (λ (h : ReceptionStats). h.reception) l.heard.items;
-  pages = f.pages;
-  caught = f.caught;
-  part = subst (λ (ps : List Page). TookPrefix out out' (listing ps))
-      (law l.bytes.items d.pages f.pages (subst (λ (l : List ℕ). ReadsAs l d.pages) same d.reads) f.reads) d.part;
-}
+pub text_more : (bits : List ℕ) (k : Picking) (rs rs' : List Reception) (first heard heard' : List ReceptionStats) (text text' : List ℕ) (c : Catch)
+    → TextOfCatches bits k rs first heard text → IsCatch bits c → c.number ≡ length rs + 1 → rs' ≡ rs ++ c.heard.reception ∷ []
+    → heard' ≡ heard ++ c.heard ∷ [] → text' ≡ text ++ caught_text k c → TextOfCatches bits k rs' first heard' text'
+text_more bits k rs rs' first heard heard' text text' c f is number next pushed more =
+    let count : length f.catches ≡ length rs =
+    sym (length-map f.catches (λ (d : Catch). d.heard.reception)) ∙ ap (λ (l : List Reception). length l) f.of in
+    let place : c.number ≡ 1 + length f.catches = omega (arith, number, count) in
+    record {
+      catches = f.catches ++ c ∷ [];
+      of = map-append (λ (d : Catch). d.heard.reception) f.catches (c ∷ []) ∙ ap (λ (l : List Reception). l ++ c.heard.reception ∷ []) f.of
+          ∙ sym next;
+      each = All-push (IsCatch bits) f.catches c f.each is;
+      numbers = numbered_push 1 f.catches c f.numbers place;
+      printed = pushed ∙ ap (λ (l : List ReceptionStats). l ++ c.heard ∷ []) f.printed
+          ∙ append_assoc first (map (λ (d : Catch). d.heard) f.catches) (c.heard ∷ [])
+          ∙ ap (λ (l : List ReceptionStats). first ++ l) (sym (map-append (λ (d : Catch). d.heard) f.catches (c ∷ [])));
+      written = more ∙ ap (λ (l : List ℕ). l ++ caught_text k c) f.written
+          ∙ flat_map_more (caught_text k) (caught_header k.is_json) f.catches c;
+    }
 
--- what is shown of the bytes of a transmission are the pages of the address
-abbrev pub ShownAre : List ℕ → ℕ → List Page → Type 0
-ShownAre X a ps = (qs : List Page) → AreShown (words_of (after_preamble X)) a qs → qs ≡ of_address a ps
+-- ---- all of them
 
-pub hears_as_sent : (a : ℕ) (X bytes : List ℕ) (ps : List Page) (out out' : List ℕ) → ShownAre X a ps → bytes ≡ X → HeardIn forms.Listing a bytes out out'
-    → out' ≡ out ++ listing (of_address a ps)
-hears_as_sent a X bytes ps out out' one same d =
-    d.listed ∙ ap (λ (qs : List Page). out ++ listing qs)
-    (one d.pages (subst (λ (l : List ℕ). AreShown (words_of (after_preamble l)) a d.pages) same d.shown))
+module _ (capture : List ℕ) (k : Picking) (found : List Reception) (first heard : List ReceptionStats) (text out out' : List ℕ)
+    (t : TextOfCatches (capture_bits capture) k found first heard text) (are : AreReceptions (capture_bits capture) found) where
+  has_catches : HasCatches capture t.catches
+  has_catches = record { found = subst (AreReceptions (capture_bits capture)) (sym t.of) are; each = t.each; numbers = t.numbers }
 
-pub hears_caught : (a : ℕ) (capture : List ℕ) (l : Extracted) (bytes out out' : List ℕ) → bytes ≡ l.bytes.items → (f : LiftsAll capture l)
-    → ShownAre l.bytes.items a f.pages → HeardIn forms.Listing a bytes out out' → ListsCaught capture (of_address a) l.heard.items out out'
-hears_caught a capture l bytes out out' same f one d = record {
-  pages = f.pages;
-  caught = f.caught;
-  printed = f.told;
-  listed = hears_as_sent a l.bytes.items bytes f.pages out out' one same d;
-}
+  pub lists_caught : first ≡ [] → out' ≡ out ++ text → ListsCaught capture k heard out out'
+  lists_caught none written = record {
+    catches = t.catches;
+    caught = has_catches;
+    printed = t.printed ∙ ap (λ (l : List ReceptionStats). l ++ map (λ (c : Catch). c.heard) t.catches) none;
+    listed = written ∙ ap (λ (l : List ℕ). out ++ l) t.written;
+  }
 
-pub hears_part : (a : ℕ) (capture : List ℕ) (l : Extracted) (bytes out out' : List ℕ) → bytes ≡ l.bytes.items → (f : LiftsAll capture l)
-    → ShownAre l.bytes.items a f.pages → HeardPartIn forms.Listing a bytes out out' → ListsCaughtPart capture (of_address a) out out'
-hears_part a capture l bytes out out' same f one d = record {
-  receptions = map (λ (h : ReceptionStats). h.reception) l.heard.items;
-  pages = f.pages;
-  caught = f.caught;
-  part = subst (λ (ps : List Page). TookPrefix out out' (listing ps))
-      (one d.pages (subst (λ (l : List ℕ). AreShown (words_of (after_preamble l)) a d.pages) same d.shown)) d.part;
-}
+  pub lists_whole : out' ≡ out ++ text → ListsWhole capture k out out'
+  lists_whole written = record {
+    catches = t.catches;
+    found = has_catches.found;
+    whole = All-weaker (IsCatch (capture_bits capture))
+        (λ (c : Catch). UncutStandWhole (unsynced 0 (received (capture_bits capture) c.heard.reception)) c.pages.items c.cuts.items)
+        (λ c is. uncut_pages_stand (received (capture_bits capture) c.heard.reception) c.pages.items c.cuts.items is.pages is.cuts) t.catches t.each;
+    listed = written ∙ ap (λ (l : List ℕ). out ++ l) t.written;
+  }
 
--- a fault of one call is that of another
-pub fault_again : {T U : Type 0} (e f : ReceiverFault) → IsErrOf {T = T} (Err e) f → IsErrOf {T = U} (Err e) f
-fault_again e f is = let same : e ≡ f = cc in ap Err same
+  pub lists_among : (ps : List Page)
+      → ((rs : List Reception) (qs : List Page) → HasCaught capture rs qs → StandAmong ps qs) → out' ≡ out ++ text → ListsAmong k ps out out'
+  lists_among ps law written = record {
+    catches = t.catches;
+    among = law (map (λ (c : Catch). c.heard.reception) t.catches) (pages_caught t.catches) (catches_are_caught_lem capture t.catches has_catches);
+    listed = written ∙ ap (λ (l : List ℕ). out ++ l) t.written;
+  }
+
+  pub lists_part : TookPrefix out out' text → ListsCaughtPart capture k out out'
+  lists_part part = record { catches = t.catches; caught = has_catches; part = subst (TookPrefix out out') t.written part }

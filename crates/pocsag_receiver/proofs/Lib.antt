@@ -1,3 +1,4 @@
 pub mod Captured
 pub mod Received
 pub mod Read
+pub mod Tokens

@@ -1,46 +1,62 @@
 -- What `--capture` leaves of standard output, and why it leaves nothing.
-use Rattle.std.specs.Prelude.{◌≡◌, ◌⊎◌, ℕ, ◌≤◌, ◌==◌, List, ◌++◌, length, map, filter, All, Some}
+use Rattle.std.specs.Prelude.{◌≡◌, ℕ, ◌≤◌, List, ◌++◌, length, map, All, Option, Some}
 use Rattle.pocsag_words.specs.Devices.{TookPrefix}
 use Rattle.pocsag_words.specs.Frame.{input_limit}
 use Rattle.pocsag_pages.specs.declared.page.Page.{Page}
+use Rattle.pocsag_pages.specs.Bytes.{unsynced}
 use Rattle.pocsag_capture.specs.Bits.{capture_bits}
-use Rattle.pocsag_capture.specs.Caught.{HasCaught}
-use Rattle.pocsag_capture.specs.ExtractedBytes.{ExplainsNone, ExplainsUnlifted, IsStatsOf, LiftsOne}
+use Rattle.pocsag_capture.specs.ExtractedBytes.{ExplainsNone, ExplainsUnlifted, LiftsOne}
+use Rattle.pocsag_capture.specs.PageEnds.{AreNumbered, HasCatches, IsCatch, UncutStandWhole, pages_caught}
+use Rattle.pocsag_capture.specs.Receptions.{AreReceptions, received}
 use Rattle.pocsag_capture.specs.Sent.{StandAmong}
+use Rattle.pocsag_capture.specs.declared.catching.Catch.{Catch}
 use Rattle.pocsag_capture.specs.declared.reception.ReceptionStats.{ReceptionStats}
 use Rattle.pocsag_capture.specs.declared.reception.Reception.{Reception}
-use Rattle.pocsag_decode.specs.Listing.{listing}
 use Rattle.pocsag_pager.specs.Faults.{address_fault}
-use Rattle.pocsag_pager.specs.declared.fault.PagerFault.TheVariants as hearing
 use Rattle.pocsag_shell.specs.declared.fault.FileFault.TheVariants as file
 use Rattle.pocsag_show.specs.declared.view.View.{View}
+use Rattle.pocsag_receiver.specs.CaughtForms.{caught_listing}
 use Rattle.pocsag_receiver.specs.Views.{HasRows, IsBehindLast, Viewed, ViewedPart}
+use Rattle.pocsag_receiver.specs.declared.caught.Picking.{Picking}
 use Rattle.pocsag_receiver.specs.declared.fault.ReceiverFault.{ReceiverFault}
 use Rattle.pocsag_receiver.specs.declared.fault.ReceiverFault.TheVariants as fault
 
--- The pages of an address, in order.
-abbrev pub of_address : (address : ℕ) → List Page → List Page
-of_address address ps = filter (λ p. p.address == address) ps
+-- The text of what is caught of receptions, and how each was received is told behind the others.
+pub record TextOfCatches (bits : List ℕ) (k : Picking) (receptions : List Reception) (heard_before heard_after : List ReceptionStats) (text : List ℕ) : Type 0 where
+  pub catches : List Catch
+  pub of : map (λ (c : Catch). c.heard.reception) catches ≡ receptions
+  pub each : All (IsCatch bits) catches
+  pub numbers : AreNumbered 1 catches
+  pub printed : heard_after ≡ heard_before ++ map (λ (c : Catch). c.heard) catches
+  pub written : text ≡ caught_listing k catches
 
--- Of the pages that are caught of a capture those that are kept were listed, and how each transmission was received is reported.
-pub record ListsCaught (capture : List ℕ) (kept : List Page → List Page) (heard : List ReceptionStats) (out_before out_after : List ℕ) : Type 0 where
-  pub pages : List Page
-  pub caught : HasCaught capture (map (λ (h : ReceptionStats). h.reception) heard) pages
-  pub printed : All (IsStatsOf (capture_bits capture)) heard
-  pub listed : out_after ≡ out_before ++ listing (kept pages)
+-- What is caught of a capture was listed: those of its pages that are asked for, each with its state; and how each transmission was
+-- received is told.
+pub record ListsCaught (capture : List ℕ) (k : Picking) (heard : List ReceptionStats) (out_before out_after : List ℕ) : Type 0 where
+  pub catches : List Catch
+  pub caught : HasCatches capture catches
+  pub printed : heard ≡ map (λ (c : Catch). c.heard) catches
+  pub listed : out_after ≡ out_before ++ caught_listing k catches
 
--- Pages were listed among which these stand, one behind the other: of all of them those that are kept.
-pub record ListsAmong (kept : List Page → List Page) (ps : List Page) (out_before out_after : List ℕ) : Type 0 where
-  pub pages : List Page
-  pub among : StandAmong ps pages
-  pub listed : out_after ≡ out_before ++ listing (kept pages)
+-- *Listed as whole*: pages of the receptions of a capture were listed, and each that is listed as whole stands whole among the words
+-- of its reception.
+pub record ListsWhole (capture : List ℕ) (k : Picking) (out_before out_after : List ℕ) : Type 0 where
+  pub catches : List Catch
+  pub found : AreReceptions (capture_bits capture) (map (λ (c : Catch). c.heard.reception) catches)
+  pub whole : All (λ (c : Catch). UncutStandWhole (unsynced 0 (received (capture_bits capture) c.heard.reception)) c.pages.items c.cuts.items) catches
+  pub listed : out_after ≡ out_before ++ caught_listing k catches
+
+-- Pages were listed among which these stand, one behind the other: of all of them those that are asked for.
+pub record ListsAmong (k : Picking) (ps : List Page) (out_before out_after : List ℕ) : Type 0 where
+  pub catches : List Catch
+  pub among : StandAmong ps (pages_caught catches)
+  pub listed : out_after ≡ out_before ++ caught_listing k catches
 
 -- A prefix of what is listed was taken.
-pub record ListsCaughtPart (capture : List ℕ) (kept : List Page → List Page) (out_before out_after : List ℕ) : Type 0 where
-  pub receptions : List Reception
-  pub pages : List Page
-  pub caught : HasCaught capture receptions pages
-  pub part : TookPrefix out_before out_after (listing (kept pages))
+pub record ListsCaughtPart (capture : List ℕ) (k : Picking) (out_before out_after : List ℕ) : Type 0 where
+  pub catches : List Catch
+  pub caught : HasCatches capture catches
+  pub part : TookPrefix out_before out_after (caught_listing k catches)
 
 -- The capture is too large, or memory or the writer refused: it is never refused for what it holds.
 abbrev pub ExplainsCapture : (capture : List ℕ) → ReceiverFault → Type 0
@@ -49,10 +65,10 @@ ExplainsCapture capture (fault.File file.OutOfMemory) = length capture ≤ input
 ExplainsCapture capture (fault.File file.Write) = length capture ≤ input_limit
 ExplainsCapture capture _ = ⊥
 
--- The same, or the address has this fault.
-abbrev pub ExplainsCaptureFor : (address : ℕ) → (capture : List ℕ) → ReceiverFault → Type 0
-ExplainsCaptureFor address capture (fault.Pager f) = (address_fault address ≡ Some f) ⊎ (f ≡ hearing.OutOfMemory)
-ExplainsCaptureFor address capture e = ExplainsCapture capture e
+-- The capture is too large, or memory or the writer refused; or pages of one address are asked for, and the address has this fault.
+abbrev pub ExplainsCaught : (only : Option ℕ) → (capture : List ℕ) → ReceiverFault → Type 0
+ExplainsCaught only capture (fault.Pager f) = (address : ℕ) × (only ≡ Some address) × (address_fault address ≡ Some f)
+ExplainsCaught only capture e = ExplainsCapture capture e
 
 -- The transmission of this number was lifted, and it was shown.
 pub record ViewsOne (view : View) (capture : List ℕ) (nth : ℕ) (heard : List ReceptionStats) (out_before out_after : List ℕ) : Type 0 where

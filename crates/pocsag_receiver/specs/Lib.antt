@@ -1,4 +1,5 @@
 pub mod Captures
+pub mod CaughtForms
 pub mod Faults
 pub mod Files
 pub mod Forms

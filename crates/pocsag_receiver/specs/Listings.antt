@@ -12,7 +12,6 @@ use Rattle.pocsag_receiver.specs.Forms.{listed_in}
 use Rattle.pocsag_receiver.specs.declared.fault.ReceiverFault.{ReceiverFault}
 use Rattle.pocsag_receiver.specs.declared.fault.ReceiverFault.TheVariants as fault
 use Rattle.pocsag_receiver.specs.declared.form.ListForm.{ListForm}
-use Rattle.pocsag_receiver.specs.declared.form.ListForm.TheVariants as forms
 
 -- `decode`: the pages that the bytes read as were listed in a form.
 pub record DecodedIn (form : ListForm) (bytes out_before out_after : List ℕ) : Type 0 where
@@ -25,13 +24,6 @@ pub record DecodedPartIn (form : ListForm) (bytes out_before out_after : List �
   pub pages : List Page
   pub reads : ReadsAs bytes pages
   pub part : TookPrefix out_before out_after (listed_in form pages)
-
--- The same with the listing itself.
-abbrev pub Decoded : (bytes out_before out_after : List ℕ) → Type 0
-Decoded bytes out_before out_after = DecodedIn forms.Listing bytes out_before out_after
-
-abbrev pub DecodedPart : (bytes out_before out_after : List ℕ) → Type 0
-DecodedPart bytes out_before out_after = DecodedPartIn forms.Listing bytes out_before out_after
 
 -- The bytes have this fault, of which they have one at most; or they read as pages, and memory or the writer refused.
 abbrev pub ExplainsDecoding : (bytes : List ℕ) → ReceiverFault → Type 0

@@ -10,7 +10,7 @@ ghost use Rattle.pocsag_shell.specs.declared.fault.FileFault.TheVariants as file
 ghost use Rattle.pocsag_receiver.specs.Faults.{receiver_status};
 ghost use Rattle.pocsag_receiver.specs.Files.{ExplainsUnread};
 ghost use Rattle.pocsag_receiver.specs.Forms.{listed_in};
-ghost use Rattle.pocsag_receiver.specs.Listings.{Decoded, DecodedIn, DecodedPart, DecodedPartIn, ExplainsDecoding};
+ghost use Rattle.pocsag_receiver.specs.Listings.{DecodedIn, DecodedPartIn, ExplainsDecoding};
 ghost use Rattle.pocsag_receiver.specs.Repair.{AreReadOf, IsSoOfRead};
 ghost use Rattle.pocsag_receiver.specs.declared.fault.ReceiverFault.TheVariants as fault;
 
@@ -32,26 +32,6 @@ pub struct Decoding {
     pub repairing: Repairing,
 }
 
-/// Lists the pages that the bytes of a transmission read as.
-pub(crate) fn list_decoded<O: Sink>(
-    alloc: Global,
-    bytes: &[u8],
-    out: &mut O,
-) -> Result<u8, ReceiverFault>
-    ensures status { IfOk result (λ status. status ≡ 0) }
-    ensures listed { O.is_known → OnOk result (Decoded bytes.now (O.taken out.old) (O.taken out.new)) }
-    ensures part { O.is_known → IsErrOf result (fault.File file.Write) →
-        DecodedPart bytes.now (O.taken out.old) (O.taken out.new) }
-    ensures explained { IfErr result (ExplainsDecoding bytes.now) }
-    ensures refused { IfErr result (λ e. receiver_status e ≡ 1 → out.new ≡ out.old) }
-    ensures write_failed { IsErrOf result (fault.File file.Write) →
-        HasFailed (O.failures out.old) (O.failures out.new) }
-{
-    judge_bytes(bytes)?;
-    list_sent(alloc, bytes, out)?;
-    Ok(0)
-}
-
 // Lists the pages that the bytes of a transmission read as, in a form. Bytes without a fault want only memory.
 fn list_decoded_in<O: Sink>(
     alloc: Global,
@@ -68,11 +48,10 @@ fn list_decoded_in<O: Sink>(
     ensures write_failed { IsErrOf result (fault.File file.Write) →
         HasFailed (O.failures out.old) (O.failures out.new) }
 {
+    judge_bytes(bytes)?;
     if let ListForm::Listing = form {
-        return list_decoded(alloc, bytes, out);
-    }
-    if let Err(fault) = judge_bytes(bytes) {
-        return Err(ReceiverFault::Transmission(fault));
+        list_sent(alloc, bytes, out)?;
+        return Ok(0);
     }
     let Ok(pages) = decode(alloc, bytes) else {
         return Err(ReceiverFault::File(FileFault::OutOfMemory));

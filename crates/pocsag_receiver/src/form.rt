@@ -9,6 +9,7 @@ ghost use Rattle.pocsag_pages.specs.Listable.{IsListable};
 ghost use Rattle.pocsag_decode.specs.Faults.{NamesFailures};
 ghost use Rattle.pocsag_decode.specs.Lines.{IsReady, PutsRow, text_in};
 ghost use Rattle.pocsag_decode.specs.Listing.{header};
+ghost use Rattle.pocsag_receiver.specs.CaughtForms.{state_field, state_fields};
 ghost use Rattle.pocsag_receiver.specs.Forms.{is_text, json_line, json_lines, kind_read, listed_in, message_read, record_read, text_listing};
 
 use pocsag_decode::{ListFault, list_owned, message_of};
@@ -39,7 +40,7 @@ fn is_text(texts: [bool; 3], function: u8) -> bool
 
 // The kind of a page with this function and these items.
 #[tactic(auto, unfolding(crate::specs::Forms::kind_read, pocsag_decode::specs::Listing::kind_field))]
-fn kind_read(texts: [bool; 3], function: u8, items: &[u32]) -> &'static str
+pub(crate) fn kind_read(texts: [bool; 3], function: u8, items: &[u32]) -> &'static str
     requires { function < 4 }
     ensures { result.now ≡ kind_read texts function items.now }
 {
@@ -60,7 +61,7 @@ fn kind_read(texts: [bool; 3], function: u8, items: &[u32]) -> &'static str
 
 // The message of a page with this function and these items.
 #[tactic(auto, unfolding(crate::specs::Forms::message_read, pocsag_decode::specs::Listing::message_field))]
-fn message_read(
+pub(crate) fn message_read(
     alloc: Global,
     texts: [bool; 3],
     function: u8,
@@ -127,16 +128,24 @@ fn lines_of(alloc: Global, texts: [bool; 3], pages: &[Page]) -> Result<Vec<u8>, 
     Ok(lines)
 }
 
-// Writes the record of a page.
-fn put_read(
+// The state of a page.
+pub(crate) fn state_name(is_cut: bool) -> &'static str
+    ensures { result.now ≡ state_field is_cut }
+{
+    if is_cut { "cut" } else { "whole" }
+}
+
+// Writes the record of a page, of a capture with its state.
+pub(crate) fn put_read(
     alloc: Global,
     writer: &mut csv::Writer<Vec<u8>>,
     texts: [bool; 3],
     page: &Page,
+    is_cut: Option<bool>,
 ) -> Result<(), AllocError>
     requires ready { IsReady writer.old }
     requires listable { IsListable page.now }
-    ensures { PutsRow result writer.old writer.new (record_read texts page.now) }
+    ensures { PutsRow result writer.old writer.new (record_read texts page.now ++ state_fields is_cut) }
 {
     let items = page.payload.as_slice();
     let Ok(message) = message_read(alloc, texts, page.function, items) else {
@@ -144,6 +153,18 @@ fn put_read(
     };
     let address = format!(in alloc; "{}", page.address)?;
     let kind = kind_read(texts, page.function, items);
+    if let Some(is_cut) = is_cut {
+        let state = state_name(is_cut);
+        return match writer.write_fields(&[
+            address.as_bytes(),
+            kind.as_bytes(),
+            message.as_slice(),
+            state.as_bytes(),
+        ]) {
+            Ok(()) => Ok(()),
+            Err(_) => Err(AllocError),
+        };
+    }
     match writer.write_fields(&[address.as_bytes(), kind.as_bytes(), message.as_slice()]) {
         Ok(()) => Ok(()),
         Err(_) => Err(AllocError),
@@ -160,7 +181,7 @@ fn text_listing(alloc: Global, texts: [bool; 3], pages: &[Page]) -> Result<Vec<u
         return Err(AllocError);
     };
     for page in pages {
-        put_read(alloc, &mut writer, texts, page)?;
+        put_read(alloc, &mut writer, texts, page, None)?;
     }
     match writer.into_inner() {
         Ok(text) => Ok(text),

@@ -1,6 +1,8 @@
-use crate::capture::{Listening, Viewing, run_decode_capture, run_hear_capture, run_show_capture};
+use crate::capture::{Catching, Viewing, run_list_capture, run_show_capture};
+use crate::caught::Picking;
 use crate::decode::{Decoding, run_decode};
 use crate::fault::ReceiverFault;
+use crate::form::ListForm;
 use crate::hear::{Hearing, run_hear};
 use crate::repair::Repairing;
 use crate::show::{Showing, run_show};
@@ -33,8 +35,7 @@ enum Receiving {
     Decode(Decoding),
     Hear(Hearing),
     Show(Showing),
-    DecodeCapture(Vec<ReceptionStats>),
-    HearCapture(Listening),
+    ListCapture(Catching),
     ShowCapture(Viewing),
 }
 
@@ -74,13 +75,16 @@ fn asked_of(alloc: Global, name: &str, found: &ArgMatches<'_>) -> Option<Receivi
             form: wanted_form(found)?,
             repairing,
         })),
-        (DECODE, true) => Some(Receiving::DecodeCapture(heard)),
+        (DECODE, true) => Some(Receiving::ListCapture(Catching {
+            picking: picking_of(wanted_form(found)?, None),
+            heard,
+        })),
         (HEAR, false) => Some(Receiving::Hear(Hearing {
             form: wanted_form(found)?,
             address: found.get_one::<u32>(ADDRESS)?,
         })),
-        (HEAR, true) => Some(Receiving::HearCapture(Listening {
-            address: found.get_one::<u32>(ADDRESS)?,
+        (HEAR, true) => Some(Receiving::ListCapture(Catching {
+            picking: picking_of(wanted_form(found)?, Some(found.get_one::<u32>(ADDRESS)?)),
             heard,
         })),
         (SHOW, false) => Some(Receiving::Show(Showing {
@@ -93,6 +97,20 @@ fn asked_of(alloc: Global, name: &str, found: &ArgMatches<'_>) -> Option<Receivi
             heard,
         })),
         _ => None,
+    }
+}
+
+// Which pages of a capture are listed in a form, those of all addresses or of one.
+fn picking_of(form: ListForm, only: Option<u32>) -> Picking {
+    let (texts, is_json) = match form {
+        ListForm::Listing => ([false; 3], false),
+        ListForm::Texts(texts) => (texts, false),
+        ListForm::Json(texts) => (texts, true),
+    };
+    Picking {
+        only,
+        texts,
+        is_json,
     }
 }
 
@@ -122,7 +140,11 @@ fn words_error(
 
 // Returns what is asked of a transmission. Returns the exit status.
 fn receive(context: Context<'_>, mut asked: Receiving, mut tx: Loaded, names: Names<'_>) -> u8 {
-    let status = if is_kept(&tx) {
+    let is_kept = match tx.lent() {
+        Some(bytes) => bytes.len() <= KEPT_BYTES,
+        None => true,
+    };
+    let status = if is_kept {
         let mut streams = MemoryStreams::new(context.alloc);
         let out = &mut streams.out;
         let status = carry_out(context.alloc, &mut asked, &mut tx, out, &mut streams.err);
@@ -150,14 +172,6 @@ fn receive(context: Context<'_>, mut asked: Receiving, mut tx: Loaded, names: Na
     status
 }
 
-// Whether the answer is kept in memory until it is printed.
-fn is_kept(tx: &Loaded) -> bool {
-    match tx.lent() {
-        Some(bytes) => bytes.len() <= KEPT_BYTES,
-        None => true,
-    }
-}
-
 // Carries out the command that was asked for.
 fn carry_out<O: Sink, E: Sink + Drop>(
     alloc: Global,
@@ -170,8 +184,7 @@ fn carry_out<O: Sink, E: Sink + Drop>(
         Receiving::Decode(decoding) => run_decode(alloc, decoding, tx, out, err),
         Receiving::Hear(hearing) => run_hear(alloc, *hearing, tx, out, err),
         Receiving::Show(showing) => run_show(alloc, showing, tx, out, err),
-        Receiving::DecodeCapture(heard) => run_decode_capture(alloc, heard, tx, out, err),
-        Receiving::HearCapture(listening) => run_hear_capture(alloc, listening, tx, out, err),
+        Receiving::ListCapture(catching) => run_list_capture(alloc, catching, tx, out, err),
         Receiving::ShowCapture(viewing) => run_show_capture(alloc, viewing, tx, out, err),
     }
 }
@@ -182,8 +195,7 @@ fn print_received(context: Context<'_>, asked: &Receiving, names: Names<'_>) {
         Receiving::Hear(_) => {}
         Receiving::Decode(decoding) => note_repair(context, names, decoding.repairing),
         Receiving::Show(showing) => note_repair(context, names, showing.repairing),
-        Receiving::DecodeCapture(heard) => print_heard(context, 1, heard.as_slice()),
-        Receiving::HearCapture(listening) => print_heard(context, 1, listening.heard.as_slice()),
+        Receiving::ListCapture(catching) => print_heard(context, 1, catching.heard.as_slice()),
         Receiving::ShowCapture(viewing) => {
             print_heard(context, viewing.nth, viewing.heard.as_slice());
         }

@@ -22,8 +22,8 @@ pub struct Hearing {
     pub address: u32,
 }
 
-/// Lists what the pager of the address shows of the bytes of a transmission, in a form.
-pub(crate) fn list_heard<O: Sink>(
+// Lists what the pager of the address shows of the bytes of a transmission, in a form.
+fn list_heard<O: Sink>(
     alloc: Global,
     hearing: Hearing,
     bytes: &[u8],

@@ -2,6 +2,7 @@
 //! The commands `decode`, `hear` and `show`: what each answers for the bytes of a transmission, and how the command line calls it.
 
 mod capture;
+mod caught;
 mod decode;
 mod fault;
 mod form;
@@ -12,7 +13,8 @@ mod show;
 mod transmission;
 mod words;
 
-pub use capture::{Listening, Viewing, run_decode_capture, run_hear_capture, run_show_capture};
+pub use capture::{Catching, Viewing, run_list_capture, run_show_capture};
+pub use caught::Picking;
 pub use decode::{Decoding, run_decode};
 pub use fault::ReceiverFault;
 pub use form::ListForm;

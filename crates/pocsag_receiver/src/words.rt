@@ -53,9 +53,12 @@ transmission begins at each synchronisation codeword within two wrong bits, at
 any bit and in either polarity. It goes on past one that cannot be recognised
 where the next is in step, and counts where it has a second one or at most five
 of its sixteen words are lost. Each word is repaired; a word past repair ends
-the open page. The pages of all transmissions are listed in order. --verbose
-tells the bit, the polarity and the batches of each transmission, and how many
-bits were corrected, words lost and pages cut.";
+the open page. The pages of all transmissions are listed in order, each with
+its state: whole, or cut where a lost word or the end of the transmission
+stands directly behind what is listed of it. --json prints the number of the
+transmission too, whether it was inverted, and the bit at which it begins.
+--verbose tells the bit, the polarity and the batches of each transmission,
+and how many bits were corrected, words lost and pages cut.";
 
 // What refuses a range of rows that is none.
 pub(crate) const BAD_ROWS: &str = "\
@@ -94,7 +97,6 @@ either polarity, with noise; each word is repaired",
 const AS_JSON_FLAG: LineWord = LineWord {
     id: AS_JSON,
     help: "Prints each page as one line of JSON",
-    excludes: &[CAPTURE],
     ..FLAG
 };
 
@@ -104,7 +106,6 @@ const TEXT_OPTION: LineWord = LineWord {
 Reads the messages of these functions, of 0, 1 and 2
 with commas between, as alphanumeric text",
     given: Given::Option("LIST", &[]),
-    excludes: &[CAPTURE],
     ..FLAG
 };
 

@@ -1,10 +1,28 @@
+use Rattle.std.proofs.Common.{sym, ap, subst}
+use Rattle.pocsag_capture.specs.Bits.{capture_bits}
+use Rattle.pocsag_capture.specs.ExtractedBytes.{LiftsAll}
+use Rattle.pocsag_capture.specs.Receptions.{AreReceptions}
+use Rattle.pocsag_capture.specs.declared.reception.Reception.{Reception}
+use Rattle.pocsag_capture.proofs.Ends.{lifts_all}
+use Rattle.pocsag_capture.proofs.SentBits.{shows_what_was_sent}
 use Rattle.pocsag_capture.proofs.lift.lift_all.Goals as goal
+
+pub returns-clause-extracted : goal.returns-clause-extracted
+returns-clause-extracted c =
+    let same = c.in_ok-put_lift.ensures.same in
+    lifts_all c.args.capture.now _ c.in_ok-bytes.bytes.items c.put_lift.new.bytes.items c.in_ok-put_lift.field-0 c.as_slice.result.now
+    c.in_ok-bytes.ensures (ap (λ (r : Reception). r.words) same) (ap (λ (r : Reception). r.batches) same) c.in_ok-put_lift.ensures.extracted
+    c.in_ok-heard.ensures (subst (AreReceptions (capture_bits c.args.capture.now)) (sym c.as_slice.ensures.value) c.in_ok-found.ensures.found)
 
 pub returns-clause-sent : goal.returns-clause-sent
 returns-clause-sent c = λ pages sent.
-    let extracted = c.in_ok-lifted_all.ensures in
+    let same = c.in_ok-put_lift.ensures.same in
+    let extracted =
+    lifts_all c.args.capture.now _ c.in_ok-bytes.bytes.items c.put_lift.new.bytes.items c.in_ok-put_lift.field-0 c.as_slice.result.now
+    c.in_ok-bytes.ensures (ap (λ (r : Reception). r.words) same) (ap (λ (r : Reception). r.batches) same) c.in_ok-put_lift.ensures.extracted
+    c.in_ok-heard.ensures (subst (AreReceptions (capture_bits c.args.capture.now)) (sym c.as_slice.ensures.value) c.in_ok-found.ensures.found) in
     record {
       pages = extracted.pages;
-      among = c.captures_show_what_was_sent.ensures c.args.capture.now _ pages extracted.pages sent extracted.caught;
+      among = shows_what_was_sent c.args.capture.now _ pages extracted.pages sent extracted.caught;
       reads = extracted.reads;
     }

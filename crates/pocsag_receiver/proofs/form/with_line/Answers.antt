@@ -1,4 +1,4 @@
-use Rattle.std.proofs.Common.{◌≡◌, ◌∷◌, ◌++◌, [], ℕ, List, refl, sym, ap, ap₂, ◌∙◌, append_assoc, subst}
+use Rattle.std.proofs.Common.{◌∷◌, ◌++◌, [], ℕ, List, refl, sym, ap, ap₂, ◌∙◌, append_assoc, subst}
 use Rattle.std.proofs.lemmas.Str.{IsUtf8-from_ascii}
 use Rattle.std.specs.Fmt.{decimal}
 use Rattle.std.specs.Str.{IsAscii}
@@ -6,15 +6,12 @@ use Rattle.json.specs.Print.{print}
 use Rattle.json.specs.Tree.{json_tokens}
 use Rattle.json.specs.Token.{Token, begin_object, end_object, number, string}
 use Rattle.pocsag_receiver.specs.Forms.{kind_read, message_read, page_object}
+use Rattle.pocsag_receiver.proofs.Tokens.{more}
 use Rattle.pocsag_receiver.proofs.form.with_line.Goals as goal
 
 pub unreachable-requires : goal.unreachable-requires
 unreachable-requires c =
     c.in_default-from_utf8.ensures.cases.0 (IsUtf8-from_ascii _ (subst IsAscii (sym c.as_slice.ensures.value) c.in-Ok.ensures.ascii))
-
--- one token more
-more : (xs ys zs : List Token) (s t : Token) → ys ≡ xs ++ s ∷ [] → xs ≡ zs → s ≡ t → ys ≡ zs ++ t ∷ []
-more xs ys zs s t put so_far is = put ∙ ap₂ (λ (l : List Token) (x : Token). l ++ x ∷ []) so_far is
 
 pub returns : goal.returns
 returns c =

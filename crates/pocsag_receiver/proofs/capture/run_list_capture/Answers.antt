@@ -3,12 +3,12 @@ use Rattle.std.specs.Result.{OnOk}
 use Rattle.pocsag_capture.specs.Bits.{capture_bits}
 use Rattle.pocsag_capture.specs.Sent.{HoldsSent}
 use Rattle.pocsag_receiver.specs.Captures.{ListsAmong}
-use Rattle.pocsag_receiver.proofs.capture.run_decode_capture.Goals as goal
-use Rattle.pocsag_receiver.proofs.capture.run_decode_capture.Goals.{in_default+in-Ok, in_default+in-Err, in-Some+in-Err-refuse_long, in-Some+in_default-refuse_long}
+use Rattle.pocsag_receiver.proofs.capture.run_list_capture.Goals as goal
+use Rattle.pocsag_receiver.proofs.capture.run_list_capture.Goals.{in_default+in-Ok, in_default+in-Err, in-Some+in-Err-refuse_long, in-Some+in_default-refuse_long}
 
 pub returns-clause-sent : goal.returns-clause-sent
 returns-clause-sent g c = λ is_known printed pages sent.
-    let among : OnOk c.match-listed.done (ListsAmong (λ ps. ps) pages (g.O.Sink.taken c.args.out.now) (g.O.Sink.taken c.match-listed.out)) =
+    let among : OnOk c.match-listed.done (ListsAmong c.args.catching.now.picking pages (g.O.Sink.taken c.args.out.now) (g.O.Sink.taken c.match-listed.out)) =
     elim c.match-listed.branch [
       | in_default+in-Ok w ↦
           let shown = w.list_caught.ensures.sent printed pages

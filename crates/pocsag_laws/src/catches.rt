@@ -1,12 +1,14 @@
-//! Laws of captures: a call of one of them costs nothing, and gives a proof its clauses.
-ghost use Rattle.std.specs.Prelude.{◌≡◌, ◌==◌, ℕ, List, filter};
+//! Laws of what is caught of captures.
+ghost use Rattle.std.specs.Prelude.{◌≡◌, ◌==◌, ℕ, Bool, List, filter, length, map};
 ghost use Rattle.pocsag_pages.specs.declared.page.Page.{Page};
-ghost use Rattle.pocsag_pages.specs.Bytes.{after_preamble, words_of};
+ghost use Rattle.pocsag_pages.specs.Bytes.{after_preamble, unsynced, words_of};
 ghost use Rattle.pocsag_decode.specs.Faults.{ReadsAs};
 ghost use Rattle.pocsag_pager.specs.Shown.{AreShown};
 ghost use Rattle.pocsag_capture.specs.Bits.{capture_bits};
 ghost use Rattle.pocsag_capture.specs.Caught.{AreCaught, HasCaught};
-ghost use Rattle.pocsag_capture.specs.Sent.{StandAmong, HoldsSent};
+ghost use Rattle.pocsag_capture.specs.PageEnds.{AreCutsOf, HasCatches, IsCatch, UncutStandWhole, pages_caught};
+ghost use Rattle.pocsag_capture.specs.Sent.{HoldsSent, StandAmong};
+ghost use Rattle.pocsag_capture.specs.declared.catching.Catch.{Catch};
 ghost use Rattle.pocsag_capture.specs.declared.reception.Reception.{Reception};
 
 /// *A capture that holds a sent transmission shows its pages*, whole and one behind the other, whatever else it holds,
@@ -22,4 +24,15 @@ pub fn caught_pages_are_shown()
     ensures shown { (words : List ℕ) (a : ℕ) (ps qs : List Page) → AreCaught words ps → AreShown words a qs →
         qs ≡ filter (λ p. p.address == a) ps }
     ensures readings { (X : List ℕ) (ps : List Page) → ReadsAs X ps → AreCaught (words_of (after_preamble X)) ps }
+{}
+
+/// The pages that are listed of a capture with their states are those that are caught of it; as many of those of a
+/// transmission are cut as its count says, and each that is not cut stands whole in its words.
+pub fn catches_are_caught()
+    ensures caught { (capture : List ℕ) (cs : List Catch) → HasCatches capture cs →
+        HasCaught capture (map (λ (c : Catch). c.heard.reception) cs) (pages_caught cs) }
+    ensures cut { (bits : List ℕ) (c : Catch) → IsCatch bits c →
+        c.heard.cut ≡ length (filter (λ (is_cut : Bool). is_cut) c.cuts.items) }
+    ensures whole { (words : List ℕ) (ps : List Page) (cuts : List Bool) → AreCaught words ps → AreCutsOf words cuts →
+        UncutStandWhole (unsynced 0 words) ps cuts }
 {}

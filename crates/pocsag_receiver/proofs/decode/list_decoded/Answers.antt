@@ -1,6 +1,0 @@
-use Rattle.pocsag_receiver.proofs.decode.list_decoded.Goals as goal
-
-pub returns-in_err-list_sent-clause-part : goal.returns-in_err-list_sent-clause-part
-returns-in_err-list_sent-clause-part g c = λ is_known is.
-    let read = c.in_ok-judge_bytes.ensures.ok in
-    record { pages = read.0; reads = read.1; part = c.in_err-list_sent.ensures.part is_known read.0 read.1 }

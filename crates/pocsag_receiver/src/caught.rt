@@ -1,0 +1,194 @@
+//! The forms in which the pages of captures are listed: each with its state.
+ghost use Rattle.std.specs.Prelude.{◌≡◌, ◌+◌, ◌^◌, ◌<◌, ◌≤◌, ◌∷◌, ◌++◌, [], All, length, IfOk};
+ghost use Rattle.pocsag_words.specs.Frame.{input_limit};
+ghost use Rattle.pocsag_pages.specs.Listable.{IsListable};
+ghost use Rattle.pocsag_capture.specs.Bits.{capture_bits};
+ghost use Rattle.pocsag_capture.specs.Receptions.{behind};
+ghost use Rattle.pocsag_capture.specs.declared.reception.Reception.{Reception};
+ghost use Rattle.pocsag_receiver.specs.Captures.{TextOfCatches};
+ghost use Rattle.pocsag_receiver.specs.CaughtForms.{caught_header, caught_line, caught_row, caught_text, is_picked, mark_of, picked_pages};
+
+use crate::form::{kind_read, message_read, put_read, state_name};
+use pocsag_capture::{Catch, Reception, ReceptionStats, catch_pages};
+use pocsag_pages::Page;
+use std::alloc::{AllocError, Global};
+use std::str;
+
+/// Which pages of a capture are listed, and in which form.
+#[derive(Clone, Copy)]
+pub struct Picking {
+    /// Those of this address alone.
+    pub only: Option<u32>,
+    /// Of which functions from 0 to 2 the messages are read as alphanumeric text.
+    pub texts: [bool; 3],
+    /// As lines of JSON; otherwise as CSV.
+    pub is_json: bool,
+}
+
+// What is told of a page of a capture.
+#[derive(Clone, Copy)]
+pub(crate) struct Mark {
+    pub(crate) is_cut: bool,
+    // The number of its transmission, counted from 1, whether each bit of that was received as the other, and where it begins.
+    pub(crate) transmission: u64,
+    pub(crate) is_inverted: bool,
+    pub(crate) bit: u64,
+}
+
+// Whether the pages of an address are asked for: those of all addresses, or those of one.
+fn is_picked(only: Option<u32>, address: u32) -> bool
+    ensures { result ≡ is_picked only address }
+{
+    match only {
+        Some(one) => address == one,
+        None => true,
+    }
+}
+
+// The lines before these, and that of a page.
+fn with_caught_line(
+    alloc: Global,
+    lines: Vec<u8>,
+    texts: [bool; 3],
+    page: &Page,
+    mark: Mark,
+) -> Result<Vec<u8>, AllocError>
+    requires { IsListable page.now }
+    ensures { IfOk result (λ v. v.items ≡ lines.items ++ caught_line texts mark page.now) }
+{
+    let items = page.payload.as_slice();
+    let Ok(message) = message_read(alloc, texts, page.function, items) else {
+        return Err(AllocError);
+    };
+    let Ok(message) = str::from_utf8(message.as_slice()) else {
+        unreachable!()
+    };
+    let mut writer = json::Writer::new(lines);
+    writer.begin_object()?;
+    writer.key("address")?;
+    writer.u64(u64::from(page.address))?;
+    writer.key("function")?;
+    writer.u64(u64::from(page.function))?;
+    writer.key("kind")?;
+    writer.string(kind_read(texts, page.function, items))?;
+    writer.key("message")?;
+    writer.string(message)?;
+    writer.key("state")?;
+    writer.string(state_name(mark.is_cut))?;
+    writer.key("transmission")?;
+    writer.u64(mark.transmission)?;
+    writer.key("inverted")?;
+    writer.boolean(mark.is_inverted)?;
+    writer.key("bit")?;
+    writer.u64(mark.bit)?;
+    writer.end_object()?;
+    let mut lines = writer.into_inner();
+    lines.push(b'\n')?;
+    Ok(lines)
+}
+
+// The lines before these, and those of the pages of a catch that are asked for.
+fn with_lines(
+    alloc: Global,
+    before: Vec<u8>,
+    picking: Picking,
+    caught: &Catch,
+) -> Result<Vec<u8>, AllocError>
+    requires listable { All IsListable caught.now.pages.items }
+    requires long { length caught.now.cuts.items ≡ length caught.now.pages.items }
+    ensures { IfOk result (λ v. v.items ≡ before.items ++ picked_pages picking.only
+        (λ is_cut p. caught_line picking.texts (mark_of caught.now is_cut) p)
+        caught.now.pages.items caught.now.cuts.items) }
+{
+    let pages = caught.pages.as_slice();
+    let cuts = caught.cuts.as_slice();
+    let reception = caught.heard.reception;
+    let is_inverted = reception.polarity.is_inverted();
+    let mut lines = before;
+    for index in 0..pages.len() {
+        let page = &pages[index];
+        if !is_picked(picking.only, page.address) {
+            continue;
+        }
+        let mark = Mark {
+            is_cut: cuts[index],
+            transmission: caught.number,
+            is_inverted,
+            bit: reception.bit,
+        };
+        lines = with_caught_line(alloc, lines, picking.texts, page, mark)?;
+    }
+    Ok(lines)
+}
+
+// The text before it, and that of the pages of a catch that are asked for.
+fn with_catch(
+    alloc: Global,
+    text: Vec<u8>,
+    picking: Picking,
+    caught: &Catch,
+) -> Result<Vec<u8>, AllocError>
+    requires listable { All IsListable caught.now.pages.items }
+    requires long { length caught.now.cuts.items ≡ length caught.now.pages.items }
+    ensures { IfOk result (λ v. v.items ≡ text.items ++ caught_text picking caught.now) }
+{
+    if picking.is_json {
+        return with_lines(alloc, text, picking, caught);
+    }
+    let pages = caught.pages.as_slice();
+    let cuts = caught.cuts.as_slice();
+    let mut writer = csv::Writer::from_writer(text);
+    for index in 0..pages.len() {
+        let page = &pages[index];
+        if !is_picked(picking.only, page.address) {
+            continue;
+        }
+        put_read(alloc, &mut writer, picking.texts, page, Some(cuts[index]))?;
+    }
+    match writer.into_inner() {
+        Ok(text) => Ok(text),
+        Err(_) => Err(AllocError),
+    }
+}
+
+// What stands before the pages: in CSV the record of the names.
+fn header_of(alloc: Global, is_json: bool) -> Result<Vec<u8>, AllocError>
+    ensures { IfOk result (λ v. v.items ≡ caught_header is_json) }
+{
+    if is_json {
+        return Ok(Vec::new(alloc));
+    }
+    let mut writer = csv::Writer::from_writer(Vec::new(alloc));
+    let Ok(()) = writer.write_fields(&[b"address".as_slice(), b"kind", b"message", b"state"]) else {
+        return Err(AllocError);
+    };
+    match writer.into_inner() {
+        Ok(text) => Ok(text),
+        Err(_) => Err(AllocError),
+    }
+}
+
+/// The listing of what is caught of the receptions of a capture. How each was received is put behind the others.
+pub(crate) fn text_caught(
+    alloc: Global,
+    picking: Picking,
+    capture: &[u8],
+    found: &[Reception],
+    heard: &mut Vec<ReceptionStats>,
+) -> Result<Vec<u8>, AllocError>
+    requires few { length capture.now ≤ input_limit }
+    requires some { All (λ (r : Reception). 0 < r.batches) found.now }
+    requires ends { All (λ (r : Reception). behind r < 2 ^ 60) found.now }
+    ensures { IfOk result (λ text.
+        TextOfCatches (capture_bits capture.now) picking found.now heard.old.items heard.new.items text.items) }
+{
+    let mut text = header_of(alloc, picking.is_json)?;
+    let mut number = 0;
+    for reception in found {
+        number += 1;
+        let caught = catch_pages(alloc, capture, number, *reception)?;
+        text = with_catch(alloc, text, picking, &caught)?;
+        heard.push(caught.heard)?;
+    }
+    Ok(text)
+}
