@@ -198,7 +198,7 @@ run_ends (w ∷ ws) (Some (Address high function) ∷ ks) each whole = record {
   after = ws;
   parts = refl;
   carries = tt;
-  ends = inr (high, (function, each.0));
+  ends = inr (high, function, each.0);
 }
 run_ends (w ∷ ws) (Some (Message bits) ∷ ks) each whole =
     let rest = run_ends ws ks each.1 whole in

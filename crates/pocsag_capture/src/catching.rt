@@ -66,13 +66,15 @@ fn cuts_of(alloc: Global, capture: &[u8], reception: Reception) -> Result<Vec<bo
             continue;
         }
         let word = received_word(capture, reception, place);
-        if let Some(is_cut) = page_end_at(&mut is_open, word) {
-            cuts.push(is_cut)?;
-        }
+        let Some(is_cut) = page_end_at(&mut is_open, word) else {
+            continue;
+        };
+        cuts.push(is_cut)?;
     }
-    if is_open {
-        cuts.push(true)?;
+    if !is_open {
+        return Ok(cuts);
     }
+    cuts.push(true)?;
     Ok(cuts)
 }
 

@@ -18,7 +18,7 @@ pub returns-clause-sent : goal.returns-clause-sent
 returns-clause-sent c = λ pages sent.
     let same = c.in_ok-put_lift.ensures.same in
     let extracted =
-    lifts_all c.args.capture.now _ c.in_ok-bytes.bytes.items c.put_lift.new.bytes.items c.in_ok-put_lift.field-0 c.as_slice.result.now
+    lifts_all c.args.capture.now (record { bytes = c.put_lifts.new.bytes; heard = c.in_ok-heard.heard }) c.in_ok-bytes.bytes.items c.put_lift.new.bytes.items c.in_ok-put_lift.field-0 c.as_slice.result.now
     c.in_ok-bytes.ensures (ap (λ (r : Reception). r.words) same) (ap (λ (r : Reception). r.batches) same) c.in_ok-put_lift.ensures.extracted
     c.in_ok-heard.ensures (subst (AreReceptions (capture_bits c.args.capture.now)) (sym c.as_slice.ensures.value) c.in_ok-found.ensures.found) in
     record {
