@@ -57,24 +57,24 @@ module _ (only : Option ℕ) (T : Bool → Page → List ℕ) (pages : List Page
   abbrev pub picked_to : ℕ → List ℕ
   picked_to n = picked_pages only T (take n pages) (take n cuts)
 
-  picked_next : (p : Page) (b : Bool) → i < length pages → p ≡ get_or pages i p → b ≡ get_or cuts i b
+  picked_next : (p : Page) (b d : Bool) → i < length pages → p ≡ get_or pages i p → b ≡ get_or cuts i d
       → picked_to (i + 1) ≡ picked_to i ++ one_picked only T b p
-  picked_next p b within is at =
+  picked_next p b d within is at =
       let ps : take (i + 1) pages ≡ take i pages ++ p ∷ [] =
       take_more pages i p within ∙ ap (λ (q : Page). take i pages ++ q ∷ []) (sym is) in
       let bs : take (i + 1) cuts ≡ take i cuts ++ b ∷ [] =
-      take_more cuts i b (omega arith) ∙ ap (λ (c : Bool). take i cuts ++ c ∷ []) (sym at) in
+      take_more cuts i d (omega arith) ∙ ap (λ (c : Bool). take i cuts ++ c ∷ []) (sym at) in
       let two : length (take i cuts) ≡ length (take i pages) =
       omega (arith, length-take-le i pages (omega arith), length-take-le i cuts (omega arith)) in
       ap₂ (λ (l : List Page) (m : List Bool). picked_pages only T l m) ps bs ∙ picked_push only T (take i pages) (take i cuts) p b two
 
   -- a page more is listed
-  pub picked_more : (p : Page) (b : Bool) (before now after : List ℕ) → i < length pages → p ≡ get_or pages i p → b ≡ get_or cuts i b
+  pub picked_more : (p : Page) (b d : Bool) (before now after : List ℕ) → i < length pages → p ≡ get_or pages i p → b ≡ get_or cuts i d
       → is_picked only p.address ≡ true → now ≡ before ++ picked_to i → after ≡ now ++ T b p → after ≡ before ++ picked_to (i + 1)
-  picked_more p b before now after within is at on f more =
+  picked_more p b d before now after within is at on f more =
       more ∙ ap (λ (l : List ℕ). l ++ T b p) f ∙ append_assoc before (picked_to i) (T b p)
       ∙ ap (λ (c : Bool). before ++ (picked_to i ++ (if c then T b p else []))) (sym on)
-      ∙ ap (λ (l : List ℕ). before ++ l) (sym (picked_next p b within is at))
+      ∙ ap (λ (l : List ℕ). before ++ l) (sym (picked_next p b d within is at))
 
   -- a page is passed over
   pub picked_past : (p : Page) (before now : List ℕ) → i < length pages → p ≡ get_or pages i p → is_picked only p.address ≡ false

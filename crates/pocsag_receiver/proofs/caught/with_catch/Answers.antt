@@ -1,17 +1,28 @@
-use Rattle.std.proofs.Common.{rules, ◌≡◌, ◌+◌, ◌^◌, ◌<◌, ◌≤◌, ◌∷◌, ◌++◌, [], All, length, IfOk, ℕ, ◌-◌, ◌*◌, ◌/◌, ◌%◌, Bool, true, false, nat_eq, nat_lt, List, slice_index_or, slice_set, bit_and, bit_or, Fits, w8, w32, w64, Bor, MutBor}
-use Rattle.pocsag_words.specs.Frame.{input_limit}
-use Rattle.pocsag_pages.specs.Listable.{IsListable}
-use Rattle.pocsag_capture.specs.Bits.{capture_bits}
-use Rattle.pocsag_capture.specs.Receptions.{behind}
-use Rattle.pocsag_capture.specs.declared.reception.Reception.{Reception}
-use Rattle.pocsag_receiver.specs.Captures.{TextOfCatches}
-use Rattle.pocsag_receiver.specs.CaughtForms.{caught_header, caught_line, caught_row, caught_text, is_picked, mark_of, picked_pages}
+use Rattle.std.proofs.Common.{◌≡◌, ◌++◌, Bool, List, ℕ, length, refl, sym, ap, ◌∙◌}
+use Rattle.pocsag_receiver.specs.CaughtForms.{caught_row}
+use Rattle.pocsag_decode.specs.Lines.{text_in}
+use Rattle.pocsag_receiver.proofs.Captured.{picked_more, picked_past}
 use Rattle.pocsag_receiver.proofs.caught.with_catch.Goals as goal
 
--- src/caught.rt:141:5
 pub loop-index-preserved-then-not-is_picked : goal.loop-index-preserved-then-not-is_picked
-loop-index-preserved-then-not-is_picked c = ?
+loop-index-preserved-then-not-is_picked c =
+    let long : length c.as_slice-cuts.result.now ≡ length c.as_slice-pages.result.now =
+    ap length c.as_slice-cuts.ensures.value ∙ c.requires.long ∙ sym (ap length c.as_slice-pages.ensures.value) in
+    record {
+      ready = c.loop-index.invariant.ready;
+      text = picked_past c.args.picking.only (caught_row c.args.picking.texts) c.as_slice-pages.result.now c.as_slice-cuts.result.now
+          c.loop-index.index long c.index-pages-index.result c.args.text.items (text_in c.loop-index.writer) c.loop-index-test.true
+          c.index-pages-index.is (sym c.is_picked.ensures ∙ c.if-not-is_picked.true) c.loop-index.invariant.text;
+    }
 
--- src/caught.rt:141:5
 pub loop-index-preserved : goal.loop-index-preserved
-loop-index-preserved c = ?
+loop-index-preserved c =
+    let long : length c.as_slice-cuts.result.now ≡ length c.as_slice-pages.result.now =
+    ap length c.as_slice-cuts.ensures.value ∙ c.requires.long ∙ sym (ap length c.as_slice-pages.ensures.value) in
+    record {
+      ready = c.in_ok-put_read.ensures.0;
+      text = picked_more c.args.picking.only (caught_row c.args.picking.texts) c.as_slice-pages.result.now c.as_slice-cuts.result.now
+          c.loop-index.index long c.index-pages-index.result _ _ c.args.text.items (text_in c.loop-index.writer) (text_in c.put_read.new.writer)
+          c.loop-index-test.true c.index-pages-index.is refl (sym c.is_picked.ensures ∙ c.if-not-is_picked.false) c.loop-index.invariant.text
+          c.in_ok-put_read.ensures.1;
+    }

@@ -1,17 +1,21 @@
-use Rattle.std.proofs.Common.{rules, ◌≡◌, ◌+◌, ◌^◌, ◌<◌, ◌≤◌, ◌∷◌, ◌++◌, [], All, length, IfOk, ℕ, ◌-◌, ◌*◌, ◌/◌, ◌%◌, Bool, true, false, nat_eq, nat_lt, List, slice_index_or, slice_set, bit_and, bit_or, Fits, w8, w32, w64, Bor, MutBor}
-use Rattle.pocsag_words.specs.Frame.{input_limit}
-use Rattle.pocsag_pages.specs.Listable.{IsListable}
-use Rattle.pocsag_capture.specs.Bits.{capture_bits}
-use Rattle.pocsag_capture.specs.Receptions.{behind}
-use Rattle.pocsag_capture.specs.declared.reception.Reception.{Reception}
-use Rattle.pocsag_receiver.specs.Captures.{TextOfCatches}
-use Rattle.pocsag_receiver.specs.CaughtForms.{caught_header, caught_line, caught_row, caught_text, is_picked, mark_of, picked_pages}
+use Rattle.std.proofs.Common.{◌≡◌, ◌++◌, Bool, List, ℕ, length, refl, sym, ap, ◌∙◌}
+use Rattle.pocsag_receiver.specs.CaughtForms.{caught_line, mark_of}
+use Rattle.pocsag_receiver.proofs.Captured.{picked_more, picked_past}
 use Rattle.pocsag_receiver.proofs.caught.with_lines.Goals as goal
 
--- src/caught.rt:108:5
 pub loop-index-preserved-then-not-is_picked : goal.loop-index-preserved-then-not-is_picked
-loop-index-preserved-then-not-is_picked c = ?
+loop-index-preserved-then-not-is_picked c =
+    let long : length c.as_slice-cuts.result.now ≡ length c.as_slice-pages.result.now =
+    ap length c.as_slice-cuts.ensures.value ∙ c.requires.long ∙ sym (ap length c.as_slice-pages.ensures.value) in
+    picked_past c.args.picking.only (λ is_cut p. caught_line c.args.picking.texts (mark_of c.args.caught.now is_cut) p) c.as_slice-pages.result.now
+    c.as_slice-cuts.result.now c.loop-index.index long c.index-pages-index.result c.args.before.items c.loop-index.lines.items c.loop-index-test.true
+    c.index-pages-index.is (sym c.is_picked.ensures ∙ c.if-not-is_picked.true) c.loop-index.invariant
 
--- src/caught.rt:108:5
 pub loop-index-preserved : goal.loop-index-preserved
-loop-index-preserved c = ?
+loop-index-preserved c =
+    let long : length c.as_slice-cuts.result.now ≡ length c.as_slice-pages.result.now =
+    ap length c.as_slice-cuts.ensures.value ∙ c.requires.long ∙ sym (ap length c.as_slice-pages.ensures.value) in
+    picked_more c.args.picking.only (λ is_cut p. caught_line c.args.picking.texts (mark_of c.args.caught.now is_cut) p) c.as_slice-pages.result.now
+    c.as_slice-cuts.result.now c.loop-index.index long c.index-pages-index.result _ _ c.args.before.items c.loop-index.lines.items
+    c.in_ok-lines.lines.items c.loop-index-test.true c.index-pages-index.is refl (sym c.is_picked.ensures ∙ c.if-not-is_picked.false)
+    c.loop-index.invariant (rw (sym c.is_inverted-is_inverted.ensures) c.in_ok-lines.ensures)
