@@ -10,7 +10,7 @@ returns-in-Ok-write_all-clause-whole g c = λ known.
     lists_whole c.args.capture.now c.args.catching.now.picking c.as_slice-receptions.result.now _ _ c.in-Ok.text.items
     (g.O.Sink.taken c.args.out.now) (g.O.Sink.taken c.write_all.new.sink) c.in-Ok.ensures
     (subst (AreReceptions (capture_bits c.args.capture.now)) (sym c.as_slice-receptions.ensures.value) c.in_ok-found.ensures.found)
-    (c.in-Ok-write_all.ensures.delivers known ∙ ap (λ (l : List ℕ). g.O.Sink.taken c.args.out.now ++ l) c.as_slice.ensures.value)
+    ((c.in-Ok-write_all.ensures.delivers known).0 ∙ ap (λ (l : List ℕ). g.O.Sink.taken c.args.out.now ++ l) c.as_slice.ensures.value)
 
 pub returns-in-Ok-write_all-clause-sent : goal.returns-in-Ok-write_all-clause-sent
 returns-in-Ok-write_all-clause-sent g c = λ known pages sent.
@@ -18,4 +18,4 @@ returns-in-Ok-write_all-clause-sent g c = λ known pages sent.
     (g.O.Sink.taken c.args.out.now) (g.O.Sink.taken c.write_all.new.sink) c.in-Ok.ensures
     (subst (AreReceptions (capture_bits c.args.capture.now)) (sym c.as_slice-receptions.ensures.value) c.in_ok-found.ensures.found) pages
     (λ rs qs caught. shows_what_was_sent c.args.capture.now rs pages qs sent caught)
-    (c.in-Ok-write_all.ensures.delivers known ∙ ap (λ (l : List ℕ). g.O.Sink.taken c.args.out.now ++ l) c.as_slice.ensures.value)
+    ((c.in-Ok-write_all.ensures.delivers known).0 ∙ ap (λ (l : List ℕ). g.O.Sink.taken c.args.out.now ++ l) c.as_slice.ensures.value)

@@ -18,4 +18,4 @@ loop-index-preserved c =
     picked_more c.args.picking.only (λ is_cut p. caught_line c.args.picking.texts (mark_of c.args.caught.now is_cut) p) c.as_slice-pages.result.now
     c.as_slice-cuts.result.now c.loop-index.index long c.index-pages-index.result _ _ c.args.before.items c.loop-index.lines.items
     c.in_ok-lines.lines.items c.loop-index-test.true c.index-pages-index.is refl (sym c.is_picked.ensures ∙ c.if-not-is_picked.false)
-    c.loop-index.invariant (rw (sym c.is_inverted-is_inverted.ensures) c.in_ok-lines.ensures)
+    c.loop-index.invariant (rw c.is_inverted-is_inverted.ensures at c.in_ok-lines.ensures)
