@@ -1,4 +1,4 @@
--- What `pocsag_frames` owes.
+-- What `pocsag_frames` promises.
 use Rattle.std.specs.Prelude.{◌≡◌, ℕ, List, Ok, replicate}
 use Rattle.pocsag_pages.specs.PageFile.{verdict}
 use Rattle.pocsag_pages.specs.declared.page.Page.{Page}

@@ -21,7 +21,7 @@ use Rattle.pocsag_receiver.specs.declared.caught.Picking.{Picking}
 use Rattle.pocsag_receiver.specs.declared.fault.ReceiverFault.{ReceiverFault}
 use Rattle.pocsag_receiver.specs.declared.fault.ReceiverFault.TheVariants as fault
 
--- The text of what is caught of receptions, and how each was received is told behind the others.
+-- The text of what is caught of receptions, and how each was received is reported behind the others.
 pub record TextOfCatches (bits : List ℕ) (k : Picking) (receptions : List Reception) (heard_before heard_after : List ReceptionStats) (text : List ℕ) : Type 0 where
   pub catches : List Catch
   pub of : map (λ (c : Catch). c.heard.reception) catches ≡ receptions
@@ -31,7 +31,7 @@ pub record TextOfCatches (bits : List ℕ) (k : Picking) (receptions : List Rece
   pub written : text ≡ caught_listing k catches
 
 -- What is caught of a capture was listed: those of its pages that are asked for, each with its state; and how each transmission was
--- received is told.
+-- received is reported.
 pub record ListsCaught (capture : List ℕ) (k : Picking) (heard : List ReceptionStats) (out_before out_after : List ℕ) : Type 0 where
   pub catches : List Catch
   pub caught : HasCatches capture catches

@@ -44,7 +44,7 @@ caught_object texts m p =
 abbrev pub caught_line : List Bool → Mark → Page → List ℕ
 caught_line texts m p = print (json_tokens (caught_object texts m p)) ++ 10 ∷ []
 
--- What is told of a page of a catch, which is cut or not.
+-- What is reported of a page of a catch, which is cut or not.
 abbrev pub mark_of : Catch → (is_cut : Bool) → Mark
 mark_of c is_cut = record {
   is_cut = is_cut;

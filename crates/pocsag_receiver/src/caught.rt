@@ -25,7 +25,7 @@ pub struct Picking {
     pub is_json: bool,
 }
 
-// What is told of a page of a capture.
+// What is reported of a page of a capture.
 #[derive(Clone, Copy)]
 pub(crate) struct Mark {
     pub(crate) is_cut: bool,
