@@ -71,7 +71,7 @@ enum Trial {
     StreamLong,
 }
 
-const TRIALS: [Trial; 58] = [
+const TRIALS: [Trial; 56] = [
     Trial::PackNumeric,
     Trial::PackAlpha,
     Trial::UnpackNumeric,
