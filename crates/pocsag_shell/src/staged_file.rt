@@ -145,13 +145,19 @@ impl StagedFile {
         old.remove(context);
         let place = self.place.as_str();
         let kept = match fs::hard_link(context.rt, place, old.path()) {
-            Err(error) if error.kind() == ErrorKind::NotFound => return Ok(None),
             // Some file systems have no second names.
-            Err(_) => fs::copy(context.rt, place, old.path()).map(|_| ()),
-            Ok(()) => Ok(()),
+            Err(error) if error.kind() != ErrorKind::NotFound => {
+                fs::copy(context.rt, place, old.path()).map(|_| ())
+            }
+            linked => linked,
         };
-        context.written(self.role, kept)?;
-        Ok(Some(old))
+        match kept {
+            Err(error) if error.kind() == ErrorKind::NotFound => Ok(None),
+            kept => {
+                context.written(self.role, kept)?;
+                Ok(Some(old))
+            }
+        }
     }
 
     /// Removes the file if it is still beside its place. A failure changes nothing.
