@@ -53,7 +53,7 @@ const READ_ONLY_FLAG: LineWord = LineWord {
 Lists the pages of the journal as a page file, and
 ends; FILE is neither locked nor changed",
     needs: &[JOURNAL],
-    excludes: &[PAGES, ALWAYS, KEEP],
+    excludes: &[PAGES, EXPECT, STRICT, ALWAYS, KEEP],
     ..FLAG
 };
 
