@@ -222,7 +222,7 @@ def try_order(tally, folder):
                 steps.append(("renamed", re.findall(r'"([^"]*)"', line)[-1]))
             else:
                 steps.append(("synchronised", os.path.relpath(re.search(r"<([^>]*)>", line)[1], os.path.realpath(room))))
-        files = [name.rsplit(".", 2)[0] for _, name in steps[:4]]
+        files = [name.rsplit(".pocsag.", 1)[0] for _, name in steps[:4]]
         tally.check(f"first the files {has_old}", done.returncode == 0 and files == places, (done, steps))
         due = [step for place in places for step in (("renamed", place), ("synchronised", os.path.dirname(place)))]
         tally.check(f"then name by name {has_old}", steps[4:] == due, steps)

@@ -10,6 +10,7 @@ from tally import PROGRAM
 
 HEADER = b"address,kind,message\n"
 APART = HEADER + b"0,numeric," + b"1" * 75 + b"\n3,numeric," + b"1" * 75 + b"\n"
+LATE = HEADER + b"3,numeric," + b"1" * 75 + b"\n"
 PLAN = ["plan", "p.csv", "tx.bin", "cert.bin"]
 
 NO_HEADER = "the header must be address,kind,message"
@@ -85,11 +86,11 @@ CASES = [
     (APART, [*PLAN, "--limit", "0"], b"", 1, "", "the limit must be 1 to 1000000", []),
     (APART, [*PLAN, "--expect", "3"], b"", 1, "", "pages 2, where 3 were expected", ["page file p.csv"]),
     (HEADER + b'8,alpha,"x\n', [*PLAN, "--strict"], b"", 1, "", "record 1: the quote in line 2 is not closed", ["page file p.csv"]),
-    (b"\n" + APART, [*PLAN, "--at-most", "1"], b"", 1, "", "page 1 needs 2 batches", ["page file p.csv: line 3: address 0 needs 2 batches, allowed are 1"]),
-    (APART, [*PLAN, "--airtime", "1000", "--rate", "1200", "--rest", "r", "--later", "--oversized", "o"], b"", 1, "", "page 1 needs 2 batches",
-     ["page file p.csv: line 2: address 0 needs 2 batches, allowed are 1 in 1000 ms at 1200 bit/s"]),
-    (APART, ["plan", "-", "tx.bin", "cert.bin", "--at-most", "0"], APART, 1, "", "page 1 needs 2 batches",
-     ["page file -: line 2: address 0 needs 2 batches, allowed are 0"]),
+    (b"\n" + LATE, [*PLAN, "--at-most", "1"], b"", 1, "", "page 1 needs 2 batches", ["page file p.csv: line 3: address 3 needs 2 batches, allowed are 1"]),
+    (LATE, [*PLAN, "--airtime", "1000", "--rate", "1200", "--rest", "r", "--later", "--oversized", "o"], b"", 1, "", "page 1 needs 2 batches",
+     ["page file p.csv: line 2: address 3 needs 2 batches, allowed are 1 in 1000 ms at 1200 bit/s"]),
+    (APART, ["plan", "-", "tx.bin", "cert.bin", "--at-most", "0"], APART, 1, "", "page 1 needs 1 batches",
+     ["page file -: line 2: address 0 needs 1 batches, allowed are 0"]),
     (HEADER + b"7,alpha,\n", [*PLAN, "--expect", "3"], b"", 1, "", "record 1: the message is empty", ["page file p.csv: line 2: 7,alpha,"]),
     (HEADER + b'8,tone0,\n\n9,alpha,"Pump 4\n16,tone0,\n', [*PLAN, "--verify"], b"", 0, "pages 2\nbatches 1\nverified\n", None,
      ["page file p.csv: record 2: the quote in line 4 is not closed"]),
