@@ -25,14 +25,17 @@ pub struct Picking {
     pub is_json: bool,
 }
 
-// What is reported of a page of a capture.
+/// What is reported of a page of a capture besides the page.
 #[derive(Clone, Copy)]
-pub(crate) struct Mark {
-    pub(crate) is_cut: bool,
-    // The number of its transmission, counted from 1, whether each bit of that was received as the other, and where it begins.
-    pub(crate) transmission: u64,
-    pub(crate) is_inverted: bool,
-    pub(crate) bit: u64,
+pub struct Mark {
+    /// Whether the page is cut.
+    pub is_cut: bool,
+    /// The number of its transmission, counted from 1.
+    pub transmission: u64,
+    /// Whether each bit of that was received as the other.
+    pub is_inverted: bool,
+    /// The bit of the capture at which it begins.
+    pub bit: u64,
 }
 
 // Whether the pages of an address are asked for: those of all addresses, or those of one.

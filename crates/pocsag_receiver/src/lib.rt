@@ -14,7 +14,7 @@ mod transmission;
 mod words;
 
 pub use capture::{Catching, Viewing, run_list_capture, run_show_capture};
-pub use caught::Picking;
+pub use caught::{Mark, Picking};
 pub use decode::{Decoding, run_decode};
 pub use fault::ReceiverFault;
 pub use form::ListForm;
