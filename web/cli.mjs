@@ -6,8 +6,8 @@
  *                       [--rest REST] [--oversized F] [--why FILE]] PAGES TX CERT
  *     node cli.mjs check PAGES CERT
  *     node cli.mjs report --rate R [SEARCH] [--frames] PAGES
- *     node cli.mjs decode [[--repair] [--json] | --capture] TX
- *     node cli.mjs hear [--json | --capture] ADDRESS TX
+ *     node cli.mjs decode [--repair] [--json] TX
+ *     node cli.mjs hear [--json] ADDRESS TX
  *     node cli.mjs show [--svg | --list] [--rows A-B] [--repair] TX
  *     node cli.mjs wav [--rate R] [--samples S] [--invert] [--preamble N] TX
  *     node cli.mjs explain [--depth N] [--json] PAGES CERT

@@ -222,7 +222,7 @@ function runReport(given, context) {
 
 /* == Commands over transmissions. == */
 
-const readingIn = ({ capture, repair }) => (capture ? "captured" : repair ? "repaired" : "plain");
+const readingIn = ({ repair }) => (repair ? "repaired" : "plain");
 
 function jsonOf({ fields: [address, kind, message] }) {
   return `${JSON.stringify({ address: Number(address), function: FUNCTIONS[kind], kind, message })}\n`;

@@ -35,7 +35,7 @@ const PLAN = {
   rate: number("R", { needs: ["airtime"], excludes: ["at-most"] }),
   rest: text("REST"), why: text("FILE"), oversized: text("F"), later: flag({ needs: ["rest"], isNative: true }),
 };
-const RECEIVED = { json: flag({ excludes: ["capture"] }), text: text("LIST", { excludes: ["capture"], isNative: true }), capture: flag() };
+const RECEIVED = { json: flag(), text: text("LIST", { isNative: true }), capture: NATIVE };
 const REPAIR = flag({ excludes: ["capture"] });
 const SHOWN = {
   svg: flag(), rows: text("A-B", { excludes: ["list"] }), list: flag({ excludes: ["svg"] }), repair: REPAIR,

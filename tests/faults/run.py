@@ -165,7 +165,7 @@ def book_told(numbers, last):
     batches = numbers.count // 16
     counts = f"{numbers.count} {numbers.count} {numbers.tones_in_order} {batches}"
     stream = f"{batches} {72 + 68 * batches} 12"
-    return f"{counts} {batches} {stream} {stream} {last}"
+    return f"{counts} {stream} {stream} {last}"
 
 
 def try_large_trial(tally, library):

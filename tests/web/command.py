@@ -196,12 +196,9 @@ decode none.bin
 decode folder
 decode -
 decode /proc/self/mem
-decode /proc/self/mem --capture
 hear 8 none.bin
 hear 2097152 none.bin
 hear 4294967295 apart.bin
-hear 2007664 apart.bin --capture
-hear 2097152 noise.bin --capture
 hear +3 apart.bin
 show none.bin --rows 0
 show none.bin --rows 3-2
@@ -279,7 +276,6 @@ hear x apart.bin -q
 hear apart.bin 8
 hear --json
 decode apart.bin --capture --repair --json
-decode apart.bin --json --capture
 decode apart.bin --repair --capture
 show apart.bin --list --svg --rows 1
 show apart.bin --svg=1
@@ -313,7 +309,7 @@ ODD = [
 # What the program alone does, among words that are right.
 NATIVE = {
     "keep": "plan apart.csv a.bin a.cert --keep", "later": "plan apart.csv a.bin a.cert --later --rest r", "verbose": "check apart.csv apart.cert --verbose",
-    "text": "decode apart.bin --text 0", "svg": "explain apart.csv apart.cert --svg", "capture": "show apart.bin --capture --nth 2", "open": "open apart.csv",
+    "text": "decode apart.bin --text 0", "svg": "explain apart.csv apart.cert --svg", "capture": "decode apart.bin --capture", "nth": "show apart.bin --nth 2 --capture", "open": "open apart.csv",
 }  # fmt: skip
 
 
@@ -491,7 +487,7 @@ def try_plans(both, source, rounds):
 def try_received(both, source, received):
     """The commands over transmissions, with each option beside each other."""
     for name in received:
-        reading = ([], ["--repair"], ["--capture"])
+        reading = ([], ["--repair"])
         for words, json_ in itertools.product(reading, ([], ["--json"])):
             both.check(["decode", name, *words, *json_])
             if words != ["--repair"]:
