@@ -178,9 +178,11 @@ def words_read(bits, at, polarity, batches):
     return 17 * batches
 
 
-def read_words(bits, start, polarity, batches):
+def read_words(bits, start, polarity, batches, near):
     """What is told of a transmission: corrected bits, lost words and cut pages, and its pages."""
     corrected = lost = cut = 0
+    behind = start + 544 * batches
+    is_out = any(near.get(at) == polarity for at in range(behind - 543, behind + 32))  # the last batch is out of step
     pages, page = [], None  # an open page counts as cut until a codeword ends it
     end = words_read(bits, start, polarity, batches)
     for place in range(17 * batches):
@@ -199,7 +201,9 @@ def read_words(bits, start, polarity, batches):
             if page is not None:
                 page[2].append(mended >> 11 & 0xFFFFF)
             continue
-        if page is not None:
+        if page is not None and is_out and place > 17 * (batches - 1):
+            cut += 1
+        elif page is not None:
             page[3] = "whole"
         page = None
         if mended != IDLE:
@@ -210,7 +214,7 @@ def read_words(bits, start, polarity, batches):
 
 def heard(bits):
     """The transmissions of a capture, each as its bit, polarity, batches, corrected bits, lost words, cut pages and pages."""
-    found, held = [], 0
+    found, held, near = [], 0, syncs(bits)
     for first, last, polarity in runs(bits):
         if first == last:
             few = sum(mended_at(bits, first + 32 * k, polarity) is None for k in range(1, 17)) <= 5
@@ -218,7 +222,7 @@ def heard(bits):
                 continue
         held = last + 544
         batches = (held - first) // 544 + is_like(bits, held, polarity)
-        found.append((first, polarity, batches, *read_words(bits, first, polarity, batches)))
+        found.append((first, polarity, batches, *read_words(bits, first, polarity, batches, near)))
     return found
 
 
@@ -425,14 +429,27 @@ def try_by_hand(tally, folder):
     listed("whose successor is out of step", late, begun, [(0, "upright", 1, 0, 0, 1), (1089, "upright", 1, 0, 0, 0)])
     taken = bridged[:20] + [SYNC] + bridged[21:]
     # the synchronisation codeword of the third batch is there an address codeword: 255632 with function 2, in frame 6
-    stray = [*begun, ["2045062", "tone2", "", "whole"]]
-    listed("with another between", bits_of(taken), stray, [(0, "upright", 1, 0, 0, 1), (640, "upright", 1, 0, 0, 0)])
+    stray = [*begun, ["2045062", "tone2", "", "cut"]]
+    listed("with another between", bits_of(taken), stray, [(0, "upright", 1, 0, 0, 1), (640, "upright", 1, 0, 0, 1)])
     turned = bits_of([SYNC, *[IDLE] * 14, tone, more]) + inverted(bits_of([SYNC, more, *[IDLE] * 15]))
     listed("the polarity changes", turned, begun, [(0, "upright", 1, 0, 0, 1), (544, "inverted", 1, 0, 0, 0)])
     call = bits_of([SYNC, *[IDLE] * 16, SYNC, tone, *[IDLE] * 15])
-    listed("a transmission that another cuts off", call[:840] + call, [["8", "tone0", "", "whole"]] * 2)
-    lost_bit = bits_of([SYNC, tone, *[IDLE] * 15])[:543] + bits_of([SYNC, tone, more, *[IDLE] * 14])
-    listed("a bit that is lost", lost_bit, [["8", "tone0", "", "whole"], one[0]])
+    listed("a transmission that another cuts off", call[:840] + call, [["8", "tone0", "", "cut"], ["8", "tone0", "", "whole"]])
+    before, after = bits_of([SYNC, tone, *[IDLE] * 15]), bits_of([SYNC, tone, more, *[IDLE] * 14])
+    for name, gap, state in (
+        ("a bit that is lost", before[:543], "cut"),
+        ("a bit that is doubled", before + "0", "cut"),
+        ("31 bits between two", before + "01" * 15 + "0", "cut"),
+        ("32 bits between two", before + "01" * 16, "whole"),
+    ):
+        wrong = int(len(gap) < 544)  # the last codeword ends with the first bit of the next synchronisation codeword
+        told = [(0, "upright", 1, wrong, 0, int(state == "cut")), (len(gap), "upright", 1, 0, 0, 0)]
+        listed(name, gap + after, [["8", "tone0", "", state], one[0]], told)
+        told = [(0, "upright", 2, wrong, 0, int(state == "cut")), (544 + len(gap), "upright", 1, 0, 0, 0)]
+        listed(f"{name}, in the second batch", before + gap + after, [["8", "tone0", "", "whole"], ["8", "tone0", "", state], one[0]], told)
+    listed("another behind it, inverted", before + inverted(after), [["8", "tone0", "", "whole"], one[0]])
+    long_page = bits_of([SYNC, *[IDLE] * 15, tone])[:-1] + after
+    listed("a page that is open where a bit is lost", long_page, [["15", "tone0", "", "cut"], one[0]])
     for count in (5, 6, 11):
         words = [lost if place < 2 * count - 16 or place % 2 and place < 2 * count else IDLE for place in range(16)]
         told = [(0, "upright", 1, 0, 5, 0)] if count == 5 else []

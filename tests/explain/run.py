@@ -68,7 +68,7 @@ SOME_EARLY = f"limits: 1 to 3 of 3 pages of {THREE_TONES} start in slot 10"
 CUT_APART = cut([0], 48, overload(0), overload(15))
 # The same from the other side: the second loop stands between boundaries 6 and 7, and an idle of slot 5 or 7 leads there.
 CUT_AROUND = cut([at for at in range(16) if at not in (6, 7)], 48, overload(5), overload(7))
-ROOT_AROUND = f"node 1: a page of address 3 (16 codewords) starts or ends at boundaries 6 and 7; {TWO_WAYS}"
+ROOT_AROUND = f"node 1: a page of address 3 (16 codewords) starts or ends at boundaries 6 and 7, the smaller side of the cut; {TWO_WAYS}"
 # Two pages of 2 codewords and two of 18 in one frame, each of which covers slot 7 once, and by a whole turn once more.
 TURNS = HEADER + "".join(f"{address},numeric,{'5' * digits}\n" for address, digits in ((3, 5), (11, 85), (19, 5), (27, 85)))
 # Loops of all frames, two of them of frame 7, and pages of 17 codewords of frames 0 and 1.
@@ -99,7 +99,8 @@ SHOWN = [
     ]),
     ("a cut below a cut", APART, certificate(OPEN, 3, cut([0], 48, CUT_AROUND, overload(15))), [], [
         SUM_APART, ROOT_APART,
-        f"  node 1.1, with an idle in slot 0: a page of address 3 (16 codewords) starts or ends at boundaries 6 and 7; {TWO_WAYS}",
+        f"  node 1.1, with an idle in slot 0: a page of address 3 (16 codewords) starts or ends at boundaries 6 and 7, "
+        f"the smaller side of the cut; {TWO_WAYS}",
         "    limits: room for 1 in slot 0",
         f"    node 1.1.1, with an idle in slot 5: slot 5: 2 codewords at the least, room for 1; {EACH_LOOP}",
         "      limits: room for 1 in slot 0; room for 1 in slot 5",
@@ -129,7 +130,7 @@ SHOWN = [
     ("a full frame", TONES, certificate(OPEN, 2, overload(10, 11)), [], [SUM_TONES, f"node 1: {STARTS}", SO_TONES]),
     ("two cases", TONES, certificate(OPEN, 2, split(81, 1, overload(11), overload(10, 11))), [], [
         SUM_TONES,
-        f"node 1: no page of {THREE_TONES} starts in slot 10, or at least 1 does",
+        f"node 1: a page of {THREE_TONES} starts in slot 10 or in slot 11: none starts in slot 10, or at least 1 does",
         f"  node 1.1, in the first case: slot 11: 3 codewords at the least, room for 1; 3 from 3 pages of {THREE_TONES}",
         f"    {NONE_EARLY}",
         f"  node 1.2, in the second case: {STARTS}",
@@ -138,7 +139,7 @@ SHOWN = [
     ]),
     ("two cases at 2", TONES, certificate(OPEN, 2, split(81, 2, overload(11), overload(10))), ["--depth=1"], [
         SUM_TONES,
-        f"node 1: fewer than 2 pages of {THREE_TONES} start in slot 10, or at least 2 do",
+        f"node 1: a page of {THREE_TONES} starts in slot 10 or in slot 11: fewer than 2 start in slot 10, or at least 2 do",
         ".. 2 nodes below",
         SO_TONES,
     ]),
@@ -196,7 +197,7 @@ REFUSED = [
      "node 1: no page of frame 0 and length 5 modulo 16 has to start or end outside boundary 0"),
     ("a node too many of the smaller side", APART,
      certificate(OPEN, 3, cut([at for at in range(16) if at not in (6, 7)], 48, overload(5), overload(7), overload(8))),
-     "node 1: 2 ways out of boundaries 6 and 7, and 3 nodes for them"),
+     "node 1: 2 ways out of boundaries 6 and 7, the smaller side of the cut, and 3 nodes for them"),
     ("a split too high", TONES, certificate(OPEN, 2, split(81, 4, overload(11), overload(10))),
      f"node 1: 0 to 3 pages of {THREE_TONES} may start in slot 10: no split at 4"),
     ("a deep one", TONES, certificate(OPEN, 2, split(81, 1, split(81, 1, overload(11), overload(11)), overload(10, 11))),
@@ -265,6 +266,9 @@ def try_json(tally, folder):
     }
     tally.check("the worked case as JSON", done.returncode == 0 and json.loads(done.stdout) == wanted, done)
     tally.check("JSON is one line", done.stdout.count(b"\n") == 1 and done.stdout.endswith(b"}\n"), done)
+    told = json.loads(explained(folder, APART, certificate(OPEN, 3, CUT_AROUND), "--json", "--depth", "1").stdout)
+    around = root | {"boundaries": [at for at in range(16) if at not in (6, 7)], "named": [6, 7]}
+    tally.check("a cut that is named by its smaller side, as JSON", told["listed"][0]["fact"] == around, told)
     text = certificate(OPEN, 3, cut([0], 48, overload(0), overload(0)))
     told = json.loads(explained(folder, APART, text, "--json", "--depth", "1").stdout)
     names = [node["node"] for node in told["listed"]]
@@ -309,7 +313,7 @@ DRAWN = [
         (f"node 1: {STARTS}", NO_TONE, ONE_PLACE, [10, 11], []),
     ]),
     ("two cases", TONES, certificate(OPEN, 2, split(81, 1, overload(11), overload(10, 11))), 0, SUM_TONES, [
-        (f"node 1: no page of {THREE_TONES} starts in slot 10, or at least 1 does", NO_TONE, ONE_PLACE, [], []),
+        (f"node 1: a page of {THREE_TONES} starts in slot 10 or in slot 11: none starts in slot 10, or at least 1 does", NO_TONE, ONE_PLACE, [], []),
         ("node 1.1, in the first case: slot 11: 3 codewords at the least, room for 1; "
          f"3 from 3 pages of {THREE_TONES}", TONES_LATE, ONE_PLACE, [11], []),
         (f"node 1.2, in the second case: {STARTS}", [0] * 10 + [1] + [0] * 5, ONE_PLACE, [10, 11], []),
@@ -338,10 +342,10 @@ DRAWN = [
     ("a refused node below those that are drawn", TONES,
      certificate(OPEN, 2, split(81, 1, overload(11), split(81, 2, overload(9), overload(10)))), 1,
      "not shown: node 1.2.1: slot 9: 0 codewords at the least, room for 1", [
-        (f"node 1: no page of {THREE_TONES} starts in slot 10, or at least 1 does", NO_TONE, ONE_PLACE, [], []),
+        (f"node 1: a page of {THREE_TONES} starts in slot 10 or in slot 11: none starts in slot 10, or at least 1 does", NO_TONE, ONE_PLACE, [], []),
         ("node 1.1, in the first case: slot 11: 3 codewords at the least, room for 1; "
          f"3 from 3 pages of {THREE_TONES}", TONES_LATE, ONE_PLACE, [11], []),
-        (f"node 1.2, in the second case: fewer than 2 pages of {THREE_TONES} start in slot 10, or at least 2 do",
+        (f"node 1.2, in the second case: a page of {THREE_TONES} starts in slot 10 or in slot 11: fewer than 2 start in slot 10, or at least 2 do",
          [0] * 10 + [1] + [0] * 5, ONE_PLACE, [], []),
     ]),
 ]

@@ -159,12 +159,33 @@ def try_others(tally, folder):
         done = subprocess.run([*words, "--always"], cwd=room, capture_output=True, timeout=60, **who)
     tally.check("a lock that the superuser holds", (done.returncode, done.stderr) == (3, CANNOT_WRITE) and stand(room) == dues[0], (done, left_in(room)))
     lock.unlink()
+    try_killed_locks(tally, room, dues, words, who)
     before = stand(room)
     room.chmod(0o555)
     done = subprocess.run(words, cwd=room, capture_output=True, timeout=60, **who)
     room.chmod(0o755)
     holds = (done.returncode, done.stderr) == (3, b"pocsag: cannot read or open a file\n")
     tally.check("a folder that cannot be written to", holds and stand(room) == before and not left_in(room), (done, left_in(room)))
+
+
+def try_killed_locks(tally, room, dues, words, who):
+    """The superuser, whose mask leaves nothing to others, is killed at each call of the system that makes a lock; then another user
+    plans."""
+    if not shutil.which("strace"):
+        return
+    ends = 0
+    for calls in ("fchmod", "link,linkat", "unlink,unlinkat", "flock"):
+        for number in range(1, 100):
+            trace = ["strace", "-f", "-qq", "-o", "/dev/null", "-e", f"trace={calls}", "-e", f"inject={calls}:signal=KILL:when={number}"]
+            if not subprocess.run([*trace, *plan(0)], cwd=room, capture_output=True, timeout=60, umask=0o077).returncode:
+                break
+            ends += 1
+            left = left_in(room)
+            modes = {stat.S_IMODE((room / name).stat().st_mode) for name in left if name.endswith(".lock")}
+            done = subprocess.run([words[0], *plan(1)[1:]], cwd=room, capture_output=True, timeout=60, **who)
+            holds = modes <= {0o444} and done.returncode == 0 and stand(room) == dues[1]
+            tally.check(f"another user, and locks of a run that was killed at {calls} {number}", holds, (left, modes, done, left_in(room)))
+    tally.check("runs were killed while they made locks", ends > 12, ends)
 
 
 def try_left(tally, folder):

@@ -1,6 +1,7 @@
 #!/usr/bin/env python3
 """Runs each command of the papers, README and docs/*.md, as a reader would, and compares what is printed with what the
-paper says ('# prints: ..' below a command). docs/OPERATION.md and docs/LIBRARY.md have tests of their own.
+paper says ('# prints: ..' below a command). docs/OPERATION.md and docs/LIBRARY.md have tests of their own; the example in C
+of the latter is also built here, with the library that `./install` brings.
 
 It takes the binary that the gate left in crates/pocsag_app/out; where `cc` or `pkg-config` is missing, the example in C
 is left out. The last line is 'N passed, M failed'.
@@ -68,15 +69,15 @@ def try_commands(tally, folder):
 
 
 def try_examples(tally, folder):
-    """README's examples of calling the library."""
-    readme = TOP / "README.md"
-    (rattle,), (c,) = blocks(readme, "rust"), blocks(readme, "c")
+    """README's example in Rattle, and LIBRARY's in C with the installed library."""
+    library = TOP / "docs/LIBRARY.md"
+    (rattle,), (c,) = blocks(TOP / "README.md", "rust"), blocks(library, "c")
     tally.check("the example in Rattle is the one that is proved", rattle.strip() in EXAMPLE.read_text(), rattle)
     if not shutil.which("cc") or not shutil.which("pkg-config"):
         return
     room, environment = fresh(folder, "example")
     (room / "first.c").write_text(c)
-    command, printed = re.search(r"`(cc first\.c .*)` makes a program that\s+prints `(.*)`", readme.read_text()).groups()
+    command, printed = re.search(r"`(cc first\.c .*)`\s+makes\s+a\s+program\s+that\s+prints\s+`(.*)`", library.read_text()).groups()
     done = run(["sh", "-c", f"./install && {command}"], room, environment)
     tally.check("the example in C is compiled", done.returncode == 0, done)
     done = run(["./a.out"], room, dict(environment, LD_LIBRARY_PATH=f"{room}/usr/lib"))

@@ -8,17 +8,17 @@ use Rattle.pocsag_slots.specs.Loads.{limits_of_all}
 use Rattle.pocsag_tree.specs.BoundTrees.{BoundTree, BoundTrees, closed_nodes, closed_nodes_in}
 use Rattle.pocsag_tree.specs.Views.{bound_tree_of, bounds_of}
 use Rattle.pocsag_branch.specs.declared.task.Task.{Task}
-use Rattle.pocsag_branch.specs.declared.halt.Halt.{Halt}
-use Rattle.pocsag_branch.specs.declared.halt.Halt.TheVariants.{Met, Limit, OutOfMemory}
-use Rattle.pocsag_branch.specs.declared.halt.Children.{Children}
-use Rattle.pocsag_branch.specs.declared.halt.Children.TheVariants.{Whole, Kept}
+use Rattle.pocsag_branch.specs.declared.early_end.EarlyEnd.{EarlyEnd}
+use Rattle.pocsag_branch.specs.declared.early_end.EarlyEnd.TheVariants.{Met, Limit, OutOfMemory}
+use Rattle.pocsag_branch.specs.declared.early_end.Children.{Children}
+use Rattle.pocsag_branch.specs.declared.early_end.Children.TheVariants.{Whole, Kept}
 use Rattle.pocsag_branch.specs.Examined.{AreRefuted, IsAnswer, IsRefuted}
 
 -- Why an examination ends before its tree is whole.
-abbrev pub IsHalt : Classes → Task → Halt → Type 0
-IsHalt k q (Met answer) = IsAnswer k q.end q.batches answer.value
-IsHalt k q Limit = Unit {0}
-IsHalt k q OutOfMemory = Unit {0}
+abbrev pub IsEarlyEnd : Classes → Task → EarlyEnd → Type 0
+IsEarlyEnd k q (Met answer) = IsAnswer k q.end q.batches answer.value
+IsEarlyEnd k q Limit = Unit {0}
+IsEarlyEnd k q OutOfMemory = Unit {0}
 
 -- Whether a way that may be taken is open: the limits do not ask for it yet.
 abbrev pub IsUndecidedWay : Classes → ℕ → Limits → Way → Type 0

@@ -1,8 +1,8 @@
-pub mod Climb
 pub mod Examined
 pub mod Found
 pub mod FreeNode
 pub mod Freely
+pub mod Improvements
 pub mod Marks
 pub mod Shape
 pub mod Undecided

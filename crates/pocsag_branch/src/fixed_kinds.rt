@@ -7,7 +7,7 @@ ghost use Rattle.pocsag_branch.specs.Shape.{NoneCertain};
 
 use crate::boundaries::BoundarySet;
 use crate::child::certain_class;
-use crate::climb::climbed_choice;
+use crate::local_search::improved_choice;
 use crate::node::Node;
 use crate::task::{Answer, NoTour, NodeKind, Stop};
 use pocsag_flow::{ChooseFault, choose};
@@ -24,7 +24,7 @@ pub(crate) fn fixed_kind(alloc: Global, node: &Node<'_>) -> Result<NodeKind, Sto
 {
     match choose(node.classes, &node.limits) {
         Ok(choice) => {
-            let best = climbed_choice(node, choice);
+            let best = improved_choice(node, choice);
             kind_for(alloc, node, &best)
         }
         Err(ChooseFault::Overload(set)) => Ok(NodeKind::Overload(set)),

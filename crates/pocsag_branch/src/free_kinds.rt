@@ -3,23 +3,23 @@ ghost use Rattle.pocsag_slots.specs.Loads.{IsAdmitted};
 ghost use Rattle.pocsag_slots.specs.Ways.{MayTake};
 ghost use Rattle.pocsag_tour.specs.Reached.{IsApart};
 ghost use Rattle.pocsag_branch.specs.Examined.{IsNodeKind};
-ghost use Rattle.pocsag_branch.specs.FreeNode.{IsHalt, IsUndecidedWay};
+ghost use Rattle.pocsag_branch.specs.FreeNode.{IsEarlyEnd, IsUndecidedWay};
 
 use crate::boundaries::BoundarySet;
+use crate::early_end::EarlyEnd;
 use crate::fixed_kinds::{kind_at, why_no_tour};
-use crate::halt::Halt;
 use crate::node::Node;
+use crate::smaller_cuts::{is_undecided, smaller_cut};
 use crate::task::{NoTour, NodeKind, Stop};
-use crate::thin_cuts::{is_undecided, thin_cut};
 use pocsag_flow::{ChooseFault, choose};
 use pocsag_slots::{Choice, Class, Way, ways};
 use std::alloc::Global;
 
 // Which node the free search makes under the limits.
 #[inline(never)]
-pub(crate) fn free_kind(alloc: Global, node: &Node<'_>) -> Result<NodeKind, Halt>
+pub(crate) fn free_kind(alloc: Global, node: &Node<'_>) -> Result<NodeKind, EarlyEnd>
     ensures kind { IfOk result (IsNodeKind node.now.classes.now node.now.task node.now.limits) }
-    ensures halt { IfErr result (IsHalt node.now.classes.now node.now.task) }
+    ensures early_end { IfErr result (IsEarlyEnd node.now.classes.now node.now.task) }
 {
     match choose(node.classes, &node.limits) {
         Ok(choice) => free_kind_for(alloc, node, &choice),
@@ -27,20 +27,20 @@ pub(crate) fn free_kind(alloc: Global, node: &Node<'_>) -> Result<NodeKind, Halt
     }
 }
 
-fn free_kind_for(alloc: Global, node: &Node<'_>, choice: &Choice) -> Result<NodeKind, Halt>
+fn free_kind_for(alloc: Global, node: &Node<'_>, choice: &Choice) -> Result<NodeKind, EarlyEnd>
     requires { IsAdmitted node.now.classes.now node.now.limits (slice_index choice.now.early) }
     ensures kind { IfOk result (IsNodeKind node.now.classes.now node.now.task node.now.limits) }
-    ensures halt { IfErr result (IsHalt node.now.classes.now node.now.task) }
+    ensures early_end { IfErr result (IsEarlyEnd node.now.classes.now node.now.task) }
 {
     match why_no_tour(alloc, node, choice) {
         Ok(NoTour::Apart(set)) => Ok(free_kind_at(node, choice, set)),
         Ok(NoTour::Unclosed) => Ok(NodeKind::Close),
-        Err(Stop::Met(answer)) => Err(Halt::Met(answer)),
-        Err(Stop::OutOfMemory) => Err(Halt::OutOfMemory),
+        Err(Stop::Met(answer)) => Err(EarlyEnd::Met(answer)),
+        Err(Stop::OutOfMemory) => Err(EarlyEnd::OutOfMemory),
     }
 }
 
-// A split at an open way across the set that is reached, or across a thinner one in the first try; where
+// A split at an open way across the set that is reached, or across a smaller one in the first try; where
 // none is open, a cut; and where no class is certain, the split of the promised shape.
 fn free_kind_at(node: &Node<'_>, choice: &Choice, set: BoundarySet) -> NodeKind
     requires admitted { IsAdmitted node.now.classes.now node.now.limits (slice_index choice.now.early) }
@@ -48,7 +48,7 @@ fn free_kind_at(node: &Node<'_>, choice: &Choice, set: BoundarySet) -> NodeKind
     ensures { IsNodeKind node.now.classes.now node.now.task node.now.limits result }
 {
     if !node.task.second {
-        if let Some(cut) = thin_cut(node, set) {
+        if let Some(cut) = smaller_cut(node, set) {
             return split_first(node, cut);
         }
     }

@@ -4,13 +4,13 @@ ghost use Rattle.pocsag_slots.specs.Ways.{class_certain, MayTake, ways_across, w
 ghost use Rattle.pocsag_tree.specs.Views.{bound_tree_of};
 ghost use Rattle.pocsag_tree.specs.Limits.{greatest_depth};
 ghost use Rattle.pocsag_check.specs.Acceptance.{AcceptsWithin};
-ghost use Rattle.pocsag_branch.specs.FreeNode.{AreChildren, IsFreeNode, IsHalt};
+ghost use Rattle.pocsag_branch.specs.FreeNode.{AreChildren, IsFreeNode, IsEarlyEnd};
 ghost use Rattle.pocsag_branch.specs.Undecided.{Falls, IsSplitPoint};
 
 use crate::boundaries::BoundarySet;
 use crate::child::{child_by, lower_child, split_tree, upper_child, ways_out, ways_to_end};
+use crate::early_end::{Children, EarlyEnd};
 use crate::free_kinds::free_kind;
-use crate::halt::{Children, Halt};
 use crate::node::Node;
 use crate::task::{NodeKind, Task};
 use pocsag_check::accepts;
@@ -31,14 +31,18 @@ fn stands_for(node: &Node<'_>, tree: &Tree) -> bool
 
 /// A tree that refutes the node with these limits, and how many nodes are examined after it.
 #[cycle(free_nodes)]
-pub(crate) fn free_node(alloc: Global, node: &Node<'_>, examined: u32) -> Result<(Tree, u32), Halt>
+pub(crate) fn free_node(
+    alloc: Global,
+    node: &Node<'_>,
+    examined: u32,
+) -> Result<(Tree, u32), EarlyEnd>
     requires { examined ≤ node.now.task.limit }
     ensures node { IfOk result
         (λ x. IsFreeNode node.now.classes.now node.now.task node.now.limits examined x.1 (bound_tree_of x.0)) }
-    ensures halt { IfErr result (IsHalt node.now.classes.now node.now.task) }
+    ensures early_end { IfErr result (IsEarlyEnd node.now.classes.now node.now.task) }
 {
     if examined >= node.task.limit {
-        return Err(Halt::Limit);
+        return Err(EarlyEnd::Limit);
     }
     match free_kind(alloc, node)? {
         NodeKind::Overload(set) => Ok((Tree::Overload(set), examined + 1)),
@@ -55,14 +59,14 @@ fn free_cut(
     set: BoundarySet,
     needed: Class,
     examined: u32,
-) -> Result<(Tree, u32), Halt>
+) -> Result<(Tree, u32), EarlyEnd>
     requires examined { examined < node.now.task.limit }
     requires certain { IsTrue (class_certain node.now.classes.now node.now.limits set.members needed.number) }
     requires fall { All (Falls node.now.classes.now node.now.task.batches node.now.limits)
         (ways_across node.now.classes.now node.now.limits set.members) }
     ensures node { IfOk result
         (λ x. IsFreeNode node.now.classes.now node.now.task node.now.limits examined x.1 (bound_tree_of x.0)) }
-    ensures halt { IfErr result (IsHalt node.now.classes.now node.now.task) }
+    ensures early_end { IfErr result (IsEarlyEnd node.now.classes.now node.now.task) }
 {
     let out = ways_out(node, set);
     let (children, after) = free_children(alloc, node, &out, examined + 1)?;
@@ -80,14 +84,18 @@ fn free_cut(
 }
 
 #[cycle(free_nodes)]
-pub(crate) fn free_close(alloc: Global, node: &Node<'_>, examined: u32) -> Result<(Tree, u32), Halt>
+pub(crate) fn free_close(
+    alloc: Global,
+    node: &Node<'_>,
+    examined: u32,
+) -> Result<(Tree, u32), EarlyEnd>
     requires examined { examined < node.now.task.limit }
     requires asks { AsksForLast node.now.task.end }
     requires fall { All (Falls node.now.classes.now node.now.task.batches node.now.limits)
         (ways_to_close node.now.classes.now node.now.task.end node.now.limits) }
     ensures node { IfOk result
         (λ x. IsFreeNode node.now.classes.now node.now.task node.now.limits examined x.1 (bound_tree_of x.0)) }
-    ensures halt { IfErr result (IsHalt node.now.classes.now node.now.task) }
+    ensures early_end { IfErr result (IsEarlyEnd node.now.classes.now node.now.task) }
 {
     let out = ways_to_end(node);
     let (children, after) = free_children(alloc, node, &out, examined + 1)?;
@@ -104,12 +112,12 @@ fn free_split(
     class: Class,
     m: u16,
     examined: u32,
-) -> Result<(Tree, u32), Halt>
+) -> Result<(Tree, u32), EarlyEnd>
     requires examined { examined < node.now.task.limit }
     requires point { IsSplitPoint node.now.classes.now node.now.task.batches node.now.limits class.number m }
     ensures node { IfOk result
         (λ x. IsFreeNode node.now.classes.now node.now.task node.now.limits examined x.1 (bound_tree_of x.0)) }
-    ensures halt { IfErr result (IsHalt node.now.classes.now node.now.task) }
+    ensures early_end { IfErr result (IsEarlyEnd node.now.classes.now node.now.task) }
 {
     let under = lower_child(alloc, node, class, m)?;
     let (below, between) = free_node(alloc, &under, examined + 1)?;
@@ -133,13 +141,13 @@ fn free_children(
     node: &Node<'_>,
     ways: &[Way],
     examined: u32,
-) -> Result<(Children, u32), Halt>
+) -> Result<(Children, u32), EarlyEnd>
     requires examined { examined ≤ node.now.task.limit }
     requires allowed { All (MayTake node.now.classes.now node.now.limits) ways.now }
     requires fall { All (Falls node.now.classes.now node.now.task.batches node.now.limits) ways.now }
     ensures node { IfOk result
         (λ x. AreChildren node.now.classes.now node.now.task node.now.limits examined x.1 ways.now x.0) }
-    ensures halt { IfErr result (IsHalt node.now.classes.now node.now.task) }
+    ensures early_end { IfErr result (IsEarlyEnd node.now.classes.now node.now.task) }
 {
     let mut children = Vec::new(alloc);
     let mut after = examined;

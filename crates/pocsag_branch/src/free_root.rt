@@ -2,10 +2,10 @@ ghost use Rattle.std.specs.Prelude.{◌≡◌, ◌<◌, IfErr, IfOk};
 ghost use Rattle.pocsag_tree.specs.Views.{bound_tree_of};
 ghost use Rattle.pocsag_branch.specs.Examined.{IsStop};
 ghost use Rattle.pocsag_branch.specs.Found.{IsNodeLimit};
-ghost use Rattle.pocsag_branch.specs.FreeNode.{IsFreeTree, IsHalt};
+ghost use Rattle.pocsag_branch.specs.FreeNode.{IsFreeTree, IsEarlyEnd};
 
+use crate::early_end::EarlyEnd;
 use crate::free_nodes::{free_close, free_node};
-use crate::halt::Halt;
 use crate::node::Node;
 use crate::task::{Stop, Task};
 use pocsag_slots::{Classes, all_limits};
@@ -17,13 +17,13 @@ use std::alloc::Global;
 const FIRST_TRY: u32 = 1_000;
 
 // How many nodes are examined at most to see whether a tour is there.
-const FUEL: u32 = 20_000;
+const FREE_LIMIT: u32 = 20_000;
 
 // One try of the free search from the limits of all choices. Where the end asks for something of the last codeword,
 // it begins with the ways to close: below them an open tour can always be closed.
-fn tree_of_try(alloc: Global, classes: &Classes, task: Task) -> Result<Tree, Halt>
+fn tree_of_try(alloc: Global, classes: &Classes, task: Task) -> Result<Tree, EarlyEnd>
     ensures tree { IfOk result (λ tree. IsFreeTree classes.now task (bound_tree_of tree)) }
-    ensures halt { IfErr result (IsHalt classes.now task) }
+    ensures early_end { IfErr result (IsEarlyEnd classes.now task) }
 {
     let root = Node {
         classes,
@@ -53,19 +53,19 @@ fn task_within(task: Task, limit: u32, second: bool) -> Task
 }
 
 // The tree of the free search. Where the first try stops at its limit, a second one has the rest.
-pub(crate) fn free_tree(alloc: Global, classes: &Classes, task: Task) -> Result<Tree, Halt>
+pub(crate) fn free_tree(alloc: Global, classes: &Classes, task: Task) -> Result<Tree, EarlyEnd>
     ensures tree { IfOk result (λ tree. IsFreeTree classes.now task (bound_tree_of tree)) }
-    ensures halt { IfErr result (IsHalt classes.now task) }
+    ensures early_end { IfErr result (IsEarlyEnd classes.now task) }
 {
     let short = task.limit.min(FIRST_TRY);
     let first = task_within(task, short, false);
     match tree_of_try(alloc, classes, first) {
         Ok(tree) => Ok(tree),
-        Err(Halt::Met(answer)) => Err(Halt::Met(answer)),
-        Err(Halt::OutOfMemory) => Err(Halt::OutOfMemory),
-        Err(Halt::Limit) => {
+        Err(EarlyEnd::Met(answer)) => Err(EarlyEnd::Met(answer)),
+        Err(EarlyEnd::OutOfMemory) => Err(EarlyEnd::OutOfMemory),
+        Err(EarlyEnd::Limit) => {
             if task.limit == short {
-                return Err(Halt::Limit);
+                return Err(EarlyEnd::Limit);
             }
             let second = task_within(task, task.limit - short, true);
             tree_of_try(alloc, classes, second)
@@ -77,10 +77,10 @@ pub(crate) fn free_tree(alloc: Global, classes: &Classes, task: Task) -> Result<
 pub(crate) fn stop_at_tour(alloc: Global, classes: &Classes, task: Task) -> Result<(), Stop>
     ensures { IfErr result (IsStop classes.now task) }
 {
-    match free_tree(alloc, classes, task_within(task, FUEL, false)) {
+    match free_tree(alloc, classes, task_within(task, FREE_LIMIT, false)) {
         Ok(_) => Ok(()),
-        Err(Halt::Limit) => Ok(()),
-        Err(Halt::Met(answer)) => Err(Stop::Met(answer)),
-        Err(Halt::OutOfMemory) => Err(Stop::OutOfMemory),
+        Err(EarlyEnd::Limit) => Ok(()),
+        Err(EarlyEnd::Met(answer)) => Err(Stop::Met(answer)),
+        Err(EarlyEnd::OutOfMemory) => Err(Stop::OutOfMemory),
     }
 }

@@ -7,10 +7,10 @@ ghost use Rattle.pocsag_branch.specs.FreeNode.{IsFreeTree};
 ghost use Rattle.pocsag_branch.specs.Freely.{IsFoundFreely, IsFreeFault, IsNearlyFewest};
 
 use crate::answer::Found;
+use crate::early_end::EarlyEnd;
 use crate::fault::SearchFault;
 use crate::fixed_search::search;
 use crate::free_root::free_tree;
-use crate::halt::Halt;
 use crate::least::least_of;
 use crate::outcome::{found_at_least, tour_of_one_more};
 use crate::task::Task;
@@ -45,14 +45,14 @@ pub fn search_freely(
     };
     match free_tree(alloc, classes, task) {
         Ok(tree) => found_one_more(alloc, classes, task, &least.choice, tree),
-        Err(Halt::Met(answer)) => Ok(found_at_least(
+        Err(EarlyEnd::Met(answer)) => Ok(found_at_least(
             classes,
             task,
             least.set,
             Box::into_inner(answer),
         )),
-        Err(Halt::Limit) => found_or_near(alloc, classes, node_limit, end),
-        Err(Halt::OutOfMemory) => Err(FreeFault::OutOfMemory),
+        Err(EarlyEnd::Limit) => found_or_near(alloc, classes, node_limit, end),
+        Err(EarlyEnd::OutOfMemory) => Err(FreeFault::OutOfMemory),
     }
 }
 

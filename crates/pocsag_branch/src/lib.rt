@@ -5,7 +5,7 @@
 mod answer;
 mod boundaries;
 mod child;
-mod climb;
+mod early_end;
 mod fault;
 mod fixed_kinds;
 mod fixed_nodes;
@@ -15,13 +15,13 @@ mod free_kinds;
 mod free_nodes;
 mod free_root;
 mod free_search;
-mod halt;
 mod least;
 mod live;
+mod local_search;
 mod node;
 mod outcome;
+mod smaller_cuts;
 mod task;
-mod thin_cuts;
 mod unfinished;
 mod within_one;
 

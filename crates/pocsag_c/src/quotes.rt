@@ -1,5 +1,5 @@
-ghost use Rattle.std.specs.Prelude.{◌≡◌, ◌≢◌, ◌↔◌, None, Some, min};
-ghost use Rattle.pocsag_pages.specs.Quotes.{first_misplaced};
+ghost use Rattle.std.specs.Prelude.{◌≡◌, ◌≢◌, ◌↔◌, min};
+ghost use Rattle.pocsag_pages.specs.Quotes.{HasQuoteFault, IsWellQuoted, text_of_file};
 ghost use Rattle.pocsag_c.specs.Answers.{PrintsFault};
 ghost use Rattle.pocsag_c.specs.Statuses.{IsOfBytes, nowhere, quote_refusal, at_record_and_line};
 
@@ -36,9 +36,9 @@ fn refused_quote(fault: QuoteFault) -> StatusAt
 /// line.
 #[unsafe(no_mangle)]
 pub extern "C" fn pocsag_strict(pages: &[u8], place: &mut Place) -> u32
-    ensures strict { result ≡ 0 ↔ first_misplaced pages.now ≡ None }
+    ensures strict { result ≡ 0 ↔ IsWellQuoted (text_of_file pages.now) }
     ensures fault { result ≢ 0 →
-        PrintsFault quote_refusal (λ quote. first_misplaced pages.now ≡ Some quote) result place.new }
+        PrintsFault quote_refusal (HasQuoteFault (text_of_file pages.now)) result place.new }
     ensures placeless { result ≡ 0 → place.new ≡ nowhere }
     ensures of_bytes { IsOfBytes result }
 {

@@ -143,6 +143,7 @@ lifts_reception capture r start bytes heard begun some is f =
       of = is;
       codewords = f.codewords;
       sent = sent_body bytes f.codewords (pages_in f.codewords) whole long body;
+      steady = f.is.steady;
       words = f.is.extracted;
       pages = pages_in f.codewords;
       caught = one_caught bits heard f.codewords f.is;

@@ -159,7 +159,7 @@ all_told bits [] [] each = All-nil (IsStatsOf bits)
 all_told bits [] (T ∷ Ts) each = absurd each
 all_told bits (h ∷ hs) [] each = absurd each
 all_told bits (h ∷ hs) (T ∷ Ts) each =
-    All-cons (IsStatsOf bits) h hs (record { codewords = T; extracted = each.0.extracted }) (all_told bits hs Ts each.1)
+    All-cons (IsStatsOf bits) h hs (record { steady = each.0.steady; codewords = T; extracted = each.0.extracted }) (all_told bits hs Ts each.1)
 
 -- a body behind a preamble
 pub sent_body : (X K : List ℕ) (ps : List Page) → X ≡ replicate 72 0xaa ++ body_bytes K → 0 < length K → IsBody K ps → Sent X K

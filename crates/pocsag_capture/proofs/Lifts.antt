@@ -1,5 +1,5 @@
 -- Receptions that are lifted one behind the other.
-use Rattle.std.proofs.Common.{◌≡◌, ◌≢◌, ℕ, ◌+◌, ◌*◌, ◌%◌, ◌<◌, ◌≤◌, List, [], ◌∷◌, ◌++◌, length, map, Bool, false, cond, refl, sym, ap, ap₂, subst, ◌∙◌, arith}
+use Rattle.std.proofs.Common.{◌≡◌, ◌≢◌, ℕ, ◌+◌, ◌*◌, ◌%◌, ◌<◌, ◌≤◌, List, [], ◌∷◌, ◌++◌, length, map, Bool, false, refl, sym, ap, ap₂, subst, ◌∙◌, arith}
 use Rattle.std.specs.List.{AllZip, range_with_len}
 use Rattle.std.proofs.lemmas.Bool.{le-leb, le-ltb, lt-leb, lt-ltb, ne_eqb}
 use Rattle.std.proofs.lemmas.List.{append-nil, flat_map_more, map-append}
@@ -7,14 +7,15 @@ use Rattle.std.proofs.lemmas.List.FromFn.{length-map-range_with_len, map-range_w
 use Rattle.pocsag_pages.specs.Bytes.{body_bytes}
 use Rattle.pocsag_pager.specs.Shown.{said}
 use Rattle.pocsag_capture.specs.Bits.{as_sent, word_on}
-use Rattle.pocsag_capture.specs.Extracted.{AreLifted}
+use Rattle.pocsag_capture.specs.Extracted.{AreLifted, count_cut}
 use Rattle.pocsag_capture.specs.ExtractedBytes.{IsLift, PutsLift, PutsLifts}
-use Rattle.pocsag_capture.specs.Receptions.{received, received_word, sent_at}
+use Rattle.pocsag_capture.specs.Receptions.{AreInStep, received, received_word, sent_at}
+use Rattle.pocsag_capture.specs.TakenWords.{cut_by}
 use Rattle.pocsag_capture.specs.declared.polarity.Polarity.{Polarity}
 use Rattle.pocsag_capture.specs.declared.reception.ReceptionStats.{ReceptionStats}
 use Rattle.pocsag_capture.specs.declared.reception.Reception.{Reception}
 use Rattle.pocsag_capture.specs.declared.corrector.WordCorrector.{WordCorrector}
-use Rattle.pocsag_capture.proofs.Settled.{IsSettling, begun_batch, cut_all}
+use Rattle.pocsag_capture.proofs.Settled.{IsSettling, all_ended, begun_batch, count_more, ended_from, last_end, open_after_all}
 
 -- ---- a word of a reception
 
@@ -42,15 +43,17 @@ first_long bits r n = length-map-range_with_len (received_word bits r) 0 n
 pub first_more : (bits : List ℕ) (r : Reception) (n : ℕ) → first_words bits r (n + 1) ≡ first_words bits r n ++ received_word bits r n ∷ []
 first_more bits r n = map-range_with_len_more (received_word bits r) 0 n n (omega arith)
 
-begun_none : (n : ℕ) → n % 17 ≡ 0 → begun_batch n ≡ []
+pub begun_none : (n : ℕ) → n % 17 ≡ 0 → begun_batch n ≡ []
 begun_none n whole =
     let other : n % 17 ≢ 1 = λ wrong. absurd (omega arith) in
     rw (ne_eqb _ _ other) refl
 
 -- all of them
-pub lift_all_words : (bits : List ℕ) (h : ReceptionStats) (s : WordCorrector) (before now : List ℕ) (place : ℕ) → place ≡ 17 * h.reception.batches
-    → h.corrected ≡ s.corrected → h.lost ≡ s.lost → h.cut ≡ s.cut + cond s.is_open 1 0 → IsSettling (first_words bits h.reception place) s before now → PutsLift bits h before now
-lift_all_words bits h s before now place all corrected lost cut f =
+abbrev pub lift_all_words : (bits : List ℕ) (h : ReceptionStats) (s : WordCorrector) (before now : List ℕ) (place : ℕ) → place ≡ 17 * h.reception.batches
+    → AreInStep bits h.reception h.steady → h.corrected ≡ s.corrected → h.lost ≡ s.lost → h.cut ≡ s.cut + cut_by (last_end s.is_open)
+    → IsSettling (first_words bits h.reception place) h.steady s before now → PutsLift bits h before now
+lift_all_words bits h s before now place all steady corrected lost cut f =
+    let ended = ended_from (16 * h.steady) 0 false (map said f.mended) in
     let same : first_words bits h.reception place ≡ received bits h.reception = ap (first_words bits h.reception) all in
     let long = first_long bits h.reception place in
     record {
@@ -58,13 +61,16 @@ lift_all_words bits h s before now place all corrected lost cut f =
       is = record {
         are = f.are;
         long = omega (arith, f.long);
-        extracted = subst (λ (l : List ℕ). AreLifted l f.codewords h.corrected h.lost h.cut) same (record {
+        steady = steady;
+        extracted = subst (λ (l : List ℕ). AreLifted l f.codewords (16 * h.steady) h.corrected h.lost h.cut) same (record {
           mended = f.mended;
           each = f.each;
           kinds = f.kinds;
           bits = corrected ∙ f.bits;
           beyond = lost ∙ f.beyond;
-          cuts = cut ∙ ap₂ (λ (n : ℕ) (b : Bool). n + cond b 1 0) f.cuts f.open_page ∙ sym (cut_all false (map said f.mended));
+          cuts = cut ∙ ap₂ (λ (n : ℕ) (b : Bool). n + cut_by (last_end b)) f.cuts f.open_page
+              ∙ sym (count_more ended (last_end (open_after_all false (map said f.mended))))
+              ∙ ap (λ (l : List Bool). count_cut l) (all_ended (16 * h.steady) 0 false (map said f.mended));
         });
       };
       bytes = f.bytes ∙ ap (λ (l : List ℕ). before ++ l) (ap (λ (l : List ℕ). body_bytes f.codewords ++ l)

@@ -5,7 +5,7 @@ use Rattle.std.proofs.lemmas.List.{append-nil}
 use Rattle.pocsag_words.specs.Codeword.{IsNear}
 use Rattle.pocsag_pages.specs.Bytes.{sync_word}
 use Rattle.pocsag_capture.specs.Bits.{as_sent, capture_bits, word_on}
-use Rattle.pocsag_capture.specs.Receptions.{AreFound, AreReceptions, IsOnAir, IsBridged, IsInStep, IsQuiet, IsReception, IsSyncRun, IsSynchronised, counted, run_end, last_sync, nothing, passed}
+use Rattle.pocsag_capture.specs.Receptions.{AreFound, AreReceptions, IsClear, IsOnAir, IsBridged, IsInStep, IsQuiet, IsReception, IsSyncRun, IsSynchronised, counted, run_end, last_sync, nothing, passed}
 use Rattle.pocsag_capture.specs.Runs.{BeginsRun, Steps}
 use Rattle.pocsag_capture.specs.declared.polarity.Polarity.{Polarity}
 use Rattle.pocsag_capture.specs.declared.reception.Reception.{Reception}
@@ -19,6 +19,22 @@ quiet_more bits first bit next before here = λ k low high polarity.
       | inl less ↦ before k low less polarity
       | inr more ↦ here k more high polarity
     ]
+
+-- the same of one polarity
+pub clear_quiet : (bits : List ℕ) (p : Polarity) (first last : ℕ) → IsQuiet bits first last → IsClear bits p first last
+clear_quiet bits p first last quiet = λ k low high. quiet k low high p
+
+pub clear_more : (bits : List ℕ) (p : Polarity) (first bit next : ℕ) → IsClear bits p first bit → IsClear bits p bit next → IsClear bits p first next
+clear_more bits p first bit next before here = λ k low high.
+    elim (cases_lt k bit) [
+      | inl less ↦ before k low less
+      | inr more ↦ here k more high
+    ]
+
+pub clear_one : (bits : List ℕ) (p : Polarity) (bit : ℕ) → ¬ IsSynchronised bits bit p → IsClear bits p bit (bit + 1)
+clear_one bits p bit none = λ k low high there.
+    let same : k ≡ bit = omega arith in
+    none (subst (λ (n : ℕ). IsSynchronised bits n p) same there)
 
 -- a word that is known to be near in neither polarity, or in none but one
 abbrev Answers : Option Polarity → ℕ → Type 0
@@ -36,8 +52,8 @@ quiet_eight bytes at bit window is words none = λ k low high polarity synchroni
     none (k - bit) polarity (omega arith) (subst (λ (n : ℕ). IsNear sync_word (as_sent polarity n)) here synchronised.near)
 
 -- fewer than 32 bits are left
-pub quiet_end : (bits : List ℕ) (bit : ℕ) → length bits < bit + 32 → IsQuiet bits bit (length bits)
-quiet_end bits bit few = λ k low high polarity synchronised. absurd (omega (arith, synchronised.within))
+pub quiet_end : (bits : List ℕ) (bit last : ℕ) → length bits < bit + 32 → IsQuiet bits bit last
+quiet_end bits bit last few = λ k low high polarity synchronised. absurd (omega (arith, synchronised.within))
 
 pub synchronised_at : (bytes : List ℕ) (bit word : ℕ) (polarity : Polarity) → word ≡ word_on (capture_bits bytes) bit → bit + 32 ≤ 8 * length bytes
     → IsNear sync_word (as_sent polarity word) → IsSynchronised (capture_bits bytes) bit polarity

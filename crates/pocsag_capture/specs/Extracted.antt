@@ -1,5 +1,5 @@
 -- A reception as a transmission: its words repaired and settled.
-use Rattle.std.specs.Prelude.{◌≡◌, ℕ, ◌+◌, ◌%◌, ◌==◌, nat_le, if◌then◌else◌, List, [], ◌∷◌, map, Bool, true, false, Option, Some, None, bit_xor, count_ones}
+use Rattle.std.specs.Prelude.{◌≡◌, ℕ, ◌+◌, ◌%◌, ◌==◌, nat_le, if◌then◌else◌, List, [], ◌∷◌, filter, length, map, Bool, true, false, Option, Some, None, bit_xor, count_ones}
 use Rattle.std.specs.List.{AllZip}
 use Rattle.pocsag_words.specs.Frame.{batch_words}
 use Rattle.pocsag_words.specs.Kinds.{kind_of}
@@ -37,22 +37,34 @@ mended_errors (w ∷ ws) [] = 0
 mended_errors (w ∷ ws) (None ∷ ms) = mended_errors ws ms
 mended_errors (w ∷ ws) (Some v ∷ ms) = count_ones (bit_xor v w) + mended_errors ws ms
 
--- How many pages are cut, where a page may be open before the words: directly behind what is shown of each a word past repair
--- or the end stands.
-abbrev pub cut_pages : (is_open : Bool) → List (Option Kind) → ℕ
-cut_pages is_open [] = if is_open then 1 else 0
-cut_pages is_open (None ∷ ms) = (if is_open then 1 else 0) + cut_pages false ms
-cut_pages is_open (Some Idle ∷ ms) = cut_pages false ms
-cut_pages is_open (Some (Address high function) ∷ ms) = cut_pages true ms
-cut_pages is_open (Some (Message bits) ∷ ms) = cut_pages is_open ms
+-- Whether the page before these mended words, of which the first has this index, is cut, where so many words are in step: directly
+-- behind the message codewords that stand first a word past repair, one out of step, or the end of the reception stands.
+abbrev pub ends_cut : (steady index : ℕ) → List (Option Kind) → Bool
+ends_cut steady i [] = true
+ends_cut steady i (None ∷ ms) = true
+ends_cut steady i (Some Idle ∷ ms) = nat_le steady i
+ends_cut steady i (Some (Address high function) ∷ ms) = nat_le steady i
+ends_cut steady i (Some (Message bits) ∷ ms) = ends_cut steady (i + 1) ms
+
+-- Of each page of mended words, in order, whether it is cut.
+abbrev pub page_cuts : (steady index : ℕ) → List (Option Kind) → List Bool
+page_cuts steady i [] = []
+page_cuts steady i (None ∷ ms) = page_cuts steady (i + 1) ms
+page_cuts steady i (Some Idle ∷ ms) = page_cuts steady (i + 1) ms
+page_cuts steady i (Some (Address high function) ∷ ms) = ends_cut steady (i + 1) ms ∷ page_cuts steady (i + 1) ms
+page_cuts steady i (Some (Message bits) ∷ ms) = page_cuts steady (i + 1) ms
+
+-- How many pages are cut.
+abbrev pub count_cut : List Bool → ℕ
+count_cut cuts = length (filter (λ (is_cut : Bool). is_cut) cuts)
 
 -- *Lifted*: these are the codewords of the words once each is mended and what is left is settled; so many bits were wrong, in
 -- synchronisation codewords and in those that were mended, and so many words are lost: past repair, not read, or a synchronisation
--- codeword that cannot be recognised; and so many pages are cut.
-pub record AreLifted (words codewords : List ℕ) (corrected lost cut : ℕ) : Type 0 where
+-- codeword that cannot be recognised; and so many pages are cut, where so many codewords are in step.
+pub record AreLifted (words codewords : List ℕ) (steady corrected lost cut : ℕ) : Type 0 where
   pub mended : List (Option ℕ)
   pub each : AllZip IsMended (unsynced 0 words) mended
   pub kinds : map kind_of codewords ≡ without_orphans false (map said mended)
   pub bits : corrected ≡ synchronisation_errors 0 words + mended_errors (unsynced 0 words) mended
   pub beyond : lost ≡ lost_synchronisations 0 words + lost_words mended
-  pub cuts : cut ≡ cut_pages false (map said mended)
+  pub cuts : cut ≡ count_cut (page_cuts steady 0 (map said mended))

@@ -9,7 +9,7 @@ use Rattle.pocsag_decode.specs.Faults.{ReadsAs}
 use Rattle.pocsag_capture.specs.Bits.{capture_bits}
 use Rattle.pocsag_capture.specs.Caught.{AreCaught, HasCaught}
 use Rattle.pocsag_capture.specs.Extracted.{AreLifted}
-use Rattle.pocsag_capture.specs.Receptions.{AreReceptions, received}
+use Rattle.pocsag_capture.specs.Receptions.{AreInStep, AreReceptions, received}
 use Rattle.pocsag_capture.specs.declared.fault.CaptureFault.{CaptureFault}
 use Rattle.pocsag_capture.specs.declared.fault.CaptureFault.TheVariants as fault
 use Rattle.pocsag_capture.specs.declared.lift.Extracted.{Extracted}
@@ -20,7 +20,8 @@ use Rattle.pocsag_capture.specs.declared.reception.Reception.{Reception}
 pub record IsLift (bits : List ℕ) (heard : ReceptionStats) (codewords : List ℕ) : Type 0 where
   pub are : All IsCodeword codewords
   pub long : length codewords ≡ 16 * heard.reception.batches
-  pub extracted : AreLifted (received bits heard.reception) codewords heard.corrected heard.lost heard.cut
+  pub steady : AreInStep bits heard.reception heard.steady
+  pub extracted : AreLifted (received bits heard.reception) codewords (16 * heard.steady) heard.corrected heard.lost heard.cut
 
 -- The batches of a reception as it is lifted were put behind bytes.
 pub record PutsLift (bits : List ℕ) (heard : ReceptionStats) (before after : List ℕ) : Type 0 where
@@ -35,10 +36,12 @@ pub record PutsLifts (bits : List ℕ) (receptions : List Reception) (heard : Li
   pub same : map (λ (h : ReceptionStats). h.reception) heard ≡ receptions
   pub bytes : after ≡ before ++ flat_map body_bytes codewords
 
--- So many bits of a reception were wrong, and so many of its words are lost, and so many of its pages are cut.
+-- So many batches of a reception are in step, so many of its bits were wrong, so many of its words are lost, and so many of its pages
+-- are cut.
 pub record IsStatsOf (bits : List ℕ) (heard : ReceptionStats) : Type 0 where
+  pub steady : AreInStep bits heard.reception heard.steady
   pub codewords : List ℕ
-  pub extracted : AreLifted (received bits heard.reception) codewords heard.corrected heard.lost heard.cut
+  pub extracted : AreLifted (received bits heard.reception) codewords (16 * heard.steady) heard.corrected heard.lost heard.cut
 
 -- *Lifted*: the bytes are a transmission that reads as the pages that are caught of a capture, and its receptions are reported.
 pub record LiftsAll (capture : List ℕ) (extracted : Extracted) : Type 0 where
@@ -52,7 +55,8 @@ pub record LiftsReception (capture : List ℕ) (reception : Reception) (heard : 
   pub of : heard.reception ≡ reception
   pub codewords : List ℕ
   pub sent : Sent bytes codewords
-  pub words : AreLifted (received (capture_bits capture) heard.reception) codewords heard.corrected heard.lost heard.cut
+  pub steady : AreInStep (capture_bits capture) heard.reception heard.steady
+  pub words : AreLifted (received (capture_bits capture) heard.reception) codewords (16 * heard.steady) heard.corrected heard.lost heard.cut
   pub pages : List Page
   pub caught : AreCaught (received (capture_bits capture) heard.reception) pages
   pub reads : ReadsAs bytes pages

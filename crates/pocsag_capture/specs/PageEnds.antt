@@ -1,5 +1,5 @@
 -- Which pages are cut, and which stand whole in a capture (this project's own).
-use Rattle.std.specs.Prelude.{◌≡◌, ◌⊎◌, ℕ, ◌+◌, ◌*◌, Bool, true, false, List, [], ◌∷◌, ◌++◌, length, map, All, Option, Some, None}
+use Rattle.std.specs.Prelude.{◌≡◌, ◌⊎◌, ℕ, ◌+◌, ◌*◌, ◌<◌, Bool, false, List, [], ◌∷◌, ◌++◌, length, map, All, Option, Some}
 use Rattle.std.specs.List.{AllZip, flat_map}
 use Rattle.pocsag_words.specs.declared.codeword.Kind.{Kind}
 use Rattle.pocsag_words.specs.declared.codeword.Kind.TheVariants.{Idle, Address, Message}
@@ -9,30 +9,15 @@ use Rattle.pocsag_pager.specs.Shown.{HoldsOnceMended}
 use Rattle.pocsag_pager.specs.Turns.{IsHeardAs}
 use Rattle.pocsag_capture.specs.Bits.{capture_bits}
 use Rattle.pocsag_capture.specs.Caught.{AreCaught}
+use Rattle.pocsag_capture.specs.Extracted.{page_cuts}
 use Rattle.pocsag_capture.specs.ExtractedBytes.{IsStatsOf}
 use Rattle.pocsag_capture.specs.Receptions.{AreReceptions, received}
 use Rattle.pocsag_capture.specs.declared.catching.Catch.{Catch}
 
--- Whether the page before these mended words is cut: directly behind the message codewords that stand first a word past repair or
--- the end of the reception stands.
-abbrev pub ends_cut : List (Option Kind) → Bool
-ends_cut [] = true
-ends_cut (None ∷ ms) = true
-ends_cut (Some Idle ∷ ms) = false
-ends_cut (Some (Address high function) ∷ ms) = false
-ends_cut (Some (Message bits) ∷ ms) = ends_cut ms
-
--- Of each page of mended words, in order, whether it is cut.
-abbrev pub page_cuts : List (Option Kind) → List Bool
-page_cuts [] = []
-page_cuts (None ∷ ms) = page_cuts ms
-page_cuts (Some Idle ∷ ms) = page_cuts ms
-page_cuts (Some (Address high function) ∷ ms) = ends_cut ms ∷ page_cuts ms
-page_cuts (Some (Message bits) ∷ ms) = page_cuts ms
-
--- *State*: of each page that is caught of words, in order, whether it is cut; a page that is not cut is whole.
-abbrev pub AreCutsOf : (words : List ℕ) → List Bool → Type 0
-AreCutsOf words cuts = HoldsOnceMended words (λ ms. cuts ≡ page_cuts ms)
+-- *State*: of each page that is caught of words, of whose codewords so many are in step, in order, whether it is cut; a page that is
+-- not cut is whole.
+abbrev pub AreCutsOf : (words : List ℕ) → (steady : ℕ) → List Bool → Type 0
+AreCutsOf words steady cuts = HoldsOnceMended words (λ ms. cuts ≡ page_cuts steady 0 ms)
 
 -- The word is within two bits of an idle or an address codeword, and of no other codeword: it ends a page.
 abbrev pub IsPageEnd : ℕ → Type 0
@@ -40,8 +25,8 @@ IsPageEnd word = IsHeardAs word (Some Idle) ⊎ ((high : ℕ) × (function : ℕ
 
 -- *Whole*: among the words that are at the places of codewords these stand one behind the other: one of the address codeword of the
 -- page, in its frame; one of each of its message codewords, in order; and one that ends the page. Each is within two bits of its
--- codeword, and of no other codeword.
-pub record StandsWhole (words : List ℕ) (p : Page) : Type 0 where
+-- codeword, and of no other codeword; and all are in step, where so many of the words are.
+pub record StandsWhole (words : List ℕ) (steady : ℕ) (p : Page) : Type 0 where
   pub before : List ℕ
   pub call : ℕ
   pub run : List ℕ
@@ -53,15 +38,16 @@ pub record StandsWhole (words : List ℕ) (p : Page) : Type 0 where
   pub calls : IsHeardAs call (Some (Address high p.function))
   pub carries : AllZip (λ (word bits : ℕ). IsHeardAs word (Some (Message bits))) run p.payload
   pub ends : IsPageEnd ending
+  pub in_step : length before + (1 + length run) < steady
 
 -- Of these pages each that is not cut stands whole among the words.
-abbrev pub UncutStandWhole : (words : List ℕ) → List Page → (cuts : List Bool) → Type 0
-UncutStandWhole words ps cuts = AllZip (λ (p : Page) (is_cut : Bool). is_cut ≡ false → StandsWhole words p) ps cuts
+abbrev pub UncutStandWhole : (words : List ℕ) → (steady : ℕ) → List Page → (cuts : List Bool) → Type 0
+UncutStandWhole words steady ps cuts = AllZip (λ (p : Page) (is_cut : Bool). is_cut ≡ false → StandsWhole words steady p) ps cuts
 
 -- *Catch*: the pages that are caught of a reception, of each of them whether it is cut, and how the reception was received.
 pub record IsCatch (bits : List ℕ) (c : Catch) : Type 0 where
   pub pages : AreCaught (received bits c.heard.reception) c.pages.items
-  pub cuts : AreCutsOf (received bits c.heard.reception) c.cuts.items
+  pub cuts : AreCutsOf (received bits c.heard.reception) (16 * c.heard.steady) c.cuts.items
   pub told : IsStatsOf bits c.heard
 
 -- The catches are numbered in order, from this number on.

@@ -128,6 +128,17 @@ AreReceptions bits rs = AreFound bits 0 0 rs
 abbrev pub behind : Reception → ℕ
 behind r = r.bit + batch_bits * r.batches
 
+-- No bit from the first on, before the last, begins a synchronisation codeword in this polarity.
+abbrev pub IsClear : (bits : List ℕ) → Polarity → (first last : ℕ) → Type 0
+IsClear bits polarity first last = (bit : ℕ) → first ≤ bit → bit < last → ¬ IsSynchronised bits bit polarity
+
+-- *In step*: so many batches of a reception are: all, or all but the last, where another synchronisation codeword of its polarity
+-- begins inside the last batch or at most 31 bits behind it.
+abbrev pub AreInStep : (bits : List ℕ) → Reception → (batches : ℕ) → Type 0
+AreInStep bits r batches =
+    (IsClear bits r.polarity (behind r - 543) (behind r + 32) × (batches ≡ r.batches))
+    ⊎ ((¬ IsClear bits r.polarity (behind r - 543) (behind r + 32)) × (batches ≡ r.batches - 1))
+
 -- A word of a reception by its place, its first synchronisation codeword being at 0.
 abbrev pub received_word : (bits : List ℕ) → Reception → (place : ℕ) → ℕ
 received_word bits r place = if nat_lt place r.words then sent_at bits r.polarity (r.bit + 32 * place) else unread_word

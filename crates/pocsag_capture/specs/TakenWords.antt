@@ -24,32 +24,31 @@ abbrev pub is_lost : Option ℕ → ℕ
 is_lost None = 1
 is_lost (Some v) = 0
 
--- How many pages end at a word past repair.
-abbrev pub cut_by : (is_open : Bool) → Option Kind → ℕ
-cut_by is_open None = if is_open then 1 else 0
-cut_by is_open (Some k) = 0
+-- Where the open page ends at a word, whether it is cut there: at a word past repair or out of step it is.
+abbrev pub end_by : (is_out_of_step is_open : Bool) → Option Kind → Option Bool
+end_by is_out_of_step is_open None = if is_open then Some true else None
+end_by is_out_of_step is_open (Some Idle) = if is_open then Some is_out_of_step else None
+end_by is_out_of_step is_open (Some (Address high function)) = if is_open then Some is_out_of_step else None
+end_by is_out_of_step is_open (Some (Message bits)) = None
 
--- The word was taken and is settled as this codeword.
-pub record TakesWord (before after : WordCorrector) (word codeword : ℕ) : Type 0 where
+-- How many pages are cut where one ends so.
+abbrev pub cut_by : (ended : Option Bool) → ℕ
+cut_by None = 0
+cut_by (Some is_cut) = if is_cut then 1 else 0
+
+-- The codeword that a word is settled as: the idle codeword where none is kept.
+abbrev pub settled : (kept : Option ℕ) → ℕ
+settled None = 0x7a89c197
+settled (Some w) = w
+
+-- The word was taken, which may be out of step, and is settled as this codeword; and the open page ends at it as this says.
+pub record TakesWord (before after : WordCorrector) (is_out_of_step : Bool) (word codeword : ℕ) (ended : Option Bool) : Type 0 where
   pub mended : Option ℕ
   pub is_mended : IsMended word mended
   pub is_codeword : IsCodeword codeword
   pub kind : without_orphans before.is_open (said mended ∷ []) ≡ kind_of codeword ∷ []
   pub open_after : after.is_open ≡ stays_open before.is_open (said mended)
+  pub ends : ended ≡ end_by is_out_of_step before.is_open (said mended)
   pub bits : after.corrected ≡ before.corrected + wrong_bits word mended
   pub beyond : after.lost ≡ before.lost + is_lost mended
-  pub cuts : after.cut ≡ before.cut + cut_by before.is_open (said mended)
-
--- Where the open page ends at a word, whether it is cut there: at a word past repair it is.
-abbrev pub end_by : (is_open : Bool) → Option Kind → Option Bool
-end_by is_open None = if is_open then Some true else None
-end_by is_open (Some Idle) = if is_open then Some false else None
-end_by is_open (Some (Address high function)) = if is_open then Some false else None
-end_by is_open (Some (Message bits)) = None
-
--- The word was taken, where a page may be open before it and after it, and the page ends at it as this says.
-pub record TakesEnd (before after : Bool) (word : ℕ) (ended : Option Bool) : Type 0 where
-  pub mended : Option ℕ
-  pub is_mended : IsMended word mended
-  pub open_after : after ≡ stays_open before (said mended)
-  pub ends : ended ≡ end_by before (said mended)
+  pub cuts : after.cut ≡ before.cut + cut_by ended

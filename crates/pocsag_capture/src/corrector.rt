@@ -1,17 +1,15 @@
 //! The words of a reception, repaired one after the other.
-ghost use Rattle.std.specs.Prelude.{◌≡◌, ◌≢◌, ◌+◌, ◌%◌, ◌^◌, ◌<◌, bit_xor, count_ones};
+ghost use Rattle.std.specs.Prelude.{◌≡◌, ◌+◌, ◌^◌, ◌<◌, false, None, Some, bit_xor, count_ones, if◌then◌else◌};
+ghost use Rattle.pocsag_words.specs.Kinds.{IsInRange, kind_of};
 ghost use Rattle.pocsag_pages.specs.Bytes.{sync_word};
 ghost use Rattle.pocsag_capture.specs.Extracted.{far_words, near_errors};
-ghost use Rattle.pocsag_capture.specs.TakenWords.{TakesWord};
+ghost use Rattle.pocsag_capture.specs.TakenWords.{TakesWord, cut_by, settled};
 
 use crate::polarity::NEAR_BITS;
-use pocsag_words::{BATCH_WORDS, Kind, SYNC_WORD, kind, repair};
+use pocsag_words::{BATCH_WORDS, IDLE_WORD, Kind, SYNC_WORD, Word, kind, repair};
 
 // The words of a batch, its synchronisation codeword among them.
 pub(crate) const BATCH: u64 = BATCH_WORDS as u64;
-
-// The idle codeword.
-const IDLE_WORD: u32 = 0x7A89_C197;
 
 // What is known of the words so far.
 #[derive(Drop)]
@@ -22,67 +20,126 @@ pub(crate) struct WordCorrector {
     pub(crate) corrected: u64,
     // How many words are past repair or were not read.
     pub(crate) lost: u64,
-    // How many pages ended at such a word.
+    // How many pages that ended are cut.
     pub(crate) cut: u64,
 }
 
-impl WordCorrector {
-    // Takes the word at a place, and gives the word that stands there in a transmission.
+// What a word is settled as.
+#[derive(Clone, Copy)]
+pub(crate) struct SettledWord {
+    // The codeword that is kept; where there is none, the idle codeword stands there.
+    pub(crate) kept: Option<Word>,
+    // Where a page ends at the word, whether it is cut.
+    pub(crate) ended: Option<bool>,
+}
+
+impl SettledWord {
+    // The codeword as a number.
     #[inline(always)]
-    pub(crate) fn take(&mut self, place: u64, word: u32) -> u32
+    pub(crate) fn number(self) -> u32
+        ensures { result ≡ settled self.kept }
+    {
+        match self.kept {
+            Some(word) => word.raw(),
+            None => IDLE_WORD,
+        }
+    }
+
+    // What the codeword says.
+    #[inline(always)]
+    pub(crate) fn kind(self) -> Kind
+        ensures kind { result ≡ kind_of (settled self.kept) }
+        ensures ranges { IsInRange result }
+    {
+        match self.kept {
+            Some(word) => kind(word),
+            None => Kind::Idle,
+        }
+    }
+}
+
+impl WordCorrector {
+    // Takes the word at the place of a synchronisation codeword.
+    #[inline(always)]
+    pub(crate) fn take_sync(&mut self, word: u32)
         requires corrected { self.old.corrected + 32 < 2 ^ 64 }
         requires lost { self.old.lost + 1 < 2 ^ 64 }
-        requires cut { self.old.cut + 1 < 2 ^ 64 }
-        ensures sync { place % 17 ≡ 0 → result ≡ sync_word }
-        ensures sync_bits { place % 17 ≡ 0 →
-            self.new.corrected ≡ self.old.corrected + near_errors (count_ones (bit_xor sync_word word)) }
-        ensures sync_open { place % 17 ≡ 0 → self.new.is_open ≡ self.old.is_open }
-        ensures sync_lost { place % 17 ≡ 0 →
-            self.new.lost ≡ self.old.lost + far_words (count_ones (bit_xor sync_word word)) }
-        ensures sync_cut { place % 17 ≡ 0 → self.new.cut ≡ self.old.cut }
-        ensures codeword { place % 17 ≢ 0 → TakesWord self.old self.new word result }
+        ensures bits { self.new.corrected ≡ self.old.corrected + near_errors (count_ones (bit_xor sync_word word)) }
+        ensures open_page { self.new.is_open ≡ self.old.is_open }
+        ensures lost { self.new.lost ≡ self.old.lost + far_words (count_ones (bit_xor sync_word word)) }
+        ensures cut { self.new.cut ≡ self.old.cut }
     {
-        if place % BATCH != 0 {
-            return self.correct(word);
-        }
         let wrong = (SYNC_WORD ^ word).count_ones();
         if wrong <= NEAR_BITS {
             self.corrected += u64::from(wrong);
         } else {
             self.lost += 1;
         }
-        SYNC_WORD
     }
 
-    // Takes a word, and gives the codeword that it is settled as.
-    fn correct(&mut self, word: u32) -> u32
+    // Ends the open page, if there is one: whether it is cut.
+    #[inline(always)]
+    pub(crate) fn close(&mut self, is_cut: bool) -> Option<bool>
+        requires cut { self.old.cut + 1 < 2 ^ 64 }
+        ensures ended { result ≡ (if self.old.is_open then Some is_cut else None) }
+        ensures cut { self.new ≡ record self.old { is_open = false; cut = self.old.cut + cut_by result } }
+    {
+        let was_open = self.is_open;
+        self.is_open = false;
+        if !was_open {
+            return None;
+        }
+        if is_cut {
+            self.cut += 1;
+        }
+        Some(is_cut)
+    }
+
+    // Takes a word at the place of a codeword, which may be out of step.
+    #[inline(always)]
+    pub(crate) fn take(&mut self, word: u32, is_out_of_step: bool) -> SettledWord
         requires corrected { self.old.corrected + 32 < 2 ^ 64 }
         requires lost { self.old.lost + 1 < 2 ^ 64 }
         requires cut { self.old.cut + 1 < 2 ^ 64 }
-        ensures { TakesWord self.old self.new word result }
+        ensures { TakesWord self.old self.new is_out_of_step word (settled result.kept) result.ended }
     {
         let Some(mended) = repair(word) else {
             self.lost += 1;
-            if self.is_open {
-                self.cut += 1;
-            }
-            self.is_open = false;
-            return IDLE_WORD;
+            let ended = self.close(true);
+            return SettledWord { kept: None, ended };
         };
-        let number = mended.raw();
-        self.corrected += u64::from((number ^ word).count_ones());
+        self.corrected += u64::from((mended.raw() ^ word).count_ones());
         match kind(mended) {
-            Kind::Idle => self.is_open = false,
+            Kind::Idle => {
+                let ended = self.close(is_out_of_step);
+                SettledWord {
+                    kept: Some(mended),
+                    ended,
+                }
+            }
             Kind::Address {
                 high: _,
                 function: _,
-            } => self.is_open = true,
+            } => {
+                let ended = self.close(is_out_of_step);
+                self.is_open = true;
+                SettledWord {
+                    kept: Some(mended),
+                    ended,
+                }
+            }
             Kind::Message(_) => {
                 if !self.is_open {
-                    return IDLE_WORD;
+                    return SettledWord {
+                        kept: None,
+                        ended: None,
+                    };
+                }
+                SettledWord {
+                    kept: Some(mended),
+                    ended: None,
                 }
             }
         }
-        number
     }
 }

@@ -13,8 +13,8 @@ use crate::fault::CaptureFault;
 use crate::polarity::Polarity;
 use crate::reading::received_word;
 use crate::reception::{Reception, ReceptionStats};
-use crate::search::receptions;
-use pocsag_words::{INPUT_LIMIT, PREAMBLE_BYTE, PREAMBLE_BYTES};
+use crate::search::{receptions, steady_batches};
+use pocsag_words::{INPUT_LIMIT, PREAMBLE_BYTE, PREAMBLE_BYTES, SYNC_WORD};
 use std::alloc::{AllocError, Global};
 
 /// What is lifted out of a capture.
@@ -38,6 +38,7 @@ pub(crate) fn put_lift(
         PutsLift (capture_bits capture.now) heard bytes.old.items bytes.new.items) }
     ensures same { IfOk result (λ heard. heard.reception ≡ reception) }
 {
+    let steady = steady_batches(capture, reception);
     let mut corrector = WordCorrector {
         is_open: false,
         corrected: 0,
@@ -45,19 +46,22 @@ pub(crate) fn put_lift(
         cut: 0,
     };
     for place in 0..BATCH * reception.batches {
-        let word = corrector.take(place, received_word(capture, reception, place));
-        bytes.extend_from_slice(&word.to_be_bytes())?;
+        let word = received_word(capture, reception, place);
+        if place % BATCH == 0 {
+            corrector.take_sync(word);
+            bytes.extend_from_slice(&SYNC_WORD.to_be_bytes())?;
+            continue;
+        }
+        let settled = corrector.take(word, BATCH * steady <= place);
+        bytes.extend_from_slice(&settled.number().to_be_bytes())?;
     }
-    let cut = if corrector.is_open {
-        corrector.cut + 1
-    } else {
-        corrector.cut
-    };
+    corrector.close(true);
     Ok(ReceptionStats {
         reception,
+        steady,
         corrected: corrector.corrected,
         lost: corrector.lost,
-        cut,
+        cut: corrector.cut,
     })
 }
 

@@ -25,10 +25,14 @@ pub struct Reception {
 #[derive(Clone, Copy, PartialEq, Eq, Debug)]
 pub struct ReceptionStats {
     pub reception: Reception,
+    /// How many of its batches are in step: all, or all but the last, where another synchronisation codeword of its polarity
+    /// begins inside the last one or at most 31 bits behind it.
+    pub steady: u64,
     /// How many bits were wrong, in synchronisation codewords and in those that were repaired.
     pub corrected: u64,
     /// How many words are past repair or were not read.
     pub lost: u64,
-    /// How many pages are cut: a word that is lost or the end stands directly behind what is shown of them.
+    /// How many pages are cut: a word that is lost, one that is out of step, or the end stands directly behind what is shown of
+    /// them.
     pub cut: u64,
 }

@@ -5,7 +5,7 @@ ghost use Rattle.pocsag_words.specs.Codeword.{IsNear};
 ghost use Rattle.pocsag_words.specs.Frame.{input_limit};
 ghost use Rattle.pocsag_pages.specs.Bytes.{sync_word};
 ghost use Rattle.pocsag_capture.specs.Bits.{as_sent, capture_bits};
-ghost use Rattle.pocsag_capture.specs.Receptions.{AreReceptions, IsOnAir, IsQuiet, IsSynchronised, run_end};
+ghost use Rattle.pocsag_capture.specs.Receptions.{AreInStep, AreReceptions, IsClear, IsOnAir, IsQuiet, IsSynchronised, behind, run_end};
 ghost use Rattle.pocsag_capture.specs.Runs.{BeginsRun, Steps};
 ghost use Rattle.pocsag_capture.specs.declared.polarity.Polarity.{Polarity};
 ghost use Rattle.pocsag_capture.specs.declared.reception.Run.{Run};
@@ -17,7 +17,8 @@ use crate::reception::{Reception, Run};
 use pocsag_words::{BATCH_BITS, SYNC_WORD};
 use std::alloc::{AllocError, Global};
 
-// How many bits before the end of a batch the next transmission may begin, since bits are lost.
+// How many bits before the end of a batch the next transmission may begin, since bits are lost, or behind it, since bits are
+// doubled.
 const WORD_SLACK: u64 = 31;
 
 // Where a synchronisation codeword begins.
@@ -42,18 +43,19 @@ fn is_quiet(window: u64) -> bool
     true
 }
 
-// The first synchronisation codeword from a bit on.
-fn find(capture: &[u8], first: u64) -> Option<SyncPlace>
+// The first synchronisation codeword from a bit on, before the last.
+fn find(capture: &[u8], first: u64, last: u64) -> Option<SyncPlace>
     requires few { length capture.now ≤ input_limit }
     requires first { first < 2 ^ 60 }
     ensures later { IfSome result (λ place. first ≤ place.bit) }
     ensures quiet { IfSome result (λ place. IsQuiet (capture_bits capture.now) first place.bit) }
+    ensures earlier { IfSome result (λ place. place.bit < last) }
     ensures there { IfSome result (λ place. IsSynchronised (capture_bits capture.now) place.bit place.polarity) }
-    ensures none { IfNone result (IsQuiet (capture_bits capture.now) first (length (capture_bits capture.now))) }
+    ensures none { IfNone result (IsQuiet (capture_bits capture.now) first last) }
 {
     let end = 8 * capture.len() as u64;
     let mut bit = first;
-    while bit + 32 <= end {
+    while bit < last && bit + 32 <= end {
         if bit % 8 == 0 && is_quiet(window_on(capture, (bit / 8) as usize)) {
             bit += 8;
             continue;
@@ -84,10 +86,7 @@ fn is_quiet_to(capture: &[u8], first: u64, last: u64) -> bool
     requires first { first < 2 ^ 60 }
     ensures { IsTrue result ↔ IsQuiet (capture_bits capture.now) first last }
 {
-    match find(capture, first) {
-        Some(place) => last <= place.bit,
-        None => true,
-    }
+    find(capture, first, last).is_none()
 }
 
 // How many batches behind a synchronisation codeword the next one in step begins; 0 where none does.
@@ -137,15 +136,46 @@ fn counts(capture: &[u8], held: u64, run: Run) -> bool
     run.batches > 1 || (held <= run.bit + WORD_SLACK && has_few_lost(capture, run))
 }
 
+// Whether no synchronisation codeword of the polarity begins from a bit on, before the last.
+fn is_clear_to(capture: &[u8], polarity: Polarity, first: u64, last: u64) -> bool
+    requires few { length capture.now ≤ input_limit }
+    requires first { first < 2 ^ 60 }
+    ensures { IsTrue result ↔ IsClear (capture_bits capture.now) polarity first last }
+{
+    let mut bit = first;
+    while let Some(place) = find(capture, bit, last) {
+        if is_synchronised(capture, place.bit, polarity) {
+            return false;
+        }
+        bit = place.bit + 1;
+    }
+    true
+}
+
+// How many batches of a reception are in step: all, or all but the last.
+pub(crate) fn steady_batches(capture: &[u8], reception: Reception) -> u64
+    requires few { length capture.now ≤ input_limit }
+    requires end { behind reception < 2 ^ 60 }
+    ensures { AreInStep (capture_bits capture.now) reception result }
+{
+    let behind = reception.bit + BATCH_BITS * reception.batches;
+    let first = behind.saturating_sub(BATCH_BITS - 1);
+    if is_clear_to(capture, reception.polarity, first, behind + WORD_SLACK + 1) {
+        return reception.batches;
+    }
+    reception.batches.saturating_sub(1)
+}
+
 // The receptions of a capture.
 pub(crate) fn receptions(alloc: Global, capture: &[u8]) -> Result<Vec<Reception>, AllocError>
     requires { length capture.now ≤ input_limit }
     ensures { IfOk result (λ found. AreReceptions (capture_bits capture.now) found.items) }
 {
+    let end = 8 * capture.len() as u64;
     let mut found = Vec::new(alloc);
     let mut first = 0;
     let mut held = 0;
-    while let Some(place) = find(capture, first) {
+    while let Some(place) = find(capture, first, end) {
         let run = run_of(capture, place);
         first = run.bit + BATCH_BITS * (run.batches - 1) + 1;
         if counts(capture, held, run) {

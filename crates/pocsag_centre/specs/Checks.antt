@@ -1,6 +1,6 @@
 -- `--expect` and `--strict`: how many pages a page file holds, and why it is not taken.
-use Rattle.std.specs.Prelude.{◌≡◌, ◌≢◌, ℕ, Bool, List, length, Some}
-use Rattle.pocsag_pages.specs.Quotes.{first_misplaced}
+use Rattle.std.specs.Prelude.{◌≡◌, ◌≢◌, ℕ, Bool, List, length}
+use Rattle.pocsag_pages.specs.Quotes.{HasQuoteFault, text_of_file}
 use Rattle.pocsag_centre.specs.FrontFiles.{ExplainsHeld, IsOfHeld}
 use Rattle.pocsag_centre.specs.declared.fault.CentreFault.{CentreFault}
 use Rattle.pocsag_centre.specs.declared.fault.CentreFault.TheVariants as fault
@@ -18,5 +18,5 @@ ExplainsExpecting may_wait file expected _ = ⊥
 
 -- Why a page file is not taken where its quotes are judged: its first misplaced quote.
 abbrev pub ExplainsStrict : (file : List ℕ) → CentreFault → Type 0
-ExplainsStrict file (fault.Quotes quote) = first_misplaced file ≡ Some quote
+ExplainsStrict file (fault.Quotes quote) = HasQuoteFault (text_of_file file) quote
 ExplainsStrict file _ = ⊥

@@ -14,11 +14,11 @@ use Rattle.pocsag_tree.specs.Views.{bound_tree_of}
 use Rattle.pocsag_decode.specs.PageFiles.{page_file}
 use Rattle.pocsag_check.specs.Acceptance.{IsAcceptedFor}
 use Rattle.pocsag_branch.specs.Found.{IsNodeLimit}
-use Rattle.pocsag_plan.specs.declared.search.OnLimit.TheVariants.{Fewest}
+use Rattle.pocsag_plan.specs.declared.search.OnLimit.TheVariants.{Fewest, Always}
 use Rattle.pocsag_plan.specs.declared.search.Search.{Search}
 use Rattle.pocsag_plan.specs.declared.bounded.Bounded.{Bounded}
 use Rattle.pocsag_plan.specs.declared.front.FrontPlan.{FrontPlan}
-use Rattle.pocsag_plan.specs.Fronts.{FirstNeeds, IsFrontFor, IsLongestFront, IsWhyNoMore, StopsAtFront}
+use Rattle.pocsag_plan.specs.Fronts.{FirstNeeds, IsFrontFor, IsLongestFront, IsUndecidedFor, IsWhyNoMore, StopsAtFront}
 use Rattle.pocsag_plan.specs.Headline.{RoundHeadline}
 use Rattle.pocsag_plan.specs.Plans.{IsPlanFor, MayStop}
 use Rattle.pocsag_plan.specs.Streams.{WritesAllOf}
@@ -46,14 +46,14 @@ abbrev pub why_text : (batches : ℕ) → (beyond : Option ℕ) → List ℕ
 why_text batches None = []
 why_text batches (Some bound) = undecided_text batches bound
 
--- The bytes are the certificate of a bound for the pages and the end, which the checker accepts. It is at least so many batches
--- as were asked for; and more, where only the fewest batches are an answer.
+-- The bytes are the certificate of a bound for the pages and the end, which the checker accepts. It is more batches than were
+-- asked for; or it is so many, and a planner that refuses no round did not decide between them and one more.
 pub record CertifiesBeyond (search : Search) (R : List Page) (batches bound : ℕ) (certificate : List ℕ) : Type 0 where
   pub tree : BoundTree
   pub text : IsWrittenText search.end bound tree certificate
   pub accepted : IsAcceptedFor false search.end R bound tree
   pub at_least : batches ≤ bound
-  pub more : search.on_limit ≡ Fewest → batches < bound
+  pub more : (batches < bound) ⊎ ((search.on_limit ≡ Always) × IsUndecidedFor search R batches)
 
 -- No page is left, and nothing is written; or a certificate of this bound is, for the first pages and one more.
 abbrev pub IsWhyWritten : Search → List Page → (batches count : ℕ) → (beyond : Option ℕ) → (written : List ℕ) → Type 0
@@ -129,7 +129,7 @@ ExplainsNoFront file asked (fault.FirstPage needed) =
     × IsOfHeld asked.may_wait file (λ queue. FirstNeeds asked.search (firsts queue) asked.batches needed)
 ExplainsNoFront file asked (fault.SearchLimit least found) =
     MayStop asked.search.on_limit × IsNodeLimit asked.search.limit
-    × IsOfHeld asked.may_wait file (λ queue. (tree : BoundTree) × StopsAtFront asked.search (firsts queue) least found tree)
+    × IsOfHeld asked.may_wait file (λ queue. (tree : BoundTree) × StopsAtFront asked.search (firsts queue) asked.batches least found tree)
 ExplainsNoFront file asked (fault.File file_fault.OutOfMemory) =
     IsNodeLimit asked.search.limit × IsOk (held_pages asked.may_wait file)
 ExplainsNoFront file asked _ = ⊥

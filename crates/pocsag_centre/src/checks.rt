@@ -1,6 +1,6 @@
-ghost use Rattle.std.specs.Prelude.{◌≡◌, ◌↔◌, IfErr, IsErrOf, None, OnOk};
+ghost use Rattle.std.specs.Prelude.{◌≡◌, ◌↔◌, IfErr, IsErrOf, OnOk};
 ghost use Rattle.pocsag_branch.specs.Found.{IsNodeLimit};
-ghost use Rattle.pocsag_pages.specs.Quotes.{first_misplaced};
+ghost use Rattle.pocsag_pages.specs.Quotes.{IsWellQuoted, text_of_file};
 ghost use Rattle.pocsag_centre.specs.Checks.{ExplainsExpecting, ExplainsStrict, HoldsPages};
 
 use crate::fault::CentreFault;
@@ -21,7 +21,7 @@ pub fn refuse_bad_limit(search: Search) -> Result<(), CentreFault>
 
 /// `--strict`: refuses the bytes of a page file in which a quote is misplaced, with the first such quote.
 pub fn strict_file(pages: &[u8]) -> Result<(), CentreFault>
-    ensures strict { OnOk result (first_misplaced pages.now ≡ None) }
+    ensures strict { OnOk result (IsWellQuoted (text_of_file pages.now)) }
     ensures explained { IfErr result (ExplainsStrict pages.now) }
 {
     match quote_fault(pages) {

@@ -15,7 +15,7 @@ use pocsag_plan::most_batches;
 use pocsag_shell::{
     CERT_READ, Context, FileFault, Loaded, MemoryStreams, Output, Outputs, PAGES_READ, Role,
     STANDARD, StagedFile, first_asked, is_regular, is_regular_or_none, load, load_file,
-    open_output, open_outputs, open_source, path_of, print, print_numbers, put_files, put_whole,
+    open_output, open_outputs, open_source, path_of, print, print_numbers, put_staged, put_whole,
     refuse_equal, refuse_input, refuse_one_file, refuse_shared, write_over,
 };
 use pocsag_words::{GrowingSink, MemorySink, Sink, Source};
@@ -478,7 +478,7 @@ fn plan_among<O: Sink>(
     }
     let status = plan_files(context, staged(args, files.as_slice()), streams, lines)?;
     if status == 0 {
-        put_files(context, files.as_slice())?;
+        put_staged(context, files.as_slice())?;
     }
     Ok(status)
 }

@@ -583,7 +583,7 @@ fn lent_files_are_planned(rt: HostRuntime) -> Result<(), Fail> {
         assert_eq!(rt; run_plan(alloc, search, &mut files, &mut out, &mut err), 0);
         assert_eq!(rt; err.fault(), None);
         assert_eq!(rt; out.bytes(), lines.as_bytes());
-        assert_eq!(rt; files.pages.lent().map(|rest| rest.len()), Some(0));
+        assert_eq!(rt; files.pages.lent().map(|rest| rest.len()), Some(file.len()));
         let (tx, cert) = (files.tx.into_bytes(), files.cert.into_bytes());
         assert_eq!(rt; tx.len(), sent);
         assert_eq!(rt; tx.as_slice(), read.tx.bytes());

@@ -1,10 +1,9 @@
 //! Journals on disks in memory: what they hold once an edit is answered, whichever call fails, and what reading them
 //! gives.
 
-ghost use Rattle.std.specs.Prelude.{◌≡◌, ◌≤◌, [], ◌∷◌, ◌++◌, length, None, IfErr, IfOk, OnErr, OnOk, Some};
-ghost use Rattle.pocsag_words.specs.Devices.{CountsFailures};
+ghost use Rattle.std.specs.Prelude.{◌≡◌, ◌≤◌, [], ◌∷◌, ◌++◌, length, None, IfErr, IfOk, OnOk, Some};
 ghost use Rattle.pocsag_words.specs.MemorySink.{taken_of};
-ghost use Rattle.pocsag_open.specs.Plans.{no_fault, no_names, no_plans, placed_plan};
+ghost use Rattle.pocsag_open.specs.Plans.{failed_plan, no_names, no_plans, placed_plan};
 
 use crate::crash_disk::CrashDisk;
 use pocsag_core_cases::given::{Records, round_of_file};
@@ -30,10 +29,6 @@ impl OutputStore for NoFolder {
 
     ghost made_for = { λ _. no_names };
 
-    ghost failures = { λ _. 0 };
-
-    ghost last_fault = { λ _. no_fault };
-
     fn make(&mut self, _tx: &str, _cert: &str) -> Result<Outputs<MemorySink<1>>, FileFault> {
         Err(FileFault::Device)
     }
@@ -46,10 +41,9 @@ impl OutputStore for NoFolder {
     ) -> Result<(), FileFault>
         ensures placed { ⊥ → no_names ≡ Some (tx.now, cert.now) → OnOk result (no_plans ≡
             no_plans ++ placed_plan tx.now cert.now (taken_of outputs.tx, taken_of outputs.cert) ∷ []) }
-        ensures same { ⊥ → OnErr result (no_plans ≡ no_plans) }
+        ensures failed { ⊥ → IfErr result (λ fault. no_plans ≡
+            no_plans ++ failed_plan tx.now cert.now fault ∷ []) }
         ensures none_left { ⊥ → no_names ≡ Some (tx.now, cert.now) → no_names ≡ None }
-        ensures fault { ⊥ → IfErr result (λ fault. no_fault ≡ Some ((tx.now, cert.now), fault)) }
-        ensures failures { ⊥ → CountsFailures result 0 0 }
     {
         Ok(())
     }

@@ -1,9 +1,8 @@
 //! Open rounds over memory: what answers each line, and the exit status.
 
-ghost use Rattle.std.specs.Prelude.{◌≡◌, [], ◌∷◌, ◌++◌, None, IfErr, OnErr, OnOk, Some};
-ghost use Rattle.pocsag_words.specs.Devices.{CountsFailures};
+ghost use Rattle.std.specs.Prelude.{◌≡◌, [], ◌∷◌, ◌++◌, None, IfErr, OnOk, Some};
 ghost use Rattle.pocsag_words.specs.MemorySink.{taken_of};
-ghost use Rattle.pocsag_open.specs.Plans.{no_fault, no_names, no_plans, placed_plan};
+ghost use Rattle.pocsag_open.specs.Plans.{failed_plan, no_names, no_plans, placed_plan};
 
 use pocsag_open::{LINE_LIMIT, OutputStore, PlanSettings, run_open, run_open_pages};
 use pocsag_plan::OnLimit;
@@ -38,10 +37,6 @@ impl OutputStore for Folder {
 
     ghost made_for = { λ _. no_names };
 
-    ghost failures = { λ _. 0 };
-
-    ghost last_fault = { λ _. no_fault };
-
     fn make(&mut self, tx: &str, cert: &str) -> Result<Outputs<MemorySink<1000>>, FileFault> {
         if tx == cert {
             return Err(FileFault::EqualPaths);
@@ -61,10 +56,9 @@ impl OutputStore for Folder {
     ) -> Result<(), FileFault>
         ensures placed { ⊥ → no_names ≡ Some (tx.now, cert.now) → OnOk result (no_plans ≡
             no_plans ++ placed_plan tx.now cert.now (taken_of outputs.tx, taken_of outputs.cert) ∷ []) }
-        ensures same { ⊥ → OnErr result (no_plans ≡ no_plans) }
+        ensures failed { ⊥ → IfErr result (λ fault. no_plans ≡
+            no_plans ++ failed_plan tx.now cert.now fault ∷ []) }
         ensures none_left { ⊥ → no_names ≡ Some (tx.now, cert.now) → no_names ≡ None }
-        ensures fault { ⊥ → IfErr result (λ fault. no_fault ≡ Some ((tx.now, cert.now), fault)) }
-        ensures failures { ⊥ → CountsFailures result 0 0 }
     {
         let sent = outputs.tx.bytes().len();
         let is_whole = sent > 72 && (sent - 72) % 68 == 0;

@@ -231,9 +231,10 @@ pages_listable (Address high function ∷ ks) i h =
     (pages_listable ks (i + 1) rest)
 pages_listable (Message bits ∷ ks) i h = pages_listable ks (i + 1) (All-tail IsInRange (Message bits) ks h)
 
+pub codewords_listable : (T : List ℕ) → All IsCodeword T → All IsListable (pages_from 0 (map kind_of T))
+codewords_listable T are =
+    pages_listable (map kind_of T) 0
+    (All-map IsInRange kind_of T (All-weaker IsCodeword (λ w. IsInRange (kind_of w)) (λ w c. kind_fits w c.fits) T are))
+
 pub whole_listable : (X : List ℕ) → IsWhole X → (ps : List Page) → ps ≡ pages_from 0 (map kind_of (codewords_in X)) → All IsListable ps
-whole_listable X h ps e =
-    subst (All IsListable) (sym e)
-    (pages_listable (map kind_of (codewords_in X)) 0
-    (All-map IsInRange kind_of (codewords_in X)
-    (All-weaker IsCodeword (λ w. IsInRange (kind_of w)) (λ w c. kind_fits w c.fits) (codewords_in X) (are_codewords X h))))
+whole_listable X h ps e = subst (All IsListable) (sym e) (codewords_listable (codewords_in X) (are_codewords X h))

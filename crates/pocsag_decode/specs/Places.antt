@@ -9,11 +9,13 @@ use Rattle.pocsag_pages.specs.Bytes.{sync_word}
 use Rattle.pocsag_decode.specs.declared.fault.DecodeFault.{DecodeFault}
 use Rattle.pocsag_decode.specs.declared.fault.DecodeFault.TheVariants as fault
 
+-- Whether the codeword is a message codeword.
 abbrev pub is_message : Kind → Bool
 is_message Idle = false
 is_message (Address high function) = false
 is_message (Message bits) = true
 
+-- Whether it is the idle codeword.
 abbrev pub is_idle : Kind → Bool
 is_idle Idle = true
 is_idle (Address high function) = false

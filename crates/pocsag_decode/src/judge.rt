@@ -8,10 +8,10 @@ ghost use Rattle.pocsag_decode.specs.Judgements.{JudgesMore};
 ghost use Rattle.pocsag_decode.specs.Places.{AllMayStand, HasBadWord, index_at};
 
 use crate::fault::DecodeFault;
-use crate::lister::kind_of_number;
 use pocsag_pages::preamble_len;
 use pocsag_words::{
     BATCH_BYTES, BATCH_WORDS, Kind, PREAMBLE_BYTES, SYNC_WORD, check_all, from_raw,
+    kind_of_number,
 };
 
 // The words of a batch, its synchronisation codeword among them.

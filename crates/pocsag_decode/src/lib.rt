@@ -24,6 +24,7 @@ pub use laws::{
 };
 pub use lister::{list_owned, list_sent};
 pub use listing::{kind_of_page, list, message_of, whole_message, write_page_file};
+pub use open_page::{Growing, OpenPage};
 pub use repair::repair_all;
 pub use repaired::Repaired;
 pub use state::Decoder;

@@ -21,35 +21,9 @@ use crate::listing::{begun, pour, pour_many, put_spent};
 use crate::open_page::OpenPage;
 use csv::Writer;
 use pocsag_pages::{Page, Payload, preamble_len};
-use pocsag_words::{BATCH_BYTES, Kind, Sink};
+use pocsag_words::{BATCH_BYTES, Kind, Sink, kind_of_number};
 use std::alloc::{AllocError, Global};
 use std::mem;
-
-// The lowest data bit of a codeword, the data of the message codeword with no message bit set, and the idle codeword.
-const LOWEST_DATA: u32 = 2_048;
-
-const MESSAGE_DATA: u32 = 0x10_0000;
-
-const IDLE_NUMBER: u32 = 0x7A89_C197;
-
-// What a number says as a codeword.
-#[inline(always)]
-pub(crate) fn kind_of_number(number: u32) -> Kind
-    ensures kind { result ≡ kind_of number }
-    ensures ranges { IsInRange result }
-{
-    let bits = number / LOWEST_DATA;
-    if number == IDLE_NUMBER {
-        Kind::Idle
-    } else if bits < MESSAGE_DATA {
-        Kind::Address {
-            high: bits / 4,
-            function: (bits % 4) as u8,
-        }
-    } else {
-        Kind::Message(bits - MESSAGE_DATA)
-    }
-}
 
 // The records that are not written out yet, and the page that a message codeword would continue.
 #[derive(Drop)]

@@ -10,27 +10,30 @@ use pocsag_words::Kind;
 use std::alloc::{AllocError, Global};
 use std::mem;
 
-// A page whose message may still grow.
+/// A page whose message may still grow.
 #[derive(Drop)]
-pub(crate) struct OpenPage {
-    pub(crate) address: u32,
-    pub(crate) function: u8,
-    pub(crate) items: Vec<u32>,
+pub struct OpenPage {
+    /// The pager's address.
+    pub address: u32,
+    /// The function, 0 to 3.
+    pub function: u8,
+    /// The items of its message so far, of 20 bits each.
+    pub items: Vec<u32>,
 }
 
-// The pages of the codewords that were read.
+/// The pages of the codewords that were read.
 #[derive(Drop)]
-pub(crate) struct Growing {
-    pub(crate) alloc: Global,
-    // Those that are finished.
-    pub(crate) pages: Vec<Page>,
-    // The one that a message codeword would continue.
-    pub(crate) current: Option<OpenPage>,
+pub struct Growing {
+    pub alloc: Global,
+    /// Those that are finished.
+    pub pages: Vec<Page>,
+    /// The one that a message codeword would continue.
+    pub current: Option<OpenPage>,
 }
 
 impl Growing {
-    // Takes one codeword more, which stands in this frame.
-    pub(crate) fn take(&mut self, frame: u32, kind: Kind) -> Result<(), AllocError>
+    /// Takes one codeword more, which stands in this frame.
+    pub fn take(&mut self, frame: u32, kind: Kind) -> Result<(), AllocError>
         requires ranges { IsInRange kind }
         requires frame { frame < 8 }
         requires follows { IsTrue (is_message kind) → IsTrue (is_some self.old.current) }
@@ -84,8 +87,8 @@ impl Growing {
         Ok(())
     }
 
-    // Finishes the open page and hands all the pages out.
-    pub(crate) fn finish(&mut self) -> Result<Vec<Page>, AllocError>
+    /// Finishes the open page and hands all the pages out.
+    pub fn finish(&mut self) -> Result<Vec<Page>, AllocError>
         ensures same { IfOk result (λ v. v.items ≡ self.old.pages.items ++ closed self.old.current) }
         ensures memory { OnErr result (IsTrue (is_some self.old.current)) }
     {

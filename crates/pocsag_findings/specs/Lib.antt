@@ -1,4 +1,5 @@
 pub mod Beginnings
 pub mod Findings
 pub mod Rules
+pub mod Sides
 pub mod Views

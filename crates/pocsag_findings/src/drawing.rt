@@ -28,7 +28,7 @@ const COLUMNS_HEIGHT: u64 = 156;
 const KEY: &str = "\
 A bar is what must stand in its slot at the least, and the short line across it the room there, both in codewords. \
 Dark bars with a wedge over them are the slots that an overload names; several slots together may need more \
-than their bars add up to. Upright lines are the boundaries that a cut names; \
+than their bars add up to. Upright lines are the boundaries that a cut names, on its smaller side; \
 boundary 5 is the left side of slot 5.";
 
 // The rules of the drawing, all under one class, for light and for dark.

@@ -4,7 +4,7 @@ ghost use Rattle.pocsag_findings.specs.Beginnings.{BeginsWith, verdict_members};
 
 use crate::finding::{Fact, Finding, Narrowed, Reached, Share};
 use crate::node_number::Numbering;
-use crate::sets::{FIRST_ALONE, start_slot};
+use crate::sets::{FIRST_ALONE, smaller_side, start_slot};
 use crate::subject::Subject;
 use pocsag_slots::{CLASSES, SLOTS, Way, frame, holds, rest};
 use pocsag_words::End;
@@ -161,11 +161,11 @@ impl Display for NodeFacts<'_> {
                 ways,
                 children,
             } => {
-                let boundaries = SetFacts(set);
+                write_boundaries(f, set)?;
                 let pages = ClassFacts(needed);
                 write!(
                     f,
-                    r#"{{"kind":"cut","boundaries":[{boundaries}],"pages":{pages},"certain":{certain},"ways":{ways},"children":{children}}}"#
+                    r#""pages":{pages},"certain":{certain},"ways":{ways},"children":{children}}}"#
                 )
             }
             Fact::Close { ways, children } => {
@@ -178,6 +178,18 @@ impl Display for NodeFacts<'_> {
             Fact::Unjudged => f.write_str(r#"{"kind":"unjudged"}"#),
         }
     }
+}
+
+// Begins a cut: its boundaries, and those that are named of it where they are the others.
+fn write_boundaries<W: fmt::Write>(f: &mut Formatter<W>, set: u16) -> fmt::Result {
+    let boundaries = SetFacts(set);
+    write!(f, r#"{{"kind":"cut","boundaries":[{boundaries}],"#)?;
+    let side = smaller_side(set);
+    if side == set {
+        return Ok(());
+    }
+    let named = SetFacts(side);
+    write!(f, r#""named":[{named}],"#)
 }
 
 // Adds an overload, and what the pages of each class cover of its slots at the least.

@@ -3,7 +3,7 @@
 use crate::finding::{Fact, Finding, Reached, Share};
 use crate::kind::{ClassPages, KindWords};
 use crate::sets::{
-    BOUNDARY, Counted, Members, SlotWords, are_frames, outside, smaller_side, start_slot,
+    BOUNDARY, Counted, Members, SlotWords, are_frames, outside, side_note, smaller_side, start_slot,
 };
 use crate::subject::Refuted;
 use pocsag_slots::{CLASSES, Way, frame, holds, size};
@@ -93,16 +93,15 @@ fn write_split<W: fmt::Write>(
             "{lo} to {hi} pages of {kind} may start in slot {slot}: no split at {m}"
         );
     }
-    if m == 1 {
-        return write!(
-            f,
-            "no page of {kind} starts in slot {slot}, or at least 1 does"
-        );
-    }
+    let late = start_slot(kind.1, false);
     write!(
         f,
-        "fewer than {m} pages of {kind} start in slot {slot}, or at least {m} do"
-    )
+        "a page of {kind} starts in slot {slot} or in slot {late}: "
+    )?;
+    if m == 1 {
+        return write!(f, "none starts in slot {slot}, or at least 1 does");
+    }
+    write!(f, "fewer than {m} start in slot {slot}, or at least {m} do")
 }
 
 // What an overload compares: the codewords that must stand in a set of slots, and the room there.
@@ -233,11 +232,12 @@ fn write_cut<W: fmt::Write>(
     } = cut;
     let kind = KindWords(refuted.kinds, needed);
     let place = outside(set);
+    let note = side_note(set);
     if is_met {
         let nodes = Counted(ways as u64, "node");
         return write!(
             f,
-            "a page of {kind} starts or ends {place}; the way there and back takes the idle or the page of one of the {nodes} below"
+            "a page of {kind} starts or ends {place}{note}; the way there and back takes the idle or the page of one of the {nodes} below"
         );
     }
     if refuted.batches == 0 {
@@ -248,12 +248,12 @@ fn write_cut<W: fmt::Write>(
         return write!(f, "boundary 0 is not in the set of {boundaries}");
     }
     if !is_certain {
-        return write!(f, "no page of {kind} has to start or end {place}");
+        return write!(f, "no page of {kind} has to start or end {place}{note}");
     }
     let side = Members(BOUNDARY, smaller_side(set));
     let ways = Counted(ways as u64, "way");
     let nodes = Counted(children as u64, "node");
-    write!(f, "{ways} out of {side}, and {nodes} for them")
+    write!(f, "{ways} out of {side}{note}, and {nodes} for them")
 }
 
 fn write_closing<W: fmt::Write>(

@@ -1,4 +1,6 @@
 //! Sets of slots and boundaries, and counts, in words.
+ghost use Rattle.std.specs.Prelude.{◌≡◌};
+ghost use Rattle.pocsag_findings.specs.Sides.{named_side, side_note};
 
 use pocsag_slots::{CLASSES, SLOTS, holds, size, start};
 use std::fmt::{self, Display, Formatter};
@@ -99,11 +101,24 @@ impl Display for SlotWords {
 }
 
 /// A set of boundaries, or the others where they are fewer: the walk that leaves the one side leaves the other.
-pub(crate) fn smaller_side(set: u16) -> u16 {
+pub(crate) fn smaller_side(set: u16) -> u16
+    ensures { result ≡ named_side set }
+{
     if size(set) > u32::from(BATCH_SLOTS / 2) && set != u16::MAX {
         !set
     } else {
         set
+    }
+}
+
+/// What stands behind the boundaries that are named of a cut: that they are its smaller side, where they are not its set.
+pub(crate) fn side_note(set: u16) -> &'static str
+    ensures { result.now ≡ side_note set }
+{
+    if smaller_side(set) == set {
+        ""
+    } else {
+        ", the smaller side of the cut"
     }
 }
 

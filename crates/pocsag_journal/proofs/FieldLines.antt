@@ -7,9 +7,10 @@ use Rattle.csv.specs.Machine.{line_feed}
 use Rattle.csv.specs.Writing.{default_writer, escaped, field_text, fields_text, is_blank, needs_quotes, quoted, row_body, row_text}
 use Rattle.pocsag_pages.specs.PageFile.{Row}
 use Rattle.pocsag_journal.specs.Journals.{IsLine}
-use Rattle.pocsag_journal.specs.LineTexts.{HasNoLineFeed, IsFieldText, IsRowText}
-use Rattle.pocsag_journal.specs.LineTexts.IsFieldText.{bare, between_quotes}
-use Rattle.pocsag_journal.specs.LineTexts.IsRowText.{before, last}
+use Rattle.pocsag_pages.specs.RecordTexts.{IsFieldText, IsRowText}
+use Rattle.pocsag_journal.specs.LineTexts.{HasNoLineFeed}
+use Rattle.pocsag_pages.specs.RecordTexts.IsFieldText.{bare, between_quotes}
+use Rattle.pocsag_pages.specs.RecordTexts.IsRowText.{before, last}
 
 -- what csv writes for a record is its text
 field_spelled : (f : List ℕ) → IsFieldText f (field_text default_writer f)

@@ -11,12 +11,9 @@ pub mod LineLengths
 pub mod LinedPages
 pub mod Moments
 pub mod Prefixes
-pub mod Quotes
 pub mod Readings
 pub mod Refusals
 pub mod Replays
-pub mod RowTexts
-pub mod Strays
 pub mod TextLines
 mod PrintedReplays
 pub mod TornLines

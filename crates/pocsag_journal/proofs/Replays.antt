@@ -18,7 +18,7 @@ use Rattle.pocsag_journal.specs.declared.refusal.Refusal.{Refusal}
 use Rattle.pocsag_journal.specs.LineTexts.{HasNoLineFeed, IsWholeLine}
 use Rattle.pocsag_journal.specs.Runs.{first_record}
 use Rattle.pocsag_journal.proofs.Fields.{is_word}
-use Rattle.pocsag_journal.proofs.RowTexts.{none_left}
+use Rattle.pocsag_pages.proofs.RowTexts.{none_left}
 use Rattle.pocsag_journal.specs.Journals.{IsBadLine, IsFirstCut, IsLine, MakesLine, Replays, journal_text, rows_text}
 use Rattle.pocsag_journal.proofs.EditRuns.{run_on}
 use Rattle.pocsag_journal.proofs.Prefixes.{all_more, journal_more, short}

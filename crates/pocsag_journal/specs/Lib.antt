@@ -8,7 +8,6 @@ pub mod Keepers
 pub mod LineTexts
 pub mod Moments
 pub mod PageLines
-pub mod Quotes
 pub mod Restarts
 pub mod Runs
 pub mod Views

@@ -5,12 +5,13 @@ ghost use Rattle.pocsag_words.specs.declared.ending.End.{End};
 ghost use Rattle.pocsag_journal.specs.Asks.{IsAskedBy, IsAskedIn, IsPlanEnd, end_word};
 ghost use Rattle.pocsag_journal.specs.Edited.{SpellsCount};
 ghost use Rattle.pocsag_journal.specs.Runs.{asked_by_line, asked_in, asked_of};
-ghost use Rattle.pocsag_journal.specs.LineTexts.{IsRowText, IsUnread, record_text};
+ghost use Rattle.pocsag_pages.specs.RecordTexts.{IsRowText};
+ghost use Rattle.pocsag_journal.specs.LineTexts.{IsUnread, record_text};
 
-use crate::quote::{Quoting, quoting_of, without_return};
+use crate::quote::{quoting_of, without_return};
 use crate::refusal::{Refusal, UndoneFault};
 use csv::ByteRecord;
-use pocsag_pages::only_row;
+use pocsag_pages::{Quoting, only_row};
 use pocsag_words::End;
 use std::alloc::Global;
 use std::str;

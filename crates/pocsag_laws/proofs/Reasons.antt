@@ -1,8 +1,9 @@
 -- A text is no record for one reason at most, want of memory aside.
 use Rattle.std.proofs.Common.{◌≡◌, ◌≢◌, ◌⊎◌, inl, inr, ℕ, List, [], ◌∷◌, ◌++◌, refl, sym, ap, ◌∙◌, subst, append_assoc}
-use Rattle.pocsag_journal.specs.LineTexts.{EndsInQuotes, HasNoRecord, HasStrayByte, HasStrayQuote, IsAtQuote, IsLostAt, IsRowText, IsUnread}
-use Rattle.pocsag_journal.specs.LineTexts.IsFieldText.{bare}
-use Rattle.pocsag_journal.specs.LineTexts.IsRowText.{last}
+use Rattle.pocsag_pages.specs.RecordTexts.{EndsInQuotes, HasNoRecord, HasStrayByte, HasStrayQuote, IsAtQuote, IsLostAt, IsRowText}
+use Rattle.pocsag_journal.specs.LineTexts.{IsUnread}
+use Rattle.pocsag_pages.specs.RecordTexts.IsFieldText.{bare}
+use Rattle.pocsag_pages.specs.RecordTexts.IsRowText.{last}
 use Rattle.pocsag_journal.specs.declared.refusal.Refusal.{Refusal}
 use Rattle.pocsag_journal.specs.declared.refusal.Refusal.TheVariants as refusal
 use Rattle.pocsag_journal.specs.declared.refusal.UndoneFault.{UndoneFault}

@@ -13,18 +13,19 @@ use Rattle.pocsag_plan.specs.declared.refusal.AddFault.TheVariants as adding
 use Rattle.pocsag_plan.specs.declared.search.OnLimit.{OnLimit}
 use Rattle.pocsag_words.specs.declared.ending.End.{End}
 use Rattle.pocsag_journal.specs.Asks.{AsksPlan}
-use Rattle.pocsag_journal.specs.Quotes.{MayEnd, quoting_after, quoting_from}
+use Rattle.pocsag_pages.specs.Quotings.{MayEnd, quoting_after, quoting_from}
 use Rattle.pocsag_journal.specs.Runs.{IsEdit, IsRun, asked_of, first_record, wants_memory}
-use Rattle.pocsag_journal.specs.LineTexts.{IsLostAt, IsRowText, IsUnread, IsWholeLine, is_return, record_text, without_return}
-use Rattle.pocsag_journal.specs.declared.quote.Quoting.{Quoting}
-use Rattle.pocsag_journal.specs.declared.quote.Quoting.TheVariants as at
+use Rattle.pocsag_pages.specs.RecordTexts.{IsLostAt, IsRowText}
+use Rattle.pocsag_journal.specs.LineTexts.{IsUnread, IsWholeLine, is_return, record_text, without_return}
+use Rattle.pocsag_pages.specs.declared.quoting.Quoting.{Quoting}
+use Rattle.pocsag_pages.specs.declared.quoting.Quoting.TheVariants as at
 use Rattle.pocsag_journal.specs.declared.refusal.Refusal.{Refusal}
 use Rattle.pocsag_journal.specs.declared.refusal.Refusal.TheVariants as refusal
 use Rattle.pocsag_journal.specs.declared.refusal.UndoneFault.{UndoneFault}
 use Rattle.pocsag_journal.specs.declared.refusal.UndoneFault.TheVariants as undone
 use Rattle.pocsag_journal.proofs.FieldLines.{row_spelled}
 use Rattle.pocsag_journal.proofs.Fields.{is_word}
-use Rattle.pocsag_journal.proofs.RowTexts.{row_place, rows_are}
+use Rattle.pocsag_pages.proofs.RowTexts.{row_place, rows_are}
 use Rattle.pocsag_journal.specs.Growth.{kept_line_limit}
 use Rattle.pocsag_journal.specs.Journals.{IsLine, journal_text, rows_text}
 use Rattle.pocsag_journal.proofs.EditRuns.{edit_once}
@@ -32,7 +33,7 @@ use Rattle.pocsag_journal.proofs.LineLengths.{line_length}
 use Rattle.pocsag_journal.proofs.Replays.{edit_some, is_true, pair_word}
 use Rattle.pocsag_journal.proofs.TextLines.{at_line, first_line, no_whole_line, split_lines}
 use Rattle.pocsag_open.specs.Lines.{AreLines, IsFirstLine}
-use Rattle.pocsag_open.specs.Plans.{PlacedPlan}
+use Rattle.pocsag_open.specs.Plans.{Placing}
 use Rattle.pocsag_open.specs.Words.{refusal_words}
 use Rattle.pocsag_laws.specs.Reopened.{NamesNoMemory}
 use Rattle.pocsag_open.specs.Replies.{AreReplies, IsLineReply, IsRefusalPrinted, IsReply, IsSession, edited, listed, noted, planned, read, refused, sent_first, too_long, unread}
@@ -177,42 +178,42 @@ plan_edits end (Some b) tx cert row pages after e d = subst (λ (r : Row). IsEdi
 abbrev Leaves : (after due : List Page) (told : List ℕ) → Type 0
 Leaves after due told = (after ≡ due) ⊎ NamesNoMemory told
 
-record_reply : (IsKnown : Type 0) (on_limit : OnLimit) (row : Row) (pages after due : List Page) (told : List ℕ) (placed : List PlacedPlan) →
-    IsEdit row pages due → IsReply IsKnown on_limit row pages after told placed → Leaves after due told
+record_reply : (IsKnown OutputFails : Type 0) (on_limit : OnLimit) (row : Row) (pages after due : List Page) (told : List ℕ) (placed : List Placing) →
+    IsEdit row pages due → IsReply IsKnown OutputFails on_limit row pages after told placed → Leaves after due told
 unfolding asked_of
-record_reply IsKnown on_limit row pages after due told placed d (edited e t n) = inl (edit_once row pages after due e d)
-record_reply IsKnown on_limit row pages after due told placed d (listed is s t n) = absurd (subst (λ (r : Row). IsEdit r pages due) is d)
-record_reply IsKnown on_limit row pages after due told placed d (noted is s t n) = absurd (subst (λ (r : Row). IsEdit r pages due) is d)
-record_reply IsKnown on_limit row pages after due told placed d (planned end tx cert batches bound sent asks is s t n) =
+record_reply IsKnown OutputFails on_limit row pages after due told placed d (edited e t n) = inl (edit_once row pages after due e d)
+record_reply IsKnown OutputFails on_limit row pages after due told placed d (listed is s t n) = absurd (subst (λ (r : Row). IsEdit r pages due) is d)
+record_reply IsKnown OutputFails on_limit row pages after due told placed d (noted is s t n) = absurd (subst (λ (r : Row). IsEdit r pages due) is d)
+record_reply IsKnown OutputFails on_limit row pages after due told placed d (planned end tx cert batches bound sent asks is s t n) =
     absurd (plan_edits end None tx cert row pages due asks d)
-record_reply IsKnown on_limit row pages after due told placed d (sent_first end most tx cert count batches bound sent asks is s t n) =
+record_reply IsKnown OutputFails on_limit row pages after due told placed d (sent_first end most tx cert count batches bound sent asks is s t n) =
     absurd (plan_edits end (Some most) tx cert row pages due asks d)
-record_reply IsKnown on_limit row pages after due told placed d (refused why is s t n) = elim is.edit [
+record_reply IsKnown OutputFails on_limit row pages after due told placed d (refused why is s t) = elim is.edit [
   | inl wants ↦ inr (refused_told why told (no_memory_words why wants) t)
   | inr none ↦ absurd (none due d)
 ]
 
-heading_reply : (IsKnown : Type 0) (on_limit : OnLimit) (pages after : List Page) (told : List ℕ) (placed : List PlacedPlan) →
-    IsReply IsKnown on_limit first_record pages after told placed → Leaves after pages told
+heading_reply : (IsKnown OutputFails : Type 0) (on_limit : OnLimit) (pages after : List Page) (told : List ℕ) (placed : List Placing) →
+    IsReply IsKnown OutputFails on_limit first_record pages after told placed → Leaves after pages told
 unfolding asked_of
-heading_reply IsKnown on_limit pages after told placed (edited e t n) = absurd e
-heading_reply IsKnown on_limit pages after told placed (listed is s t n) = inl s
-heading_reply IsKnown on_limit pages after told placed (noted is s t n) = inl s
-heading_reply IsKnown on_limit pages after told placed (planned end tx cert batches bound sent asks is s t n) = inl s
-heading_reply IsKnown on_limit pages after told placed (sent_first end most tx cert count batches bound sent asks is s t n) =
+heading_reply IsKnown OutputFails on_limit pages after told placed (edited e t n) = absurd e
+heading_reply IsKnown OutputFails on_limit pages after told placed (listed is s t n) = inl s
+heading_reply IsKnown OutputFails on_limit pages after told placed (noted is s t n) = inl s
+heading_reply IsKnown OutputFails on_limit pages after told placed (planned end tx cert batches bound sent asks is s t n) = inl s
+heading_reply IsKnown OutputFails on_limit pages after told placed (sent_first end most tx cert count batches bound sent asks is s t n) =
     absurd (plan_or_heading end (Some most) tx cert first_record asks refl)
-heading_reply IsKnown on_limit pages after told placed (refused why is s t n) = inl s
+heading_reply IsKnown OutputFails on_limit pages after told placed (refused why is s t) = inl s
 
 -- the reply to its line
-line_reply : (IsKnown : Type 0) (on_limit : OnLimit) (line : List ℕ) (row : Row) (pages after due : List Page) (told : List ℕ)
-    (placed : List PlacedPlan) → length line ≤ kept_line_limit → IsRowText row (record_text line) → record_text line ≢ [] →
-    (IsReply IsKnown on_limit row pages after told placed → Leaves after due told) →
-    IsLineReply IsKnown on_limit line pages after told placed → Leaves after due told
-line_reply IsKnown on_limit line row pages after due told placed short spelled some reply (too_long long s t n) = absurd (omega (arith, short, long))
-line_reply IsKnown on_limit line row pages after due told placed short spelled some reply (unread why few is s t n) =
+line_reply : (IsKnown OutputFails : Type 0) (on_limit : OnLimit) (line : List ℕ) (row : Row) (pages after due : List Page) (told : List ℕ)
+    (placed : List Placing) → length line ≤ kept_line_limit → IsRowText row (record_text line) → record_text line ≢ [] →
+    (IsReply IsKnown OutputFails on_limit row pages after told placed → Leaves after due told) →
+    IsLineReply IsKnown OutputFails on_limit line pages after told placed → Leaves after due told
+line_reply IsKnown OutputFails on_limit line row pages after due told placed short spelled some reply (too_long long s t n) = absurd (omega (arith, short, long))
+line_reply IsKnown OutputFails on_limit line row pages after due told placed short spelled some reply (unread why few is s t n) =
     inr (unread_told row (record_text line) why told some spelled is t)
-line_reply IsKnown on_limit line row pages after due told placed short spelled some reply (read other few is here) =
-    reply (subst (λ (r : Row). IsReply IsKnown on_limit r pages after told placed) (one_record row other (record_text line) some spelled is) here)
+line_reply IsKnown OutputFails on_limit line row pages after due told placed short spelled some reply (read other few is here) =
+    reply (subst (λ (r : Row). IsReply IsKnown OutputFails on_limit r pages after told placed) (one_record row other (record_text line) some spelled is) here)
 
 -- the first line of a text that begins with a whole one
 same_body : (xs ys : List ℕ) (b : ℕ) → xs ++ b ∷ [] ≡ ys ++ b ∷ [] → xs ≡ ys
@@ -274,26 +275,26 @@ short_line row pages after d =
     let text : length (row_text default_writer row) ≡ length (row_body default_writer row ++ line_feed ∷ []) = ap length (edit_body row pages after d) in
     omega (arith, text, length-append (row_body default_writer row) (line_feed ∷ []), line_length row pages after d)
 
-rows_reopened : (IsKnown : Type 0) (on_limit : OnLimit) (rows : List Row) (lines : List (List ℕ)) (before pages after : List Page) (told : List ℕ)
-    (placed : List PlacedPlan) → AllByRecursion IsLine rows → IsRun rows before pages → AreLines lines (rows_text rows) →
-    AreReplies IsKnown on_limit lines before after told placed → Leaves after pages told
+rows_reopened : (IsKnown OutputFails : Type 0) (on_limit : OnLimit) (rows : List Row) (lines : List (List ℕ)) (before pages after : List Page) (told : List ℕ)
+    (placed : List Placing) → AllByRecursion IsLine rows → IsRun rows before pages → AreLines lines (rows_text rows) →
+    AreReplies IsKnown OutputFails on_limit lines before after told placed → Leaves after pages told
 unfolding IsRun rows_text AreLines AreReplies
-rows_reopened IsKnown on_limit [] [] start pages after told placed each run cut replies = inl (replies.0 ∙ sym run)
-rows_reopened IsKnown on_limit [] (line ∷ lines) start pages after told placed each run cut replies = absurd (no_first line cut.0 cut.1)
-rows_reopened IsKnown on_limit (row ∷ rows) [] start pages after told placed each run cut replies =
+rows_reopened IsKnown OutputFails on_limit [] [] start pages after told placed each run cut replies = inl (replies.0 ∙ sym run)
+rows_reopened IsKnown OutputFails on_limit [] (line ∷ lines) start pages after told placed each run cut replies = absurd (no_first line cut.0 cut.1)
+rows_reopened IsKnown OutputFails on_limit (row ∷ rows) [] start pages after told placed each run cut replies =
     absurd (some_line (row_text default_writer row) (rows_text rows) each.0.line cut)
-rows_reopened IsKnown on_limit (row ∷ rows) (line ∷ lines) start pages after told placed each (mid, edit, run) (rest, first, cut)
+rows_reopened IsKnown OutputFails on_limit (row ∷ rows) (line ∷ lines) start pages after told placed each (mid, edit, run) (rest, first, cut)
     (between, reply, more, its, others, here, next, parts, sent) =
     let at_line_is = first_is (row_text default_writer row) (row_body default_writer row) (rows_text rows) line rest
     (edit_body row start mid edit) each.0.line first in
-    let answer = line_reply IsKnown on_limit (row_body default_writer row) row start between mid reply its (short_line row start mid edit)
-    (edit_line row start mid edit) (some_text row start mid edit) (record_reply IsKnown on_limit row start between mid reply its edit)
-    (subst (λ (l : List ℕ). IsLineReply IsKnown on_limit l start between reply its) at_line_is.0 here) in
+    let answer = line_reply IsKnown OutputFails on_limit (row_body default_writer row) row start between mid reply its (short_line row start mid edit)
+    (edit_line row start mid edit) (some_text row start mid edit) (record_reply IsKnown OutputFails on_limit row start between mid reply its edit)
+    (subst (λ (l : List ℕ). IsLineReply IsKnown OutputFails on_limit l start between reply its) at_line_is.0 here) in
     elim answer [
       | inl same ↦
-          let later = rows_reopened IsKnown on_limit rows lines mid pages after more others each.1 run
+          let later = rows_reopened IsKnown OutputFails on_limit rows lines mid pages after more others each.1 run
           (subst (λ (l : List ℕ). AreLines lines l) at_line_is.1 cut)
-          (subst (λ (ps : List Page). AreReplies IsKnown on_limit lines ps after more others) same next) in
+          (subst (λ (ps : List Page). AreReplies IsKnown OutputFails on_limit lines ps after more others) same next) in
           elim later [
             | inl is ↦ inl is
             | inr wanted ↦ inr (wanted_later told reply more parts wanted)
@@ -317,26 +318,26 @@ heading_short : length (row_body default_writer first_record) ≤ kept_line_limi
 unfolding fields_text
 heading_short = omega arith
 
-session_reopened : (IsKnown : Type 0) (on_limit : OnLimit) (rows : List Row) (lines : List (List ℕ)) (pages after : List Page) (told : List ℕ)
-    (placed : List PlacedPlan) → AllByRecursion IsLine rows → IsRun rows [] pages → AreLines lines (journal_text rows) →
-    AreReplies IsKnown on_limit lines [] after told placed → Leaves after pages told
+session_reopened : (IsKnown OutputFails : Type 0) (on_limit : OnLimit) (rows : List Row) (lines : List (List ℕ)) (pages after : List Page) (told : List ℕ)
+    (placed : List Placing) → AllByRecursion IsLine rows → IsRun rows [] pages → AreLines lines (journal_text rows) →
+    AreReplies IsKnown OutputFails on_limit lines [] after told placed → Leaves after pages told
 unfolding AreLines AreReplies
-session_reopened IsKnown on_limit rows [] pages after told placed each run cut replies =
+session_reopened IsKnown OutputFails on_limit rows [] pages after told placed each run cut replies =
     absurd (some_line (row_text default_writer first_record) (rows_text rows) first_line cut)
-session_reopened IsKnown on_limit rows (line ∷ lines) pages after told placed each run (rest, first, cut)
+session_reopened IsKnown OutputFails on_limit rows (line ∷ lines) pages after told placed each run (rest, first, cut)
     (between, reply, more, its, others, here, next, parts, sent) =
     let at_line_is = first_is (row_text default_writer first_record) (row_body default_writer first_record) (rows_text rows) line rest
     heading_body first_line first in
     let spelled : IsRowText first_record (record_text (row_body default_writer first_record)) =
     subst (λ (t : List ℕ). IsRowText first_record t) (sym heading_text) (row_spelled (codes "pocsag journal") (codes "1" ∷ [])) in
-    let answer = line_reply IsKnown on_limit (row_body default_writer first_record) first_record [] between [] reply its heading_short
-    spelled heading_some (heading_reply IsKnown on_limit [] between reply its)
-    (subst (λ (l : List ℕ). IsLineReply IsKnown on_limit l [] between reply its) at_line_is.0 here) in
+    let answer = line_reply IsKnown OutputFails on_limit (row_body default_writer first_record) first_record [] between [] reply its heading_short
+    spelled heading_some (heading_reply IsKnown OutputFails on_limit [] between reply its)
+    (subst (λ (l : List ℕ). IsLineReply IsKnown OutputFails on_limit l [] between reply its) at_line_is.0 here) in
     elim answer [
       | inl same ↦
-          let later = rows_reopened IsKnown on_limit rows lines [] pages after more others each run
+          let later = rows_reopened IsKnown OutputFails on_limit rows lines [] pages after more others each run
           (subst (λ (l : List ℕ). AreLines lines l) at_line_is.1 cut)
-          (subst (λ (ps : List Page). AreReplies IsKnown on_limit lines ps after more others) same next) in
+          (subst (λ (ps : List Page). AreReplies IsKnown OutputFails on_limit lines ps after more others) same next) in
           elim later [
             | inl is ↦ inl is
             | inr wanted ↦ inr (wanted_later told reply more parts wanted)
@@ -345,8 +346,8 @@ session_reopened IsKnown on_limit rows (line ∷ lines) pages after told placed 
     ]
 
 -- *Reopened*
-pub reopened : (IsKnown : Type 0) (on_limit : OnLimit) (rows : List Row) (pages after : List Page) (told : List ℕ) (placed : List PlacedPlan) →
-    AllByRecursion IsLine rows → IsRun rows [] pages → IsSession IsKnown on_limit (journal_text rows) [] after told placed →
+pub reopened : (IsKnown OutputFails : Type 0) (on_limit : OnLimit) (rows : List Row) (pages after : List Page) (told : List ℕ) (placed : List Placing) →
+    AllByRecursion IsLine rows → IsRun rows [] pages → IsSession IsKnown OutputFails on_limit (journal_text rows) [] after told placed →
     (after ≡ pages) ⊎ NamesNoMemory told
-reopened IsKnown on_limit rows pages after told placed each run session =
-    session_reopened IsKnown on_limit rows session.lines pages after told placed each run session.cut session.replies
+reopened IsKnown OutputFails on_limit rows pages after told placed each run session =
+    session_reopened IsKnown OutputFails on_limit rows session.lines pages after told placed each run session.cut session.replies

@@ -27,12 +27,12 @@ pub fn caught_pages_are_shown()
 {}
 
 /// The pages that are listed of a capture with their states are those that are caught of it; as many of those of a
-/// transmission are cut as its count says, and each that is not cut stands whole in its words.
+/// transmission are cut as its count says, and each that is not cut stands whole in its words that are in step.
 pub fn catches_are_caught()
     ensures caught { (capture : List ℕ) (cs : List Catch) → HasCatches capture cs →
         HasCaught capture (map (λ (c : Catch). c.heard.reception) cs) (pages_caught cs) }
     ensures cut { (bits : List ℕ) (c : Catch) → IsCatch bits c →
         c.heard.cut ≡ length (filter (λ (is_cut : Bool). is_cut) c.cuts.items) }
-    ensures whole { (words : List ℕ) (ps : List Page) (cuts : List Bool) → AreCaught words ps → AreCutsOf words cuts →
-        UncutStandWhole (unsynced 0 words) ps cuts }
+    ensures whole { (words : List ℕ) (steady : ℕ) (ps : List Page) (cuts : List Bool) → AreCaught words ps →
+        AreCutsOf words steady cuts → UncutStandWhole (unsynced 0 words) steady ps cuts }
 {}

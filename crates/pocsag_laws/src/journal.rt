@@ -8,11 +8,12 @@ ghost use Rattle.pocsag_journal.specs.declared.refusal.Refusal.{Refusal};
 ghost use Rattle.pocsag_journal.specs.Growth.{kept_line_limit};
 ghost use Rattle.pocsag_journal.specs.Journals.{IsBadLine, IsBegun, IsLine, IsRead, ReadsFirst, journal_text};
 ghost use Rattle.pocsag_journal.specs.Runs.{IsEdit, IsRun};
-ghost use Rattle.pocsag_open.specs.Plans.{PlacedPlan};
+ghost use Rattle.pocsag_open.specs.Plans.{HasFailedOutput, Placing};
 ghost use Rattle.pocsag_open.specs.Replies.{IsSession};
 ghost use Rattle.pocsag_laws.specs.Reopened.{NamesNoMemory};
 ghost use Rattle.pocsag_journal.specs.Faults.{HasNoLine};
-ghost use Rattle.pocsag_journal.specs.LineTexts.{HasNoLineFeed, IsRowText, IsUnread};
+ghost use Rattle.pocsag_pages.specs.RecordTexts.{IsRowText};
+ghost use Rattle.pocsag_journal.specs.LineTexts.{HasNoLineFeed, IsUnread};
 ghost use Rattle.pocsag_journal.specs.PageLines.{HaveLines};
 
 use pocsag_journal::{Refusal, UndoneFault};
@@ -72,17 +73,19 @@ pub fn texts_have_one_reason()
 /// `open` over the text of a journal: the session leaves the pages of the journal, unless it reported that memory was wanting.
 pub fn a_journal_opens_as_its_pages<P: OutputStore>()
     ensures { (on_limit : OnLimit) (rows : List Row) (pages after : List Page) (told : List ℕ)
-        (placed : List PlacedPlan) → AllByRecursion IsLine rows → IsRun rows [] pages →
-        IsSession P.is_known on_limit (journal_text rows) [] after told placed → (after ≡ pages) ⊎ NamesNoMemory told }
+        (placed : List Placing) → AllByRecursion IsLine rows → IsRun rows [] pages →
+        IsSession P.is_known (HasFailedOutput P.Output.failures)
+        on_limit (journal_text rows) [] after told placed → (after ≡ pages) ⊎ NamesNoMemory told }
 {}
 
 /// A session is a run of edits whose records are lines. So where all pages before it have lines in a journal, as no pages
 /// and those of a journal have, all pages after it have.
 pub fn sessions_are_runs<P: OutputStore>()
-    ensures run { (on_limit : OnLimit) (input told : List ℕ) (before after : List Page) (placed : List PlacedPlan) →
-        IsSession P.is_known on_limit input before after told placed →
+    ensures run { (on_limit : OnLimit) (input told : List ℕ) (before after : List Page) (placed : List Placing) →
+        IsSession P.is_known (HasFailedOutput P.Output.failures) on_limit input before after told placed →
         (rows : List Row) × AllByRecursion IsLine rows × IsRun rows before after }
     ensures lined { (on_limit : OnLimit) (input told : List ℕ) (before after : List Page)
-        (placed : List PlacedPlan) → IsSession P.is_known on_limit input before after told placed →
+        (placed : List Placing) → IsSession P.is_known (HasFailedOutput P.Output.failures)
+        on_limit input before after told placed →
         HaveLines before → HaveLines after }
 {}

@@ -18,7 +18,6 @@ use Rattle.pocsag_open.specs.Faults.{fault_of_journal}
 use Rattle.pocsag_open.specs.KeptRounds.{ExplainsKept, IsBeginning, ReadsBeginning, ReadsKept}
 use Rattle.pocsag_open.specs.Replies.{AreReplies}
 use Rattle.pocsag_open.specs.Survival.{AreFirstLines, ReadsAfterLines}
-use Rattle.pocsag_open.specs.declared.fault.OpenFault.TheVariants as fault
 
 -- why it is not written anew
 pub anew_explains : (bytes : List ℕ) (file : Option (List ℕ)) (file_failed I O K : Type 0) (before after : ℕ) (pages : List Page) (f : JournalFault) →
@@ -34,10 +33,10 @@ anew_explains bytes file failed I O K before after pages journal.OtherVersion be
 anew_explains bytes file failed I O K before after pages (journal.BadLine n) begins k h = absurd h
 
 -- what is read as the pages before is read after no line
-pub read_first : (IsKnown : Type 0) (on_limit : OnLimit) (input : List ℕ) (before : List Page) (left : List ℕ) → RestartsAs left before →
-    ReadsAfterLines IsKnown on_limit input before RestartsAs left
+pub read_first : (IsKnown OutputFails : Type 0) (on_limit : OnLimit) (input : List ℕ) (before : List Page) (left : List ℕ) → RestartsAs left before →
+    ReadsAfterLines IsKnown OutputFails on_limit input before RestartsAs left
 unfolding AreFirstLines AreReplies
-read_first IsKnown on_limit input before left is =
+read_first IsKnown OutputFails on_limit input before left is =
     record { lines = []; rest = input; pages = before; printed = []; placed = []; firsts = refl; replies = (refl, refl, refl); read = is }
 
 -- what is written anew stands for the pages
@@ -53,13 +52,13 @@ of_disk moment left_since old new Holds all = record { later = all.later; each =
 
 module _ {D : Type 0} (moment : D → ℕ) (left_since : D → ℕ → List ℕ → Type 0) (may_leave : D → List ℕ → Type 0)
     (counts : (disk : D) (t : ℕ) (left : List ℕ) → t ≤ moment disk → may_leave disk left → left_since disk t left)
-    (IsKnown : Type 0) (on_limit : OnLimit) (input bytes : List ℕ) (file : Option (List ℕ)) (old mid : D)
+    (IsKnown OutputFails : Type 0) (on_limit : OnLimit) (input bytes : List ℕ) (file : Option (List ℕ)) (old mid : D)
     (so_far : LeavesOnly moment left_since old mid (may_leave old)) where
   -- what is left once the journal is read
   pub left_read : (left : List ℕ) → may_leave mid left → may_leave old left
   left_read left now = so_far.each left (counts mid (moment old) left so_far.later now)
 
-  pub only_read : LeavesOnly moment left_since old mid (ReadsKept IsKnown on_limit input bytes file (may_leave old))
+  pub only_read : LeavesOnly moment left_since old mid (ReadsKept IsKnown OutputFails on_limit input bytes file (may_leave old))
   only_read = named moment left_since old mid _ _ so_far (λ left is. inl is)
 
   -- once it is written anew
@@ -69,11 +68,11 @@ module _ {D : Type 0} (moment : D → ℕ) (left_since : D → ℕ → List ℕ 
     left_anew left now =
         ⊎_elim (λ was. inl (left_read left was)) (λ is. inr (before, begins, is)) (more.each left (counts new (moment mid) left more.later now))
 
-    pub only_anew : LeavesOnly moment left_since old new (ReadsKept IsKnown on_limit input bytes file (may_leave old))
+    pub only_anew : LeavesOnly moment left_since old new (ReadsKept IsKnown OutputFails on_limit input bytes file (may_leave old))
     only_anew = then_on moment left_since old mid new _ _ only_read more
-        (λ left is. ⊎_elim (λ was. inl (left_read left was)) (λ reads. inr (before, begins, read_first IsKnown on_limit input before left reads)) is)
+        (λ left is. ⊎_elim (λ was. inl (left_read left was)) (λ reads. inr (before, begins, read_first IsKnown OutputFails on_limit input before left reads)) is)
 
     -- and once lines were answered
-    pub only_kept : (last : D) → LeavesOnly moment left_since new last (ReadsAfterLines IsKnown on_limit input before RestartsAs) →
-        LeavesOnly moment left_since old last (ReadsKept IsKnown on_limit input bytes file (may_leave old))
+    pub only_kept : (last : D) → LeavesOnly moment left_since new last (ReadsAfterLines IsKnown OutputFails on_limit input before RestartsAs) →
+        LeavesOnly moment left_since old last (ReadsKept IsKnown OutputFails on_limit input bytes file (may_leave old))
     only_kept last lines = then_on moment left_since old new last _ _ only_anew lines (λ left is. inr (before, begins, is))

@@ -1,6 +1,6 @@
 -- What the outputs of a plan hold, and why it is refused.
-use Rattle.std.proofs.Common.{◌≡◌, inr, ℕ, List, [], ◌++◌, refl, sym, ap, ◌∙◌, subst, arith}
-use Rattle.std.specs.Prelude.{Option, Some}
+use Rattle.std.proofs.Common.{◌≡◌, inr, ℕ, List, [], ◌++◌, append-nil, refl, sym, ap, ◌∙◌, subst, arith}
+use Rattle.std.specs.Prelude.{Some}
 use Rattle.pocsag_words.specs.declared.ending.End.{End}
 use Rattle.pocsag_pages.specs.declared.page.Page.{Page}
 use Rattle.pocsag_tree.specs.Views.{bound_tree_of}
@@ -13,7 +13,7 @@ use Rattle.pocsag_plan.specs.BookPlans.{ExplainsBookFront, ExplainsBookStream}
 use Rattle.pocsag_plan.specs.Plans.{IsStopped}
 use Rattle.pocsag_plan.specs.Searches.{default_limit}
 use Rattle.pocsag_plan.specs.Streams.{WritesAllOf, WritesInTurn}
-use Rattle.pocsag_open.specs.Plans.{ExplainsFiles, ExplainsFrontUndone, ExplainsUndone, HasFailedOutput, PlaceFault, PlaceNames, plan_search, undone_of}
+use Rattle.pocsag_open.specs.Plans.{ArePlacesOfRefused, ExplainsFrontUndone, ExplainsUndone, HasFailedOutput, IsUnplaced, Placing, plan_search, undone_of}
 
 -- outputs that were empty hold what was written
 pub all_held : (Holds : List ℕ → List ℕ → Type 0) (tx tx_after cert cert_after : List ℕ) → tx ≡ [] → cert ≡ [] →
@@ -47,15 +47,18 @@ explains_front on_limit end most pages (streaming.Round f) h = h.1
 explains_front on_limit end most pages (streaming.Transmission f) h = tt
 explains_front on_limit end most pages (streaming.Certificate f) h = tt
 
--- the fault of a stream of two outputs is one of its files only where one of these failed
-pub unsent_files : {Output : Type 0} (failures : Output → ℕ) (places : PlaceNames) (before after : ℕ) (last : Option PlaceFault)
+-- a store whose outputs failed, or one of whose outputs could not be written, did not place them
+pub unsent : {Output : Type 0} (failures : Output → ℕ) (IsKnown : Type 0) (tx_name cert_name : List ℕ) (before after : List Placing)
     (tx tx_after cert cert_after : Output) (f : StreamFault) → WritesInTurn failures failures tx tx_after cert cert_after (Some f) →
-    ExplainsFiles places before after last (HasFailedOutput failures) (undone_of f)
-unsent_files failures places before after last tx tx_after cert cert_after (streaming.Plan planning.BadLimit) w = tt
-unsent_files failures places before after last tx tx_after cert cert_after (streaming.Plan (planning.SearchLimit stop)) w = tt
-unsent_files failures places before after last tx tx_after cert cert_after (streaming.Plan planning.OutOfMemory) w = tt
-unsent_files failures places before after last tx tx_after cert cert_after (streaming.Round f) w = tt
-unsent_files failures places before after last tx tx_after cert cert_after (streaming.Transmission f) w =
-    inr (refl, (tx, tx_after, w.write_failed tt))
-unsent_files failures places before after last tx tx_after cert cert_after (streaming.Certificate f) w =
-    inr (refl, (cert, cert_after, w.certificate_failed tt))
+    (IsKnown → after ≡ before) → IsUnplaced IsKnown (HasFailedOutput failures) tx_name cert_name before after (undone_of f)
+unsent failures IsKnown tx_name cert_name before after tx tx_after cert cert_after f w same =
+    record { placed = []; refused = nothing_placed f w; outputs = λ known. same known ∙ sym (append-nil before) }
+  where
+    nothing_placed : (e : StreamFault) → WritesInTurn failures failures tx tx_after cert cert_after (Some e) →
+        ArePlacesOfRefused tx_name cert_name (HasFailedOutput failures) (undone_of e) []
+    nothing_placed (streaming.Plan planning.BadLimit) w = refl
+    nothing_placed (streaming.Plan (planning.SearchLimit stop)) w = refl
+    nothing_placed (streaming.Plan planning.OutOfMemory) w = refl
+    nothing_placed (streaming.Round e) w = refl
+    nothing_placed (streaming.Transmission e) w = inr (refl, (tx, tx_after, w.write_failed tt), refl)
+    nothing_placed (streaming.Certificate e) w = inr (refl, (cert, cert_after, w.certificate_failed tt), refl)

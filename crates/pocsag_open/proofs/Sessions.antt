@@ -12,7 +12,7 @@ use Rattle.pocsag_journal.specs.declared.edits.Line.TheVariants as line
 use Rattle.pocsag_journal.specs.declared.refusal.Refusal.TheVariants as refusal
 use Rattle.pocsag_journal.specs.declared.refusal.UndoneFault.{UndoneFault}
 use Rattle.pocsag_journal.specs.declared.refusal.UndoneFault.TheVariants as undone
-use Rattle.pocsag_open.specs.Plans.{ExplainsPlanUndone, PlacedPlan}
+use Rattle.pocsag_open.specs.Plans.{ArePlacesOfRefused, ExplainsPlanUndone, Placing}
 use Rattle.pocsag_open.specs.Replies.{IsEditReply, IsFrontReply, IsPlanRefused, IsRefusalDue, IsReply, edited, front_refused, front_sent, refused, sent_first}
 
 -- what asks for no edit makes none
@@ -44,52 +44,63 @@ other_none line.Journal row l p j h = absurd (j refl)
 other_none line.Unknown row l p j h = h
 
 -- a reason that applies to the plan is due where it is refused
-pub plan_due : (on_limit : OnLimit) (end : End) (most : Option ℕ) (tx cert : List ℕ) (row : Row) (pages : List Page) (fault : UndoneFault) →
-    AsksPlan end most tx cert row → None ≡ asked_of row → ExplainsPlanUndone on_limit end most pages fault →
-    IsRefusalDue on_limit row pages (refusal.Undone fault)
-plan_due on_limit end most tx cert row pages fault asks e explained =
-    let why : IsPlanRefused on_limit row pages (refusal.Undone fault) =
-    record { end = end; at_most = most; tx = tx; cert = cert; asks = asks; fault = fault; names = refl; explained = explained } in
+pub plan_due : (OutputFails : Type 0) (on_limit : OnLimit) (end : End) (most : Option ℕ) (tx cert : List ℕ) (row : Row) (pages : List Page)
+    (fault : UndoneFault) (placed : List Placing) → AsksPlan end most tx cert row → None ≡ asked_of row →
+    ExplainsPlanUndone on_limit end most pages fault → ArePlacesOfRefused tx cert OutputFails fault placed →
+    IsRefusalDue OutputFails on_limit row pages (refusal.Undone fault) placed
+plan_due OutputFails on_limit end most tx cert row pages fault placed asks e explained places =
+    let why : IsPlanRefused OutputFails on_limit row pages (refusal.Undone fault) placed =
+    record {
+      end = end;
+      at_most = most;
+      tx = tx;
+      cert = cert;
+      asks = asks;
+      fault = fault;
+      names = refl;
+      explained = explained;
+      places = places;
+    } in
     record {
       edit = inr (λ after d. no_edit row e pages after d);
-      reason = inr (inr why);
+      reason = inr why;
       list = λ h. absurd (plan_or_list end most tx cert row asks h);
       plan = λ other its first second a t c. why;
       heading = plan_or_heading end most tx cert row asks;
     }
 
 -- want of memory is due where the list is refused
-pub list_due : (on_limit : OnLimit) (row : Row) (pages : List Page) → row ≡ list_record → None ≡ asked_of row →
-    IsRefusalDue on_limit row pages (refusal.Undone undone.OutOfMemory)
-list_due on_limit row pages asks e =
+pub list_due : (OutputFails : Type 0) (on_limit : OnLimit) (row : Row) (pages : List Page) → row ≡ list_record → None ≡ asked_of row →
+    IsRefusalDue OutputFails on_limit row pages (refusal.Undone undone.OutOfMemory) []
+list_due OutputFails on_limit row pages asks e =
     record {
       edit = inr (λ after d. no_edit row e pages after d);
-      reason = inr (inl asks);
+      reason = inl (inr asks, refl);
       list = λ h. refl;
       plan = λ end most tx cert a t c. absurd (plan_or_list end most tx cert row a asks);
       heading = λ h. cc (asks, h);
     }
 
 -- the reply to a record that is judged as an edit
-pub edit_reply : (IsKnown : Type 0) (on_limit : OnLimit) (row : Row) (before after : List Page) (printed : List ℕ) → AsksNone row →
-    IsEditReply row before after printed → IsReply IsKnown on_limit row before after printed []
-edit_reply IsKnown on_limit row before after printed none (inl h) = edited h.0 h.1 refl
-edit_reply IsKnown on_limit row before after printed none (inr h) =
-    let due : IsRefusalDue on_limit row before h.1.0 =
+pub edit_reply : (IsKnown OutputFails : Type 0) (on_limit : OnLimit) (row : Row) (before after : List Page) (printed : List ℕ) → AsksNone row →
+    IsEditReply row before after printed → IsReply IsKnown OutputFails on_limit row before after printed []
+edit_reply IsKnown OutputFails on_limit row before after printed none (inl h) = edited h.0 h.1 refl
+edit_reply IsKnown OutputFails on_limit row before after printed none (inr h) =
+    let due : IsRefusalDue OutputFails on_limit row before h.1.0 [] =
     record {
       edit = h.1.1;
-      reason = inl h.1.2;
+      reason = inl (inl h.1.2, refl);
       list = λ (e : row ≡ list_record). absurd (none.list e);
       plan = λ end most tx cert a t c. absurd (none.plan end most tx cert a t c);
       heading = none.heading;
     } in
-    refused h.1.0 due h.0 h.1.3 refl
+    refused h.1.0 due h.0 h.1.3
 
 -- the reply to a record that asks for a plan of a front
-pub front_reply : (IsKnown : Type 0) (on_limit : OnLimit) (end : End) (most : ℕ) (tx cert : List ℕ) (row : Row) (before after : List Page)
-    (printed : List ℕ) (placed : List PlacedPlan) → AsksPlan end (Some most) tx cert row → None ≡ asked_of row →
-    IsFrontReply IsKnown on_limit end most tx cert before after printed placed → IsReply IsKnown on_limit row before after printed placed
-front_reply IsKnown on_limit end most tx cert row before after printed placed asks e (front_sent count batches bound sent is left t n) =
+pub front_reply : (IsKnown OutputFails : Type 0) (on_limit : OnLimit) (end : End) (most : ℕ) (tx cert : List ℕ) (row : Row) (before after : List Page)
+    (printed : List ℕ) (placed : List Placing) → AsksPlan end (Some most) tx cert row → None ≡ asked_of row →
+    IsFrontReply IsKnown OutputFails on_limit end most tx cert before after printed placed → IsReply IsKnown OutputFails on_limit row before after printed placed
+front_reply IsKnown OutputFails on_limit end most tx cert row before after printed placed asks e (front_sent count batches bound sent is left t n) =
     sent_first end most tx cert count batches bound sent asks is left t n
-front_reply IsKnown on_limit end most tx cert row before after printed placed asks e (front_refused fault explained same t n) =
-    refused (refusal.Undone fault) (plan_due on_limit end (Some most) tx cert row before fault asks e explained) same t n
+front_reply IsKnown OutputFails on_limit end most tx cert row before after printed placed asks e (front_refused fault explained same t n) =
+    refused (refusal.Undone fault) (plan_due OutputFails on_limit end (Some most) tx cert row before fault placed asks e explained n) same t

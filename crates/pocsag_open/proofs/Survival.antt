@@ -7,7 +7,7 @@ use Rattle.pocsag_pages.specs.declared.page.Page.{Page}
 use Rattle.pocsag_plan.specs.declared.search.OnLimit.{OnLimit}
 use Rattle.pocsag_journal.specs.Keepers.{ReadsAsEither}
 use Rattle.pocsag_open.specs.Lines.{AreLines, IsFirstLine}
-use Rattle.pocsag_open.specs.Plans.{PlacedPlan}
+use Rattle.pocsag_open.specs.Plans.{Placing}
 use Rattle.pocsag_open.specs.Replies.{AreReplies, IsLineReply, IsSession, PrintsAndPlaces}
 use Rattle.pocsag_open.specs.Survival.{AreFirstLines, IsCutShort, ReadsAfterLines, ReadsOrReplied, RepliesAndPlaces, RepliesTo, Survives, TookPartOf, begun, between, untold, within}
 
@@ -120,13 +120,13 @@ lines_more [] line bytes pending rest firsts first = (rest, subst (λ (b : List 
 lines_more (l ∷ lines) line bytes pending rest firsts first =
     (firsts.0, firsts.1, lines_more lines line firsts.0 pending rest firsts.2 first)
 
-replies_more : (IsKnown : Type 0) (on_limit : OnLimit) (lines : List (List ℕ)) (line : List ℕ) (before now after : List Page) (printed reply : List ℕ)
-    (placed its : List PlacedPlan) → AreReplies IsKnown on_limit lines before now printed placed → IsLineReply IsKnown on_limit line now after reply its →
-    AreReplies IsKnown on_limit (lines ++ line ∷ []) before after (printed ++ reply) (placed ++ its)
+replies_more : (IsKnown OutputFails : Type 0) (on_limit : OnLimit) (lines : List (List ℕ)) (line : List ℕ) (before now after : List Page) (printed reply : List ℕ)
+    (placed its : List Placing) → AreReplies IsKnown OutputFails on_limit lines before now printed placed → IsLineReply IsKnown OutputFails on_limit line now after reply its →
+    AreReplies IsKnown OutputFails on_limit (lines ++ line ∷ []) before after (printed ++ reply) (placed ++ its)
 unfolding AreReplies
-replies_more IsKnown on_limit [] line before now after printed reply placed its replies next =
-    let here : IsLineReply IsKnown on_limit line before after reply its =
-    subst (λ (ps : List Page). IsLineReply IsKnown on_limit line ps after reply its) replies.0 next in (
+replies_more IsKnown OutputFails on_limit [] line before now after printed reply placed its replies next =
+    let here : IsLineReply IsKnown OutputFails on_limit line before after reply its =
+    subst (λ (ps : List Page). IsLineReply IsKnown OutputFails on_limit line ps after reply its) replies.0 next in (
       after,
       reply,
       [],
@@ -135,35 +135,35 @@ replies_more IsKnown on_limit [] line before now after printed reply placed its 
       here,
       (refl, refl, refl),
       ap (λ (l : List ℕ). l ++ reply) replies.1 ∙ sym (append-nil reply),
-      ap (λ (l : List PlacedPlan). l ++ its) replies.2 ∙ sym (append-nil its),
+      ap (λ (l : List Placing). l ++ its) replies.2 ∙ sym (append-nil its),
     )
-replies_more IsKnown on_limit (l ∷ lines) line before now after printed reply placed its (mid, first, more, one, others, here, rest, parts, sent) next = (
+replies_more IsKnown OutputFails on_limit (l ∷ lines) line before now after printed reply placed its (mid, first, more, one, others, here, rest, parts, sent) next = (
   mid,
   first,
   more ++ reply,
   one,
   others ++ its,
   here,
-  replies_more IsKnown on_limit lines line mid now after more reply others its rest next,
+  replies_more IsKnown OutputFails on_limit lines line mid now after more reply others its rest next,
   ap (λ (t : List ℕ). t ++ reply) parts ∙ append_assoc first more reply,
-  ap (λ (t : List PlacedPlan). t ++ its) sent ∙ append_assoc one others its,
+  ap (λ (t : List Placing). t ++ its) sent ∙ append_assoc one others its,
 )
 
 -- the lines so far are answered
-pub record Answered (IsKnown : Type 0) (on_limit : OnLimit) (input pending : List ℕ) (before now : List Page) (out_before out_after : List ℕ)
-    (placed_before placed_after : List PlacedPlan) : Type 0 where
+pub record Answered (IsKnown OutputFails : Type 0) (on_limit : OnLimit) (input pending : List ℕ) (before now : List Page) (out_before out_after : List ℕ)
+    (placed_before placed_after : List Placing) : Type 0 where
   pub lines : List (List ℕ)
   pub printed : List ℕ
-  pub placed : List PlacedPlan
+  pub placed : List Placing
   pub firsts : AreFirstLines lines input pending
-  pub replies : AreReplies IsKnown on_limit lines before now printed placed
+  pub replies : AreReplies IsKnown OutputFails on_limit lines before now printed placed
   pub answers : out_after ≡ out_before ++ printed
   pub outputs : IsKnown → placed_after ≡ placed_before ++ placed
 
-pub none_answered : (IsKnown : Type 0) (on_limit : OnLimit) (input pending : List ℕ) (before : List Page) (out : List ℕ) (placed : List PlacedPlan) →
-    pending ≡ input → Answered IsKnown on_limit input pending before before out out placed placed
+pub none_answered : (IsKnown OutputFails : Type 0) (on_limit : OnLimit) (input pending : List ℕ) (before : List Page) (out : List ℕ) (placed : List Placing) →
+    pending ≡ input → Answered IsKnown OutputFails on_limit input pending before before out out placed placed
 unfolding AreFirstLines AreReplies
-none_answered IsKnown on_limit input pending before out placed e = record {
+none_answered IsKnown OutputFails on_limit input pending before out placed e = record {
   lines = [];
   printed = [];
   placed = [];
@@ -173,19 +173,19 @@ none_answered IsKnown on_limit input pending before out placed e = record {
   outputs = λ is_known. sym (append-nil placed);
 }
 
-pub one_answered : (IsKnown : Type 0) (on_limit : OnLimit) (input pending line rest : List ℕ) (before now after : List Page)
-    (start out next : List ℕ) (first_placed placed then_placed : List PlacedPlan) →
-    Answered IsKnown on_limit input pending before now start out first_placed placed → IsFirstLine pending line rest →
-    PrintsAndPlaces IsKnown out next placed then_placed (IsLineReply IsKnown on_limit line now after) →
-    Answered IsKnown on_limit input rest before after start next first_placed then_placed
-one_answered IsKnown on_limit input pending line rest before now after start out next first_placed placed then_placed so_far first reply = record {
+pub one_answered : (IsKnown OutputFails : Type 0) (on_limit : OnLimit) (input pending line rest : List ℕ) (before now after : List Page)
+    (start out next : List ℕ) (first_placed placed then_placed : List Placing) →
+    Answered IsKnown OutputFails on_limit input pending before now start out first_placed placed → IsFirstLine pending line rest →
+    PrintsAndPlaces IsKnown out next placed then_placed (IsLineReply IsKnown OutputFails on_limit line now after) →
+    Answered IsKnown OutputFails on_limit input rest before after start next first_placed then_placed
+one_answered IsKnown OutputFails on_limit input pending line rest before now after start out next first_placed placed then_placed so_far first reply = record {
   lines = so_far.lines ++ line ∷ [];
   printed = so_far.printed ++ reply.printed;
   placed = so_far.placed ++ reply.placed;
   firsts = lines_more so_far.lines line input pending rest so_far.firsts first;
-  replies = replies_more IsKnown on_limit so_far.lines line before now after so_far.printed reply.printed so_far.placed reply.placed so_far.replies reply.holds;
+  replies = replies_more IsKnown OutputFails on_limit so_far.lines line before now after so_far.printed reply.printed so_far.placed reply.placed so_far.replies reply.holds;
   answers = reply.answers ∙ ap (λ (l : List ℕ). l ++ reply.printed) so_far.answers ∙ append_assoc start so_far.printed reply.printed;
-  outputs = λ is_known. reply.outputs is_known ∙ ap (λ (l : List PlacedPlan). l ++ reply.placed) (so_far.outputs is_known)
+  outputs = λ is_known. reply.outputs is_known ∙ ap (λ (l : List Placing). l ++ reply.placed) (so_far.outputs is_known)
       ∙ append_assoc first_placed so_far.placed reply.placed;
 }
 
@@ -195,10 +195,10 @@ all_lines [] bytes rest none firsts = sym firsts ∙ none
 all_lines (line ∷ lines) bytes rest none firsts = (firsts.0, firsts.1, all_lines lines firsts.0 rest none firsts.2)
 
 -- no line is left
-pub all_answered : (IsKnown : Type 0) (on_limit : OnLimit) (input pending : List ℕ) (before now : List Page) (start out : List ℕ)
-    (first_placed placed : List PlacedPlan) → pending ≡ [] → Answered IsKnown on_limit input pending before now start out first_placed placed →
-    PrintsAndPlaces IsKnown start out first_placed placed (IsSession IsKnown on_limit input before now)
-all_answered IsKnown on_limit input pending before now start out first_placed placed none so_far = record {
+pub all_answered : (IsKnown OutputFails : Type 0) (on_limit : OnLimit) (input pending : List ℕ) (before now : List Page) (start out : List ℕ)
+    (first_placed placed : List Placing) → pending ≡ [] → Answered IsKnown OutputFails on_limit input pending before now start out first_placed placed →
+    PrintsAndPlaces IsKnown start out first_placed placed (IsSession IsKnown OutputFails on_limit input before now)
+all_answered IsKnown OutputFails on_limit input pending before now start out first_placed placed none so_far = record {
   printed = so_far.printed;
   placed = so_far.placed;
   answers = so_far.answers;
@@ -207,11 +207,11 @@ all_answered IsKnown on_limit input pending before now start out first_placed pl
 }
 
 -- what a crash leaves between two lines
-pub survives_between : (IsKnown : Type 0) (on_limit : OnLimit) (input pending : List ℕ) (before now : List Page) (start out : List ℕ)
-    (first_placed placed : List PlacedPlan) (reads_as : List ℕ → List Page → Type 0) (may_leave : List ℕ → Type 0) →
-    Answered IsKnown on_limit input pending before now start out first_placed placed → ((left : List ℕ) → may_leave left → reads_as left now) →
-    Survives IsKnown on_limit input before start out first_placed placed reads_as may_leave
-survives_between IsKnown on_limit input pending before now start out first_placed placed reads_as may_leave so_far kept = record {
+pub survives_between : (IsKnown OutputFails : Type 0) (on_limit : OnLimit) (input pending : List ℕ) (before now : List Page) (start out : List ℕ)
+    (first_placed placed : List Placing) (reads_as : List ℕ → List Page → Type 0) (may_leave : List ℕ → Type 0) →
+    Answered IsKnown OutputFails on_limit input pending before now start out first_placed placed → ((left : List ℕ) → may_leave left → reads_as left now) →
+    Survives IsKnown OutputFails on_limit input before start out first_placed placed reads_as may_leave
+survives_between IsKnown OutputFails on_limit input pending before now start out first_placed placed reads_as may_leave so_far kept = record {
   lines = so_far.lines;
   rest = pending;
   now = now;
@@ -223,19 +223,19 @@ survives_between IsKnown on_limit input pending before now start out first_place
 }
 
 -- what was placed more, behind what was placed so far
-placed_on : (IsKnown : Type 0) (on_limit : OnLimit) (line : List ℕ) (first mid more later : List PlacedPlan) (before after : List Page) (printed : List ℕ) →
-    (IsKnown → mid ≡ first ++ more) → RepliesAndPlaces IsKnown on_limit line mid later before after printed →
-    RepliesAndPlaces IsKnown on_limit line (first ++ more) later before after printed
-placed_on IsKnown on_limit line first mid more later before after printed so_far (its, is, placed) =
-    (its, is, λ is_known. placed is_known ∙ ap (λ (l : List PlacedPlan). l ++ its) (so_far is_known))
+placed_on : (IsKnown OutputFails : Type 0) (on_limit : OnLimit) (line : List ℕ) (first mid more later : List Placing) (before after : List Page) (printed : List ℕ) →
+    (IsKnown → mid ≡ first ++ more) → RepliesAndPlaces IsKnown OutputFails on_limit line mid later before after printed →
+    RepliesAndPlaces IsKnown OutputFails on_limit line (first ++ more) later before after printed
+placed_on IsKnown OutputFails on_limit line first mid more later before after printed so_far (its, is, placed) =
+    (its, is, λ is_known. placed is_known ∙ ap (λ (l : List Placing). l ++ its) (so_far is_known))
 
 -- and within one
-pub survives_within : (IsKnown : Type 0) (on_limit : OnLimit) (input pending line behind : List ℕ) (before now : List Page) (start out next : List ℕ)
-    (first_placed placed then_placed : List PlacedPlan) (reads_as : List ℕ → List Page → Type 0) (may_leave : List ℕ → Type 0) →
-    Answered IsKnown on_limit input pending before now start out first_placed placed → IsFirstLine pending line behind →
-    IsCutShort (RepliesAndPlaces IsKnown on_limit line placed then_placed) now out next reads_as may_leave →
-    Survives IsKnown on_limit input before start next first_placed then_placed reads_as may_leave
-survives_within IsKnown on_limit input pending line behind before now start out next first_placed placed then_placed reads_as may_leave so_far first cut = record {
+pub survives_within : (IsKnown OutputFails : Type 0) (on_limit : OnLimit) (input pending line behind : List ℕ) (before now : List Page) (start out next : List ℕ)
+    (first_placed placed then_placed : List Placing) (reads_as : List ℕ → List Page → Type 0) (may_leave : List ℕ → Type 0) →
+    Answered IsKnown OutputFails on_limit input pending before now start out first_placed placed → IsFirstLine pending line behind →
+    IsCutShort (RepliesAndPlaces IsKnown OutputFails on_limit line placed then_placed) now out next reads_as may_leave →
+    Survives IsKnown OutputFails on_limit input before start next first_placed then_placed reads_as may_leave
+survives_within IsKnown OutputFails on_limit input pending line behind before now start out next first_placed placed then_placed reads_as may_leave so_far first cut = record {
   lines = so_far.lines;
   rest = pending;
   now = now;
@@ -244,19 +244,19 @@ survives_within IsKnown on_limit input pending line behind before now start out 
   firsts = so_far.firsts;
   replies = so_far.replies;
   cut = within line behind first
-      (subst (λ (l : List ℕ). IsCutShort (RepliesAndPlaces IsKnown on_limit line (first_placed ++ so_far.placed) then_placed) now l next reads_as may_leave)
+      (subst (λ (l : List ℕ). IsCutShort (RepliesAndPlaces IsKnown OutputFails on_limit line (first_placed ++ so_far.placed) then_placed) now l next reads_as may_leave)
       so_far.answers
-      (cut_as (RepliesAndPlaces IsKnown on_limit line placed then_placed)
-      (RepliesAndPlaces IsKnown on_limit line (first_placed ++ so_far.placed) then_placed) now out next reads_as may_leave
-      (λ after printed is. placed_on IsKnown on_limit line first_placed placed so_far.placed then_placed now after printed so_far.outputs is) cut));
+      (cut_as (RepliesAndPlaces IsKnown OutputFails on_limit line placed then_placed)
+      (RepliesAndPlaces IsKnown OutputFails on_limit line (first_placed ++ so_far.placed) then_placed) now out next reads_as may_leave
+      (λ after printed is. placed_on IsKnown OutputFails on_limit line first_placed placed so_far.placed then_placed now after printed so_far.outputs is) cut));
 }
 
 -- what is read as the pages now is read after the lines so far
-pub read_now : (IsKnown : Type 0) (on_limit : OnLimit) (input pending : List ℕ) (before now : List Page) (start out : List ℕ)
-    (first_placed placed : List PlacedPlan) (reads_as : List ℕ → List Page → Type 0) (left : List ℕ) →
-    Answered IsKnown on_limit input pending before now start out first_placed placed → reads_as left now →
-    ReadsAfterLines IsKnown on_limit input before reads_as left
-read_now IsKnown on_limit input pending before now start out first_placed placed reads_as left so_far is = record {
+pub read_now : (IsKnown OutputFails : Type 0) (on_limit : OnLimit) (input pending : List ℕ) (before now : List Page) (start out : List ℕ)
+    (first_placed placed : List Placing) (reads_as : List ℕ → List Page → Type 0) (left : List ℕ) →
+    Answered IsKnown OutputFails on_limit input pending before now start out first_placed placed → reads_as left now →
+    ReadsAfterLines IsKnown OutputFails on_limit input before reads_as left
+read_now IsKnown OutputFails on_limit input pending before now start out first_placed placed reads_as left so_far is = record {
   lines = so_far.lines;
   rest = pending;
   pages = now;
@@ -268,13 +268,13 @@ read_now IsKnown on_limit input pending before now start out first_placed placed
 }
 
 -- and as those that the reply leaves, after one line more
-pub read_next : (IsKnown : Type 0) (on_limit : OnLimit) (input pending line behind : List ℕ) (before now : List Page) (start out : List ℕ)
-    (first_placed placed : List PlacedPlan) (reads_as : List ℕ → List Page → Type 0) (left : List ℕ) →
-    Answered IsKnown on_limit input pending before now start out first_placed placed → IsFirstLine pending line behind →
-    ReadsOrReplied reads_as (RepliesTo IsKnown on_limit line) now left → ReadsAfterLines IsKnown on_limit input before reads_as left
-read_next IsKnown on_limit input pending line behind before now start out first_placed placed reads_as left so_far first (inl is) =
-    read_now IsKnown on_limit input pending before now start out first_placed placed reads_as left so_far is
-read_next IsKnown on_limit input pending line behind before now start out first_placed placed reads_as left so_far first (inr (after, (printed, (its, reply), is))) =
+pub read_next : (IsKnown OutputFails : Type 0) (on_limit : OnLimit) (input pending line behind : List ℕ) (before now : List Page) (start out : List ℕ)
+    (first_placed placed : List Placing) (reads_as : List ℕ → List Page → Type 0) (left : List ℕ) →
+    Answered IsKnown OutputFails on_limit input pending before now start out first_placed placed → IsFirstLine pending line behind →
+    ReadsOrReplied reads_as (RepliesTo IsKnown OutputFails on_limit line) now left → ReadsAfterLines IsKnown OutputFails on_limit input before reads_as left
+read_next IsKnown OutputFails on_limit input pending line behind before now start out first_placed placed reads_as left so_far first (inl is) =
+    read_now IsKnown OutputFails on_limit input pending before now start out first_placed placed reads_as left so_far is
+read_next IsKnown OutputFails on_limit input pending line behind before now start out first_placed placed reads_as left so_far first (inr (after, (printed, (its, reply), is))) =
     record {
       lines = so_far.lines ++ line ∷ [];
       rest = behind;
@@ -282,6 +282,6 @@ read_next IsKnown on_limit input pending line behind before now start out first_
       printed = so_far.printed ++ printed;
       placed = so_far.placed ++ its;
       firsts = lines_more so_far.lines line input pending behind so_far.firsts first;
-      replies = replies_more IsKnown on_limit so_far.lines line before now after so_far.printed printed so_far.placed its so_far.replies reply;
+      replies = replies_more IsKnown OutputFails on_limit so_far.lines line before now after so_far.printed printed so_far.placed its so_far.replies reply;
       read = is;
     }

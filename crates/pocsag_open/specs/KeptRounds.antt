@@ -11,7 +11,7 @@ use Rattle.pocsag_journal.specs.Faults.{HasNoLine, IsPrinted}
 use Rattle.pocsag_journal.specs.Journals.{IsRead, Replays, journal_limit}
 use Rattle.pocsag_journal.specs.declared.fault.JournalFault.{JournalFault}
 use Rattle.pocsag_journal.specs.declared.fault.JournalFault.TheVariants as journal
-use Rattle.pocsag_open.specs.Plans.{PlacedPlan}
+use Rattle.pocsag_open.specs.Plans.{Placing}
 use Rattle.pocsag_open.specs.Survival.{ReadsAfterLines, Survives}
 use Rattle.pocsag_open.specs.declared.fault.OpenFault.{OpenFault}
 use Rattle.pocsag_open.specs.declared.fault.OpenFault.TheVariants as fault
@@ -28,21 +28,21 @@ ReadsBeginning bytes file left = (before : List Page) × IsBeginning bytes file 
 
 -- *At any moment*: one that is left might have been left before; or it is read as the pages after some of the first lines of the
 -- input, none of them left out, from the beginning on.
-abbrev pub ReadsKept : (IsKnown : Type 0) → OnLimit → (input bytes : List ℕ) → (file : Option (List ℕ)) → (could_leave : List ℕ → Type 0) → (left : List ℕ) → Type 0
-ReadsKept IsKnown on_limit input bytes file could_leave left =
-    could_leave left ⊎ ((before : List Page) × IsBeginning bytes file before × ReadsAfterLines IsKnown on_limit input before RestartsAs left)
+abbrev pub ReadsKept : (IsKnown OutputFails : Type 0) → OnLimit → (input bytes : List ℕ) → (file : Option (List ℕ)) → (could_leave : List ℕ → Type 0) → (left : List ℕ) → Type 0
+ReadsKept IsKnown OutputFails on_limit input bytes file could_leave left =
+    could_leave left ⊎ ((before : List Page) × IsBeginning bytes file before × ReadsAfterLines IsKnown OutputFails on_limit input before RestartsAs left)
 
 -- *Kept*: no line was answered, and whatever a crash leaves might have been left before, or is read as the beginning; or the round
 -- survives from its beginning on.
-pub data IsKeptRound (IsKnown : Type 0) (on_limit : OnLimit) (input bytes : List ℕ) (file : Option (List ℕ)) (out_before out_after : List ℕ)
-    (placed_before placed_after : List PlacedPlan) (could_leave may_leave : List ℕ → Type 0) : Type 0 where
+pub data IsKeptRound (IsKnown OutputFails : Type 0) (on_limit : OnLimit) (input bytes : List ℕ) (file : Option (List ℕ)) (out_before out_after : List ℕ)
+    (placed_before placed_after : List Placing) (could_leave may_leave : List ℕ → Type 0) : Type 0 where
   not_begun :
       out_after ≡ out_before → ((left : List ℕ) → may_leave left → could_leave left ⊎ ReadsBeginning bytes file left) →
-      IsKeptRound IsKnown on_limit input bytes file out_before out_after placed_before placed_after could_leave may_leave
+      IsKeptRound IsKnown OutputFails on_limit input bytes file out_before out_after placed_before placed_after could_leave may_leave
   begun :
       (before : List Page) → IsBeginning bytes file before →
-      Survives IsKnown on_limit input before out_before out_after placed_before placed_after RestartsAs may_leave →
-      IsKeptRound IsKnown on_limit input bytes file out_before out_after placed_before placed_after could_leave may_leave
+      Survives IsKnown OutputFails on_limit input before out_before out_after placed_before placed_after RestartsAs may_leave →
+      IsKeptRound IsKnown OutputFails on_limit input bytes file out_before out_after placed_before placed_after could_leave may_leave
 
 -- The bytes are read as one edit at least.
 abbrev pub HoldsEdits : List ℕ → Type 0

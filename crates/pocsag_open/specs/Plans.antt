@@ -40,21 +40,26 @@ PlaceNames = List ℕ × List ℕ
 abbrev pub PlaceFault : Type 0
 PlaceFault = PlaceNames × FileFault
 
--- No names, no fault, no bytes, and no plan.
+-- What became of the places of a plan: its outputs were put there; or they could not be made or put, for this fault.
+pub data Placing : Type 0 where
+  put : PlacedPlan → Placing
+  failed : PlaceFault → Placing
+
+-- No names, no bytes, no plan, one that was put, and one that failed.
 abbrev pub no_names : Option PlaceNames
 no_names = None
-
-abbrev pub no_fault : Option PlaceFault
-no_fault = None
 
 abbrev pub no_bytes : PlanBytes
 no_bytes = ([], [])
 
-abbrev pub no_plans : List PlacedPlan
+abbrev pub no_plans : List Placing
 no_plans = []
 
-abbrev pub placed_plan : (tx cert : List ℕ) → PlanBytes → PlacedPlan
-placed_plan tx cert sent = record { tx = tx; cert = cert; sent = sent }
+abbrev pub placed_plan : (tx cert : List ℕ) → PlanBytes → Placing
+placed_plan tx cert sent = put (record { tx = tx; cert = cert; sent = sent })
+
+abbrev pub failed_plan : (tx cert : List ℕ) → FileFault → Placing
+failed_plan tx cert f = failed ((tx, cert), f)
 
 -- A plan of the pages for the end has so many batches and this bound, which is its batches where only the fewest are an
 -- answer, and is below them only where a search stopped at the limit of an open round; and its two outputs, where it is known what they hold, hold the transmission and the certificate of the headline of
@@ -82,13 +87,13 @@ pub record IsFrontPlanned (IsKnown : Type 0) (on_limit : OnLimit) (end : End) (m
   pub within : batches ≤ most
 
 -- There is such a plan, and its outputs were put in these two places, behind those of the plans before it.
-pub record IsPlanPlaced (IsKnown : Type 0) (on_limit : OnLimit) (end : End) (tx cert : List ℕ) (pages : List Page) (batches bound : ℕ) (before after : List PlacedPlan) : Type 0 where
+pub record IsPlanPlaced (IsKnown : Type 0) (on_limit : OnLimit) (end : End) (tx cert : List ℕ) (pages : List Page) (batches bound : ℕ) (before after : List Placing) : Type 0 where
   pub sent : PlanBytes
   pub planned : IsPlanned IsKnown on_limit end pages batches bound sent
   pub placed : IsKnown → after ≡ before ++ placed_plan tx cert sent ∷ []
 
 -- There is such a plan of a front, and its outputs were put in these two places.
-pub record IsFrontPlaced (IsKnown : Type 0) (on_limit : OnLimit) (end : End) (most : ℕ) (tx cert : List ℕ) (pages : List Page) (count batches bound : ℕ) (before after : List PlacedPlan) : Type 0 where
+pub record IsFrontPlaced (IsKnown : Type 0) (on_limit : OnLimit) (end : End) (most : ℕ) (tx cert : List ℕ) (pages : List Page) (count batches bound : ℕ) (before after : List Placing) : Type 0 where
   pub sent : PlanBytes
   pub planned : IsFrontPlanned IsKnown on_limit end most pages count batches bound sent
   pub placed : IsKnown → after ≡ before ++ placed_plan tx cert sent ∷ []
@@ -108,12 +113,18 @@ ExplainsUndone on_limit end pages (undone.File f) = Unit {0}
 abbrev pub HasFailedOutput : {Output : Type 0} → (failures : Output → ℕ) → Type 0
 HasFailedOutput {Output} failures = (before after : Output) × HasFailed (failures before) (failures after)
 
--- Why a plan is refused for its two files: just these could not be made or put in their places, between these two counts of
--- failures, for this fault; or one of them could not be written.
-abbrev pub ExplainsFiles : (places : PlaceNames) → (failures_before failures_after : ℕ) → (last : Option PlaceFault) → (output_failed : Type 0) → UndoneFault → Type 0
-ExplainsFiles places before after last output_failed (undone.File f) =
-    (HasFailed before after × (last ≡ Some (places, f))) ⊎ ((f ≡ file.Write) × output_failed)
-ExplainsFiles places before after last output_failed _ = Unit {0}
+-- What became of the places of a plan that is refused: where it is for its files, just these could not be made or put in their
+-- places, for just this fault, or one of them could not be written; and else nothing.
+abbrev pub ArePlacesOfRefused : (tx cert : List ℕ) → (OutputFails : Type 0) → UndoneFault → List Placing → Type 0
+ArePlacesOfRefused tx cert OutputFails (undone.File f) placed =
+    (placed ≡ failed_plan tx cert f ∷ []) ⊎ ((f ≡ file.Write) × OutputFails × (placed ≡ []))
+ArePlacesOfRefused tx cert OutputFails _ placed = placed ≡ []
+
+-- The same of the outputs that are made for the plan, behind those of the plans before it.
+pub record IsUnplaced (IsKnown OutputFails : Type 0) (tx cert : List ℕ) (before after : List Placing) (fault : UndoneFault) : Type 0 where
+  pub placed : List Placing
+  pub refused : ArePlacesOfRefused tx cert OutputFails fault placed
+  pub outputs : IsKnown → after ≡ before ++ placed
 
 -- Why the plan of a front for so many batches is refused: the first page alone needs more; or the search stopped at some first
 -- pages; or for the same reason as a plan of all pages.
@@ -121,7 +132,7 @@ abbrev pub ExplainsFrontUndone : OnLimit → End → (most : ℕ) → List Page 
 ExplainsFrontUndone on_limit end most pages (undone.FirstPage needed) =
     IsRound pages × FirstNeeds (plan_search on_limit end) pages most needed
 ExplainsFrontUndone on_limit end most pages (undone.SearchLimit least found) =
-    MayStop on_limit × IsRound pages × ((tree : BoundTree) × StopsAtFront (plan_search on_limit end) pages least found tree)
+    MayStop on_limit × IsRound pages × ((tree : BoundTree) × StopsAtFront (plan_search on_limit end) pages most least found tree)
 ExplainsFrontUndone on_limit end most pages f = ExplainsUndone on_limit end pages f
 
 -- Why a plan is refused that a line asks for, of all pages or of a front.

@@ -6,7 +6,7 @@ ghost use Rattle.pocsag_shell.specs.Faults.{file_status};
 ghost use Rattle.pocsag_journal.specs.Moments.{LeavesOnly};
 ghost use Rattle.pocsag_journal.specs.Runs.{sent_record};
 ghost use Rattle.pocsag_open.specs.Ends.{ExplainsEnd, HasGivenUp};
-ghost use Rattle.pocsag_open.specs.Plans.{ExplainsFiles, ExplainsFrontUndone, HasFailedOutput, IsFrontPlaced, IsFrontPlanned};
+ghost use Rattle.pocsag_open.specs.Plans.{ExplainsFrontUndone, HasFailedOutput, IsFrontPlaced, IsFrontPlanned, IsUnplaced};
 ghost use Rattle.pocsag_open.specs.Replies.{IsFrontReply, PrintsAndPlaces};
 ghost use Rattle.pocsag_open.specs.Survival.{FrontRepliesAndPlaces, FrontRepliesTo, IsCutShort, ReadsOrReplied};
 
@@ -51,21 +51,24 @@ pub(crate) fn answer_front<P: OutputStore + Drop, K: Keeper + Drop, O: Sink>(
 ) -> Result<(), FileFault>
     ensures replied { O.is_known → OnOk result (PrintsAndPlaces P.is_known
         (O.taken out.old) (O.taken out.new) (P.placed settings.old.store) (P.placed settings.new.store)
-        (IsFrontReply P.is_known settings.old.on_limit asked.entry.end asked.entry.batches
+        (IsFrontReply P.is_known (HasFailedOutput P.Output.failures)
+        settings.old.on_limit asked.entry.end asked.entry.batches
         asked.entry.tx.now asked.entry.cert.now round.old.book round.new.book)) }
     ensures on_limit { settings.new.on_limit ≡ settings.old.on_limit }
     ensures none_left { P.is_known → P.made_for settings.new.store ≡ None }
     ensures stands { K.represents round.old.keeper round.old.book →
         OnOk result (K.represents round.new.keeper round.new.book) }
     ensures cut { K.is_known → O.is_known → K.represents round.old.keeper round.old.book → OnErr result
-        (IsCutShort (FrontRepliesAndPlaces P.is_known settings.old.on_limit asked.entry.end asked.entry.batches
+        (IsCutShort (FrontRepliesAndPlaces P.is_known (HasFailedOutput P.Output.failures)
+        settings.old.on_limit asked.entry.end asked.entry.batches
         asked.entry.tx.now asked.entry.cert.now (P.placed settings.old.store) (P.placed settings.new.store))
         round.old.book
         (O.taken out.old) (O.taken out.new) K.reads_as (K.may_leave round.new.keeper)) }
     ensures any_moment { K.is_known → K.represents round.old.keeper round.old.book →
         LeavesOnly K.moment K.left_since round.old.keeper round.new.keeper
         (ReadsOrReplied K.reads_as
-        (FrontRepliesTo P.is_known settings.old.on_limit asked.entry.end asked.entry.batches
+        (FrontRepliesTo P.is_known (HasFailedOutput P.Output.failures)
+        settings.old.on_limit asked.entry.end asked.entry.batches
         asked.entry.tx.now asked.entry.cert.now)
         round.old.book) }
     ensures explained { K.counts → K.represents round.old.keeper round.old.book → IfErr result
@@ -99,10 +102,8 @@ fn place_front<P: OutputStore + Drop>(
     ensures edit { IfOk result (λ both. fields_of both.1 ≡ sent_record both.0.pages) }
     ensures explained { IfErr result
         (ExplainsFrontUndone settings.old.on_limit asked.entry.end asked.entry.batches book.now) }
-    ensures files { P.is_known → IfErr result (ExplainsFiles (asked.entry.tx.now, asked.entry.cert.now)
-        (P.failures settings.old.store) (P.failures settings.new.store) (P.last_fault settings.new.store)
-        (HasFailedOutput P.Output.failures)) }
-    ensures same { P.is_known → OnErr result (P.placed settings.new.store ≡ P.placed settings.old.store) }
+    ensures unplaced { IfErr result (IsUnplaced P.is_known (HasFailedOutput P.Output.failures)
+        asked.entry.tx.now asked.entry.cert.now (P.placed settings.old.store) (P.placed settings.new.store)) }
     ensures none_left { P.is_known → P.made_for settings.new.store ≡ None }
     ensures on_limit { settings.new.on_limit ≡ settings.old.on_limit }
 {
@@ -134,12 +135,10 @@ fn send_front<P: OutputStore + Drop>(
         (P.Output.taken both.1.tx, P.Output.taken both.1.cert)) }
     ensures explained { IfErr result
         (ExplainsFrontUndone settings.old.on_limit asked.entry.end asked.entry.batches book.now) }
-    ensures files { P.is_known → IfErr result (ExplainsFiles (asked.entry.tx.now, asked.entry.cert.now)
-        (P.failures settings.old.store) (P.failures settings.new.store) (P.last_fault settings.new.store)
-        (HasFailedOutput P.Output.failures)) }
+    ensures unplaced { IfErr result (IsUnplaced P.is_known (HasFailedOutput P.Output.failures)
+        asked.entry.tx.now asked.entry.cert.now (P.placed settings.old.store) (P.placed settings.new.store)) }
     ensures made { P.is_known → P.made_for settings.new.store ≡ Some (asked.entry.tx.now, asked.entry.cert.now) }
-    ensures failures { P.is_known → OnOk result (P.failures settings.new.store ≡ P.failures settings.old.store) }
-    ensures same { P.is_known → P.placed settings.new.store ≡ P.placed settings.old.store }
+    ensures same { P.is_known → OnOk result (P.placed settings.new.store ≡ P.placed settings.old.store) }
     ensures on_limit { settings.new.on_limit ≡ settings.old.on_limit }
 {
     let search = Search {

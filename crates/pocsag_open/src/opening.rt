@@ -7,6 +7,7 @@ ghost use Rattle.pocsag_journal.specs.Moments.{LeavesOnly};
 ghost use Rattle.pocsag_journal.specs.Views.{disk_of};
 ghost use Rattle.pocsag_open.specs.Ends.{AreCountless, ExplainsEnd, HasGivenUp};
 ghost use Rattle.pocsag_open.specs.KeptRounds.{ExplainsKept, HasFileFailed, IsBeginning, IsKeptRound, ReadsKept};
+ghost use Rattle.pocsag_open.specs.Plans.{HasFailedOutput};
 ghost use Rattle.pocsag_open.specs.Replies.{IsSession, PrintsAndPlaces};
 
 use crate::answer::KeptRound;
@@ -53,12 +54,13 @@ pub fn open_kept<
         IsBeginning (D.held (disk_of round.old.keeper)) (option_map F.held streams.old.pages) before ×
         PrintsAndPlaces P.is_known (O.taken streams.old.out) (O.taken streams.new.out)
         (P.placed settings.old.store) (P.placed settings.new.store)
-        (IsSession P.is_known settings.old.on_limit (I.held streams.old.input) before round.new.book)) }
+        (IsSession P.is_known (HasFailedOutput P.Output.failures)
+        settings.old.on_limit (I.held streams.old.input) before round.new.book)) }
 
     // However it ends, whatever a crash leaves then is read as the pages after the lines that were answered, or as those after
     // one line more; or no line was answered, and it might have been left before, or is read as the beginning.
     ensures survives { D.is_known → F.is_known → I.is_known → O.is_known →
-        IsKeptRound P.is_known settings.old.on_limit (I.held streams.old.input)
+        IsKeptRound P.is_known (HasFailedOutput P.Output.failures) settings.old.on_limit (I.held streams.old.input)
         (D.held (disk_of round.old.keeper)) (option_map F.held streams.old.pages)
         (O.taken streams.old.out) (O.taken streams.new.out) (P.placed settings.old.store) (P.placed settings.new.store)
         (D.may_leave (disk_of round.old.keeper)) (D.may_leave (disk_of round.new.keeper)) }
@@ -67,7 +69,7 @@ pub fn open_kept<
     // before, or is read as the pages after some of the first lines.
     ensures any_moment { D.is_known → F.is_known → I.is_known → O.is_known →
         LeavesOnly D.moment D.left_since (disk_of round.old.keeper) (disk_of round.new.keeper)
-        (ReadsKept P.is_known settings.old.on_limit (I.held streams.old.input)
+        (ReadsKept P.is_known (HasFailedOutput P.Output.failures) settings.old.on_limit (I.held streams.old.input)
         (D.held (disk_of round.old.keeper)) (option_map F.held streams.old.pages)
         (D.may_leave (disk_of round.old.keeper))) }
 

@@ -1,6 +1,5 @@
-ghost use Rattle.std.specs.Prelude.{◌≡◌, ℕ, List, [], ◌∷◌, ◌++◌, Option, None, Some, IfErr, IfOk, OnErr, OnOk};
-ghost use Rattle.pocsag_words.specs.Devices.{CountsFailures};
-ghost use Rattle.pocsag_open.specs.Plans.{PlaceFault, PlaceNames, PlacedPlan, placed_plan};
+ghost use Rattle.std.specs.Prelude.{◌≡◌, List, [], ◌∷◌, ◌++◌, Option, None, Some, IfErr, IfOk, OnOk};
+ghost use Rattle.pocsag_open.specs.Plans.{failed_plan, PlaceNames, Placing, placed_plan};
 
 use csv::ByteRecord;
 use pocsag_shell::{FileFault, Outputs};
@@ -13,17 +12,12 @@ pub trait OutputStore {
     // Whether contracts know what is put in its place.
     ghost is_known: { Type 0 };
 
-    // What was put there, plan by plan.
-    ghost placed: { Self → List PlacedPlan };
+    // What became of the places of the plans, one after another.
+    ghost placed: { Self → List Placing };
 
     // The names of the two places for which outputs, or a part of them, were made and are neither put nor left; none if all
     // that was made is put or left.
     ghost made_for: { Self → Option PlaceNames };
-
-    // How many of its calls failed, and the last of their faults, with the names of the places.
-    ghost failures: { Self → ℕ };
-
-    ghost last_fault: { Self → Option PlaceFault };
 
     /// Makes the two outputs that a line names, which are empty, or returns why there are none.
     fn make(&mut self, tx: &str, cert: &str) -> Result<Outputs<Self::Output>, FileFault>
@@ -31,19 +25,18 @@ pub trait OutputStore {
         ensures empty { is_known → IfOk result (λ outputs.
             (Self.Output.taken outputs.tx ≡ []) × (Self.Output.taken outputs.cert ≡ [])) }
         ensures made { is_known → made_for self.new ≡ Some (tx.now, cert.now) }
-        ensures same { is_known → placed self.new ≡ placed self.old }
-        ensures fault { is_known → IfErr result (λ fault. last_fault self.new ≡ Some ((tx.now, cert.now), fault)) }
-        ensures failures { is_known → CountsFailures result (failures self.old) (failures self.new) };
+        ensures same { is_known → OnOk result (placed self.new ≡ placed self.old) }
+        ensures failed { is_known → IfErr result (λ fault. placed self.new ≡
+            placed self.old ++ failed_plan tx.now cert.now fault ∷ []) };
 
     /// Puts both outputs of a plan, which are whole, in the places for which they were made.
     fn put(&mut self, tx: &str, cert: &str, outputs: Outputs<Self::Output>) -> Result<(), FileFault>
         ensures placed { is_known → made_for self.old ≡ Some (tx.now, cert.now) → OnOk result (placed self.new ≡
             placed self.old ++ placed_plan tx.now cert.now
             (Self.Output.taken outputs.tx, Self.Output.taken outputs.cert) ∷ []) }
-        ensures same { is_known → OnErr result (placed self.new ≡ placed self.old) }
-        ensures none_left { is_known → made_for self.old ≡ Some (tx.now, cert.now) → made_for self.new ≡ None }
-        ensures fault { is_known → IfErr result (λ fault. last_fault self.new ≡ Some ((tx.now, cert.now), fault)) }
-        ensures failures { is_known → CountsFailures result (failures self.old) (failures self.new) };
+        ensures failed { is_known → IfErr result (λ fault. placed self.new ≡
+            placed self.old ++ failed_plan tx.now cert.now fault ∷ []) }
+        ensures none_left { is_known → made_for self.old ≡ Some (tx.now, cert.now) → made_for self.new ≡ None };
 
     /// Keeps a note on the record of a line that is no plan, before it is answered. It changes nothing else.
     fn note_line(&self, _row: &ByteRecord) {}
@@ -51,7 +44,5 @@ pub trait OutputStore {
     /// Leaves the places as they are, and removes what was made for them, if the outputs were not made or are not whole.
     fn leave<'n>(&mut self, tx: &'n str, cert: &'n str)
         ensures same { is_known → placed self.new ≡ placed self.old }
-        ensures none_left { is_known → made_for self.old ≡ Some (tx.now, cert.now) → made_for self.new ≡ None }
-        ensures fault { is_known → last_fault self.new ≡ last_fault self.old }
-        ensures failures { is_known → failures self.new ≡ failures self.old };
+        ensures none_left { is_known → made_for self.old ≡ Some (tx.now, cert.now) → made_for self.new ≡ None };
 }

@@ -1,6 +1,5 @@
-ghost use Rattle.std.specs.Prelude.{◌≡◌, [], ◌∷◌, ◌++◌, None, IfErr, OnErr, OnOk, Some};
-ghost use Rattle.pocsag_words.specs.Devices.{CountsFailures};
-ghost use Rattle.pocsag_open.specs.Plans.{no_bytes, no_fault, no_names, no_plans, placed_plan};
+ghost use Rattle.std.specs.Prelude.{◌≡◌, [], ◌∷◌, ◌++◌, None, IfErr, OnOk, Some};
+ghost use Rattle.pocsag_open.specs.Plans.{failed_plan, no_bytes, no_names, no_plans, placed_plan};
 
 use crate::fault::OpenFault;
 use crate::outputs::OutputStore;
@@ -10,7 +9,7 @@ use pocsag_plan::OnLimit;
 use pocsag_shell::{
     Context, FileFault, Loaded, NamedFile, Names, Output, Outputs, PAGES_READ, Role, STANDARD,
     StagedFile, WriterSink, is_regular_or_none, load, note_record, open_outputs, open_source,
-    put_files, refuse_equal, refuse_one_file, refuse_shared,
+    put_staged, refuse_equal, refuse_one_file, refuse_shared,
 };
 use pocsag_words::Source;
 use std::fs::File;
@@ -142,10 +141,6 @@ impl<'a> OutputStore for RoundFiles<'a> {
 
     ghost made_for = { λ _. no_names };
 
-    ghost failures = { λ _. 0 };
-
-    ghost last_fault = { λ _. no_fault };
-
     fn make(
         &mut self,
         tx: &str,
@@ -195,13 +190,12 @@ impl<'a> OutputStore for RoundFiles<'a> {
         // Nothing is known of what files hold.
         ensures placed { ⊥ → no_names ≡ Some (tx.now, cert.now) → OnOk result
             (no_plans ≡ no_plans ++ placed_plan tx.now cert.now no_bytes ∷ []) }
-        ensures same { ⊥ → OnErr result (no_plans ≡ no_plans) }
+        ensures failed { ⊥ → IfErr result (λ fault. no_plans ≡
+            no_plans ++ failed_plan tx.now cert.now fault ∷ []) }
         ensures none_left { ⊥ → no_names ≡ Some (tx.now, cert.now) → no_names ≡ None }
-        ensures fault { ⊥ → IfErr result (λ fault. no_fault ≡ Some ((tx.now, cert.now), fault)) }
-        ensures failures { ⊥ → CountsFailures result 0 0 }
     {
         drop(outputs);
-        let done = put_files(self.context, self.made.as_slice());
+        let done = put_staged(self.context, self.made.as_slice());
         self.leave(tx, cert);
         done
     }

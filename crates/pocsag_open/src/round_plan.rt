@@ -1,5 +1,5 @@
-ghost use Rattle.std.specs.Prelude.{◌≡◌, ◌≢◌, None, Some, IfErr, IfOk, OnErr, OnOk};
-ghost use Rattle.pocsag_open.specs.Plans.{ExplainsFiles, ExplainsUndone, HasFailedOutput, IsPlanned, IsPlanPlaced, undone_of};
+ghost use Rattle.std.specs.Prelude.{◌≡◌, ◌≢◌, None, Some, IfErr, IfOk, OnOk};
+ghost use Rattle.pocsag_open.specs.Plans.{ExplainsUndone, HasFailedOutput, IsPlanned, IsPlanPlaced, IsUnplaced, undone_of};
 
 use crate::outputs::OutputStore;
 use crate::session::PlanSettings;
@@ -26,9 +26,8 @@ pub(crate) fn put_plan<P: OutputStore + Drop>(
     ensures planned { IfOk result (λ planned. IsPlanPlaced P.is_known settings.old.on_limit end tx.now cert.now book.now
         planned.batches planned.bound (P.placed settings.old.store) (P.placed settings.new.store)) }
     ensures explained { IfErr result (ExplainsUndone settings.old.on_limit end book.now) }
-    ensures files { P.is_known → IfErr result (ExplainsFiles (tx.now, cert.now) (P.failures settings.old.store)
-        (P.failures settings.new.store) (P.last_fault settings.new.store) (HasFailedOutput P.Output.failures)) }
-    ensures same { P.is_known → OnErr result (P.placed settings.new.store ≡ P.placed settings.old.store) }
+    ensures unplaced { IfErr result (IsUnplaced P.is_known (HasFailedOutput P.Output.failures) tx.now cert.now
+        (P.placed settings.old.store) (P.placed settings.new.store)) }
     ensures none_left { P.is_known → P.made_for settings.new.store ≡ None }
     ensures on_limit { settings.new.on_limit ≡ settings.old.on_limit }
 {
@@ -55,11 +54,10 @@ fn send_plan<P: OutputStore + Drop>(
     ensures planned { IfOk result (λ both. IsPlanned P.is_known settings.old.on_limit end book.now
         both.0.batches both.0.bound (P.Output.taken both.1.tx, P.Output.taken both.1.cert)) }
     ensures explained { IfErr result (ExplainsUndone settings.old.on_limit end book.now) }
-    ensures files { P.is_known → IfErr result (ExplainsFiles (tx.now, cert.now) (P.failures settings.old.store)
-        (P.failures settings.new.store) (P.last_fault settings.new.store) (HasFailedOutput P.Output.failures)) }
+    ensures unplaced { IfErr result (IsUnplaced P.is_known (HasFailedOutput P.Output.failures) tx.now cert.now
+        (P.placed settings.old.store) (P.placed settings.new.store)) }
     ensures made { P.is_known → P.made_for settings.new.store ≡ Some (tx.now, cert.now) }
-    ensures failures { P.is_known → OnOk result (P.failures settings.new.store ≡ P.failures settings.old.store) }
-    ensures same { P.is_known → P.placed settings.new.store ≡ P.placed settings.old.store }
+    ensures same { P.is_known → OnOk result (P.placed settings.new.store ≡ P.placed settings.old.store) }
     ensures on_limit { settings.new.on_limit ≡ settings.old.on_limit }
 {
     let search = Search {

@@ -8,6 +8,7 @@ ghost use Rattle.pocsag_journal.specs.Moments.{LeavesOnly};
 ghost use Rattle.pocsag_open.specs.Ends.{AreCountless, ExplainsEnd, HasGivenUp};
 ghost use Rattle.pocsag_open.specs.Faults.{ExplainsOpening, open_status};
 ghost use Rattle.pocsag_open.specs.Lines.{line_limit};
+ghost use Rattle.pocsag_open.specs.Plans.{HasFailedOutput};
 ghost use Rattle.pocsag_open.specs.Replies.{IsLineReply, IsSession, PrintsAndPlaces};
 ghost use Rattle.pocsag_open.specs.Survival.{IsCutShort, ReadsAfterLines, ReadsOrReplied, RepliesAndPlaces, RepliesTo, Survives};
 
@@ -47,7 +48,8 @@ pub fn run_open<P: OutputStore + Drop, I: Source, O: Sink>(
     // outputs of the plans that they report.
     ensures session { I.is_known → O.is_known → OnOk result ((after : List Page) × PrintsAndPlaces P.is_known
         (O.taken out.old) (O.taken out.new) (P.placed settings.old.store) (P.placed settings.new.store)
-        (IsSession P.is_known settings.old.on_limit (I.held input.old) [] after)) }
+        (IsSession P.is_known (HasFailedOutput P.Output.failures)
+        settings.old.on_limit (I.held input.old) [] after)) }
 
     // No output that a plan made is left over, whatever is answered.
     ensures none_left { P.is_known → P.made_for settings.old.store ≡ None → P.made_for settings.new.store ≡ None }
@@ -81,7 +83,8 @@ pub fn run_open_pages<P: OutputStore + Drop, F: Source, I: Source, O: Sink>(
     ensures session { F.is_known → I.is_known → O.is_known → OnOk result ((before after : List Page) ×
         (verdict (F.held pages.old) ≡ Ok before) × PrintsAndPlaces P.is_known
         (O.taken out.old) (O.taken out.new) (P.placed settings.old.store) (P.placed settings.new.store)
-        (IsSession P.is_known settings.old.on_limit (I.held input.old) before after)) }
+        (IsSession P.is_known (HasFailedOutput P.Output.failures)
+        settings.old.on_limit (I.held input.old) before after)) }
 
     // No output that a plan made is left over, whatever is answered.
     ensures none_left { P.is_known → P.made_for settings.old.store ≡ None → P.made_for settings.new.store ≡ None }
@@ -138,7 +141,8 @@ pub fn run_open_kept<P: OutputStore + Drop, K: Keeper + Drop, I: Source, O: Sink
     // are the outputs of the plans that they report.
     ensures session { I.is_known → O.is_known → OnOk result (PrintsAndPlaces P.is_known
         (O.taken out.old) (O.taken out.new) (P.placed settings.old.store) (P.placed settings.new.store)
-        (IsSession P.is_known settings.old.on_limit (I.held input.old) round.old.book round.new.book)) }
+        (IsSession P.is_known (HasFailedOutput P.Output.failures)
+        settings.old.on_limit (I.held input.old) round.old.book round.new.book)) }
 
     // No output that a plan made is left over, whatever is answered.
     ensures none_left { P.is_known → P.made_for settings.old.store ≡ None → P.made_for settings.new.store ≡ None }
@@ -151,11 +155,13 @@ pub fn run_open_kept<P: OutputStore + Drop, K: Keeper + Drop, I: Source, O: Sink
     // However it ends, whatever a crash leaves then is read as the pages after the lines that were answered, or as those
     // after one line more; and after a crash at any moment before, as the pages after some of the first lines.
     ensures survives { K.is_known → I.is_known → O.is_known → K.represents round.old.keeper round.old.book →
-        Survives P.is_known settings.old.on_limit (I.held input.old) round.old.book (O.taken out.old) (O.taken out.new)
+        Survives P.is_known (HasFailedOutput P.Output.failures)
+        settings.old.on_limit (I.held input.old) round.old.book (O.taken out.old) (O.taken out.new)
         (P.placed settings.old.store) (P.placed settings.new.store) K.reads_as (K.may_leave round.new.keeper) }
     ensures any_moment { K.is_known → I.is_known → O.is_known → K.represents round.old.keeper round.old.book →
         LeavesOnly K.moment K.left_since round.old.keeper round.new.keeper
-        (ReadsAfterLines P.is_known settings.old.on_limit (I.held input.old) round.old.book K.reads_as) }
+        (ReadsAfterLines P.is_known (HasFailedOutput P.Output.failures)
+        settings.old.on_limit (I.held input.old) round.old.book K.reads_as) }
 
     // It ends before its input for want of memory, or where the input, the output or what keeps the edits failed.
     ensures explained { I.is_known → K.counts → K.represents round.old.keeper round.old.book → IfErr result (ExplainsEnd
@@ -188,18 +194,20 @@ fn answer_line<P: OutputStore + Drop, K: Keeper + Drop, O: Sink>(
     requires { length line.now ≤ line_limit }
     ensures replied { O.is_known → OnOk result (PrintsAndPlaces P.is_known
         (O.taken out.old) (O.taken out.new) (P.placed settings.old.store) (P.placed settings.new.store)
-        (IsLineReply P.is_known settings.old.on_limit line.now round.old.book round.new.book)) }
+        (IsLineReply P.is_known (HasFailedOutput P.Output.failures)
+        settings.old.on_limit line.now round.old.book round.new.book)) }
     ensures on_limit { settings.new.on_limit ≡ settings.old.on_limit }
     ensures none_left { P.is_known → P.made_for settings.old.store ≡ None → P.made_for settings.new.store ≡ None }
     ensures stands { K.represents round.old.keeper round.old.book →
         OnOk result (K.represents round.new.keeper round.new.book) }
     ensures cut { K.is_known → O.is_known → K.represents round.old.keeper round.old.book → OnErr result
-        (IsCutShort (RepliesAndPlaces P.is_known settings.old.on_limit line.now
+        (IsCutShort (RepliesAndPlaces P.is_known (HasFailedOutput P.Output.failures) settings.old.on_limit line.now
         (P.placed settings.old.store) (P.placed settings.new.store)) round.old.book
         (O.taken out.old) (O.taken out.new) K.reads_as (K.may_leave round.new.keeper)) }
     ensures any_moment { K.is_known → K.represents round.old.keeper round.old.book →
         LeavesOnly K.moment K.left_since round.old.keeper round.new.keeper
-        (ReadsOrReplied K.reads_as (RepliesTo P.is_known settings.old.on_limit line.now) round.old.book) }
+        (ReadsOrReplied K.reads_as (RepliesTo P.is_known (HasFailedOutput P.Output.failures)
+        settings.old.on_limit line.now) round.old.book) }
     ensures explained { K.counts → K.represents round.old.keeper round.old.book → HasNoLineFeed line.now → IfErr result
         (ExplainsEnd ⊥ (HasFailed (O.failures out.old) (O.failures out.new))
         (HasGivenUp K.most (K.taken round.new.keeper) (K.failures round.old.keeper) (K.failures round.new.keeper))) }

@@ -7,10 +7,14 @@ pub mod GrownRounds
 pub mod Judgements
 pub mod Lengths
 pub mod PageLists
-pub mod QuoteSteps
 pub mod QueueParts
 pub mod QueueRows
+pub mod QuoteFaults
+pub mod QuoteWalks
+pub mod Quotings
 pub mod Readings
 pub mod RecordPages
+pub mod RowTexts
 pub mod Spelled
+pub mod Strays
 pub mod WideRecords

@@ -1,12 +1,15 @@
 pub mod Bytes
-pub mod RoundBuilders
 pub mod Listable
 pub mod PageFile
 pub mod PageList
 pub mod Pages
 pub mod Plain
-pub mod Quotes
 pub mod Queues
+pub mod QuotePlaces
+pub mod Quotes
+pub mod Quotings
 pub mod Reading
+pub mod RecordTexts
+pub mod RoundBuilders
 pub mod Rows
 pub mod WideRecords

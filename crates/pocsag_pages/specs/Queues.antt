@@ -1,6 +1,6 @@
 -- *Queue*: the pages of a page file in which several may be for one address; which of them are sent next, and which are left
 -- (this project's own).
-use Rattle.std.specs.Prelude.{◌≡◌, ◌&&◌, ℕ, ◌+◌, ◌<◌, ◌≤◌, List, [], ◌∷◌, ◌++◌, length, filter, not, nat_eq, nat_lt, if◌then◌else◌, Bool, true, false, Option, Some, None, Result, Ok, Err, All}
+use Rattle.std.specs.Prelude.{◌≡◌, ◌&&◌, ℕ, ◌+◌, ◌<◌, ◌≤◌, List, [], ◌∷◌, ◌++◌, length, filter, not, nat_eq, nat_lt, if◌then◌else◌, Bool, true, false, Option, None, Result, Err, All}
 use Rattle.pocsag_words.specs.Frame.{input_limit}
 use Rattle.pocsag_pages.specs.declared.page.Page.{Page}
 use Rattle.pocsag_pages.specs.declared.fault.RoundFault.{RoundFault}

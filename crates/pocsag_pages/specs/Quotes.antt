@@ -1,74 +1,73 @@
--- Where the quotes of a page file stand. A field that begins with a quote goes on to the quote that closes it, and two quotes in
--- it stand for one. The bytes are 34 for a quote, 44 for a comma, 13 and 10 for the end of a line.
-use Rattle.std.specs.Prelude.{ℕ, Bool, false, List, [], ◌∷◌, ◌+◌, ◌==◌, ◌||◌, Option, Some, None, drop, if◌then◌else◌, nat_eq, take}
-use Rattle.std.specs.Cmp.Lexicographic.{pointwise}
-use Rattle.std.specs.Option.{option_or}
+-- *Quotes of a page file*: where they stand as CSV has it, and the first that does not (this project's own).
+use Rattle.std.specs.Prelude.{◌≡◌, ◌≢◌, ◌⊎◌, ℕ, ◌+◌, ◌==◌, ◌||◌, Bool, true, false, if◌then◌else◌, List, [], ◌∷◌, ◌++◌}
+use Rattle.csv.specs.Machine.{carriage_return, line_feed}
+use Rattle.csv.specs.Reading.{strip_bom}
+use Rattle.csv.specs.Writing.{comma, default_writer, escaped, quote_mark}
 use Rattle.pocsag_pages.specs.declared.fault.QuoteFault.{QuoteFault}
 use Rattle.pocsag_pages.specs.declared.fault.QuoteFault.TheVariants.{Followed, Inside, Unclosed}
-use Rattle.pocsag_pages.specs.declared.part.Part.{Part}
-use Rattle.pocsag_pages.specs.declared.part.Part.TheVariants.{AfterQuote, Bare, FieldStart, Quoted, RecordStart}
+use Rattle.pocsag_pages.specs.RecordTexts.{IsLostAt, IsRowText}
 
--- Where the byte behind one stands that is no quote and that no quotes stand around.
-unfoldable pub part_behind : ℕ → Part
-part_behind byte = if byte == 44 then FieldStart else if byte == 13 || (byte == 10) then RecordStart else Bare
+-- What is read of a file: its bytes, those behind a byte order mark where it begins with one.
+abbrev pub text_of_file : List ℕ → List ℕ
+text_of_file file = strip_bom file
 
--- Where the byte behind one stands.
-unfoldable pub part_after : Part → ℕ → Part
-part_after Quoted byte = if byte == 34 then AfterQuote else Quoted
-part_after Bare byte = part_behind byte
-part_after RecordStart byte = if byte == 34 then Quoted else part_behind byte
-part_after FieldStart byte = if byte == 34 then Quoted else part_behind byte
-part_after AfterQuote byte = if byte == 34 then Quoted else part_behind byte
+-- Whether the byte ends a line: a carriage return or a line feed.
+abbrev pub ends_line : ℕ → Bool
+ends_line b = b == carriage_return || (b == line_feed)
 
--- Whether the record at hand ends with the byte.
-unfoldable pub record_ends : Part → ℕ → Bool
-record_ends RecordStart byte = false
-record_ends Quoted byte = false
-record_ends FieldStart byte = byte == 13 || (byte == 10)
-record_ends Bare byte = byte == 13 || (byte == 10)
-record_ends AfterQuote byte = byte == 13 || (byte == 10)
+-- So many records, each the text of one and the end of a line. Empty lines are no records.
+pub data AreRecords : (number : ℕ) (bytes : List ℕ) → Type 0 where
+  none : AreRecords 0 []
+  blank : {number : ℕ} (bytes : List ℕ) (b : ℕ) → AreRecords number bytes → ends_line b ≡ true → AreRecords number (bytes ++ b ∷ [])
+  more : (number : ℕ) (bytes text : List ℕ) (b : ℕ) (fields : List (List ℕ)) → AreRecords number bytes → IsRowText fields text →
+      text ≢ [] → ends_line b ≡ true → AreRecords (number + 1) (bytes ++ (text ++ b ∷ []))
 
--- The line of the last quote that opened a field, after a byte of a line.
-unfoldable pub opened_after : Part → ℕ → (line opened : ℕ) → ℕ
-opened_after RecordStart byte line opened = if byte == 34 then line else opened
-opened_after FieldStart byte line opened = if byte == 34 then line else opened
-opened_after Bare byte line opened = opened
-opened_after Quoted byte line opened = opened
-opened_after AfterQuote byte line opened = opened
+-- The line in which the byte behind these stands; lines count from 1.
+unfoldable pub line_behind : List ℕ → ℕ
+line_behind [] = 1
+line_behind (b ∷ bytes) = if b == line_feed then line_behind bytes + 1 else line_behind bytes
 
--- The fault at a byte of a record and a line, if a quote is misplaced there: a quote in a field that begins without one, or
--- text behind the quote that closes a field.
-unfoldable pub misplaced : Part → ℕ → (record_number line : ℕ) → Option QuoteFault
-misplaced Bare byte n line = if byte == 34 then Some (Inside n line) else None
-misplaced AfterQuote byte n line =
-    if byte == 34 || (byte == 44) || (byte == 13) || (byte == 10) then None else Some (Followed n line)
-misplaced RecordStart byte n line = None
-misplaced FieldStart byte n line = None
-misplaced Quoted byte n line = None
+-- *Well quoted*: whole records, and behind the last end of a line nothing, or the text of one record more.
+pub record IsWellQuoted (text : List ℕ) : Type 0 where
+  pub number : ℕ
+  pub before : List ℕ
+  pub last : List ℕ
+  pub parts : text ≡ before ++ last
+  pub records : AreRecords number before
+  pub fields : List (List ℕ)
+  pub ends : IsRowText fields last
 
--- The fault at the end of a file, if a quote is open there.
-unfoldable pub unclosed : Part → (record_number opened : ℕ) → Option QuoteFault
-unclosed Quoted n opened = Some (Unclosed n opened)
-unclosed RecordStart n opened = None
-unclosed FieldStart n opened = None
-unclosed Bare n opened = None
-unclosed AfterQuote n opened = None
+-- Behind so many records the text of the next one is lost at this byte, which stands in this line and does not end it.
+pub record IsLostIn (text : List ℕ) (number line byte : ℕ) : Type 0 where
+  pub before : List ℕ
+  pub behind : List ℕ
+  pub parts : text ≡ before ++ behind
+  pub records : AreRecords number before
+  pub front : List ℕ
+  pub lost : IsLostAt behind front byte
+  pub goes_on : ends_line byte ≡ false
+  pub place : line ≡ line_behind (before ++ front)
 
--- The first fault of the bytes from a place on.
-unfoldable pub misplaced_from : Part → (record_number line opened : ℕ) → List ℕ → Option QuoteFault
-misplaced_from part n line opened [] = unclosed part n opened
-misplaced_from part n line opened (byte ∷ bytes) =
-    option_or (misplaced part byte n line)
-    (misplaced_from (part_after part byte) (if record_ends part byte then n + 1 else n) (if byte == 10 then line + 1 else line)
-    (opened_after part byte line opened) bytes)
+-- A field begins behind this front of a record: the record begins, or a comma stands behind fields.
+abbrev pub IsFieldStart : List ℕ → Type 0
+IsFieldStart front = (front ≡ []) ⊎ ((text : List ℕ) × ((fields : List (List ℕ)) × IsRowText fields text × (front ≡ text ++ comma ∷ [])))
 
--- The bytes of a file behind its byte order mark, if it has one.
-abbrev pub after_mark : List ℕ → List ℕ
-after_mark bytes = if pointwise nat_eq (take 3 bytes) (239 ∷ 187 ∷ 191 ∷ []) then drop 3 bytes else bytes
+-- Behind so many records a quote in this line opens a field, and each quote behind it is doubled, so that none closes the field.
+pub record IsOpenFrom (text : List ℕ) (number line : ℕ) : Type 0 where
+  pub before : List ℕ
+  pub front : List ℕ
+  pub held : List ℕ
+  pub parts : text ≡ before ++ (front ++ quote_mark ∷ escaped default_writer held)
+  pub records : AreRecords number before
+  pub start : IsFieldStart front
+  pub place : line ≡ line_behind (before ++ front)
 
--- The first quote of a page file that is misplaced; the header is record 0, and lines count from 1.
-abbrev pub first_misplaced : List ℕ → Option QuoteFault
-first_misplaced file = misplaced_from RecordStart 0 1 1 (after_mark file)
+-- The first quote of a text that does not stand as CSV has it, with the number of its record, the header's 0, and its line: one
+-- that is not closed, one inside a field that begins without one, or one that closes a field of which more follows.
+abbrev pub HasQuoteFault : List ℕ → QuoteFault → Type 0
+HasQuoteFault text (Unclosed number line) = IsOpenFrom text number line
+HasQuoteFault text (Inside number line) = IsLostIn text number line quote_mark
+HasQuoteFault text (Followed number line) = (byte : ℕ) × (byte ≢ quote_mark) × IsLostIn text number line byte
 
 -- The record of a misplaced quote.
 abbrev pub quote_record : QuoteFault → ℕ

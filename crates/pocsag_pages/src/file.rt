@@ -109,7 +109,7 @@ pub fn round_of(alloc: Global, bytes: &[u8]) -> Result<Round, RoundFault>
 }
 
 /// The round of the page file that a reader holds up to its end, or the file's first fault. What the reader lends is judged where
-/// it stands, and let go once it has given the round.
+/// it stands, and taken away once it has given the round.
 pub fn read_round<S: Source>(alloc: Global, source: &mut S) -> Result<Round, RoundFault>
     ensures ok { S.is_known → IfOk result (λ r. verdict (S.held source.old) ≡ Ok r) }
     ensures err { S.is_known → IfErr result
@@ -125,7 +125,7 @@ pub fn read_round<S: Source>(alloc: Global, source: &mut S) -> Result<Round, Rou
     };
     match round_of(alloc, bytes) {
         Ok(round) => {
-            source.release();
+            source.take_all();
             Ok(round)
         }
         Err(fault) => Err(fault),

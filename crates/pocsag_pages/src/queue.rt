@@ -107,7 +107,7 @@ pub fn held_pages(alloc: Global, may_wait: bool, bytes: &[u8]) -> Result<Vec<Pag
 }
 
 /// The pages of the page file that a reader holds up to its end, or the file's first fault, as `held_pages` gives them. What the
-/// reader lends is judged where it stands, and let go once it has given the pages.
+/// reader lends is judged where it stands, and taken away once it has given the pages.
 pub fn read_pages<S: Source>(
     alloc: Global,
     may_wait: bool,
@@ -130,7 +130,7 @@ pub fn read_pages<S: Source>(
     };
     match held_pages(alloc, may_wait, bytes) {
         Ok(queue) => {
-            source.release();
+            source.take_all();
             Ok(queue)
         }
         Err(fault) => Err(fault),

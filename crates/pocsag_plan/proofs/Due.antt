@@ -23,7 +23,7 @@ use Rattle.pocsag_plan.specs.BoundedHeadline.{BoundedHeadline, IsHeadlineWhereTi
 use Rattle.pocsag_plan.specs.Fronts.{IsFrontFor, IsLongestFront}
 use Rattle.pocsag_plan.specs.Headline.{RoundHeadline}
 use Rattle.pocsag_plan.specs.Plans.{IsBounded, IsPlan, IsPlanFor}
-use Rattle.pocsag_plan.specs.Streams.{HasHeadline, HeadlineOf, IsOfRound, Writes, WritesAllOf, WritesBounded, WritesCertificatePartOf, WritesPartOf}
+use Rattle.pocsag_plan.specs.Streams.{HasFrontHeadline, HasHeadline, HeadlineOf, IsOfRound, Writes, WritesAllOf, WritesBounded, WritesCertificatePartOf, WritesPartOf}
 
 -- What is sent for a plan of a round is what its headline says.
 module _ (R : List Page) (bounded : Bounded) (is : IsBounded bounded.plan.end R bounded.plan bounded.bound) where
@@ -158,6 +158,15 @@ module _ (search : Search) (R round F rest : List Page) (batches : ℕ) (bounded
 
   pub first_plan : IsPlanFor search (take bounded.plan.pages R) bounded
   first_plan = subst (λ (v : List Page). IsPlanFor search v bounded) first_pages is
+
+  pub first_has_headline : IsFrontFor search round batches (length F) → (sent certificate : List ℕ) → HeadlineOf F bounded sent certificate →
+      HasFrontHeadline search R batches sent certificate
+  first_has_headline front sent certificate h = record {
+    count = bounded.plan.pages;
+    front = book_front front;
+    headline = has_headline search (take bounded.plan.pages R) bounded first_plan sent certificate
+        (subst (λ (v : List Page). HeadlineOf v bounded sent certificate) first_pages h);
+  }
 
   pub first_headline : (sent certificate : List ℕ) → HeadlineOf F bounded sent certificate →
       RoundHeadline (take bounded.plan.pages R) search.end bounded.plan.batches bounded.bound (bound_tree_of bounded.plan.tree) sent certificate

@@ -1,5 +1,5 @@
 -- What a fault of the search says of the round.
-use Rattle.std.proofs.Common.{◌≡◌, ◌∙◌, sym, List, Option, Some, None}
+use Rattle.std.proofs.Common.{◌≡◌, ◌∙◌, subst, sym, List, Option, Some, None}
 use Rattle.pocsag_words.specs.declared.ending.End.{End}
 use Rattle.pocsag_pages.specs.declared.page.Page.{Page}
 use Rattle.pocsag_pages.specs.Pages.{IsRound}
@@ -12,8 +12,11 @@ use Rattle.pocsag_branch.specs.declared.fault.SearchFault.TheVariants as searchi
 use Rattle.pocsag_branch.specs.Found.{IsNodeLimit, IsSearchFault}
 use Rattle.pocsag_plan.specs.FaultChains.{fault_of_search}
 use Rattle.pocsag_plan.specs.declared.answer.Plan.{Plan}
-use Rattle.pocsag_plan.specs.Plans.{ExplainsPlan, IsNoWorse}
-use Rattle.pocsag_plan.specs.Within.{IsTightOrStopped}
+use Rattle.pocsag_plan.specs.declared.fault.PlanFault.{PlanFault}
+use Rattle.pocsag_plan.specs.declared.fault.PlanFault.TheVariants as planning
+use Rattle.pocsag_plan.specs.declared.search.Search.{Search}
+use Rattle.pocsag_plan.specs.Plans.{ExplainsPlan, IsNoWorse, MayStop}
+use Rattle.pocsag_plan.specs.Within.{IsOutcomeFault, IsTightOrStopped}
 use Rattle.pocsag_plan.specs.declared.search.OnLimit.TheVariants.{Fewest}
 use Rattle.std.proofs.Common.{ℕ}
 
@@ -40,6 +43,20 @@ explained k end R limit (searching.SearchLimit stop) round classes within said =
       },
     )
 explained k end R limit searching.OutOfMemory round classes within said = within
+
+-- a fault of a search says it of the classes
+pub outcome_fault : (k : Classes) (search : Search) (fault : SearchFault) → search.on_limit ≡ Fewest →
+    IsSearchFault k search.end search.limit fault → IsOutcomeFault k search (fault_of_search fault)
+outcome_fault k search (searching.SearchLimit stop) fewest said = (subst MayStop (sym fewest) tt, said)
+outcome_fault k search searching.OutOfMemory fewest said = tt
+
+-- and so of a round of these
+pub outcome_explained : (k : Classes) (search : Search) (R : List Page) (fault : PlanFault) → IsRound R → AreClassesOf k search.end R
+    → IsNodeLimit search.limit → IsOutcomeFault k search fault → ExplainsPlan search.on_limit search.end R search.limit fault
+outcome_explained k search R planning.BadLimit round classes within said = absurd said
+outcome_explained k search R (planning.SearchLimit stop) round classes within said =
+    (said.0, within, (explained k search.end R search.limit (searching.SearchLimit stop) round classes within said.1).2)
+outcome_explained k search R planning.OutOfMemory round classes within said = within
 
 -- what the search for the fewest knew where it stopped is so of the round
 pub no_worse : (k : Classes) (end : End) (R : List Page) (limit bound batches : ℕ) (plan : Plan) (stopped : Option SearchLimit) → IsRound R

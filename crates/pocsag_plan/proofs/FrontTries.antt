@@ -1,5 +1,5 @@
 -- What a try of some first pages says of them.
-use Rattle.std.proofs.Common.{◌≡◌, ℕ, ◌+◌, ◌<◌, ◌≤◌, List, length, take, arith, inl, inr, refl, sym, ◌∙◌, subst, ap}
+use Rattle.std.proofs.Common.{◌≡◌, ℕ, ◌+◌, ◌-◌, ◌<◌, ◌≤◌, List, length, take, arith, inl, inr, refl, sym, ◌∙◌, subst, ap}
 use Rattle.std.specs.Prelude.{◌⊎◌, ◌↔◌, Err, IsErrOf, Option, Some, None, false}
 use Rattle.std.proofs.lemmas.List.{length-take, length-take-le}
 use Rattle.pocsag_words.specs.declared.ending.End.{End}
@@ -28,10 +28,10 @@ use Rattle.pocsag_plan.specs.declared.search.OnLimit.{OnLimit}
 use Rattle.pocsag_plan.specs.declared.search.OnLimit.TheVariants.{Fewest, Always}
 use Rattle.pocsag_plan.specs.declared.search.Search.{Search}
 use Rattle.pocsag_plan.specs.declared.attempt.Bracket.{Bracket}
-use Rattle.pocsag_plan.specs.Attempts.{ExceedsPages, HasSpare, IsBracket, IsCut, IsExcess, IsUndecidedAt, IsUpper}
-use Rattle.pocsag_plan.specs.Fronts.{AreBeyond, ExplainsFront, FirstNeeds, IsFrontFor, IsLongestFront, IsWhyNoMore, ShowsBeyond}
-use Rattle.pocsag_plan.specs.Plans.{ExplainsPlan, NoneHasFewer}
-use Rattle.pocsag_plan.specs.Within.{IsOutcome, IsTightOrStopped}
+use Rattle.pocsag_plan.specs.Attempts.{ExceedsPages, HasSpare, IsBracket, IsCut, IsExcess, IsUndecidedAt, IsUpper, StopsAt}
+use Rattle.pocsag_plan.specs.Fronts.{AreBeyond, AreToBeSearched, ExplainsFront, FirstNeeds, IsFrontFor, IsLongestFront, IsUndecidedFor, IsWhyNoMore, ShowsBeyond}
+use Rattle.pocsag_plan.specs.Plans.{NoneHasFewer}
+use Rattle.pocsag_plan.specs.Within.{IsOutcome, IsOutcomeFault, IsTightOrStopped}
 use Rattle.pocsag_plan.proofs.Counted.{has_page}
 use Rattle.pocsag_plan.proofs.Explained.{explained}
 
@@ -39,11 +39,13 @@ use Rattle.pocsag_plan.proofs.Explained.{explained}
 pub bound_beyond : (k : Classes) (search : Search) (batches bound found : ℕ) (on_limit : OnLimit) (stopped : Option SearchLimit) → search.on_limit ≡ on_limit →
     found ≡ batches + 1 → IsBound k search.end bound → (search.on_limit ≡ Fewest → bound ≡ found) →
     IsTightOrStopped k search.end search.limit bound found stopped →
-    IsBound k search.end (batches + 1) ⊎ IsUndecidedAt k search batches
+    ((batches < bound) × IsBound k search.end (batches + 1)) ⊎ IsUndecidedAt k search batches
 bound_beyond k search batches bound found on_limit None same more is fewest left =
-    inl (subst (IsBound k search.end) (left.tight ∙ more) is)
+    let all : bound ≡ batches + 1 = left.tight ∙ more in
+    inl (omega (arith, all), subst (IsBound k search.end) all is)
 bound_beyond k search batches bound found Fewest (Some stop) same more is fewest left =
-    inl (subst (IsBound k search.end) (fewest same ∙ more) is)
+    let all : bound ≡ batches + 1 = fewest same ∙ more in
+    inl (omega (arith, all), subst (IsBound k search.end) all is)
 bound_beyond k search batches bound found Always (Some stop) same more is fewest left =
     let at : IsLimit k search.end search.limit stop.least stop.found (bound_tree_of stop.tree) = left.at_limit.2 in
     let here : stop.found ≡ batches + 1 = left.at_limit.1 ∙ more in
@@ -76,8 +78,7 @@ module _ (k : Classes) (search : Search) (batches : ℕ) where
     accepted = accepted;
     text = text;
     at_least = omega arith;
-    more = λ _. more;
-    beyond = inl (bound_less k search.end (batches + 1) certificate.batches (omega arith) bound);
+    beyond = inl (more, bound_less k search.end (batches + 1) certificate.batches (omega arith) bound);
   }
 
   pub search_exceeds : (outcome : Outcome) (least : ℕ) → IsLeast k least → least ≤ batches → batches < outcome.found.batches →
@@ -93,7 +94,6 @@ module _ (k : Classes) (search : Search) (batches : ℕ) where
         accepted = is.within.accepted;
         text = text;
         at_least = omega (arith, is.within.within_one);
-        more = λ fewest. omega (arith, is.fewest fewest);
         beyond = bound_beyond k search batches outcome.bound outcome.found.batches search.on_limit outcome.stopped refl found is.within.bounded
             is.fewest is.stopped;
       }
@@ -103,12 +103,10 @@ module _ (search : Search) (R : List Page) (batches : ℕ) (round : IsRound R) (
   none_fewer : (k : Classes) (n : ℕ) → AreClassesOf k search.end R → IsBound k search.end n → NoneHasFewer search.end R n
   none_fewer k n counted is = λ T m legal. is R T m (apart_pages R round.good) counted legal
 
-  beyond : (k : Classes) → AreClassesOf k search.end R → IsBound k search.end (batches + 1) ⊎ IsUndecidedAt k search batches →
-      AreBeyond search R batches
-  beyond k counted (inl is) = inl (none_fewer k (batches + 1) counted is)
-  beyond k counted (inr undecided) =
-      let stop : SearchLimit = record { least = batches; found = batches + 1; tree = undecided.stop.tree } in
-      inr (
+  not_decided : (k : Classes) → AreClassesOf k search.end R → IsUndecidedAt k search batches →
+      (search.on_limit ≡ Always) × IsUndecidedFor search R batches
+  not_decided k counted undecided =
+      let stop : SearchLimit = record { least = batches; found = batches + 1; tree = undecided.stop.tree } in (
         undecided.always,
         record {
           tree = bound_tree_of undecided.stop.tree;
@@ -116,8 +114,19 @@ module _ (search : Search) (R : List Page) (batches : ℕ) (round : IsRound R) (
         },
       )
 
+  beyond : (k : Classes) (bound : ℕ) → AreClassesOf k search.end R →
+      ((batches < bound) × IsBound k search.end (batches + 1)) ⊎ IsUndecidedAt k search batches → AreBeyond search R batches
+  beyond k bound counted (inl is) = inl (none_fewer k (batches + 1) counted is.1)
+  beyond k bound counted (inr undecided) = inr (not_decided k counted undecided)
+
+  shows_more : (k : Classes) (bound : ℕ) → AreClassesOf k search.end R →
+      ((batches < bound) × IsBound k search.end (batches + 1)) ⊎ IsUndecidedAt k search batches →
+      (batches < bound) ⊎ ((search.on_limit ≡ Always) × IsUndecidedFor search R batches)
+  shows_more k bound counted (inl is) = inl is.0
+  shows_more k bound counted (inr undecided) = inr (not_decided k counted undecided)
+
   pub pages_beyond : (certificate : Certificate) → ExceedsPages search R batches certificate → AreBeyond search R batches
-  pages_beyond certificate is = beyond is.table is.counted is.excess.beyond
+  pages_beyond certificate is = beyond is.table certificate.batches is.counted is.excess.beyond
 
   pub shown_beyond : (certificate : Certificate) → ExceedsPages search R batches certificate → ShowsBeyond search R batches certificate
   shown_beyond certificate is = record {
@@ -125,7 +134,7 @@ module _ (search : Search) (R : List Page) (batches : ℕ) (round : IsRound R) (
     accepted = record { table = is.table; counted = is.counted; accepted = is.excess.accepted };
     text = is.excess.text;
     at_least = is.excess.at_least;
-    more = is.excess.more;
+    more = shows_more is.table certificate.batches is.counted is.excess.beyond;
   }
 
 module _ (search : Search) (R : List Page) (batches count : ℕ) (round : IsRound R) (limited : IsNodeLimit search.limit) where
@@ -142,29 +151,69 @@ module _ (search : Search) (R : List Page) (batches count : ℕ) (round : IsRoun
     shown_beyond search (take (count + 1) R) batches (first_round (count + 1) R round (omega arith) is.0) limited certificate is.1,
   )
 
-  -- a fault for some first pages explains that there is no front
-  pub front_explained : 0 < count → count ≤ length R → (f : PlanFault) →
-      ExplainsPlan search.on_limit search.end (take count R) search.limit f → ExplainsFront search R batches (front.Plan f)
-  front_explained some among planning.BadLimit said = said
-  front_explained some among (planning.SearchLimit stop) said =
-      (said.0, said.1, record { count = count; some = some; among = among; stopped = said.2 })
-  front_explained some among planning.OutOfMemory said = said
+  -- a fault of a search of the first pages, which are to be searched, explains that there is no front
+  pub front_explained : 0 < count → count ≤ length R → (k : Classes) (f : PlanFault) → AreClassesOf k search.end (take count R) →
+      IsOutcomeFault k search f →
+      ((stop : SearchLimit) → f ≡ planning.SearchLimit stop →
+      IsLimit k search.end search.limit stop.least stop.found (bound_tree_of stop.tree) → AreToBeSearched search R batches count stop.least) →
+      ExplainsFront search R batches (front.Plan f)
+  front_explained some among k planning.BadLimit counted said asked = absurd said
+  front_explained some among k (planning.SearchLimit stop) counted said asked = (
+    said.0,
+    limited,
+    record {
+      count = count;
+      some = some;
+      among = among;
+      stopped = (explained k search.end (take count R) search.limit (searching.SearchLimit stop) (first_round count R round some among) counted
+          limited said.1).2;
+      asked = asked stop refl said.1;
+    },
+  )
+  front_explained some among k planning.OutOfMemory counted said asked = limited
+
+-- where a search stopped, the least that it names is that of the loads
+pub stops_at : (k : Classes) (search : Search) (least : ℕ) (f : PlanFault) → IsLeast k least → IsOutcomeFault k search f → StopsAt least f
+stops_at k search least planning.BadLimit is said = tt
+stops_at k search least (planning.SearchLimit stop) is said =
+    omega (arith, said.1.is_least.least least is.carried, is.least stop.least said.1.is_least.carried)
+stops_at k search least planning.OutOfMemory is said = tt
+
+-- The first pages of a closed bracket are the front, where the loads leave a batch to spare and a search stopped.
+pub spare_front : (search : Search) (R : List Page) (batches : ℕ) (bracket : Bracket) (stop : SearchLimit) → IsRound R → IsNodeLimit search.limit →
+    IsBracket search R batches bracket → bracket.beyond ≤ bracket.fitting + 1 → HasSpare bracket.classes search batches →
+    IsLimit bracket.classes search.end search.limit stop.least stop.found (bound_tree_of stop.tree) →
+    IsFrontFor search R batches bracket.fitting
+spare_front search R batches bracket stop round limited is closed spare at =
+    let k = bracket.classes in
+    let next : bracket.beyond ≡ bracket.fitting + 1 = omega (arith, is.order) in
+    let among : bracket.fitting ≤ length R = omega (arith, is.order, is.few) in
+    let least : stop.least ≤ spare.least = at.is_least.least spare.least spare.is_least.carried in
+    let sent = at.sent (take bracket.fitting R) (first_round bracket.fitting R round is.some among) is.counted in
+    record {
+      some = is.some;
+      among = among;
+      sent = record { codewords = sent.0; used = stop.found; legal = sent.1; few = omega (arith, least, at.one_more, spare.below) };
+      longest = longest_beyond search R batches bracket.fitting round limited bracket.why
+          (subst (λ (n : ℕ). IsUpper search R batches n bracket.why) next is.upper);
+    }
 
 -- The first pages that a table counts have a page.
 pub first_has_page : (k : Classes) (end : End) (R : List Page) (n : ℕ) → AreClassesOf k end (take n R) → 0 < n → 0 < length R → HasPage k
 first_has_page k end R n counted some any = has_page k end (take n R) counted (omega (arith, length-take n R))
 
 -- What is found for the first page alone, where it does not fit.
-pub first_needs : (k : Classes) (search : Search) (R : List Page) (batches : ℕ) (outcome : Outcome) → IsRound (take 1 R) →
+pub first_needs : (k : Classes) (search : Search) (R : List Page) (batches : ℕ) (outcome : Outcome) → IsRound (take 1 R) → IsNodeLimit search.limit →
     AreClassesOf k search.end (take 1 R) → IsOutcome k search outcome → batches < outcome.found.batches → (U : List ℕ) →
     IsLegalList search.end U outcome.found.batches (take 1 R) → FirstNeeds search R batches outcome.found.batches
-first_needs k search R batches outcome round counted is more U legal =
-    let none : NoneHasFewer search.end (take 1 R) outcome.bound = λ T n sent. is.within.bounded (take 1 R) T n (apart_pages (take 1 R) round.good) counted sent in
+first_needs k search R batches outcome round limited counted is more U legal =
+    let less : ℕ = outcome.found.batches - 1 in
+    let next : outcome.found.batches ≡ less + 1 = omega (arith, more) in
     record {
       codewords = U;
       legal = legal;
-      within_one = λ T n sent. omega (arith, is.within.within_one, none T n sent);
-      fewest = λ fewest T n sent. omega (arith, is.fewest fewest, none T n sent);
+      fewest = beyond search (take 1 R) less round limited k outcome.bound counted
+          (bound_beyond k search less outcome.bound outcome.found.batches search.on_limit outcome.stopped refl next is.within.bounded is.fewest is.stopped);
       more = more;
     }
 

@@ -188,7 +188,7 @@ module _ (search : Search) (R round : List Page) (batches : ℕ) (same : round �
       ExplainsBookFront search R batches (unsent.Stream (streaming.Plan f))
   front_fault planning.BadLimit said = said
   front_fault (planning.SearchLimit stop) said =
-      (said.0, said.1, good, subst (λ (v : List Page). StopsAtFront search v stop.least stop.found (bound_tree_of stop.tree)) same said.2)
+      (said.0, said.1, good, subst (λ (v : List Page). StopsAtFront search v batches stop.least stop.found (bound_tree_of stop.tree)) same said.2)
   front_fault planning.OutOfMemory said = (said, good)
 
   pub unplanned_front : (e : NoFront) (f : PlanFault) → e ≡ front.Plan f → ExplainsFront search round batches e →
@@ -207,6 +207,19 @@ unsent_front search R batches (streaming.Plan f) u within round = absurd u
 unsent_front search R batches (streaming.Round f) u within round = absurd u
 unsent_front search R batches (streaming.Transmission f) u within round = (within, round)
 unsent_front search R batches (streaming.Certificate f) u within round = (within, round)
+
+-- none of these is the limit's where that may be asked for
+pub front_bad_limit : {A B : Type 0} (N : Type 0) (e : NoFront) (f : PlanFault) → e ≡ front.Plan f → N →
+    (IsErrOf {T = A} (Err e) (front.Plan planning.BadLimit) ↔ (¬ N)) →
+    IsErrOf {T = B} (Err (unsent.Stream (streaming.Plan f))) (unsent.Stream (streaming.Plan planning.BadLimit)) ↔ (¬ N)
+front_bad_limit N e f is n limited = (λ b. absurd (limited.0 (cc (is, b)) n), λ no. absurd (no n))
+
+pub unsent_front_bad_limit : {B : Type 0} (N : Type 0) (e : StreamFault) → IsUnsent e → N →
+    IsErrOf {T = B} (Err (unsent.Stream e)) (unsent.Stream (streaming.Plan planning.BadLimit)) ↔ (¬ N)
+unsent_front_bad_limit N (streaming.Plan f) u is = absurd u
+unsent_front_bad_limit N (streaming.Round f) u is = absurd u
+unsent_front_bad_limit N (streaming.Transmission f) u is = (λ b. absurd (cc), λ no. absurd (no is))
+unsent_front_bad_limit N (streaming.Certificate f) u is = (λ b. absurd (cc), λ no. absurd (no is))
 
 -- the fault of one call is that of another which returns it
 pub same_fault : {A B : Type 0} (e f : StreamFault) → IsErrOf {T = A} (Err e) f → IsErrOf {T = B} (Err e) f

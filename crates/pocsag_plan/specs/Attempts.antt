@@ -13,9 +13,11 @@ use Rattle.pocsag_branch.specs.declared.fault.SearchLimit.{SearchLimit}
 use Rattle.pocsag_plan.specs.declared.attempt.Tried.{Tried}
 use Rattle.pocsag_plan.specs.declared.attempt.Tried.TheVariants.{Fits, Exceeds}
 use Rattle.pocsag_plan.specs.declared.attempt.Bracket.{Bracket}
+use Rattle.pocsag_plan.specs.declared.fault.PlanFault.{PlanFault}
+use Rattle.pocsag_plan.specs.declared.fault.PlanFault.TheVariants as planning
 use Rattle.pocsag_plan.specs.declared.front.FrontCut.{FrontCut}
 use Rattle.pocsag_plan.specs.declared.outcome.Outcome.{Outcome}
-use Rattle.pocsag_plan.specs.declared.search.OnLimit.TheVariants.{Fewest, Always}
+use Rattle.pocsag_plan.specs.declared.search.OnLimit.TheVariants.{Always}
 use Rattle.pocsag_plan.specs.declared.search.Search.{Search}
 use Rattle.pocsag_plan.specs.Within.{IsOutcome, IsOutcomeFor}
 
@@ -37,14 +39,19 @@ pub record IsUndecidedAt (k : Classes) (search : Search) (batches : ℕ) : Type 
   pub stop : SearchLimit
   pub limit : IsLimit k search.end search.limit batches (batches + 1) (bound_tree_of stop.tree)
 
+-- Where a search stopped, so many batches are the least that some choice of starts needs: the loads alone do not decide.
+abbrev pub StopsAt : (least : ℕ) → PlanFault → Type 0
+StopsAt least planning.BadLimit = Unit {0}
+StopsAt least (planning.SearchLimit stop) = stop.least ≡ least
+StopsAt least planning.OutOfMemory = Unit {0}
+
 -- The classes need more batches, or are not found to fit; and the certificate is accepted for them.
 pub record IsExcess (k : Classes) (search : Search) (batches : ℕ) (certificate : Certificate) : Type 0 where
   pub asked : certificate.end ≡ search.end
   pub accepted : IsAccepted false k search.end certificate.batches (bound_tree_of certificate.tree)
   pub text : HasText second_ranges certificate.batches (bound_tree_of certificate.tree)
   pub at_least : batches ≤ certificate.batches
-  pub more : search.on_limit ≡ Fewest → batches < certificate.batches
-  pub beyond : IsBound k search.end (batches + 1) ⊎ IsUndecidedAt k search batches
+  pub beyond : ((batches < certificate.batches) × IsBound k search.end (batches + 1)) ⊎ IsUndecidedAt k search batches
 
 abbrev pub IsTried : Classes → Search → (batches : ℕ) → Tried → Type 0
 IsTried k search batches (Fits outcome) = IsFit k search batches outcome

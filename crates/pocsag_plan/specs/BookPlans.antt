@@ -40,7 +40,7 @@ ExplainsBookStream on_limit end R limit (streaming.Certificate f) = IsNodeLimit 
 -- some first pages, or that the first page alone needs more batches.
 abbrev pub ExplainsBookFront : Search → List Page → (batches : ℕ) → UnsentFront → Type 0
 ExplainsBookFront search R batches (front.Stream (streaming.Plan (planning.SearchLimit stop))) =
-    MayStop search.on_limit × IsNodeLimit search.limit × IsRound R × StopsAtFront search R stop.least stop.found (bound_tree_of stop.tree)
+    MayStop search.on_limit × IsNodeLimit search.limit × IsRound R × StopsAtFront search R batches stop.least stop.found (bound_tree_of stop.tree)
 ExplainsBookFront search R batches (front.Stream f) = ExplainsBookStream search.on_limit search.end R search.limit f
 ExplainsBookFront search R batches (front.FirstPage needed) =
     IsNodeLimit search.limit × IsRound R × FirstNeeds search R batches needed

@@ -14,7 +14,7 @@ use Rattle.pocsag_branch.specs.Found.{IsNodeLimit}
 use Rattle.pocsag_plan.specs.declared.fault.NoFront.{NoFront}
 use Rattle.pocsag_plan.specs.declared.fault.NoFront.TheVariants as fault
 use Rattle.pocsag_plan.specs.declared.fault.PlanFault.TheVariants as planning
-use Rattle.pocsag_plan.specs.declared.search.OnLimit.TheVariants.{Fewest, Always}
+use Rattle.pocsag_plan.specs.declared.search.OnLimit.TheVariants.{Always}
 use Rattle.pocsag_plan.specs.declared.search.Search.{Search}
 use Rattle.pocsag_plan.specs.Plans.{IsStopped, MayStop, NoneHasFewer}
 
@@ -49,14 +49,14 @@ pub record IsFrontFor (search : Search) (R : List Page) (batches count : ℕ) : 
   pub sent : AreSentWithin search.end (take count R) batches
   pub longest : count < length R → AreBeyond search (take (count + 1) R) batches
 
--- The certificate is one for the pages and the end, which the checker accepts. It shows at least so many batches; and
--- more, where only the fewest batches are an answer.
+-- The certificate is one for the pages and the end, which the checker accepts. It shows more batches; or it shows so many, and
+-- a planner that refuses no round did not decide between so many and one more.
 pub record ShowsBeyond (search : Search) (R : List Page) (batches : ℕ) (certificate : Certificate) : Type 0 where
   pub asked : certificate.end ≡ search.end
   pub accepted : IsAcceptedFor false search.end R certificate.batches (bound_tree_of certificate.tree)
   pub text : HasText second_ranges certificate.batches (bound_tree_of certificate.tree)
   pub at_least : batches ≤ certificate.batches
-  pub more : search.on_limit ≡ Fewest → batches < certificate.batches
+  pub more : (batches < certificate.batches) ⊎ ((search.on_limit ≡ Always) × IsUndecidedFor search R batches)
 
 -- Why a front is no longer: it has all pages, or a certificate is one for one page more.
 abbrev pub IsWhyNoMore : Search → List Page → (batches count : ℕ) → Option Certificate → Type 0
@@ -64,26 +64,31 @@ IsWhyNoMore search R batches count None = count ≡ length R
 IsWhyNoMore search R batches count (Some certificate) =
     (count < length R) × ShowsBeyond search (take (count + 1) R) batches certificate
 
--- The first page alone is sent in so many batches, which are too many: the fewest, where only these are an answer, and
--- else at most one more.
+-- The first page alone is sent in so many batches, which are too many. It needs them; or, by a planner that refuses no round,
+-- it was not found to be sent in one batch less.
 pub record FirstNeeds (search : Search) (R : List Page) (batches needed : ℕ) : Type 0 where
   pub codewords : List ℕ
   pub legal : IsLegalList search.end codewords needed (take 1 R)
-  pub within_one : NoneHasFewer search.end (take 1 R) (needed - 1)
-  pub fewest : search.on_limit ≡ Fewest → NoneHasFewer search.end (take 1 R) needed
+  pub fewest : AreBeyond search (take 1 R) (needed - 1)
   pub more : batches < needed
 
--- The search stopped at some first pages of the round.
-pub record StopsAtFront (search : Search) (R : List Page) (least found : ℕ) (tree : BoundTree) : Type 0 where
+-- So many first pages are to be searched: they are one page; or they need so many batches at least, and one more would do; or
+-- they are the front, whose plan is asked for.
+abbrev pub AreToBeSearched : Search → List Page → (batches count least : ℕ) → Type 0
+AreToBeSearched search R batches count least = (count ≡ 1) ⊎ (least ≡ batches) ⊎ IsFrontFor search R batches count
+
+-- The search stopped at so many first pages of the round, which are to be searched.
+pub record StopsAtFront (search : Search) (R : List Page) (batches least found : ℕ) (tree : BoundTree) : Type 0 where
   pub count : ℕ
   pub some : 0 < count
   pub among : count ≤ length R
   pub stopped : IsStopped search.end (take count R) search.limit least found tree
+  pub asked : AreToBeSearched search R batches count least
 
 -- When each fault comes, and what it says.
 abbrev pub ExplainsFront : Search → List Page → (batches : ℕ) → NoFront → Type 0
 ExplainsFront search R batches (fault.Plan planning.BadLimit) = ¬ IsNodeLimit search.limit
 ExplainsFront search R batches (fault.Plan (planning.SearchLimit stop)) =
-    MayStop search.on_limit × IsNodeLimit search.limit × StopsAtFront search R stop.least stop.found (bound_tree_of stop.tree)
+    MayStop search.on_limit × IsNodeLimit search.limit × StopsAtFront search R batches stop.least stop.found (bound_tree_of stop.tree)
 ExplainsFront search R batches (fault.Plan planning.OutOfMemory) = IsNodeLimit search.limit
 ExplainsFront search R batches (fault.FirstPage needed) = IsNodeLimit search.limit × FirstNeeds search R batches needed

@@ -1,5 +1,5 @@
 -- What the streams of plans leave of their writers.
-use Rattle.std.specs.Prelude.{◌≡◌, ◌⊎◌, ℕ, ◌+◌, ◌≤◌, List, ◌++◌, Option, Some, None, IfSome, IfNone, Result, Ok, Err, IsOk}
+use Rattle.std.specs.Prelude.{◌≡◌, ◌⊎◌, ℕ, ◌+◌, ◌≤◌, List, ◌++◌, take, Option, Some, None, IfSome, IfNone, Result, Ok, Err, IsOk}
 use Rattle.pocsag_words.specs.Devices.{HasFailed, TookPrefix}
 use Rattle.pocsag_words.specs.declared.ending.End.{End}
 use Rattle.pocsag_pages.specs.PageFile.{verdict}
@@ -17,7 +17,9 @@ use Rattle.pocsag_plan.specs.declared.fault.StreamFault.{StreamFault}
 use Rattle.pocsag_plan.specs.declared.fault.StreamFault.TheVariants as fault
 use Rattle.pocsag_plan.specs.declared.search.OnLimit.{OnLimit}
 use Rattle.pocsag_plan.specs.declared.search.OnLimit.TheVariants.{Fewest}
+use Rattle.pocsag_plan.specs.declared.search.Search.{Search}
 use Rattle.pocsag_plan.specs.BoundedHeadline.{BoundedHeadline}
+use Rattle.pocsag_plan.specs.Fronts.{IsFrontFor}
 use Rattle.pocsag_plan.specs.Headline.{Headline, RoundHeadline}
 use Rattle.pocsag_plan.specs.Plans.{IsBounded, IsPlan, IsStopped, MayStop}
 
@@ -95,6 +97,12 @@ abbrev pub WritesCertificatePart : OnLimit → List ℕ → End → List ℕ →
 WritesCertificatePart on_limit file end tx_before tx_after cert_before cert_after =
     IsOfRound file (λ round. WritesCertificatePartOf (HasHeadline on_limit round end) tx_before tx_after cert_before cert_after)
 
+-- The first pages that are the front for so many batches, and the headline of these.
+pub record HasFrontHeadline (search : Search) (R : List Page) (most : ℕ) (sent certificate : List ℕ) : Type 0 where
+  pub count : ℕ
+  pub front : IsFrontFor search R most count
+  pub headline : HasHeadline search.on_limit (take count R) search.end sent certificate
+
 -- When each fault of a stream comes, and what it says.
 abbrev pub ExplainsStream : OnLimit → List ℕ → End → ℕ → StreamFault → Type 0
 ExplainsStream on_limit file end limit (fault.Plan planning.BadLimit) = ¬ IsNodeLimit limit
@@ -141,6 +149,16 @@ IsUnsent (fault.Plan f) = ⊥
 IsUnsent (fault.Round f) = ⊥
 IsUnsent (fault.Transmission f) = Unit {0}
 IsUnsent (fault.Certificate f) = Unit {0}
+
+-- The fault of a front is one of a stream of which this is said.
+abbrev pub OfStream : (StreamFault → Type 0) → UnsentFront → Type 0
+OfStream Is (front.Stream f) = Is f
+OfStream Is (front.FirstPage needed) = ⊥
+
+-- It is that not even the first page fits.
+abbrev pub IsFirstPage : UnsentFront → Type 0
+IsFirstPage (front.Stream f) = ⊥
+IsFirstPage (front.FirstPage needed) = Unit {0}
 
 -- The fault that a stream answers, if any.
 abbrev pub fault_in : {X : Type 0} → Result X StreamFault → Option StreamFault

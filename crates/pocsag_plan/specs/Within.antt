@@ -12,9 +12,12 @@ use Rattle.pocsag_branch.specs.declared.answer.Found.{Found}
 use Rattle.pocsag_branch.specs.Found.{IsBound, IsLimit}
 use Rattle.pocsag_branch.specs.Shape.{IsSearchTree}
 use Rattle.pocsag_branch.specs.declared.fault.SearchLimit.{SearchLimit}
+use Rattle.pocsag_plan.specs.declared.fault.PlanFault.{PlanFault}
+use Rattle.pocsag_plan.specs.declared.fault.PlanFault.TheVariants as planning
 use Rattle.pocsag_plan.specs.declared.outcome.Outcome.{Outcome}
 use Rattle.pocsag_plan.specs.declared.search.OnLimit.TheVariants.{Fewest}
 use Rattle.pocsag_plan.specs.declared.search.Search.{Search}
+use Rattle.pocsag_plan.specs.Plans.{MayStop}
 
 -- A tour of the least that some choice of starts needs, or of one batch more, and a tree for a bound that
 -- the batches are, or exceed by one.
@@ -49,3 +52,11 @@ pub record IsOutcomeFor (search : Search) (R : List Page) (outcome : Outcome) : 
   pub table : Classes
   pub classes : AreClassesOf table search.end R
   pub of_classes : IsOutcome table search outcome
+
+-- What a fault of the search that is asked for says of the classes: the search stopped, which happens only where the fewest
+-- batches alone are an answer; or memory was wanting.
+abbrev pub IsOutcomeFault : Classes → Search → PlanFault → Type 0
+IsOutcomeFault k search planning.BadLimit = ⊥
+IsOutcomeFault k search (planning.SearchLimit stop) =
+    MayStop search.on_limit × IsLimit k search.end search.limit stop.least stop.found (bound_tree_of stop.tree)
+IsOutcomeFault k search planning.OutOfMemory = Unit {0}

@@ -1,12 +1,11 @@
 //! How many first pages of a round fit: what is tried, and what is kept between two tries.
-ghost use Rattle.std.specs.Prelude.{◌≡◌, ℕ, ◌+◌, ◌<◌, List, take, IfErr, IfOk, IsErrOf};
+ghost use Rattle.std.specs.Prelude.{ℕ, ◌+◌, ◌<◌, List, take, IfErr, IfOk, IsErrOf};
 ghost use Rattle.pocsag_pages.specs.declared.page.Page.{Page};
-ghost use Rattle.pocsag_pages.specs.Pages.{IsRound};
 ghost use Rattle.pocsag_slots.specs.Loads.{AreClassesOf};
 ghost use Rattle.pocsag_branch.specs.Found.{HasPage, IsNodeLimit};
-ghost use Rattle.pocsag_plan.specs.Attempts.{IsTried, IsBracket};
+ghost use Rattle.pocsag_plan.specs.Attempts.{IsTried, IsBracket, StopsAt};
 ghost use Rattle.pocsag_plan.specs.declared.search.Search.{Search};
-ghost use Rattle.pocsag_plan.specs.Plans.{ExplainsPlan};
+ghost use Rattle.pocsag_plan.specs.Within.{IsOutcomeFault};
 
 use crate::fault::PlanFault;
 use crate::outcome::{Outcome, outcome_of};
@@ -37,8 +36,8 @@ pub(crate) fn attempt(
     requires pages { HasPage classes.now }
     ensures attempt { IfOk result (IsTried classes.now search batches) }
     ensures limit { ¬ IsErrOf result PlanFault.BadLimit }
-    ensures fault { IfErr result (λ e. (R : List Page) → IsRound R → AreClassesOf classes.now search.end R →
-        ExplainsPlan search.on_limit search.end R search.limit e) }
+    ensures fault { IfErr result (IsOutcomeFault classes.now search) }
+    ensures undecided { IfErr result (StopsAt batches) }
 {
     let by_loads = least_certificate(classes, search.end);
     if by_loads.batches < batches {

@@ -8,7 +8,9 @@ ghost use Rattle.pocsag_plan.specs.BookPlans.{ExplainsBook, ExplainsBookFront, E
 ghost use Rattle.pocsag_plan.specs.Fronts.{IsFrontFor, IsLongestFront};
 ghost use Rattle.pocsag_plan.specs.Headline.{RoundHeadline};
 ghost use Rattle.pocsag_plan.specs.Plans.{IsPlan, IsPlanFor};
-ghost use Rattle.pocsag_plan.specs.Streams.{fault_in, unsent_fault_in, HasHeadline, IsCertificate, IsSearchLimit, IsTransmission, WritesAllOf, WritesCertificatePartOf, WritesInTurn, WritesPartOf};
+ghost use Rattle.pocsag_plan.specs.declared.fault.PlanFault.TheVariants as plan_fault;
+ghost use Rattle.pocsag_plan.specs.declared.fault.StreamFault.TheVariants as stream_fault;
+ghost use Rattle.pocsag_plan.specs.Streams.{fault_in, unsent_fault_in, HasFrontHeadline, HasHeadline, IsCertificate, IsFirstPage, IsSearchLimit, IsTransmission, OfStream, WritesAllOf, WritesCertificatePartOf, WritesInTurn, WritesPartOf};
 
 use crate::answer::Plan;
 use crate::book::Book;
@@ -135,7 +137,15 @@ impl Book {
 
         // When each fault comes, and what it leaves.
         ensures explained { IfErr result (ExplainsBookFront search self.now batches) }
+        ensures bad_limit { IsErrOf result (UnsentFront.Stream (stream_fault.Plan plan_fault.BadLimit))
+            ↔ (¬ IsNodeLimit search.limit) }
         ensures writers { WritesInTurn T.failures C.failures tx.old tx.new cert.old cert.new (unsent_fault_in result) }
+        ensures first_page { IfErr result (λ e. IsFirstPage e → (tx.new ≡ tx.old) × (cert.new ≡ cert.old)) }
+        ensures part { T.is_known → IfErr result (λ e. OfStream IsTransmission e →
+            WritesPartOf (HasFrontHeadline search self.now batches) (T.taken tx.old) (T.taken tx.new)) }
+        ensures certificate_part { T.is_known → C.is_known → IfErr result (λ e. OfStream IsCertificate e →
+            WritesCertificatePartOf (HasFrontHeadline search self.now batches)
+            (T.taken tx.old) (T.taken tx.new) (C.taken cert.old) (C.taken cert.new)) }
     {
         if !is_node_limit(search.limit) {
             return Err(UnsentFront::Stream(StreamFault::Plan(PlanFault::BadLimit)));

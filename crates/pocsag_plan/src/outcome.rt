@@ -1,10 +1,6 @@
-ghost use Rattle.std.specs.Prelude.{◌≡◌, List, IfErr, IfOk, IsErrOf};
-ghost use Rattle.pocsag_pages.specs.declared.page.Page.{Page};
-ghost use Rattle.pocsag_pages.specs.Pages.{IsRound};
-ghost use Rattle.pocsag_slots.specs.Loads.{AreClassesOf};
+ghost use Rattle.std.specs.Prelude.{IfErr, IfOk, IsErrOf};
 ghost use Rattle.pocsag_branch.specs.Found.{HasPage, IsNodeLimit};
-ghost use Rattle.pocsag_plan.specs.Plans.{ExplainsPlan};
-ghost use Rattle.pocsag_plan.specs.Within.{IsOutcome, IsTightOrStopped, IsWithinOne};
+ghost use Rattle.pocsag_plan.specs.Within.{IsOutcome, IsOutcomeFault, IsTightOrStopped, IsWithinOne};
 
 use crate::fault::PlanFault;
 use crate::search::{OnLimit, Search};
@@ -32,8 +28,7 @@ pub(crate) fn outcome_of(
     requires pages { HasPage classes.now }
     ensures outcome { IfOk result (IsOutcome classes.now search) }
     ensures limit { ¬ IsErrOf result PlanFault.BadLimit }
-    ensures fault { IfErr result (λ e. (R : List Page) → IsRound R → AreClassesOf classes.now search.end R →
-        ExplainsPlan search.on_limit search.end R search.limit e) }
+    ensures fault { IfErr result (IsOutcomeFault classes.now search) }
 {
     match search.on_limit {
         OnLimit::Fewest => {

@@ -1,5 +1,5 @@
 -- What is listed of a capture, and why a command does not answer for one.
-use Rattle.std.proofs.Common.{◌≡◌, ℕ, ◌+◌, ◌<◌, ◌≤◌, Bool, true, false, List, [], ◌∷◌, ◌++◌, length, get_or, map, take, All, Option, refl, sym, ap, ap₂, subst, ◌∙◌, arith, append_assoc, if◌then◌else◌}
+use Rattle.std.proofs.Common.{◌≡◌, ℕ, ◌+◌, ◌*◌, ◌<◌, ◌≤◌, Bool, true, false, List, [], ◌∷◌, ◌++◌, length, get_or, map, take, All, Option, refl, sym, ap, ap₂, subst, ◌∙◌, arith, append_assoc, if◌then◌else◌}
 use Rattle.std.proofs.Math.Seq.{take-length}
 use Rattle.std.proofs.lemmas.List.{append-nil, flat_map_more, length-map, length-take-le, map-append, take_more}
 use Rattle.std.proofs.lemmas.List.Elements.{All-nil, All-push, All-weaker}
@@ -11,7 +11,7 @@ use Rattle.pocsag_capture.specs.Bits.{capture_bits}
 use Rattle.pocsag_capture.specs.Caught.{HasCaught}
 use Rattle.pocsag_capture.specs.ExtractedBytes.{LiftsOne}
 use Rattle.pocsag_capture.specs.PageEnds.{AreNumbered, HasCatches, IsCatch, UncutStandWhole, pages_caught}
-use Rattle.pocsag_capture.specs.Receptions.{AreReceptions, received}
+use Rattle.pocsag_capture.specs.Receptions.{AreInStep, AreReceptions, received}
 use Rattle.pocsag_capture.specs.Sent.{HoldsSent, StandAmong}
 use Rattle.pocsag_capture.specs.declared.catching.Catch.{Catch}
 use Rattle.pocsag_capture.specs.declared.reception.ReceptionStats.{ReceptionStats}
@@ -21,7 +21,7 @@ use Rattle.pocsag_decode.specs.Faults.{IsFaultless}
 use Rattle.pocsag_shell.specs.declared.fault.FileFault.TheVariants as file
 use Rattle.pocsag_show.specs.declared.view.View.{View}
 use Rattle.pocsag_receiver.specs.Captures.{ExplainsOne, ListsAmong, ListsCaught, ListsCaughtPart, ListsWhole, TextOfCatches}
-use Rattle.pocsag_receiver.specs.CaughtForms.{caught_header, caught_listing, caught_text, is_picked, picked_pages}
+use Rattle.pocsag_receiver.specs.CaughtForms.{caught_header, caught_line, caught_listing, caught_row, caught_text, is_picked, mark_of, picked_pages}
 use Rattle.pocsag_receiver.specs.Views.{ExplainsShowing}
 use Rattle.pocsag_receiver.specs.declared.caught.Picking.{Picking}
 use Rattle.pocsag_receiver.specs.declared.fault.ReceiverFault.{ReceiverFault}
@@ -100,6 +100,12 @@ module _ (only : Option ℕ) (T : Bool → Page → List ℕ) (pages : List Page
 
 -- ---- the catches, of which the first were listed
 
+-- what is listed of a catch, as JSON or as CSV
+abbrev pub caught_by : (is_json : Bool) → Picking → Catch → List ℕ
+caught_by is_json k c =
+    if is_json then picked_pages k.only (λ is_cut p. caught_line k.texts (mark_of c is_cut) p) c.pages.items c.cuts.items
+    else picked_pages k.only (caught_row k.texts) c.pages.items c.cuts.items
+
 numbered_push : (n : ℕ) (cs : List Catch) (c : Catch) → AreNumbered n cs → c.number ≡ n + length cs → AreNumbered n (cs ++ c ∷ [])
 numbered_push n [] c f is = (omega (arith, is), tt)
 numbered_push n (d ∷ cs) c f is =
@@ -156,9 +162,11 @@ module _ (capture : List ℕ) (k : Picking) (found : List Reception) (first hear
   lists_whole written = record {
     catches = t.catches;
     found = has_catches.found;
+    in_step = All-weaker (IsCatch (capture_bits capture)) (λ (c : Catch). AreInStep (capture_bits capture) c.heard.reception c.heard.steady)
+        (λ c is. is.told.steady) t.catches t.each;
     whole = All-weaker (IsCatch (capture_bits capture))
-        (λ (c : Catch). UncutStandWhole (unsynced 0 (received (capture_bits capture) c.heard.reception)) c.pages.items c.cuts.items)
-        (λ c is. uncut_pages_stand (received (capture_bits capture) c.heard.reception) c.pages.items c.cuts.items is.pages is.cuts) t.catches t.each;
+        (λ (c : Catch). UncutStandWhole (unsynced 0 (received (capture_bits capture) c.heard.reception)) (16 * c.heard.steady) c.pages.items c.cuts.items)
+        (λ c is. uncut_pages_stand (received (capture_bits capture) c.heard.reception) (16 * c.heard.steady) c.pages.items c.cuts.items is.pages is.cuts) t.catches t.each;
     listed = written ∙ ap (λ (l : List ℕ). out ++ l) t.written;
   }
 

@@ -1,5 +1,5 @@
 -- What `--capture` leaves of standard output, and why it leaves nothing.
-use Rattle.std.specs.Prelude.{◌≡◌, ℕ, ◌≤◌, List, ◌++◌, length, map, All, Option, Some}
+use Rattle.std.specs.Prelude.{◌≡◌, ℕ, ◌*◌, ◌≤◌, List, ◌++◌, length, map, All, Option, Some}
 use Rattle.pocsag_words.specs.Devices.{TookPrefix}
 use Rattle.pocsag_words.specs.Frame.{input_limit}
 use Rattle.pocsag_pages.specs.declared.page.Page.{Page}
@@ -7,7 +7,7 @@ use Rattle.pocsag_pages.specs.Bytes.{unsynced}
 use Rattle.pocsag_capture.specs.Bits.{capture_bits}
 use Rattle.pocsag_capture.specs.ExtractedBytes.{ExplainsNone, ExplainsUnlifted, LiftsOne}
 use Rattle.pocsag_capture.specs.PageEnds.{AreNumbered, HasCatches, IsCatch, UncutStandWhole, pages_caught}
-use Rattle.pocsag_capture.specs.Receptions.{AreReceptions, received}
+use Rattle.pocsag_capture.specs.Receptions.{AreInStep, AreReceptions, received}
 use Rattle.pocsag_capture.specs.Sent.{StandAmong}
 use Rattle.pocsag_capture.specs.declared.catching.Catch.{Catch}
 use Rattle.pocsag_capture.specs.declared.reception.ReceptionStats.{ReceptionStats}
@@ -39,11 +39,12 @@ pub record ListsCaught (capture : List ℕ) (k : Picking) (heard : List Receptio
   pub listed : out_after ≡ out_before ++ caught_listing k catches
 
 -- *Listed as whole*: pages of the receptions of a capture were listed, and each that is listed as whole stands whole among the words
--- of its reception.
+-- of its reception that are in step.
 pub record ListsWhole (capture : List ℕ) (k : Picking) (out_before out_after : List ℕ) : Type 0 where
   pub catches : List Catch
   pub found : AreReceptions (capture_bits capture) (map (λ (c : Catch). c.heard.reception) catches)
-  pub whole : All (λ (c : Catch). UncutStandWhole (unsynced 0 (received (capture_bits capture) c.heard.reception)) c.pages.items c.cuts.items) catches
+  pub in_step : All (λ (c : Catch). AreInStep (capture_bits capture) c.heard.reception c.heard.steady) catches
+  pub whole : All (λ (c : Catch). UncutStandWhole (unsynced 0 (received (capture_bits capture) c.heard.reception)) (16 * c.heard.steady) c.pages.items c.cuts.items) catches
   pub listed : out_after ≡ out_before ++ caught_listing k catches
 
 -- Pages were listed among which these stand, one behind the other: of all of them those that are asked for.

@@ -93,7 +93,7 @@ pub fn run_list_capture<T: Source, O: Sink, E: Sink + Drop>(
         (O.taken out.new)) }
 
     // *Listed as whole*: each page that is listed as whole stands in the capture with all its codewords and one that ends it, each
-    // within two bits.
+    // within two bits and in step.
     ensures whole { T.is_known → O.is_known → IfNone (printed_by err.new)
         (ListsWhole (T.held tx.old) catching.old.picking (O.taken out.old) (O.taken out.new)) }
 
@@ -124,7 +124,7 @@ pub fn run_list_capture<T: Source, O: Sink, E: Sink + Drop>(
             break 'listed Err(ReceiverFault::File(refused));
         }
         let listed = list_caught(alloc, catching, capture, out);
-        tx.release();
+        tx.take_all();
         listed
     };
     err.end(done)
@@ -194,7 +194,7 @@ pub fn run_show_capture<T: Source, O: Sink, E: Sink + Drop>(
             break 'shown Err(ReceiverFault::File(refused));
         }
         let shown = show_caught(alloc, viewing, capture, out);
-        tx.release();
+        tx.take_all();
         shown
     };
     err.end(done)

@@ -1,12 +1,13 @@
 //! The forms in which the pages of captures are listed: each with its state.
-ghost use Rattle.std.specs.Prelude.{◌≡◌, ◌+◌, ◌^◌, ◌<◌, ◌≤◌, ◌∷◌, ◌++◌, [], All, length, IfOk};
+ghost use Rattle.std.specs.Prelude.{◌≡◌, ◌+◌, ◌^◌, ◌<◌, ◌≤◌, ◌∷◌, ◌++◌, [], All, true, false, length, IfOk, OnOk};
 ghost use Rattle.pocsag_words.specs.Frame.{input_limit};
 ghost use Rattle.pocsag_pages.specs.Listable.{IsListable};
+ghost use Rattle.pocsag_decode.specs.Lines.{IsReady, text_in};
 ghost use Rattle.pocsag_capture.specs.Bits.{capture_bits};
 ghost use Rattle.pocsag_capture.specs.Receptions.{behind};
 ghost use Rattle.pocsag_capture.specs.declared.reception.Reception.{Reception};
 ghost use Rattle.pocsag_receiver.specs.Captures.{TextOfCatches};
-ghost use Rattle.pocsag_receiver.specs.CaughtForms.{caught_header, caught_line, caught_row, caught_text, is_picked, mark_of, picked_pages};
+ghost use Rattle.pocsag_receiver.specs.CaughtForms.{caught_line, caught_row, is_picked, mark_of, picked_pages};
 
 use crate::form::{kind_read, message_read, put_read, state_name};
 use pocsag_capture::{Catch, Reception, ReceptionStats, catch_pages};
@@ -124,29 +125,57 @@ fn with_lines(
     Ok(lines)
 }
 
-// The text before it, and that of the pages of a catch that are asked for.
-fn with_catch(
+// Writes the records of the pages of a catch that are asked for.
+fn put_catch(
     alloc: Global,
-    text: Vec<u8>,
+    writer: &mut csv::Writer<Vec<u8>>,
     picking: Picking,
     caught: &Catch,
-) -> Result<Vec<u8>, AllocError>
+) -> Result<(), AllocError>
+    requires ready { IsReady writer.old }
     requires listable { All IsListable caught.now.pages.items }
     requires long { length caught.now.cuts.items ≡ length caught.now.pages.items }
-    ensures { IfOk result (λ v. v.items ≡ text.items ++ caught_text picking caught.now) }
+    ensures ready { OnOk result (IsReady writer.new) }
+    ensures rows { OnOk result (text_in writer.new ≡ text_in writer.old ++ picked_pages picking.only
+        (caught_row picking.texts) caught.now.pages.items caught.now.cuts.items) }
 {
-    if picking.is_json {
-        return with_lines(alloc, text, picking, caught);
-    }
     let pages = caught.pages.as_slice();
     let cuts = caught.cuts.as_slice();
-    let mut writer = csv::Writer::from_writer(text);
     for index in 0..pages.len() {
         let page = &pages[index];
         if !is_picked(picking.only, page.address) {
             continue;
         }
-        put_read(alloc, &mut writer, picking.texts, page, Some(cuts[index]))?;
+        put_read(alloc, writer, picking.texts, page, Some(cuts[index]))?;
+    }
+    Ok(())
+}
+
+// The records of what is caught of the receptions, by one writer.
+fn rows_caught(
+    alloc: Global,
+    picking: Picking,
+    capture: &[u8],
+    found: &[Reception],
+    heard: &mut Vec<ReceptionStats>,
+) -> Result<Vec<u8>, AllocError>
+    requires few { length capture.now ≤ input_limit }
+    requires some { All (λ (r : Reception). 0 < r.batches) found.now }
+    requires ends { All (λ (r : Reception). behind r < 2 ^ 60) found.now }
+    requires form { picking.is_json ≡ false }
+    ensures { IfOk result (λ text.
+        TextOfCatches (capture_bits capture.now) picking found.now heard.old.items heard.new.items text.items) }
+{
+    let mut writer = csv::Writer::from_writer(Vec::new(alloc));
+    let Ok(()) = writer.write_fields(&[b"address".as_slice(), b"kind", b"message", b"state"]) else {
+        return Err(AllocError);
+    };
+    let mut number = 0;
+    for reception in found {
+        number += 1;
+        let catch = catch_pages(alloc, capture, number, *reception)?;
+        put_catch(alloc, &mut writer, picking, &catch)?;
+        heard.push(catch.heard)?;
     }
     match writer.into_inner() {
         Ok(text) => Ok(text),
@@ -154,21 +183,30 @@ fn with_catch(
     }
 }
 
-// What stands before the pages: in CSV the record of the names.
-fn header_of(alloc: Global, is_json: bool) -> Result<Vec<u8>, AllocError>
-    ensures { IfOk result (λ v. v.items ≡ caught_header is_json) }
+// The lines of JSON of what is caught of the receptions.
+fn lines_caught(
+    alloc: Global,
+    picking: Picking,
+    capture: &[u8],
+    found: &[Reception],
+    heard: &mut Vec<ReceptionStats>,
+) -> Result<Vec<u8>, AllocError>
+    requires few { length capture.now ≤ input_limit }
+    requires some { All (λ (r : Reception). 0 < r.batches) found.now }
+    requires ends { All (λ (r : Reception). behind r < 2 ^ 60) found.now }
+    requires form { picking.is_json ≡ true }
+    ensures { IfOk result (λ text.
+        TextOfCatches (capture_bits capture.now) picking found.now heard.old.items heard.new.items text.items) }
 {
-    if is_json {
-        return Ok(Vec::new(alloc));
+    let mut lines = Vec::new(alloc);
+    let mut number = 0;
+    for reception in found {
+        number += 1;
+        let caught = catch_pages(alloc, capture, number, *reception)?;
+        lines = with_lines(alloc, lines, picking, &caught)?;
+        heard.push(caught.heard)?;
     }
-    let mut writer = csv::Writer::from_writer(Vec::new(alloc));
-    let Ok(()) = writer.write_fields(&[b"address".as_slice(), b"kind", b"message", b"state"]) else {
-        return Err(AllocError);
-    };
-    match writer.into_inner() {
-        Ok(text) => Ok(text),
-        Err(_) => Err(AllocError),
-    }
+    Ok(lines)
 }
 
 /// The listing of what is caught of the receptions of a capture. How each was received is put behind the others.
@@ -185,13 +223,8 @@ pub(crate) fn text_caught(
     ensures { IfOk result (λ text.
         TextOfCatches (capture_bits capture.now) picking found.now heard.old.items heard.new.items text.items) }
 {
-    let mut text = header_of(alloc, picking.is_json)?;
-    let mut number = 0;
-    for reception in found {
-        number += 1;
-        let caught = catch_pages(alloc, capture, number, *reception)?;
-        text = with_catch(alloc, text, picking, &caught)?;
-        heard.push(caught.heard)?;
+    if picking.is_json {
+        return lines_caught(alloc, picking, capture, found, heard);
     }
-    Ok(text)
+    rows_caught(alloc, picking, capture, found, heard)
 }

@@ -144,7 +144,7 @@ pub fn run_decode<T: Source, O: Sink, E: Sink + Drop>(
             }
             decoding.repairing.corrected = NOTHING;
             let listed = list_decoded_in(alloc, decoding.form, bytes, out);
-            tx.release();
+            tx.take_all();
             break 'listed listed;
         }
         match read_transmission(alloc, tx) {

@@ -252,6 +252,7 @@ fn print_heard(context: Context<'_>, first: u64, heard: &[ReceptionStats]) {
     for printed in heard {
         let ReceptionStats {
             reception,
+            steady: _,
             corrected,
             lost,
             cut,

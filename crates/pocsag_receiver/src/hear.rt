@@ -80,7 +80,7 @@ pub fn run_hear<T: Source, O: Sink, E: Sink + Drop>(
             break 'heard Err(ReceiverFault::File(refused));
         }
         let heard = list_heard(alloc, hearing, bytes, out);
-        tx.release();
+        tx.take_all();
         heard
     };
     err.end(done)

@@ -142,7 +142,7 @@ pub fn run_show<T: Source, O: Sink, E: Sink + Drop>(
             }
             showing.repairing.corrected = NOTHING;
             let shown = show_bytes(alloc, showing.view, bytes, out);
-            tx.release();
+            tx.take_all();
             break 'shown shown;
         }
         match read_transmission(alloc, tx) {

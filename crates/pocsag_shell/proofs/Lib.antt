@@ -1,3 +1,5 @@
 pub mod StagedFiles
 pub mod Loads
 pub mod Printed
+pub mod Folders
+pub mod Placements

@@ -4,3 +4,4 @@ pub mod Faults
 pub mod Loads
 pub mod Notes
 pub mod Paths
+pub mod Folders

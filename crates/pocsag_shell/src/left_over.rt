@@ -6,8 +6,9 @@ use crate::files::is_regular_or_none;
 use crate::paths::Named;
 use crate::staged_file::parts_of;
 use std::fs::{self, File, Permissions, TryLockError};
-use std::io::ErrorKind;
+use std::io::{self, ErrorKind};
 use std::os::unix::fs::PermissionsExt;
+use std::process;
 
 // The ending of the locks of places.
 const LOCK: &str = ".lock";
@@ -67,15 +68,11 @@ fn may_be_left(rt: &HostRuntime, name: &str, file: &str) -> bool {
 /// Opens a file that is not there or that runs lock, and locks it. None where another run holds it, or has just removed it. A file
 /// system that has no locks has that of nobody, where `may_lack` says so.
 pub(crate) fn locked(rt: &HostRuntime, path: &str, may_lack: bool) -> Option<File> {
-    let file = match File::create_new(rt, path) {
-        Ok(file) => {
-            // Runs of other users open it too, whatever the mask of this one.
-            let _ = file.set_permissions(Permissions::from_mode(ALL_READ));
-            file
-        }
+    let file = match make_lock(rt, path) {
+        Some(file) => file,
         // Opening a pipe would wait for who writes to it.
-        Err(_) if is_regular_or_none(rt, path) => fs::open(rt, path).ok()?,
-        Err(_) => return None,
+        None if is_regular_or_none(rt, path) => fs::open(rt, path).ok()?,
+        None => return None,
     };
     match file.try_lock() {
         Ok(()) => {}
@@ -87,6 +84,37 @@ pub(crate) fn locked(rt: &HostRuntime, path: &str, may_lack: bool) -> Option<Fil
     if Named::at(rt, path) != Some(named) {
         return None;
     }
+    Some(file)
+}
+
+// Makes a lock that is not there. Runs of other users open it too, whatever the mask of this one: it has its mode before it has its
+// name, so that a run that is killed in between leaves no lock that others cannot open. None where it is there already.
+fn make_lock(rt: &HostRuntime, path: &str) -> Option<File> {
+    if Named::at(rt, path).is_some() {
+        return None;
+    }
+    let number = process::id(rt.process());
+    let first = format!(in rt.alloc(); "{path}.pocsag.{number}.new").ok()?;
+    let first = first.as_str();
+    // A killed process with the same number may have left one.
+    let _ = fs::remove_file(rt, first);
+    if let Some(file) = readable_by_all(File::create_new(rt, first)) {
+        let named = fs::hard_link(rt, first, path);
+        let _ = fs::remove_file(rt, first);
+        match named {
+            Ok(()) => return Some(file),
+            Err(error) if error.kind() == ErrorKind::AlreadyExists => return None,
+            // Some file systems have no second names.
+            Err(_) => {}
+        }
+    }
+    readable_by_all(File::create_new(rt, path))
+}
+
+// The file that was made, which everybody may read now.
+fn readable_by_all(made: io::Result<File>) -> Option<File> {
+    let file = made.ok()?;
+    let _ = file.set_permissions(Permissions::from_mode(ALL_READ));
     Some(file)
 }
 

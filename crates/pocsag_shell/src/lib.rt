@@ -8,6 +8,7 @@ mod diagnostics;
 mod error_stream;
 mod fault;
 mod files;
+mod folder;
 mod group;
 mod left_over;
 mod lines;
@@ -16,10 +17,12 @@ mod memory_streams;
 mod note;
 mod page_note;
 mod paths;
+mod placement;
 mod program;
 mod role;
 mod staged_file;
 mod streams;
+mod system_folder;
 mod tables;
 mod words;
 
@@ -33,16 +36,19 @@ pub use files::{
     load_file, open_output, open_outputs, open_source, refuse_input, refuse_one_file,
     refuse_shared, write_over,
 };
+pub use folder::Folder;
 pub use group::{Both, Call, Group, Tables};
 pub use lines::{print, print_fault, print_numbers, put_whole};
 pub use loaded::Loaded;
 pub use memory_streams::MemoryStreams;
 pub use page_note::{first_asked, note_record};
 pub use paths::{Named, equal_paths, refuse_equal};
+pub use placement::put_files;
 pub use program::run;
 pub use role::{NamedFile, Names, Role};
-pub use staged_file::{StagedFile, put_files};
+pub use staged_file::StagedFile;
 pub use streams::{Input, Output};
+pub use system_folder::{SystemFolder, put_staged};
 pub use tables::command;
 pub use words::{
     ALWAYS, ALWAYS_FLAG, CERT, CERT_PLACE, Content, EXPECT, FLAG, Given, KEEP, KEEP_FLAG, LineWord,

@@ -2,6 +2,7 @@ ghost use Rattle.std.specs.Prelude.{◌≤◌, length};
 
 use pocsag_words::{DeviceFault, Source};
 use std::alloc::Global;
+use std::mem;
 
 /// What was read of a file or a stream, as a source over memory: its bytes up to its end, or, where the system refused to read
 /// on, those in front of that place, at which every call fails.
@@ -70,8 +71,10 @@ impl Source for Loaded {
         Some(&self.bytes[self.place..])
     }
 
-    fn release(&mut self) {
-        self.bytes = Vec::new(self.alloc);
-        self.place = 0;
+    fn take_all(&mut self) -> Option<Vec<u8>> {
+        if self.is_cut || self.place > 0 {
+            return None;
+        }
+        Some(mem::replace(&mut self.bytes, Vec::new(self.alloc)))
     }
 }

@@ -65,7 +65,7 @@ pub fn run_wav<T: Source, O: Sink, E: Sink + Drop>(
             break 'written Err(SoundFault::File(FileFault::TooLarge));
         }
         let sounded = put_sound(keying, bytes, out);
-        tx.release();
+        tx.take_all();
         sounded
     };
     err.end(done)

@@ -9,12 +9,9 @@ preamble_byte = 0xaa
 abbrev pub preamble_length : ℕ
 preamble_length = 72
 
--- The words of a batch, a synchronisation codeword and sixteen codewords, and its bytes.
+-- The words of a batch: a synchronisation codeword and sixteen codewords.
 abbrev pub batch_words : ℕ
 batch_words = 17
-
-abbrev pub batch_bytes : ℕ
-batch_bytes = 68
 
 -- The bits of a transmission of so many batches: a preamble of 576, and 544 of each batch, which are
 -- those of a synchronisation codeword and sixteen codewords of 32 bits.

@@ -6,8 +6,8 @@ ghost use Rattle.pocsag_words.specs.Kinds.{kind_of, address_kind};
 use crate::checks::{DATA_UNIT, check_bits, is_codeword};
 use std::marker::Model;
 
-/// The idle codeword.
-pub(crate) const IDLE: u32 = 0x7A89_C197;
+/// The idle codeword, a rule of Annex 1.
+pub const IDLE_WORD: u32 = 0x7A89_C197;
 
 /// The 21 data bits of the message codeword with no message bit set.
 pub(crate) const MESSAGE: u32 = 0x10_0000;

@@ -1,4 +1,4 @@
-ghost use Rattle.std.specs.Prelude.{◌≡◌, ℕ, ◌<◌, ◌≤◌, List, [], ◌++◌, length, take, IfOk, IfSome, OnOk, OnErr};
+ghost use Rattle.std.specs.Prelude.{◌≡◌, ℕ, ◌<◌, ◌≤◌, List, [], ◌++◌, length, take, IfNone, IfOk, IfSome, OnOk, OnErr};
 ghost use Rattle.pocsag_words.specs.Devices.{CallsPerByte, CountsFailures, Delivers, one_more};
 
 use thiserror::Error;
@@ -31,19 +31,23 @@ pub trait Source {
         ensures succeeded { OnOk result (failures self.new ≡ failures self.old) }
         ensures failed { OnErr result (failures self.new ≡ one_more (failures self.old)) };
 
-    /// The bytes that are held, where all of them are in memory and no call fails before their end. Whoever takes them in
-    /// place of reads says so by `release`.
+    /// The bytes that are held, where all of them are in memory and no call fails before their end. No call of the device is made.
     fn lent(&self) -> Option<&[u8]>
         ensures lent { is_known → IfSome result (λ bytes. bytes.now ≡ held self.now) }
     {
         None
     }
 
-    /// Lets go what was lent: it counts as read. No call of the device is made.
-    fn release(&mut self)
+    /// Takes away the bytes that are held, where the device owns all of them and no call fails before their end. No call of the
+    /// device is made.
+    fn take_all(&mut self) -> Option<Vec<u8>>
+        ensures taken { is_known → IfSome result (λ bytes. bytes.items ≡ held self.old) }
+        ensures kept { is_known → IfNone result (held self.new ≡ held self.old) }
         ensures calls { calls self.new ≡ calls self.old }
         ensures failures { failures self.new ≡ failures self.old }
-    {}
+    {
+        None
+    }
 }
 
 /// A writer. `write` takes some bytes of the front of the piece, at least 1 of a non-empty piece,

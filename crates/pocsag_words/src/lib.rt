@@ -17,7 +17,7 @@ mod memory_source;
 mod refusal;
 mod slice_source;
 
-pub use codeword::{Kind, Word, address_word, from_raw, message_word};
+pub use codeword::{IDLE_WORD, Kind, Word, address_word, from_raw, message_word};
 pub use correction::repair;
 pub use device::{DeviceFault, Sink, Source, write_all};
 pub use ending::End;
@@ -28,7 +28,7 @@ pub use frame::{
 pub use growing_sink::GrowingSink;
 pub use lanes::check_all;
 pub use laws::numbers_are_repaired;
-pub use meaning::kind;
+pub use meaning::{kind, kind_of_number};
 pub use memory_sink::MemorySink;
 pub use memory_source::MemorySource;
 pub use refusal::{OutOfMemory, WriteFault};

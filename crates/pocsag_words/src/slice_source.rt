@@ -45,8 +45,4 @@ impl<'a> Source for SliceSource<'a> {
     fn lent(&self) -> Option<&[u8]> {
         Some(self.rest)
     }
-
-    fn release(&mut self) {
-        self.rest = &[];
-    }
 }

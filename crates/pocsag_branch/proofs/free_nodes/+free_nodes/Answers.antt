@@ -89,8 +89,8 @@ free_children-returns-in_err-narrowed-clause-node t c =
     let p = err_from_is_err_and c.from_residual.result c.from_residual.ensures.1 in
     rw p.1 tt
 
-pub free_children-returns-in_err-narrowed-clause-halt : goal.free_children-returns-in_err-narrowed-clause-halt
-free_children-returns-in_err-narrowed-clause-halt t c =
+pub free_children-returns-in_err-narrowed-clause-early_end : goal.free_children-returns-in_err-narrowed-clause-early_end
+free_children-returns-in_err-narrowed-clause-early_end t c =
     let p = err_from_is_err_and c.from_residual.result c.from_residual.ensures.1 in
     rw (p.1, p.2) tt
 
@@ -99,19 +99,19 @@ free_children-returns-in_err-child-clause-node t c =
     let p = err_from_is_err_and c.from_residual-in_err-child.result c.from_residual-in_err-child.ensures.1 in
     rw p.1 tt
 
-pub free_children-returns-in_err-child-clause-halt : goal.free_children-returns-in_err-child-clause-halt
-free_children-returns-in_err-child-clause-halt t c =
+pub free_children-returns-in_err-child-clause-early_end : goal.free_children-returns-in_err-child-clause-early_end
+free_children-returns-in_err-child-clause-early_end t c =
     let p = err_from_is_err_and c.from_residual-in_err-child.result c.from_residual-in_err-child.ensures.1 in
     rw (p.1, p.2)
-    (rw (c.deref.ensures, c.in_ok-narrowed.ensures.classes, c.in_ok-narrowed.ensures.task) at c.in_err-child.ensures.halt)
+    (rw (c.deref.ensures, c.in_ok-narrowed.ensures.classes, c.in_ok-narrowed.ensures.task) at c.in_err-child.ensures.early_end)
 
 pub free_children-returns-in_err-push-clause-node : goal.free_children-returns-in_err-push-clause-node
 free_children-returns-in_err-push-clause-node t c =
     let p = err_from_is_err_and c.from_residual-in_err-push.result c.from_residual-in_err-push.ensures.1 in
     rw p.1 tt
 
-pub free_children-returns-in_err-push-clause-halt : goal.free_children-returns-in_err-push-clause-halt
-free_children-returns-in_err-push-clause-halt t c =
+pub free_children-returns-in_err-push-clause-early_end : goal.free_children-returns-in_err-push-clause-early_end
+free_children-returns-in_err-push-clause-early_end t c =
     let p = err_from_is_err_and c.from_residual-in_err-push.result c.from_residual-in_err-push.ensures.1 in
     rw (p.1, p.2) tt
 
@@ -120,28 +120,28 @@ free_close-returns-in_err-children-clause-node t c =
     let p = err_from_is_err_and c.from_residual.result c.from_residual.ensures.1 in
     rw p.1 tt
 
-pub free_close-returns-in_err-children-clause-halt : goal.free_close-returns-in_err-children-clause-halt
-free_close-returns-in_err-children-clause-halt t c =
+pub free_close-returns-in_err-children-clause-early_end : goal.free_close-returns-in_err-children-clause-early_end
+free_close-returns-in_err-children-clause-early_end t c =
     let p = err_from_is_err_and c.from_residual.result c.from_residual.ensures.1 in
-    rw (p.1, p.2) c.in_err-children.ensures.halt
+    rw (p.1, p.2) c.in_err-children.ensures.early_end
 
 pub free_cut-returns-in_err-children-clause-node : goal.free_cut-returns-in_err-children-clause-node
 free_cut-returns-in_err-children-clause-node t c =
     let p = err_from_is_err_and c.from_residual.result c.from_residual.ensures.1 in
     rw p.1 tt
 
-pub free_cut-returns-in_err-children-clause-halt : goal.free_cut-returns-in_err-children-clause-halt
-free_cut-returns-in_err-children-clause-halt t c =
+pub free_cut-returns-in_err-children-clause-early_end : goal.free_cut-returns-in_err-children-clause-early_end
+free_cut-returns-in_err-children-clause-early_end t c =
     let p = err_from_is_err_and c.from_residual.result c.from_residual.ensures.1 in
-    rw (p.1, p.2) c.in_err-children.ensures.halt
+    rw (p.1, p.2) c.in_err-children.ensures.early_end
 
 pub free_split-returns-in_err-under-clause-node : goal.free_split-returns-in_err-under-clause-node
 free_split-returns-in_err-under-clause-node t c =
     let p = err_from_is_err_and c.from_residual.result c.from_residual.ensures.1 in
     rw p.1 tt
 
-pub free_split-returns-in_err-under-clause-halt : goal.free_split-returns-in_err-under-clause-halt
-free_split-returns-in_err-under-clause-halt t c =
+pub free_split-returns-in_err-under-clause-early_end : goal.free_split-returns-in_err-under-clause-early_end
+free_split-returns-in_err-under-clause-early_end t c =
     let p = err_from_is_err_and c.from_residual.result c.from_residual.ensures.1 in
     rw (p.1, p.2) tt
 
@@ -150,19 +150,19 @@ free_split-returns-in_err-below-clause-node t c =
     let p = err_from_is_err_and c.from_residual-in_err-below.result c.from_residual-in_err-below.ensures.1 in
     rw p.1 tt
 
-pub free_split-returns-in_err-below-clause-halt : goal.free_split-returns-in_err-below-clause-halt
-free_split-returns-in_err-below-clause-halt t c =
+pub free_split-returns-in_err-below-clause-early_end : goal.free_split-returns-in_err-below-clause-early_end
+free_split-returns-in_err-below-clause-early_end t c =
     let p = err_from_is_err_and c.from_residual-in_err-below.result c.from_residual-in_err-below.ensures.1 in
     rw (p.1, p.2)
-    (rw (c.deref.ensures, c.in_ok-under.ensures.classes, c.in_ok-under.ensures.task) at c.in_err-below.ensures.halt)
+    (rw (c.deref.ensures, c.in_ok-under.ensures.classes, c.in_ok-under.ensures.task) at c.in_err-below.ensures.early_end)
 
 pub free_split-returns-in_err-over-clause-node : goal.free_split-returns-in_err-over-clause-node
 free_split-returns-in_err-over-clause-node t c =
     let p = err_from_is_err_and c.from_residual-in_err-over.result c.from_residual-in_err-over.ensures.1 in
     rw p.1 tt
 
-pub free_split-returns-in_err-over-clause-halt : goal.free_split-returns-in_err-over-clause-halt
-free_split-returns-in_err-over-clause-halt t c =
+pub free_split-returns-in_err-over-clause-early_end : goal.free_split-returns-in_err-over-clause-early_end
+free_split-returns-in_err-over-clause-early_end t c =
     let p = err_from_is_err_and c.from_residual-in_err-over.result c.from_residual-in_err-over.ensures.1 in
     rw (p.1, p.2) tt
 
@@ -171,36 +171,36 @@ free_split-returns-in_err-from-clause-node t c =
     let p = err_from_is_err_and c.from_residual-in_err-from.result c.from_residual-in_err-from.ensures.1 in
     rw p.1 tt
 
-pub free_split-returns-in_err-from-clause-halt : goal.free_split-returns-in_err-from-clause-halt
-free_split-returns-in_err-from-clause-halt t c =
+pub free_split-returns-in_err-from-clause-early_end : goal.free_split-returns-in_err-from-clause-early_end
+free_split-returns-in_err-from-clause-early_end t c =
     let p = err_from_is_err_and c.from_residual-in_err-from.result c.from_residual-in_err-from.ensures.1 in
     rw (p.1, p.2)
-    (rw (c.deref-2.ensures, c.in_ok-over.ensures.classes, c.in_ok-over.ensures.task) at c.in_err-from.ensures.halt)
+    (rw (c.deref-2.ensures, c.in_ok-over.ensures.classes, c.in_ok-over.ensures.task) at c.in_err-from.ensures.early_end)
 
 pub free_split-returns-in_err-tree-clause-node : goal.free_split-returns-in_err-tree-clause-node
 free_split-returns-in_err-tree-clause-node t c =
     let p = err_from_is_err_and c.from_residual-in_err-tree.result c.from_residual-in_err-tree.ensures.1 in
     rw p.1 tt
 
-pub free_split-returns-in_err-tree-clause-halt : goal.free_split-returns-in_err-tree-clause-halt
-free_split-returns-in_err-tree-clause-halt t c =
+pub free_split-returns-in_err-tree-clause-early_end : goal.free_split-returns-in_err-tree-clause-early_end
+free_split-returns-in_err-tree-clause-early_end t c =
     let p = err_from_is_err_and c.from_residual-in_err-tree.result c.from_residual-in_err-tree.ensures.1 in
     rw (p.1, p.2) tt
 
 pub free_node-returns-in-Cut-clause-node : goal.free_node-returns-in-Cut-clause-node
 free_node-returns-in-Cut-clause-node t c = c.free_cut.ensures.node
 
-pub free_node-returns-in-Cut-clause-halt : goal.free_node-returns-in-Cut-clause-halt
-free_node-returns-in-Cut-clause-halt t c = c.free_cut.ensures.halt
+pub free_node-returns-in-Cut-clause-early_end : goal.free_node-returns-in-Cut-clause-early_end
+free_node-returns-in-Cut-clause-early_end t c = c.free_cut.ensures.early_end
 
 pub free_node-returns-in-Split-clause-node : goal.free_node-returns-in-Split-clause-node
 free_node-returns-in-Split-clause-node t c = c.free_split.ensures.node
 
-pub free_node-returns-in-Split-clause-halt : goal.free_node-returns-in-Split-clause-halt
-free_node-returns-in-Split-clause-halt t c = c.free_split.ensures.halt
+pub free_node-returns-in-Split-clause-early_end : goal.free_node-returns-in-Split-clause-early_end
+free_node-returns-in-Split-clause-early_end t c = c.free_split.ensures.early_end
 
 pub free_node-returns-in-Close-clause-node : goal.free_node-returns-in-Close-clause-node
 free_node-returns-in-Close-clause-node t c = c.free_close.ensures.node
 
-pub free_node-returns-in-Close-clause-halt : goal.free_node-returns-in-Close-clause-halt
-free_node-returns-in-Close-clause-halt t c = c.free_close.ensures.halt
+pub free_node-returns-in-Close-clause-early_end : goal.free_node-returns-in-Close-clause-early_end
+free_node-returns-in-Close-clause-early_end t c = c.free_close.ensures.early_end

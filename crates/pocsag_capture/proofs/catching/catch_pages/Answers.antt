@@ -1,27 +1,103 @@
-use Rattle.pocsag_capture.proofs.PageEnds.{as_many_cuts, catch_is, pages_of_lift, uncut_pages_stand}
+use Rattle.std.proofs.Common.{ℕ, ◌+◌, ◌-◌, ◌*◌, ◌/◌, ◌%◌, ◌++◌, Bool, Option, refl, sym, ap, subst, ◌∙◌, arith}
+use Rattle.std.specs.Prelude.{IsTrue, nat_le, option_to_list}
+use Rattle.pocsag_words.specs.Kinds.{kind_of}
+use Rattle.pocsag_words.specs.declared.codeword.Kind.{Kind}
+use Rattle.pocsag_decode.specs.Places.{is_message}
+use Rattle.pocsag_pager.specs.Shown.{said}
+use Rattle.pocsag_capture.specs.Bits.{capture_bits}
+use Rattle.pocsag_capture.specs.TakenWords.{cut_by, settled}
+use Rattle.pocsag_capture.specs.declared.catching.Catch.{Catch}
+use Rattle.pocsag_capture.specs.declared.corrector.WordCorrector.{WordCorrector}
+use Rattle.pocsag_capture.proofs.Lifts.{first_long}
+use Rattle.pocsag_capture.proofs.PageEnds.{IsCaught, as_many_cuts, catching_all, catching_none, catching_sync, catching_word, message_by, uncut_pages_stand}
 use Rattle.pocsag_capture.proofs.catching.catch_pages.Goals as goal
 
+pub take_sync-requires-clause-corrected : goal.take_sync-requires-clause-corrected
+take_sync-requires-clause-corrected c =
+    omega (arith, c.loop-place.invariant.settling.few_bits, first_long (capture_bits c.args.capture.now) c.args.reception c.loop-place.place)
+
+pub take_sync-requires-clause-lost : goal.take_sync-requires-clause-lost
+take_sync-requires-clause-lost c =
+    omega (arith, c.loop-place.invariant.settling.few_lost, first_long (capture_bits c.args.capture.now) c.args.reception c.loop-place.place)
+
+pub take-settled-requires-clause-corrected : goal.take-settled-requires-clause-corrected
+take-settled-requires-clause-corrected c =
+    omega (arith, c.loop-place.invariant.settling.few_bits, first_long (capture_bits c.args.capture.now) c.args.reception c.loop-place.place)
+
+pub take-settled-requires-clause-lost : goal.take-settled-requires-clause-lost
+take-settled-requires-clause-lost c =
+    omega (arith, c.loop-place.invariant.settling.few_lost, first_long (capture_bits c.args.capture.now) c.args.reception c.loop-place.place)
+
+pub take-settled-requires-clause-cut : goal.take-settled-requires-clause-cut
+take-settled-requires-clause-cut c =
+    omega (arith, c.loop-place.invariant.settling.few_cuts, first_long (capture_bits c.args.capture.now) c.args.reception c.loop-place.place)
+
+pub take-requires-clause-follows : goal.take-requires-clause-follows
+take-requires-clause-follows c message =
+    let takes = c.take-settled.ensures in
+    subst (λ (b : Bool). IsTrue b) (sym c.loop-place.invariant.open_page)
+    (message_by c.loop-place.corrector.is_open (said takes.mended) (kind_of (settled c.take-settled.result.kept)) takes.kind
+    (subst (λ (k : Kind). IsTrue (is_message k)) c.kind.ensures.kind message))
+
+pub loop-place-init : goal.loop-place-init
+loop-place-init c =
+    catching_none c.steady_batches-steady.result _ _ c.new-cuts.result.items refl refl refl refl c.new.ensures.items refl c.new-cuts.ensures.items
+
+pub loop-place-preserved-then-place-eq0 : goal.loop-place-preserved-then-place-eq0
+loop-place-preserved-then-place-eq0 c =
+    catching_sync (capture_bits c.args.capture.now) c.args.reception c.loop-place.place c.received_word-word.result c.steady_batches-steady.result
+    c.loop-place.corrector c.take_sync.new.self c.loop-place.growing c.loop-place.cuts.items c.received_word-word.ensures c.loop-place.invariant
+    c.if-place-eq0.true c.take_sync.ensures.bits c.take_sync.ensures.open_page c.take_sync.ensures.lost c.take_sync.ensures.cut
+
+pub loop-place-preserved : goal.loop-place-preserved
+loop-place-preserved c =
+    catching_word (capture_bits c.args.capture.now) c.args.reception c.loop-place.place c.received_word-word.result c.steady_batches-steady.result
+    c.loop-place.corrector c.take-settled.new.self c.loop-place.growing c.loop-place.cuts.items c.received_word-word.ensures c.loop-place.invariant
+    (settled c.take-settled.result.kept) ((c.loop-place.place % 17 - 1) / 2) c.kind.result
+    (nat_le (17 * c.steady_batches-steady.result) c.loop-place.place) c.take-settled.result.ended c.take.new.self c.note_end.new.cuts.items
+    c.if-place-eq0.false refl refl c.kind.ensures.kind c.take-settled.ensures c.in_ok-note_end.ensures c.in_ok-take.ensures.reads
+    c.in_ok-take.ensures.current
+
+pub close-ended-requires : goal.close-ended-requires
+close-ended-requires c =
+    omega (arith, c.loop-place.invariant.settling.few_cuts, first_long (capture_bits c.args.capture.now) c.args.reception c.loop-place.place)
+
+abbrev pub caught_there : goal.Joined-growing-5 → Catch
+caught_there c = record {
+  number = c.args.number;
+  heard = record {
+    reception = c.args.reception;
+    steady = c.steady_batches-steady.result;
+    corrected = c.close-ended.new.self.corrected;
+    lost = c.close-ended.new.self.lost;
+    cut = c.close-ended.new.self.cut;
+  };
+  pages = c.in_ok-finish.field-0;
+  cuts = c.note_end-2.new.cuts;
+}
+
+pub is_caught : (c : goal.Joined-growing-5) → IsCaught (capture_bits c.args.capture.now) (caught_there c)
+is_caught c =
+    let last = c.close-ended.ensures.cut in
+    let ended = c.close-ended.ensures.ended in
+    catching_all (capture_bits c.args.capture.now) (caught_there c) c.loop-place.place c.loop-place.corrector c.loop-place.growing c.loop-place.cuts.items
+    (omega arith) c.steady_batches-steady.ensures (ap (λ (s : WordCorrector). s.corrected) last) (ap (λ (s : WordCorrector). s.lost) last)
+    (ap (λ (s : WordCorrector). s.cut) last ∙ ap (λ (e : Option Bool). c.loop-place.corrector.cut + cut_by e) ended)
+    (c.in_ok-note_end-2.ensures ∙ ap (λ (e : Option Bool). c.loop-place.cuts.items ++ option_to_list e) ended) c.in_ok-finish.ensures.same
+    c.loop-place.invariant
+
 pub returns-clause-caught : goal.returns-clause-caught
-returns-clause-caught c =
-    let capture = c.args.capture.now in
-    let r = c.args.reception in
-    let start = c.in_ok-bytes.bytes.items in
-    let bytes = c.put_lift.new.bytes.items in
-    let heard = c.in_ok-heard.heard in
-    let pages = pages_of_lift capture r start bytes c.as_slice.result.now heard c.in-Ok.pages.items c.readings_of_bytes_are_one.ensures
-    c.in_ok-bytes.ensures c.requires.some c.in_ok-heard.ensures.same c.in_ok-heard.ensures.extracted c.as_slice.ensures.value c.in-Ok.ensures.decoded in
-    catch_is capture r start bytes _ c.in_ok-heard.ensures.same c.in_ok-heard.ensures.extracted pages c.in_ok-cuts.ensures
+returns-clause-caught c = (is_caught c).is
 
 pub returns-clause-whole : goal.returns-clause-whole
 returns-clause-whole c =
-    let pages = pages_of_lift c.args.capture.now c.args.reception c.in_ok-bytes.bytes.items c.put_lift.new.bytes.items c.as_slice.result.now
-    c.in_ok-heard.heard c.in-Ok.pages.items c.readings_of_bytes_are_one.ensures c.in_ok-bytes.ensures c.requires.some c.in_ok-heard.ensures.same
-    c.in_ok-heard.ensures.extracted c.as_slice.ensures.value c.in-Ok.ensures.decoded in
-    uncut_pages_stand _ c.in-Ok.pages.items c.in_ok-cuts.cuts.items pages c.in_ok-cuts.ensures
+    let is = (is_caught c).is in
+    uncut_pages_stand _ (16 * c.steady_batches-steady.result) c.in_ok-finish.field-0.items c.note_end-2.new.cuts.items is.pages is.cuts
 
 pub returns-clause-long : goal.returns-clause-long
 returns-clause-long c =
-    let pages = pages_of_lift c.args.capture.now c.args.reception c.in_ok-bytes.bytes.items c.put_lift.new.bytes.items c.as_slice.result.now
-    c.in_ok-heard.heard c.in-Ok.pages.items c.readings_of_bytes_are_one.ensures c.in_ok-bytes.ensures c.requires.some c.in_ok-heard.ensures.same
-    c.in_ok-heard.ensures.extracted c.as_slice.ensures.value c.in-Ok.ensures.decoded in
-    as_many_cuts _ c.in-Ok.pages.items c.in_ok-cuts.cuts.items pages c.in_ok-cuts.ensures
+    let is = (is_caught c).is in
+    as_many_cuts _ (16 * c.steady_batches-steady.result) c.in_ok-finish.field-0.items c.note_end-2.new.cuts.items is.pages is.cuts
+
+pub returns-clause-listable : goal.returns-clause-listable
+returns-clause-listable c = (is_caught c).listable

@@ -7,4 +7,4 @@ use Rattle.pocsag_capture.proofs.lift.put_lift.Given as goal
 
 abbrev pub invariant-loop-place : goal.invariant-loop-place
 invariant-loop-place l =
-    IsSettling (map (received_word (capture_bits l.capture) l.reception) (range_with_len 0 l.place)) l.corrector l.initial.bytes.items l.bytes.items
+    IsSettling (map (received_word (capture_bits l.capture) l.reception) (range_with_len 0 l.place)) l.steady l.corrector l.initial.bytes.items l.bytes.items

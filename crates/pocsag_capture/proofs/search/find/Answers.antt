@@ -18,6 +18,6 @@ pub returns-in-Some-clause-there : goal.returns-in-Some-clause-there
 returns-in-Some-clause-there c =
     synchronised_at c.args.capture.now c.loop-bit.bit c.word_on.result c.in-Some.polarity c.word_on.ensures (omega arith) c.in-Some.ensures.near
 
-pub returns-clause-none : goal.returns-clause-none
-returns-clause-none c =
-    quiet_more _ _ _ _ c.loop-bit.invariant.quiet (quiet_end (capture_bits c.args.capture.now) c.loop-bit.bit (omega (arith, bits_long c.args.capture.now)))
+pub returns-else-bit-end-clause-none : goal.returns-else-bit-end-clause-none
+returns-else-bit-end-clause-none c =
+    quiet_more _ _ _ _ c.loop-bit.invariant.quiet (quiet_end (capture_bits c.args.capture.now) c.loop-bit.bit c.args.last (omega (arith, bits_long c.args.capture.now)))

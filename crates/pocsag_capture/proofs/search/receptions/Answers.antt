@@ -1,6 +1,8 @@
-use Rattle.std.proofs.Common.{arith}
+use Rattle.std.proofs.Common.{ℕ, arith, subst, sym}
 use Rattle.pocsag_capture.specs.Bits.{capture_bits}
+use Rattle.pocsag_capture.specs.Receptions.{IsQuiet}
 use Rattle.pocsag_capture.proofs.SearchLemmas.{found_all, found_more, found_same, run_begins}
+use Rattle.pocsag_capture.proofs.Windows.{bits_long}
 use Rattle.pocsag_capture.proofs.search.receptions.Goals as goal
 
 pub loop-place-preserved-then-counts : goal.loop-place-preserved-then-counts
@@ -27,5 +29,6 @@ loop-place-preserved c =
 
 pub returns : goal.returns
 returns c =
-    found_all (capture_bits c.args.capture.now) c.loop-place.first c.loop-place.held c.loop-place.found.items c.loop-place.invariant.so_far
-    c.in_default.ensures.none
+    let bits = capture_bits c.args.capture.now in
+    found_all bits c.loop-place.first c.loop-place.held c.loop-place.found.items c.loop-place.invariant.so_far
+    (subst (λ (n : ℕ). IsQuiet bits c.loop-place.first n) (sym (bits_long c.args.capture.now)) c.in_default.ensures.none)

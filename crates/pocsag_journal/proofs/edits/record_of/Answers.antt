@@ -1,10 +1,10 @@
 use Rattle.std.proofs.Common.{◌≡◌, ap, sym, ◌∙◌, subst, inl, inr}
 use Rattle.csv.specs.Reading.{strip_bom}
-use Rattle.pocsag_journal.specs.Quotes.{MayEnd, quoting_from}
-use Rattle.pocsag_journal.specs.declared.quote.Quoting.TheVariants as at
+use Rattle.pocsag_pages.specs.Quotings.{MayEnd, quoting_from}
+use Rattle.pocsag_pages.specs.declared.quoting.Quoting.TheVariants as at
 use Rattle.pocsag_journal.specs.LineTexts.{record_text}
-use Rattle.pocsag_journal.proofs.RowTexts.{empty_is, may_end, no_row, open_quote, row_is}
-use Rattle.pocsag_journal.proofs.Strays.{stray_byte, stray_quote}
+use Rattle.pocsag_pages.proofs.RowTexts.{empty_is, may_end, no_row, open_quote, row_is}
+use Rattle.pocsag_pages.proofs.Strays.{stray_byte, stray_quote}
 use Rattle.pocsag_journal.proofs.edits.record_of.Goals as goal
 
 pub returns-in-Open-clause-refused : goal.returns-in-Open-clause-refused

@@ -1,6 +1,6 @@
 use Rattle.std.proofs.Common.{◌≡◌, drop}
-use Rattle.pocsag_journal.specs.declared.quote.Quoting.TheVariants as at
-use Rattle.pocsag_journal.specs.Quotes.{quoting_from}
+use Rattle.pocsag_pages.specs.declared.quoting.Quoting.TheVariants as at
+use Rattle.pocsag_pages.specs.Quotings.{quoting_from}
 use Rattle.pocsag_journal.proofs.quote.quoting_of.Given as goal
 
 abbrev pub invariant-loop-byte : goal.invariant-loop-byte

@@ -1,4 +1,28 @@
+use Rattle.std.proofs.Common.{inl, [], ◌∷◌, ◌++◌, ◌∙◌, ap, append-nil, List, refl, sym}
+use Rattle.pocsag_open.specs.Plans.{failed_plan, Placing}
 use Rattle.pocsag_open.proofs.front.place_front.Goals as goal
 
 pub returns-in_default-clause-explained : goal.returns-in_default-clause-explained
 returns-in_default-clause-explained g c = c.in-Ok.ensures.planned.round
+
+pub returns-in_default-clause-unplaced : goal.returns-in_default-clause-unplaced
+returns-in_default-clause-unplaced g c =
+    record {
+      placed = [];
+      refused = refl;
+      outputs = λ known. c.leave-in_default.ensures.same known ∙ (c.in-Ok.ensures.same known ∙ sym (append-nil _));
+    }
+
+pub returns-in-Err-put-clause-unplaced : goal.returns-in-Err-put-clause-unplaced
+returns-in-Err-put-clause-unplaced g c =
+    let failed : List Placing = failed_plan c.args.asked.tx.now c.args.asked.cert.now c.in-Err-put.fault ∷ [] in
+    record {
+      placed = failed;
+      refused = inl refl;
+      outputs = λ known. c.in-Err-put.ensures.failed known ∙ ap (λ (l : List Placing). l ++ failed) (c.in-Ok.ensures.same known);
+    }
+
+pub returns-in-Err-clause-unplaced : goal.returns-in-Err-clause-unplaced
+returns-in-Err-clause-unplaced g c =
+    let un = c.in-Err.ensures.unplaced in
+    record { placed = un.placed; refused = un.refused; outputs = λ known. c.leave.ensures.same known ∙ un.outputs known }

@@ -1,7 +1,7 @@
-use Rattle.std.proofs.Common.{refl, subst, sym}
+use Rattle.std.proofs.Common.{inl, [], ◌∷◌, ◌∙◌, append-nil, refl, subst, sym}
 use Rattle.pocsag_journal.specs.declared.refusal.UndoneFault.{UndoneFault}
-use Rattle.pocsag_open.specs.Plans.{ExplainsFrontUndone}
-use Rattle.pocsag_open.proofs.Plans.{all_held, explains_front}
+use Rattle.pocsag_open.specs.Plans.{ExplainsFrontUndone, failed_plan}
+use Rattle.pocsag_open.proofs.Plans.{all_held, explains_front, unsent}
 use Rattle.pocsag_open.proofs.front.send_front.Goals as goal
 
 pub returns-in-Ok-front_stream-clause-planned : goal.returns-in-Ok-front_stream-clause-planned
@@ -30,3 +30,16 @@ returns-clause-explained g c =
     (sym c.undone.ensures)
     (explains_front c.args.settings.now.on_limit c.args.asked.end c.args.asked.batches c.args.book.now c.in-Err-Stream.fault
     (rw c.in-Err-Stream.field-0-is at c.in-Err-Stream.ensures.explained))
+
+pub returns-clause-unplaced : goal.returns-clause-unplaced
+returns-clause-unplaced g c =
+    rw c.undone.ensures
+    (unsent g.P.Output.Sink.failures _ _ _ _ _ _ _ _ _ c.in-Err-Stream.fault (rw c.in-Err-Stream.field-0-is at c.in-Err-Stream.ensures.writers) c.in-Ok.ensures.same)
+
+pub returns-in-Err-clause-unplaced : goal.returns-in-Err-clause-unplaced
+returns-in-Err-clause-unplaced g c =
+    record { placed = failed_plan c.args.asked.tx.now c.args.asked.cert.now c.in-Err.fault ∷ []; refused = inl refl; outputs = λ known. c.in-Err.ensures.failed known }
+
+pub returns-in-Err-FirstPage-clause-unplaced : goal.returns-in-Err-FirstPage-clause-unplaced
+returns-in-Err-FirstPage-clause-unplaced g c =
+    record { placed = []; refused = refl; outputs = λ known. c.in-Ok.ensures.same known ∙ sym (append-nil _) }

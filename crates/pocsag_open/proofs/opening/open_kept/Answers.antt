@@ -5,6 +5,7 @@ use Rattle.pocsag_journal.specs.Journals.{journal_limit}
 use Rattle.pocsag_journal.specs.Views.{IsHeld, disk_of}
 use Rattle.pocsag_open.specs.Ends.{AreCountless, HasGivenUp}
 use Rattle.pocsag_open.specs.KeptRounds.{HasFileFailed, begun, not_begun}
+use Rattle.pocsag_open.specs.Plans.{HasFailedOutput}
 use Rattle.pocsag_open.proofs.Ends.{wider}
 use Rattle.pocsag_open.proofs.KeptRounds.{anew_explains, held_anew, left_anew, left_read, of_disk, only_anew, only_kept}
 use Rattle.pocsag_open.proofs.opening.open_kept.Goals as goal
@@ -12,14 +13,14 @@ use Rattle.pocsag_open.proofs.opening.open_kept.Goals as goal
 pub returns-in_err-round-clause-survives : goal.returns-in_err-round-clause-survives
 returns-in_err-round-clause-survives g c = λ d f i o.
     not_begun refl (λ left now. inl (left_read g.D.Disk.moment g.D.Disk.left_since g.D.Disk.may_leave (λ disk t left le now. g.D.Disk.counts_now disk t left d le now)
-    g.P.OutputStore.is_known c.args.settings.now.on_limit (g.I.Source.held c.args.streams.now.input) (g.D.Disk.held (disk_of c.args.round.now.keeper))
+    g.P.OutputStore.is_known (HasFailedOutput g.P.Output.Sink.failures) c.args.settings.now.on_limit (g.I.Source.held c.args.streams.now.input) (g.D.Disk.held (disk_of c.args.round.now.keeper))
     (option_map g.F.Source.held c.args.streams.now.pages) (disk_of c.args.round.now.keeper) (disk_of c.read.new.self) (c.read.ensures.any_moment d) left now))
 
 pub returns-in_err-compact-clause-survives : goal.returns-in_err-compact-clause-survives
 returns-in_err-compact-clause-survives g c = λ d f i o.
     let begins = c.in_ok-round.ensures.begins f (g.D.Disk.held (disk_of c.args.round.now.keeper)) (c.in_ok-replayed.ensures.read d) (c.in_ok-replayed.ensures.few d) in
     not_begun refl (left_anew g.D.Disk.moment g.D.Disk.left_since g.D.Disk.may_leave (λ disk t left le now. g.D.Disk.counts_now disk t left d le now)
-    g.P.OutputStore.is_known c.args.settings.now.on_limit (g.I.Source.held c.args.streams.now.input) (g.D.Disk.held (disk_of c.args.round.now.keeper))
+    g.P.OutputStore.is_known (HasFailedOutput g.P.Output.Sink.failures) c.args.settings.now.on_limit (g.I.Source.held c.args.streams.now.input) (g.D.Disk.held (disk_of c.args.round.now.keeper))
     (option_map g.F.Source.held c.args.streams.now.pages) (disk_of c.args.round.now.keeper) (disk_of c.read.new.self) (c.read.ensures.any_moment d)
     (disk_of c.compact.new.self) c.in_ok-round.field-0 begins (c.compact.ensures.any_moment d))
 
@@ -27,7 +28,7 @@ pub returns-in_err-compact-clause-any_moment : goal.returns-in_err-compact-claus
 returns-in_err-compact-clause-any_moment g c = λ d f i o.
     let begins = c.in_ok-round.ensures.begins f (g.D.Disk.held (disk_of c.args.round.now.keeper)) (c.in_ok-replayed.ensures.read d) (c.in_ok-replayed.ensures.few d) in
     only_anew g.D.Disk.moment g.D.Disk.left_since g.D.Disk.may_leave (λ disk t left le now. g.D.Disk.counts_now disk t left d le now)
-    g.P.OutputStore.is_known c.args.settings.now.on_limit (g.I.Source.held c.args.streams.now.input) (g.D.Disk.held (disk_of c.args.round.now.keeper))
+    g.P.OutputStore.is_known (HasFailedOutput g.P.Output.Sink.failures) c.args.settings.now.on_limit (g.I.Source.held c.args.streams.now.input) (g.D.Disk.held (disk_of c.args.round.now.keeper))
     (option_map g.F.Source.held c.args.streams.now.pages) (disk_of c.args.round.now.keeper) (disk_of c.read.new.self) (c.read.ensures.any_moment d)
     (disk_of c.compact.new.self) c.in_ok-round.field-0 begins (c.compact.ensures.any_moment d)
 
@@ -68,7 +69,7 @@ returns-in-Ok-clause-any_moment g c = λ d f i o.
       c.in_ok-compact.ensures.sound known,
     ) in
     only_kept g.D.Disk.moment g.D.Disk.left_since g.D.Disk.may_leave (λ disk t left le now. g.D.Disk.counts_now disk t left d le now)
-    g.P.OutputStore.is_known c.args.settings.now.on_limit (g.I.Source.held c.args.streams.now.input) (g.D.Disk.held (disk_of c.args.round.now.keeper))
+    g.P.OutputStore.is_known (HasFailedOutput g.P.Output.Sink.failures) c.args.settings.now.on_limit (g.I.Source.held c.args.streams.now.input) (g.D.Disk.held (disk_of c.args.round.now.keeper))
     (option_map g.F.Source.held c.args.streams.now.pages) (disk_of c.args.round.now.keeper) (disk_of c.read.new.self) (c.read.ensures.any_moment d)
     (disk_of c.compact.new.self) c.in_ok-round.field-0 begins (c.compact.ensures.any_moment d) (disk_of c.run_open_kept.new.round.keeper)
     (of_disk g.D.Disk.moment g.D.Disk.left_since _ _ _ (c.run_open_kept.ensures.any_moment d i o stands))
@@ -94,7 +95,7 @@ returns-in-Err-clause-any_moment g c = λ d f i o.
       c.in_ok-compact.ensures.sound known,
     ) in
     only_kept g.D.Disk.moment g.D.Disk.left_since g.D.Disk.may_leave (λ disk t left le now. g.D.Disk.counts_now disk t left d le now)
-    g.P.OutputStore.is_known c.args.settings.now.on_limit (g.I.Source.held c.args.streams.now.input) (g.D.Disk.held (disk_of c.args.round.now.keeper))
+    g.P.OutputStore.is_known (HasFailedOutput g.P.Output.Sink.failures) c.args.settings.now.on_limit (g.I.Source.held c.args.streams.now.input) (g.D.Disk.held (disk_of c.args.round.now.keeper))
     (option_map g.F.Source.held c.args.streams.now.pages) (disk_of c.args.round.now.keeper) (disk_of c.read.new.self) (c.read.ensures.any_moment d)
     (disk_of c.compact.new.self) c.in_ok-round.field-0 begins (c.compact.ensures.any_moment d) (disk_of c.run_open_kept.new.round.keeper)
     (of_disk g.D.Disk.moment g.D.Disk.left_since _ _ _ (c.run_open_kept.ensures.any_moment d i o stands))

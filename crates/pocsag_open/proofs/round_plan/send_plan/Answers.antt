@@ -1,7 +1,7 @@
-use Rattle.std.proofs.Common.{refl, subst, sym}
-use Rattle.pocsag_open.specs.Plans.{ExplainsFiles, ExplainsUndone, HasFailedOutput}
+use Rattle.std.proofs.Common.{inl, [], ◌∷◌, refl, subst, sym}
+use Rattle.pocsag_open.specs.Plans.{ExplainsUndone, failed_plan}
 use Rattle.pocsag_journal.specs.declared.refusal.UndoneFault.{UndoneFault}
-use Rattle.pocsag_open.proofs.Plans.{all_held, explains, unsent_files}
+use Rattle.pocsag_open.proofs.Plans.{all_held, explains, unsent}
 use Rattle.pocsag_open.proofs.round_plan.send_plan.Goals as goal
 
 pub returns-in-Ok-bounded_stream-clause-planned : goal.returns-in-Ok-bounded_stream-clause-planned
@@ -23,9 +23,11 @@ returns-in-Err-bounded_stream-clause-explained g c =
     subst (λ (f : UndoneFault). ExplainsUndone c.args.settings.now.on_limit c.args.end c.args.book.now f) (sym c.undone.ensures)
     (explains _ _ _ _ c.in-Err-bounded_stream.fault refl c.in-Err-bounded_stream.ensures.explained)
 
-pub returns-in-Err-bounded_stream-clause-files : goal.returns-in-Err-bounded_stream-clause-files
-returns-in-Err-bounded_stream-clause-files g c = λ is_known.
-    subst (λ (f : UndoneFault). ExplainsFiles (c.args.tx.now, c.args.cert.now) (g.P.OutputStore.failures c.args.settings.now.store)
-    (g.P.OutputStore.failures c.make.new.self) (g.P.OutputStore.last_fault c.make.new.self) (HasFailedOutput g.P.Output.Sink.failures) f)
-    (sym c.undone.ensures)
-    (unsent_files g.P.Output.Sink.failures _ _ _ _ _ _ _ _ c.in-Err-bounded_stream.fault c.in-Err-bounded_stream.ensures.writers)
+pub returns-in-Err-bounded_stream-clause-unplaced : goal.returns-in-Err-bounded_stream-clause-unplaced
+returns-in-Err-bounded_stream-clause-unplaced g c =
+    rw c.undone.ensures
+    (unsent g.P.Output.Sink.failures _ _ _ _ _ _ _ _ _ c.in-Err-bounded_stream.fault c.in-Err-bounded_stream.ensures.writers c.in-Ok.ensures.same)
+
+pub returns-in-Err-clause-unplaced : goal.returns-in-Err-clause-unplaced
+returns-in-Err-clause-unplaced g c =
+    record { placed = failed_plan c.args.tx.now c.args.cert.now c.in-Err.fault ∷ []; refused = inl refl; outputs = λ known. c.in-Err.ensures.failed known }

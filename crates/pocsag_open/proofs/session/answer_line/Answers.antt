@@ -7,7 +7,7 @@ use Rattle.pocsag_decode.specs.PageFiles.{page_file}
 use Rattle.pocsag_journal.specs.declared.refusal.Refusal.TheVariants as refusal
 use Rattle.pocsag_journal.specs.declared.refusal.UndoneFault.TheVariants as undone
 use Rattle.pocsag_open.specs.Answers.{pages_answer, plan_answer}
-use Rattle.pocsag_open.specs.Plans.{placed_plan}
+use Rattle.pocsag_open.specs.Plans.{HasFailedOutput, placed_plan}
 use Rattle.pocsag_open.specs.Replies.{IsEditReply, IsRefusalPrinted, listed, noted, planned, read, refused, unread}
 use Rattle.pocsag_open.specs.Survival.{FrontRepliesAndPlaces, FrontRepliesTo, RepliesAndPlaces, RepliesTo}
 use Rattle.pocsag_open.proofs.Sessions.{edit_reply, front_reply, list_due, other_none, plan_due}
@@ -20,7 +20,7 @@ use Rattle.pocsag_open.proofs.session.answer_line.Goals as goal
 
 pub returns-in-Err-clause-replied : goal.returns-in-Err-clause-replied
 returns-in-Err-clause-replied g c = λ is_known.
-    told_as c.refuse.result _ _ _ _ _ _ _ (λ known. refl) (λ printed is. unread c.in-Err.refusal c.requires c.in-Err.ensures.refused refl is refl)
+    told_as c.refuse.result _ _ _ _ _ [] _ _ (λ known. sym (append-nil _)) (λ printed is. unread c.in-Err.refusal c.requires c.in-Err.ensures.refused refl is refl)
     (told_more c.refuse.result _ _ _ (IsRefusalPrinted c.in-Err.refusal) refl (c.refuse.ensures.printed is_known))
 
 pub returns-in-Ok-put_plan-clause-replied : goal.returns-in-Ok-put_plan-clause-replied
@@ -41,9 +41,10 @@ returns-in-Ok-put_plan-clause-replied g c = λ is_known.
 pub returns-in-None-clause-replied : goal.returns-in-None-clause-replied
 returns-in-None-clause-replied g c = λ is_known.
     let asks = subst (λ (most : Option ℕ). AsksPlan c.in-Plan.end most c.in-Plan.tx.now c.in-Plan.cert.now (fields_of c.in-Ok.row)) c.in-None.is c.in-Plan.ensures.asks in
-    told_as c.refuse-in-Err-put_plan.result _ _ _ _ _ _ _ c.in-Err-put_plan.ensures.same
+    let un = c.in-Err-put_plan.ensures.unplaced in
+    told_as c.refuse-in-Err-put_plan.result _ _ _ _ _ _ _ _ un.outputs
     (λ printed is. read _ c.requires c.in-Ok.ensures.spelled
-    (refused _ (plan_due _ _ None _ _ _ _ _ asks c.in-Plan.ensures.edit c.in-Err-put_plan.ensures.explained) refl is refl))
+    (refused _ (plan_due _ _ _ None _ _ _ _ _ _ asks c.in-Plan.ensures.edit c.in-Err-put_plan.ensures.explained un.refused) refl is))
     (told_more c.refuse-in-Err-put_plan.result _ _ _ (IsRefusalPrinted (refusal.Undone c.in-Err-put_plan.fault)) refl (c.refuse-in-Err-put_plan.ensures.printed is_known))
 
 pub returns-in-Ok-write_page_file-clause-replied : goal.returns-in-Ok-write_page_file-clause-replied
@@ -61,9 +62,9 @@ pub returns-in-Err-OutOfMemory-clause-replied : goal.returns-in-Err-OutOfMemory-
 returns-in-Err-OutOfMemory-clause-replied g c = λ is_known.
     let same : g.O.Sink.taken c.write_page_file.new.sink ≡ g.O.Sink.taken c.args.out.now =
     ap g.O.Sink.taken (c.write_page_file.ensures.untouched (c.in-Err-OutOfMemory.is ∙ ap Err c.in-Err-OutOfMemory.field-0-is)) in
-    told_as c.refuse-in-Err-OutOfMemory.result _ _ _ _ _ _ _ (λ known. refl)
+    told_as c.refuse-in-Err-OutOfMemory.result _ _ _ _ _ [] _ _ (λ known. sym (append-nil _))
     (λ printed is. read _ c.requires c.in-Ok.ensures.spelled
-    (refused _ (list_due _ _ _ c.in-List.ensures.asks c.in-List.ensures.edit) refl is refl))
+    (refused _ (list_due _ _ _ _ c.in-List.ensures.asks c.in-List.ensures.edit) refl is))
     (rw same at (told_more c.refuse-in-Err-OutOfMemory.result _ _ _ (IsRefusalPrinted (refusal.Undone undone.OutOfMemory)) refl (c.refuse-in-Err-OutOfMemory.ensures.printed is_known)))
 
 pub returns-in-Journal-clause-replied : goal.returns-in-Journal-clause-replied
@@ -76,13 +77,13 @@ pub returns-clause-replied : goal.returns-clause-replied
 returns-clause-replied g c = λ is_known.
     let neither =
     other_none c.line_of.result _ c.in_default.not-List c.in_default.not-Plan c.in_default.not-Journal c.line_of.ensures.asks in
-    told_as c.answer_edit.result _ _ _ _ _ _ _ (λ known. refl)
-    (λ printed is. read _ c.requires c.in-Ok.ensures.spelled (edit_reply _ _ _ _ _ _ neither is))
+    told_as c.answer_edit.result _ _ _ _ _ [] _ _ (λ known. sym (append-nil _))
+    (λ printed is. read _ c.requires c.in-Ok.ensures.spelled (edit_reply _ _ _ _ _ _ _ neither is))
     (c.answer_edit.ensures.replied is_known)
 
 pub returns-in-Err-clause-cut : goal.returns-in-Err-clause-cut
 returns-in-Err-clause-cut g c = λ keeps is_known stands.
-    cut_told c.refuse.result (RepliesAndPlaces g.P.OutputStore.is_known c.args.settings.now.on_limit c.args.line.now (g.P.OutputStore.placed c.args.settings.now.store) (g.P.OutputStore.placed c.args.settings.now.store)) c.args.round.now.book (g.O.Sink.taken c.args.out.now) (g.O.Sink.taken c.refuse.new.out)
+    cut_told c.refuse.result (RepliesAndPlaces g.P.OutputStore.is_known (HasFailedOutput g.P.Output.Sink.failures) c.args.settings.now.on_limit c.args.line.now (g.P.OutputStore.placed c.args.settings.now.store) (g.P.OutputStore.placed c.args.settings.now.store)) c.args.round.now.book (g.O.Sink.taken c.args.out.now) (g.O.Sink.taken c.refuse.new.out)
     g.K.Keeper.reads_as (g.K.Keeper.may_leave c.args.round.now.keeper) (IsRefusalPrinted c.in-Err.refusal)
     (λ printed is. ([], unread c.in-Err.refusal c.requires c.in-Err.ensures.refused refl is refl, λ known. sym (append-nil _)))
     (λ left now. g.K.Keeper.restarts c.args.round.now.keeper c.args.round.now.book left keeps stands now) (told_part c.refuse.result _ _ _ (IsRefusalPrinted c.in-Err.refusal) refl (c.refuse.ensures.printed is_known))
@@ -91,7 +92,7 @@ pub returns-in-Ok-put_plan-clause-cut : goal.returns-in-Ok-put_plan-clause-cut
 returns-in-Ok-put_plan-clause-cut g c = λ keeps is_known stands.
     let asks = subst (λ (most : Option ℕ). AsksPlan c.in-Plan.end most c.in-Plan.tx.now c.in-Plan.cert.now (fields_of c.in-Ok.row)) c.in-None.is c.in-Plan.ensures.asks in
     let done = c.in-Ok-put_plan.ensures.planned in
-    cut_due c.print_planned.result (RepliesAndPlaces g.P.OutputStore.is_known c.args.settings.now.on_limit c.args.line.now (g.P.OutputStore.placed c.args.settings.now.store) (g.P.OutputStore.placed c.put_plan.new.settings.store)) c.args.round.now.book (g.O.Sink.taken c.args.out.now) (g.O.Sink.taken c.print_planned.new.out)
+    cut_due c.print_planned.result (RepliesAndPlaces g.P.OutputStore.is_known (HasFailedOutput g.P.Output.Sink.failures) c.args.settings.now.on_limit c.args.line.now (g.P.OutputStore.placed c.args.settings.now.store) (g.P.OutputStore.placed c.put_plan.new.settings.store)) c.args.round.now.book (g.O.Sink.taken c.args.out.now) (g.O.Sink.taken c.print_planned.new.out)
     (plan_answer c.in-Ok-put_plan.planned.batches c.in-Ok-put_plan.planned.bound) g.K.Keeper.reads_as (g.K.Keeper.may_leave c.args.round.now.keeper) (
       placed_plan c.in-Plan.tx.now c.in-Plan.cert.now done.sent ∷ [],
       read _ c.requires c.in-Ok.ensures.spelled (planned _ _ _ _ _ _ asks done.planned refl refl refl),
@@ -101,14 +102,15 @@ returns-in-Ok-put_plan-clause-cut g c = λ keeps is_known stands.
 
 pub returns-in-None-clause-cut : goal.returns-in-None-clause-cut
 returns-in-None-clause-cut g c = λ keeps is_known stands.
+    let un = c.in-Err-put_plan.ensures.unplaced in
     let asks = subst (λ (most : Option ℕ). AsksPlan c.in-Plan.end most c.in-Plan.tx.now c.in-Plan.cert.now (fields_of c.in-Ok.row)) c.in-None.is c.in-Plan.ensures.asks in
-    cut_told c.refuse-in-Err-put_plan.result (RepliesAndPlaces g.P.OutputStore.is_known c.args.settings.now.on_limit c.args.line.now (g.P.OutputStore.placed c.args.settings.now.store) (g.P.OutputStore.placed c.put_plan.new.settings.store)) c.args.round.now.book (g.O.Sink.taken c.args.out.now)
+    cut_told c.refuse-in-Err-put_plan.result (RepliesAndPlaces g.P.OutputStore.is_known (HasFailedOutput g.P.Output.Sink.failures) c.args.settings.now.on_limit c.args.line.now (g.P.OutputStore.placed c.args.settings.now.store) (g.P.OutputStore.placed c.put_plan.new.settings.store)) c.args.round.now.book (g.O.Sink.taken c.args.out.now)
     (g.O.Sink.taken c.refuse-in-Err-put_plan.new.out) g.K.Keeper.reads_as (g.K.Keeper.may_leave c.args.round.now.keeper) (IsRefusalPrinted (refusal.Undone c.in-Err-put_plan.fault))
     (λ printed is. (
-      [],
+      un.placed,
       read _ c.requires c.in-Ok.ensures.spelled
-          (refused _ (plan_due _ _ None _ _ _ _ _ asks c.in-Plan.ensures.edit c.in-Err-put_plan.ensures.explained) refl is refl),
-      λ known. c.in-Err-put_plan.ensures.same known ∙ sym (append-nil _),
+          (refused _ (plan_due _ _ _ None _ _ _ _ _ _ asks c.in-Plan.ensures.edit c.in-Err-put_plan.ensures.explained un.refused) refl is),
+      un.outputs,
     ))
     (λ left now. g.K.Keeper.restarts c.args.round.now.keeper c.args.round.now.book left keeps stands now) (told_part c.refuse-in-Err-put_plan.result _ _ _ (IsRefusalPrinted (refusal.Undone c.in-Err-put_plan.fault)) refl (c.refuse-in-Err-put_plan.ensures.printed is_known))
 
@@ -116,7 +118,7 @@ pub returns-in-Ok-write_page_file-clause-cut : goal.returns-in-Ok-write_page_fil
 returns-in-Ok-write_page_file-clause-cut g c = λ keeps is_known stands.
     let pages = c.args.round.now.book in
     let whole = rw c.pages.ensures.pages at (c.in-Ok-write_page_file.ensures.whole is_known) in
-    cut_last c.print_pages.result (RepliesAndPlaces g.P.OutputStore.is_known c.args.settings.now.on_limit c.args.line.now (g.P.OutputStore.placed c.args.settings.now.store) (g.P.OutputStore.placed c.args.settings.now.store)) pages (g.O.Sink.taken c.args.out.now) (g.O.Sink.taken c.write_page_file.new.sink)
+    cut_last c.print_pages.result (RepliesAndPlaces g.P.OutputStore.is_known (HasFailedOutput g.P.Output.Sink.failures) c.args.settings.now.on_limit c.args.line.now (g.P.OutputStore.placed c.args.settings.now.store) (g.P.OutputStore.placed c.args.settings.now.store)) pages (g.O.Sink.taken c.args.out.now) (g.O.Sink.taken c.write_page_file.new.sink)
     (g.O.Sink.taken c.print_pages.new.out) (page_file pages) (pages_answer (length pages)) g.K.Keeper.reads_as (g.K.Keeper.may_leave c.args.round.now.keeper) whole
     ([], read _ c.requires c.in-Ok.ensures.spelled (listed c.in-List.ensures.asks refl refl refl), λ known. sym (append-nil _))
     (λ left now. g.K.Keeper.restarts c.args.round.now.keeper c.args.round.now.book left keeps stands now) ((c.print_pages.ensures.printed is_known).1)
@@ -125,11 +127,11 @@ pub returns-in-Err-OutOfMemory-clause-cut : goal.returns-in-Err-OutOfMemory-clau
 returns-in-Err-OutOfMemory-clause-cut g c = λ keeps is_known stands.
     let same : g.O.Sink.taken c.write_page_file.new.sink ≡ g.O.Sink.taken c.args.out.now =
     ap g.O.Sink.taken (c.write_page_file.ensures.untouched (c.in-Err-OutOfMemory.is ∙ ap Err c.in-Err-OutOfMemory.field-0-is)) in
-    cut_told c.refuse-in-Err-OutOfMemory.result (RepliesAndPlaces g.P.OutputStore.is_known c.args.settings.now.on_limit c.args.line.now (g.P.OutputStore.placed c.args.settings.now.store) (g.P.OutputStore.placed c.args.settings.now.store)) c.args.round.now.book (g.O.Sink.taken c.args.out.now)
+    cut_told c.refuse-in-Err-OutOfMemory.result (RepliesAndPlaces g.P.OutputStore.is_known (HasFailedOutput g.P.Output.Sink.failures) c.args.settings.now.on_limit c.args.line.now (g.P.OutputStore.placed c.args.settings.now.store) (g.P.OutputStore.placed c.args.settings.now.store)) c.args.round.now.book (g.O.Sink.taken c.args.out.now)
     (g.O.Sink.taken c.refuse-in-Err-OutOfMemory.new.out) g.K.Keeper.reads_as (g.K.Keeper.may_leave c.args.round.now.keeper) (IsRefusalPrinted (refusal.Undone undone.OutOfMemory))
     (λ printed is. (
       [],
-      read _ c.requires c.in-Ok.ensures.spelled (refused _ (list_due _ _ _ c.in-List.ensures.asks c.in-List.ensures.edit) refl is refl),
+      read _ c.requires c.in-Ok.ensures.spelled (refused _ (list_due _ _ _ _ c.in-List.ensures.asks c.in-List.ensures.edit) refl is),
       λ known. sym (append-nil _),
     ))
     (λ left now. g.K.Keeper.restarts c.args.round.now.keeper c.args.round.now.book left keeps stands now) (rw same at (told_part c.refuse-in-Err-OutOfMemory.result _ _ _ (IsRefusalPrinted (refusal.Undone undone.OutOfMemory)) refl (c.refuse-in-Err-OutOfMemory.ensures.printed is_known)))
@@ -137,7 +139,7 @@ returns-in-Err-OutOfMemory-clause-cut g c = λ keeps is_known stands.
 pub returns-in-List-clause-cut : goal.returns-in-List-clause-cut
 returns-in-List-clause-cut g c = λ keeps is_known stands.
     let pages = c.args.round.now.book in
-    cut_front (RepliesAndPlaces g.P.OutputStore.is_known c.args.settings.now.on_limit c.args.line.now (g.P.OutputStore.placed c.args.settings.now.store) (g.P.OutputStore.placed c.args.settings.now.store)) pages (g.O.Sink.taken c.args.out.now) (g.O.Sink.taken c.write_page_file.new.sink)
+    cut_front (RepliesAndPlaces g.P.OutputStore.is_known (HasFailedOutput g.P.Output.Sink.failures) c.args.settings.now.on_limit c.args.line.now (g.P.OutputStore.placed c.args.settings.now.store) (g.P.OutputStore.placed c.args.settings.now.store)) pages (g.O.Sink.taken c.args.out.now) (g.O.Sink.taken c.write_page_file.new.sink)
     (page_file pages) (pages_answer (length pages)) g.K.Keeper.reads_as (g.K.Keeper.may_leave c.args.round.now.keeper)
     ([], read _ c.requires c.in-Ok.ensures.spelled (listed c.in-List.ensures.asks refl refl refl), λ known. sym (append-nil _))
     (λ left now. g.K.Keeper.restarts c.args.round.now.keeper c.args.round.now.book left keeps stands now)
@@ -145,7 +147,7 @@ returns-in-List-clause-cut g c = λ keeps is_known stands.
 
 pub returns-in-Journal-clause-cut : goal.returns-in-Journal-clause-cut
 returns-in-Journal-clause-cut g c = λ keeps is_known stands.
-    cut_due c.print_pages-in-Journal.result (RepliesAndPlaces g.P.OutputStore.is_known c.args.settings.now.on_limit c.args.line.now (g.P.OutputStore.placed c.args.settings.now.store) (g.P.OutputStore.placed c.args.settings.now.store)) c.args.round.now.book (g.O.Sink.taken c.args.out.now)
+    cut_due c.print_pages-in-Journal.result (RepliesAndPlaces g.P.OutputStore.is_known (HasFailedOutput g.P.Output.Sink.failures) c.args.settings.now.on_limit c.args.line.now (g.P.OutputStore.placed c.args.settings.now.store) (g.P.OutputStore.placed c.args.settings.now.store)) c.args.round.now.book (g.O.Sink.taken c.args.out.now)
     (g.O.Sink.taken c.print_pages-in-Journal.new.out) (pages_answer (length c.args.round.now.book)) g.K.Keeper.reads_as (g.K.Keeper.may_leave c.args.round.now.keeper)
     ([], read _ c.requires c.in-Ok.ensures.spelled (noted c.in-Journal.ensures.asks refl refl refl), λ known. sym (append-nil _))
     (λ left now. g.K.Keeper.restarts c.args.round.now.keeper c.args.round.now.book left keeps stands now) ((c.print_pages-in-Journal.ensures.printed is_known).1)
@@ -156,29 +158,29 @@ returns-clause-cut g c = λ keeps is_known stands.
     other_none c.line_of.result _ c.in_default.not-List c.in_default.not-Plan c.in_default.not-Journal c.line_of.ensures.asks in
     on_err c.answer_edit.result _ _
     (cut_as (IsEditReply (fields_of c.in-Ok.row))
-    (RepliesAndPlaces g.P.OutputStore.is_known c.args.settings.now.on_limit c.args.line.now (g.P.OutputStore.placed c.args.settings.now.store) (g.P.OutputStore.placed c.args.settings.now.store)) c.args.round.now.book (g.O.Sink.taken c.args.out.now) (g.O.Sink.taken c.answer_edit.new.out) g.K.Keeper.reads_as
+    (RepliesAndPlaces g.P.OutputStore.is_known (HasFailedOutput g.P.Output.Sink.failures) c.args.settings.now.on_limit c.args.line.now (g.P.OutputStore.placed c.args.settings.now.store) (g.P.OutputStore.placed c.args.settings.now.store)) c.args.round.now.book (g.O.Sink.taken c.args.out.now) (g.O.Sink.taken c.answer_edit.new.out) g.K.Keeper.reads_as
     (g.K.Keeper.may_leave c.answer_edit.new.round.keeper)
-    (λ after printed is. ([], read _ c.requires c.in-Ok.ensures.spelled (edit_reply _ _ _ _ _ _ neither is), λ known. sym (append-nil _))))
+    (λ after printed is. ([], read _ c.requires c.in-Ok.ensures.spelled (edit_reply _ _ _ _ _ _ _ neither is), λ known. sym (append-nil _))))
     (c.answer_edit.ensures.cut keeps is_known stands)
 
 pub returns-in-Plan-clause-replied : goal.returns-in-Plan-clause-replied
 returns-in-Plan-clause-replied g c = λ is_known.
     let asks = subst (λ (most : Option ℕ). AsksPlan c.in-Plan.end most c.in-Plan.tx.now c.in-Plan.cert.now (fields_of c.in-Ok.row)) c.in-Some.is c.in-Plan.ensures.asks in
     told_like c.answer_front.result _ _ _ _ _ _ _
-    (λ printed sent is. read _ c.requires c.in-Ok.ensures.spelled (front_reply _ _ _ _ _ _ _ _ _ _ _ asks c.in-Plan.ensures.edit is))
+    (λ printed sent is. read _ c.requires c.in-Ok.ensures.spelled (front_reply _ _ _ _ _ _ _ _ _ _ _ _ asks c.in-Plan.ensures.edit is))
     (c.answer_front.ensures.replied is_known)
 
 pub returns-in-Plan-clause-cut : goal.returns-in-Plan-clause-cut
 returns-in-Plan-clause-cut g c = λ keeps is_known stands.
     let asks = subst (λ (most : Option ℕ). AsksPlan c.in-Plan.end most c.in-Plan.tx.now c.in-Plan.cert.now (fields_of c.in-Ok.row)) c.in-Some.is c.in-Plan.ensures.asks in
     on_err c.answer_front.result _ _
-    (cut_as (FrontRepliesAndPlaces g.P.OutputStore.is_known c.args.settings.now.on_limit c.in-Plan.end c.in-Some.batches c.in-Plan.tx.now c.in-Plan.cert.now
+    (cut_as (FrontRepliesAndPlaces g.P.OutputStore.is_known (HasFailedOutput g.P.Output.Sink.failures) c.args.settings.now.on_limit c.in-Plan.end c.in-Some.batches c.in-Plan.tx.now c.in-Plan.cert.now
     (g.P.OutputStore.placed c.args.settings.now.store) (g.P.OutputStore.placed c.answer_front.new.settings.store))
-    (RepliesAndPlaces g.P.OutputStore.is_known c.args.settings.now.on_limit c.args.line.now (g.P.OutputStore.placed c.args.settings.now.store) (g.P.OutputStore.placed c.answer_front.new.settings.store)) c.args.round.now.book (g.O.Sink.taken c.args.out.now) (g.O.Sink.taken c.answer_front.new.out) g.K.Keeper.reads_as
+    (RepliesAndPlaces g.P.OutputStore.is_known (HasFailedOutput g.P.Output.Sink.failures) c.args.settings.now.on_limit c.args.line.now (g.P.OutputStore.placed c.args.settings.now.store) (g.P.OutputStore.placed c.answer_front.new.settings.store)) c.args.round.now.book (g.O.Sink.taken c.args.out.now) (g.O.Sink.taken c.answer_front.new.out) g.K.Keeper.reads_as
     (g.K.Keeper.may_leave c.answer_front.new.round.keeper)
     (λ after printed is. (
       is.0,
-      read _ c.requires c.in-Ok.ensures.spelled (front_reply _ _ _ _ _ _ _ _ _ _ _ asks c.in-Plan.ensures.edit is.1),
+      read _ c.requires c.in-Ok.ensures.spelled (front_reply _ _ _ _ _ _ _ _ _ _ _ _ asks c.in-Plan.ensures.edit is.1),
       is.2,
     )))
     (c.answer_front.ensures.cut keeps is_known stands)
@@ -189,11 +191,11 @@ returns-in-Plan-clause-any_moment g c = λ keeps stands.
     named g.K.Keeper.moment g.K.Keeper.left_since c.args.round.now.keeper c.answer_front.new.round.keeper _ _
     (c.answer_front.ensures.any_moment keeps stands)
     (λ left now.
-    read_as (FrontRepliesTo g.P.OutputStore.is_known c.args.settings.now.on_limit c.in-Plan.end c.in-Some.batches c.in-Plan.tx.now c.in-Plan.cert.now)
-    (RepliesTo g.P.OutputStore.is_known c.args.settings.now.on_limit c.args.line.now) c.args.round.now.book g.K.Keeper.reads_as left
+    read_as (FrontRepliesTo g.P.OutputStore.is_known (HasFailedOutput g.P.Output.Sink.failures) c.args.settings.now.on_limit c.in-Plan.end c.in-Some.batches c.in-Plan.tx.now c.in-Plan.cert.now)
+    (RepliesTo g.P.OutputStore.is_known (HasFailedOutput g.P.Output.Sink.failures) c.args.settings.now.on_limit c.args.line.now) c.args.round.now.book g.K.Keeper.reads_as left
     (λ after printed is. (
       is.0,
-      read _ c.requires c.in-Ok.ensures.spelled (front_reply _ _ _ _ _ _ _ _ _ _ _ asks c.in-Plan.ensures.edit is.1),
+      read _ c.requires c.in-Ok.ensures.spelled (front_reply _ _ _ _ _ _ _ _ _ _ _ _ asks c.in-Plan.ensures.edit is.1),
     )) now)
 
 pub returns-clause-any_moment : goal.returns-clause-any_moment
@@ -203,8 +205,8 @@ returns-clause-any_moment g c = λ keeps stands.
     named g.K.Keeper.moment g.K.Keeper.left_since c.args.round.now.keeper c.answer_edit.new.round.keeper _ _
     (c.answer_edit.ensures.any_moment keeps stands)
     (λ left now.
-    read_as (IsEditReply (fields_of c.in-Ok.row)) (RepliesTo g.P.OutputStore.is_known c.args.settings.now.on_limit c.args.line.now) c.args.round.now.book g.K.Keeper.reads_as left
-    (λ after printed is. ([], read _ c.requires c.in-Ok.ensures.spelled (edit_reply _ _ _ _ _ _ neither is))) now)
+    read_as (IsEditReply (fields_of c.in-Ok.row)) (RepliesTo g.P.OutputStore.is_known (HasFailedOutput g.P.Output.Sink.failures) c.args.settings.now.on_limit c.args.line.now) c.args.round.now.book g.K.Keeper.reads_as left
+    (λ after printed is. ([], read _ c.requires c.in-Ok.ensures.spelled (edit_reply _ _ _ _ _ _ _ neither is))) now)
 
 pub returns-in-Err-clause-any_moment : goal.returns-in-Err-clause-any_moment
 returns-in-Err-clause-any_moment g c = λ keeps stands.

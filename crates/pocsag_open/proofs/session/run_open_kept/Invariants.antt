@@ -2,6 +2,7 @@ use Rattle.std.proofs.Common.{◌≡◌, ◌+◌, ◌≤◌, ◌++◌, length}
 use Rattle.std.specs.Prelude.{None}
 use Rattle.pocsag_journal.specs.Moments.{LeavesOnly}
 use Rattle.pocsag_open.specs.Ahead.{ahead_of}
+use Rattle.pocsag_open.specs.Plans.{HasFailedOutput}
 use Rattle.pocsag_open.specs.Survival.{ReadsAfterLines}
 use Rattle.pocsag_open.proofs.Survival.{Answered}
 use Rattle.pocsag_open.proofs.session.run_open_kept.Given as goal
@@ -17,10 +18,10 @@ invariant-loop-answered g l = record {
   keeper : g.K.Keeper.counts → g.K.Keeper.failures l.round.keeper ≡ g.K.Keeper.failures l.fn.round.keeper;
   counted : g.I.Source.is_known → l._answered + length (ahead_of l.lines ++ g.I.Source.held l.input) ≤ length (g.I.Source.held l.fn.input);
   stands : g.K.Keeper.represents l.fn.round.keeper l.fn.round.book → g.K.Keeper.represents l.round.keeper l.round.book;
-  answered : g.I.Source.is_known → g.O.Sink.is_known → Answered g.P.OutputStore.is_known l.fn.settings.on_limit (g.I.Source.held l.fn.input)
+  answered : g.I.Source.is_known → g.O.Sink.is_known → Answered g.P.OutputStore.is_known (HasFailedOutput g.P.Output.Sink.failures) l.fn.settings.on_limit (g.I.Source.held l.fn.input)
       (ahead_of l.lines ++ g.I.Source.held l.input) l.fn.round.book l.round.book (g.O.Sink.taken l.fn.out) (g.O.Sink.taken l.out)
       (g.P.OutputStore.placed l.fn.settings.store) (g.P.OutputStore.placed l.settings.store);
   moments : g.K.Keeper.is_known → g.I.Source.is_known → g.O.Sink.is_known → g.K.Keeper.represents l.fn.round.keeper l.fn.round.book →
       LeavesOnly g.K.Keeper.moment g.K.Keeper.left_since l.fn.round.keeper l.round.keeper
-      (ReadsAfterLines g.P.OutputStore.is_known l.fn.settings.on_limit (g.I.Source.held l.fn.input) l.fn.round.book g.K.Keeper.reads_as);
+      (ReadsAfterLines g.P.OutputStore.is_known (HasFailedOutput g.P.Output.Sink.failures) l.fn.settings.on_limit (g.I.Source.held l.fn.input) l.fn.round.book g.K.Keeper.reads_as);
 }

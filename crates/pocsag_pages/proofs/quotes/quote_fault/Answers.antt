@@ -1,34 +1,45 @@
-use Rattle.std.proofs.Common.{rules, ◌∙◌, sym, arith}
-use Rattle.std.proofs.lemmas.List.{drop_all}
-use Rattle.pocsag_pages.proofs.QuoteSteps.{counted, few, goes_on, none_open, open_there, stops}
+use Rattle.std.proofs.Common.{◌≡◌, ℕ, List, ◌∷◌, ◌++◌, ◌+◌, ◌<◌, take, drop, length, get_or, refl, sym, ap, ◌∙◌, subst, arith}
+use Rattle.std.proofs.lemmas.List.{drop_more, take-append-drop, take_all}
+use Rattle.pocsag_pages.specs.declared.fault.QuoteFault.TheVariants.{Unclosed}
+use Rattle.pocsag_pages.specs.QuotePlaces.{HasSeen}
+use Rattle.pocsag_pages.specs.Quotes.{HasQuoteFault}
+use Rattle.pocsag_pages.proofs.QuoteFaults.{not_both}
+use Rattle.pocsag_pages.proofs.QuoteWalks.{left_open, nothing_seen, well_quoted}
 use Rattle.pocsag_pages.proofs.quotes.quote_fault.Goals as goal
 
+split_at : (bytes : List ℕ) (i : ℕ) → i < length bytes → take i bytes ++ get_or bytes i 0 ∷ drop (i + 1) bytes ≡ bytes
+split_at bytes i low = ap (λ (l : List ℕ). take i bytes ++ l) (sym (drop_more bytes i 0 low)) ∙ take-append-drop i bytes
+
 pub loop-byte-init : goal.loop-byte-init
-loop-byte-init c = record {
-  walk = rw (c.behind_mark-text.ensures) (search rules);
-  few_records = omega arith;
-  few_lines = omega arith;
-}
+loop-byte-init c = record { seen = nothing_seen; few_records = omega arith; few_lines = omega arith }
 
-pub returns-in-Some : goal.returns-in-Some
-returns-in-Some c =
-    stops _ _ _ _ _ _ c.loop-byte-test.true _ _ c.loop-byte.invariant.walk (search rules)
+pub returns-in-Err-clause-fault : goal.returns-in-Err-clause-fault
+returns-in-Err-clause-fault c =
+    let bytes = c.behind_mark-byte-items.result.now in
+    subst (λ (l : List ℕ). HasQuoteFault l c.in-Err.fault) (split_at bytes c.loop-byte.byte-index c.loop-byte-test.true ∙ c.behind_mark-byte-items.ensures)
+    (c.in-Err.ensures.fault _ (drop (c.loop-byte.byte-index + 1) bytes) c.loop-byte.invariant.seen)
 
-pub loop-byte-preserved : goal.loop-byte-preserved
-loop-byte-preserved c = record {
-  walk =
-      rw (c.part_after-part.ensures, c.from-number.ensures, c.from-line.ensures, c.opened_after-opened.ensures, c.record_ends.ensures, counted _ c.loop-byte.number, counted _ c.loop-byte.line)
-      (goes_on _ _ _ _ _ _ c.loop-byte-test.true _ c.loop-byte.invariant.walk (search rules));
-  few_records = rw (c.from-number.ensures, counted _ c.loop-byte.number) (few _ _ _ c.loop-byte.invariant.few_records);
-  few_lines = rw (c.from-line.ensures, counted _ c.loop-byte.line) (few _ _ _ c.loop-byte.invariant.few_lines);
-}
+pub returns-in-Err-clause-none : goal.returns-in-Err-clause-none
+returns-in-Err-clause-none c =
+    let bytes = c.behind_mark-byte-items.result.now in
+    let fault = subst (λ (l : List ℕ). HasQuoteFault l c.in-Err.fault) (split_at bytes c.loop-byte.byte-index c.loop-byte-test.true ∙ c.behind_mark-byte-items.ensures)
+    (c.in-Err.ensures.fault _ (drop (c.loop-byte.byte-index + 1) bytes) c.loop-byte.invariant.seen) in
+    (λ e. cc e, λ w. absurd (not_both _ c.in-Err.fault fault w))
 
-pub returns-in-Quoted : goal.returns-in-Quoted
-returns-in-Quoted c =
-    let walk = rw (drop_all c.loop-byte.byte-index _ c.loop-byte-test.false, c.in-Quoted.is) at c.loop-byte.invariant.walk in
-    sym (open_there _ _ _) ∙ walk
+pub returns-in-Open-clause-fault : goal.returns-in-Open-clause-fault
+returns-in-Open-clause-fault c =
+    let all = take_all c.loop-byte.byte-index c.behind_mark-byte-items.result.now (omega arith) in
+    let seen = subst (HasSeen c.loop-byte.place) (all ∙ c.behind_mark-byte-items.ensures) c.loop-byte.invariant.seen in
+    left_open c.loop-byte.place _ seen c.in-Open.is
 
-pub returns-in_default-part : goal.returns-in_default-part
-returns-in_default-part c =
-    let walk = rw (drop_all c.loop-byte.byte-index _ c.loop-byte-test.false) at c.loop-byte.invariant.walk in
-    sym (none_open _ _ _ _ c.in_default-part.not-Quoted) ∙ walk
+pub returns-in-Open-clause-none : goal.returns-in-Open-clause-none
+returns-in-Open-clause-none c =
+    let all = take_all c.loop-byte.byte-index c.behind_mark-byte-items.result.now (omega arith) in
+    let seen = subst (HasSeen c.loop-byte.place) (all ∙ c.behind_mark-byte-items.ensures) c.loop-byte.invariant.seen in
+    (λ e. cc e, λ w. absurd (not_both _ (Unclosed c.loop-byte.place.number c.loop-byte.place.opened) (left_open c.loop-byte.place _ seen c.in-Open.is) w))
+
+pub returns-in_default : goal.returns-in_default
+returns-in_default c =
+    let all = take_all c.loop-byte.byte-index c.behind_mark-byte-items.result.now (omega arith) in
+    let seen = subst (HasSeen c.loop-byte.place) (all ∙ c.behind_mark-byte-items.ensures) c.loop-byte.invariant.seen in
+    record { none = (λ e. well_quoted c.loop-byte.place _ seen c.in_default.not-Open, λ w. refl); fault = tt }

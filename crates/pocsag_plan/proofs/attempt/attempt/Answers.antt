@@ -1,7 +1,9 @@
-use Rattle.std.proofs.Common.{arith, false}
+use Rattle.std.proofs.Common.{◌≡◌, arith, false, subst}
+use Rattle.std.proofs.lemmas.Result.{err_from_is_err_and}
 use Rattle.pocsag_tree.specs.Views.{bound_tree_of}
+use Rattle.pocsag_plan.specs.Attempts.{StopsAt}
 use Rattle.pocsag_plan.proofs.Completed.{most, nodes_few}
-use Rattle.pocsag_plan.proofs.FrontTries.{loads_exceed, search_exceeds}
+use Rattle.pocsag_plan.proofs.FrontTries.{loads_exceed, search_exceeds, stops_at}
 use Rattle.pocsag_check.proofs.Spelled.{accepted_closed, accepted_text}
 use Rattle.pocsag_plan.proofs.attempt.attempt.Goals as goal
 
@@ -26,3 +28,13 @@ returns-clause-attempt c =
     (omega (arith, within.at_least)) few in
     search_exceeds k c.args.search c.args.batches outcome c.least_certificate-by_loads.result.batches c.least_certificate-by_loads.ensures.least
     c.if-by_loads-batches-2.false c.if-outcome-batches.false is text
+
+pub returns-in_err-outcome-clause-undecided : goal.returns-in_err-outcome-clause-undecided
+returns-in_err-outcome-clause-undecided c =
+    let p = err_from_is_err_and c.from_residual.result c.from_residual.ensures.1 in
+    let by_loads = c.least_certificate-by_loads in
+    let here : by_loads.result.batches ≡ c.args.batches = omega (arith, c.if-by_loads-batches.false, c.if-by_loads-batches-2.false) in
+    let e = c.in_err-outcome.field-0.0 in
+    rw (p.1, p.2)
+    (subst (λ n. StopsAt n e) here
+    (stops_at c.args.classes.now c.args.search by_loads.result.batches e by_loads.ensures.least c.in_err-outcome.ensures.fault))

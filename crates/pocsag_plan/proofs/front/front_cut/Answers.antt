@@ -1,10 +1,10 @@
-use Rattle.std.proofs.Common.{◌≡◌, ℕ, ◌+◌, ◌-◌, ◌/◌, ◌<◌, ◌≤◌, length, take, arith, subst, slice_index}
+use Rattle.std.proofs.Common.{◌≡◌, ℕ, ◌+◌, ◌-◌, ◌/◌, ◌<◌, ◌≤◌, length, take, arith, inl, inr, refl, subst, slice_index}
 use Rattle.std.specs.Prelude.{None}
 use Rattle.std.proofs.lemmas.Result.{err_from_is_err_and}
 use Rattle.pocsag_pages.proofs.FirstPages.{first_round}
-use Rattle.pocsag_plan.specs.Attempts.{IsFit}
+use Rattle.pocsag_plan.specs.Attempts.{IsFit, StopsAt}
 use Rattle.pocsag_plan.proofs.Completed.{some_batch}
-use Rattle.pocsag_plan.proofs.FrontTries.{cut_of, first_has_page, first_needs, front_explained, spare_fits}
+use Rattle.pocsag_plan.proofs.FrontTries.{cut_of, first_has_page, first_needs, front_explained, spare_fits, spare_front}
 use Rattle.pocsag_slots.proofs.Sayable.{tour_worded}
 use Rattle.pocsag_plan.proofs.front.front_cut.Goals as goal
 
@@ -18,8 +18,8 @@ returns-in_err-first-clause-fault c =
     let R = c.args.pages.now in
     let any : 1 ≤ length R = c.requires.round.some in
     rw (p.1, p.2)
-    (front_explained c.args.search R c.args.batches 1 c.requires.round c.requires.limited (omega arith) any c.in_err-first.field-0.0
-    (c.in_err-first.ensures.fault (take 1 R) (first_round 1 R c.requires.round (omega arith) any) c.recount.ensures))
+    (front_explained c.args.search R c.args.batches 1 c.requires.round c.requires.limited (omega arith) any c.recount.new.classes c.in_err-first.field-0.0
+    c.recount.ensures c.in_err-first.ensures.fault (λ stop e at. inl refl))
 
 pub returns-then-first-batches-clause-fault : goal.returns-then-first-batches-clause-fault
 returns-then-first-batches-clause-fault c =
@@ -31,7 +31,7 @@ returns-then-first-batches-clause-fault c =
     let round = first_round 1 R c.requires.round (omega arith) c.requires.round.some in
     let sent = tour_worded k search.end (slice_index first.found.choice.early) first.found.batches first.found.steps.items
     (take 1 R) (some_batch k search.end search.limit first.bound first.found is.within) round c.recount.ensures is.within.tour in
-    (c.requires.limited, first_needs k search R c.args.batches first round c.recount.ensures is c.if-first-batches.true sent.0 sent.2)
+    (c.requires.limited, first_needs k search R c.args.batches first round c.requires.limited c.recount.ensures is c.if-first-batches.true sent.0 sent.2)
 
 pub attempt-requires-clause-pages : goal.attempt-requires-clause-pages
 attempt-requires-clause-pages c =
@@ -49,8 +49,9 @@ returns-in_err-tried-clause-fault c =
     let some : 0 < n = omega (arith, is.some) in
     let among : n ≤ length R = omega (arith, is.order, is.few, c.loop-bracket-test.true) in
     rw (p.1, p.2)
-    (front_explained c.args.search R c.args.batches n c.requires.round c.requires.limited some among c.in_err-tried.field-0.0
-    (c.in_err-tried.ensures.fault (take n R) (first_round n R c.requires.round some among) c.recount-in-loop-bracket.ensures))
+    (front_explained c.args.search R c.args.batches n c.requires.round c.requires.limited some among c.recount-in-loop-bracket.new.classes
+    c.in_err-tried.field-0.0 c.recount-in-loop-bracket.ensures c.in_err-tried.ensures.fault
+    (λ stop e at. inr (inl (subst (StopsAt c.args.batches) e c.in_err-tried.ensures.undecided))))
 
 pub loop-bracket-preserved : goal.loop-bracket-preserved
 loop-bracket-preserved c = record {
@@ -80,9 +81,13 @@ returns-in_err-outcome-clause-fault c =
     let bracket = c.loop-bracket.bracket in
     let is = c.loop-bracket.invariant.bracket in
     let among : bracket.fitting ≤ length R = omega (arith, is.order, is.few) in
+    let none : bracket.outcome ≡ None = c.in_default.is in
+    let spare = subst (IsFit bracket.classes c.args.search c.args.batches) none is.fit in
     rw (p.1, p.2)
-    (front_explained c.args.search R c.args.batches bracket.fitting c.requires.round c.requires.limited is.some among c.in_err-outcome.field-0.0
-    (c.in_err-outcome.ensures.fault (take bracket.fitting R) (first_round bracket.fitting R c.requires.round is.some among) is.counted))
+    (front_explained c.args.search R c.args.batches bracket.fitting c.requires.round c.requires.limited is.some among bracket.classes
+    c.in_err-outcome.field-0.0 is.counted c.in_err-outcome.ensures.fault
+    (λ stop e at. inr (inr (spare_front c.args.search R c.args.batches bracket stop c.requires.round c.requires.limited is
+    c.loop-bracket-test.false spare at))))
 
 pub returns-clause-cut : goal.returns-clause-cut
 returns-clause-cut c =

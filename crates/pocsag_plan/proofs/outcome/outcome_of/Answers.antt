@@ -1,14 +1,12 @@
 use Rattle.std.proofs.Common.{refl, arith}
 use Rattle.std.proofs.lemmas.Result.{err_from_is_err_and}
-use Rattle.pocsag_plan.proofs.Explained.{explained}
+use Rattle.pocsag_plan.proofs.Explained.{outcome_fault}
 use Rattle.pocsag_plan.proofs.outcome.outcome_of.Goals as goal
 
 pub returns-in_err-found-in-Fewest-clause-fault : goal.returns-in_err-found-in-Fewest-clause-fault
 returns-in_err-found-in-Fewest-clause-fault c =
     let p = err_from_is_err_and c.from_residual.result c.from_residual.ensures.1 in
-    rw (p.1, p.2, c.in-Fewest.is)
-    (λ R round counted. explained c.args.classes.now c.args.search.end R c.args.search.limit c.in_err-found-in-Fewest.field-0.0 round
-    counted c.requires.limited c.in_err-found-in-Fewest.ensures.fault)
+    rw (p.1, p.2) (outcome_fault c.args.classes.now c.args.search c.in_err-found-in-Fewest.field-0.0 c.in-Fewest.is c.in_err-found-in-Fewest.ensures.fault)
 
 pub returns-in_ok-found-in-Fewest-clause-outcome : goal.returns-in_ok-found-in-Fewest-clause-outcome
 returns-in_ok-found-in-Fewest-clause-outcome c =

@@ -1,6 +1,32 @@
-use Rattle.std.proofs.Common.{arith}
-use Rattle.pocsag_capture.proofs.Polarities.{few_wrong}
+use Rattle.std.proofs.Common.{ℕ, ◌+◌, None, Some, bit_xor, count_ones, refl, sym, ◌∙◌, ap, arith}
+use Rattle.pocsag_words.proofs.KindLemmas.{IsCodeword-idle}
+use Rattle.pocsag_capture.specs.declared.corrector.WordCorrector.{WordCorrector}
+use Rattle.pocsag_capture.proofs.Settled.{ends_none, stays_as, without_orphans_orphan}
 use Rattle.pocsag_capture.proofs.corrector.WordCorrector.take.Goals as goal
 
-pub overflow_add-self : goal.overflow_add-self
-overflow_add-self c = omega (arith, few_wrong c.args.word (omega arith))
+pub returns-in_default : goal.returns-in_default
+returns-in_default c = record {
+  mended = None;
+  is_mended = c.in_default.ensures;
+  is_codeword = IsCodeword-idle;
+  kind = refl;
+  open_after = ap (λ (s : WordCorrector). s.is_open) c.close-ended.ensures.cut;
+  ends = c.close-ended.ensures.ended;
+  bits = ap (λ (s : WordCorrector). s.corrected) c.close-ended.ensures.cut ∙ omega arith;
+  beyond = ap (λ (s : WordCorrector). s.lost) c.close-ended.ensures.cut;
+  cuts = ap (λ (s : WordCorrector). s.cut) c.close-ended.ensures.cut;
+}
+
+pub returns-then-not-self : goal.returns-then-not-self
+returns-then-not-self c = record {
+  mended = Some c.in-Some.mended;
+  is_mended = c.in-Some.ensures;
+  is_codeword = IsCodeword-idle;
+  kind = without_orphans_orphan _ _ c.in-Message.field-0 c.if-not-self.true (sym c.in-Message.ensures.kind);
+  open_after = stays_as _ _ c.in-Message.field-0 (sym c.in-Message.ensures.kind);
+  ends = ends_none _ _ _ c.in-Message.field-0 (sym c.in-Message.ensures.kind);
+  bits = ap (λ (n : ℕ). c.args.self.now.corrected + n)
+      (c.from.ensures ∙ ap (λ (n : ℕ). count_ones (bit_xor n c.args.word)) c.raw.ensures.same);
+  beyond = omega arith;
+  cuts = omega arith;
+}

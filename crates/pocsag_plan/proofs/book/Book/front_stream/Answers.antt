@@ -1,6 +1,6 @@
 use Rattle.std.proofs.Common.{refl}
-use Rattle.pocsag_plan.proofs.Due.{all_as, book_front, book_longest, first_headline, first_plan}
-use Rattle.pocsag_plan.proofs.Unwritten.{first_page_alone, its_own, limit_refused, limit_taken, nothing_written, unplanned_front, unsent_front, unwritten}
+use Rattle.pocsag_plan.proofs.Due.{all_as, book_front, book_longest, certificate_part_as, first_has_headline, first_headline, first_plan, part_as}
+use Rattle.pocsag_plan.proofs.Unwritten.{first_page_alone, front_bad_limit, its_own, limit_refused, limit_taken, nothing_written, ok_bad_limit, unplanned_front, unsent_front, unsent_front_bad_limit, unwritten}
 use Rattle.pocsag_pages.specs.declared.fault.RoundFault.TheVariants as round
 use Rattle.pocsag_plan.specs.declared.fault.PlanFault.TheVariants as planning
 use Rattle.pocsag_plan.specs.declared.fault.StreamFault.TheVariants as streaming
@@ -99,3 +99,53 @@ returns-in-Err-clause-explained g c =
 
 pub returns-in-Err-clause-writers : goal.returns-in-Err-clause-writers
 returns-in-Err-clause-writers g c = c.in-Err.ensures.writers
+
+pub returns-then-not-is_node_limit-clause-bad_limit : goal.returns-then-not-is_node_limit-clause-bad_limit
+returns-then-not-is_node_limit-clause-bad_limit g c =
+    (λ _. limit_refused _ c.args.search.limit c.if-not-is_node_limit.true c.is_node_limit.ensures, λ _. refl)
+
+pub returns-then-is_empty-clause-bad_limit : goal.returns-then-is_empty-clause-bad_limit
+returns-then-is_empty-clause-bad_limit g c =
+    let limited = limit_taken _ c.args.search.limit c.if-not-is_node_limit.false c.is_node_limit.ensures in
+    (λ b. absurd (cc), λ no. absurd (no limited))
+
+pub returns-in_default-clause-bad_limit : goal.returns-in_default-clause-bad_limit
+returns-in_default-clause-bad_limit g c =
+    let limited = limit_taken _ c.args.search.limit c.if-not-is_node_limit.false c.is_node_limit.ensures in
+    (λ b. absurd (cc), λ no. absurd (no limited))
+
+pub returns-in-Err-Plan-clause-bad_limit : goal.returns-in-Err-Plan-clause-bad_limit
+returns-in-Err-Plan-clause-bad_limit g c =
+    front_bad_limit _ _ c.in-Err-Plan.fault c.in-Err-Plan.field-0-is
+    (limit_taken _ c.args.search.limit c.if-not-is_node_limit.false c.is_node_limit.ensures)
+    c.in-Err-Plan.ensures.bad_limit
+
+pub returns-in-Err-FirstPage-clause-bad_limit : goal.returns-in-Err-FirstPage-clause-bad_limit
+returns-in-Err-FirstPage-clause-bad_limit g c =
+    let limited = limit_taken _ c.args.search.limit c.if-not-is_node_limit.false c.is_node_limit.ensures in
+    (λ b. absurd (cc), λ no. absurd (no limited))
+
+pub returns-in-Ok-send-clause-bad_limit : goal.returns-in-Ok-send-clause-bad_limit
+returns-in-Ok-send-clause-bad_limit g c =
+    ok_bad_limit _ _ _ (limit_taken _ c.args.search.limit c.if-not-is_node_limit.false c.is_node_limit.ensures)
+
+pub returns-in-Err-clause-bad_limit : goal.returns-in-Err-clause-bad_limit
+returns-in-Err-clause-bad_limit g c =
+    unsent_front_bad_limit _ c.in-Err.fault c.in-Err.ensures.unsent
+    (limit_taken _ c.args.search.limit c.if-not-is_node_limit.false c.is_node_limit.ensures)
+
+pub returns-in-Err-clause-part : goal.returns-in-Err-clause-part
+returns-in-Err-clause-part g c =
+    let front = c.in-Ok-longest_front.front in
+    let said = c.in-Ok-longest_front.ensures in
+    λ tx_tells failed.
+    part_as _ _ (first_has_headline c.args.search c.args.self.now c.in-Ok.round front.round front.rest.items c.args.batches front.bounded c.in-Ok.ensures.round said.parts
+    said.plan said.front) _ _ (c.in-Err.ensures.part tx_tells failed)
+
+pub returns-in-Err-clause-certificate_part : goal.returns-in-Err-clause-certificate_part
+returns-in-Err-clause-certificate_part g c =
+    let front = c.in-Ok-longest_front.front in
+    let said = c.in-Ok-longest_front.ensures in
+    λ tx_tells cert_tells failed.
+    certificate_part_as _ _ (first_has_headline c.args.search c.args.self.now c.in-Ok.round front.round front.rest.items c.args.batches front.bounded c.in-Ok.ensures.round said.parts
+    said.plan said.front) _ _ _ _ (c.in-Err.ensures.certificate_part tx_tells cert_tells failed)

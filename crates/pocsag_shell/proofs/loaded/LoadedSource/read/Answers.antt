@@ -1,4 +1,4 @@
-use Rattle.std.proofs.Common.{rules, ◌≡◌, ℕ, ◌+◌, ◌-◌, ◌*◌, ◌≤◌, ◌<◌, List, ◌++◌, length, ◌∙◌, ap, sym, arith}
+use Rattle.std.proofs.Common.{ℕ, List, ◌∙◌, ap, arith}
 use Rattle.std.proofs.Math.ListN.{drop, take}
 use Rattle.std.proofs.lemmas.List.{length-take-le}
 use Rattle.pocsag_shell.proofs.Loads.{one_read}

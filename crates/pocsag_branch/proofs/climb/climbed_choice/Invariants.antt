@@ -1,6 +1,0 @@
-use Rattle.std.proofs.Common.{slice_index}
-use Rattle.pocsag_slots.specs.Loads.{IsAdmitted}
-use Rattle.pocsag_branch.proofs.climb.climbed_choice.Given as goal
-
-abbrev pub invariant-loop : goal.invariant-loop
-invariant-loop l = IsAdmitted l.node.classes.now l.node.limits (slice_index l.at.choice.early)

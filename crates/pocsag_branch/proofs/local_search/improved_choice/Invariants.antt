@@ -1,0 +1,6 @@
+use Rattle.std.proofs.Common.{slice_index}
+use Rattle.pocsag_slots.specs.Loads.{IsAdmitted}
+use Rattle.pocsag_branch.proofs.local_search.improved_choice.Given as goal
+
+abbrev pub invariant-loop : goal.invariant-loop
+invariant-loop l = IsAdmitted l.node.classes.now l.node.limits (slice_index l.at.choice.early)

@@ -1,0 +1,6 @@
+use Rattle.std.proofs.Common.{IfSome}
+use Rattle.pocsag_branch.specs.Examined.{IsNodeKind}
+use Rattle.pocsag_branch.proofs.smaller_cuts.smaller_cut.Given as goal
+
+abbrev pub invariant-loop : goal.invariant-loop
+invariant-loop l = IfSome l.best (IsNodeKind l.node.classes.now l.node.task l.node.limits)

@@ -1,5 +1,0 @@
-use Rattle.std.proofs.Common.{◌<◌, IfSome}
-use Rattle.pocsag_branch.proofs.thin_cuts.nearest.Given as goal
-
-abbrev pub invariant-loop-boundary : goal.invariant-loop-boundary
-invariant-loop-boundary l = IfSome l.best (λ boundary. boundary < 16)

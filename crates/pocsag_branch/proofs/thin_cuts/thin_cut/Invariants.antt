@@ -1,6 +1,0 @@
-use Rattle.std.proofs.Common.{IfSome}
-use Rattle.pocsag_branch.specs.Examined.{IsNodeKind}
-use Rattle.pocsag_branch.proofs.thin_cuts.thin_cut.Given as goal
-
-abbrev pub invariant-loop : goal.invariant-loop
-invariant-loop l = IfSome l.best (IsNodeKind l.node.classes.now l.node.task l.node.limits)

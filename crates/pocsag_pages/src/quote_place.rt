@@ -1,0 +1,76 @@
+ghost use Rattle.std.specs.Prelude.{◌≡◌, ℕ, ◌+◌, ◌^◌, ◌<◌, ◌≤◌, List, [], ◌∷◌, ◌++◌, IfErr, IfOk};
+ghost use Rattle.pocsag_pages.specs.Quotes.{HasQuoteFault, ends_line};
+ghost use Rattle.pocsag_pages.specs.QuotePlaces.{HasSeen};
+
+use crate::fault::QuoteFault;
+use crate::quoting::Quoting;
+
+// Where a walk over the quotes of a page file stands.
+#[derive(Clone, Copy)]
+pub(crate) struct QuotePlace {
+    pub(crate) quoting: Quoting,
+    // Whether no byte of the record was seen.
+    pub(crate) is_blank: bool,
+    pub(crate) number: usize,
+    pub(crate) line: usize,
+    // The line of the last quote that opened a field.
+    pub(crate) opened: usize,
+}
+
+// Whether the byte ends a line.
+fn ends_line(byte: u8) -> bool
+    ensures { result ≡ ends_line byte }
+{
+    byte == b'\r' || byte == b'\n'
+}
+
+impl QuotePlace {
+    // The place behind one byte more, or the fault there.
+    pub(crate) fn after(self, byte: u8) -> Result<QuotePlace, QuoteFault>
+        requires few_records { self.number + 1 < 2 ^ 64 }
+        requires few_lines { self.line + 1 < 2 ^ 64 }
+        ensures place { IfOk result (λ next. (seen : List ℕ) → HasSeen self seen → HasSeen next (seen ++ byte ∷ [])) }
+        ensures records { IfOk result (λ next. next.number ≤ self.number + 1) }
+        ensures lines { IfOk result (λ next. next.line ≤ self.line + 1) }
+        ensures fault { IfErr result (λ f. (seen rest : List ℕ) → HasSeen self seen →
+            HasQuoteFault (seen ++ byte ∷ rest) f) }
+    {
+        let line = self.line + usize::from(byte == b'\n');
+        if ends_line(byte) && !matches!(self.quoting, Quoting::Open) {
+            return Ok(QuotePlace {
+                quoting: Quoting::Start,
+                is_blank: true,
+                number: self.number + usize::from(!self.is_blank),
+                line,
+                opened: self.opened,
+            });
+        }
+        let QuotePlace {
+            quoting: before,
+            number,
+            line: here,
+            ..
+        } = self;
+        match before.after(byte) {
+            Quoting::Broken | Quoting::Ended => {
+                if byte == b'"' {
+                    return Err(QuoteFault::Inside { number, line: here });
+                }
+                Err(QuoteFault::Followed { number, line: here })
+            }
+            quoting => {
+                let opened = match before {
+                    Quoting::Start => here,
+                    _ => self.opened,
+                };
+                Ok(QuotePlace {
+                    quoting,
+                    is_blank: false,
+                    number,
+                    line,
+                    opened,
+                })
+            }
+        }
+    }
+}
