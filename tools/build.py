@@ -166,9 +166,13 @@ def build_program(crates, option=None):
 
 
 def build(crates, names):
-    """Proves crates with what they stand on. A program or a library for C that stands as its sources are is left as it is."""
+    """Proves crates with what they stand on, where each is in the layout. A program or a library for C that stands as its sources are
+    is left as it is."""
     products = {name: Product(crates, name) for name in names if crates[name].is_product}
     wanted = workspace.below(crates, *(name for name in names if name not in products or products[name].made_by() != LLVM))
+    others = [name for name in wanted if not kit.is_laid_out(crates[name].folder)]
+    if others:
+        raise Refused(f"run `rt fmt` in the folder of {', '.join(others)}")
     if wanted:
         with alone():
             prove(crates, wanted)

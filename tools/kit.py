@@ -13,6 +13,7 @@ import importlib.util
 import os
 import pathlib
 import shutil
+import subprocess
 import sys
 import types
 
@@ -41,6 +42,11 @@ def crate_in(folder):
 def lock(folders):
     """Keeps other commands of the toolchain out of these crates' folders until what this gives is closed."""
     return script().rtlib.lock([types.SimpleNamespace(folder=str(it)) for it in folders]) if script() else []
+
+
+def is_laid_out(folder):
+    """Whether `rt fmt` would leave the files of the crate in a folder as they are; it names the others. `rt ci` refuses them."""
+    return script() is None or script().rtlib.fmt(str(folder), "--check", sys.stderr, diff=subprocess.DEVNULL) == 0
 
 
 def check_words(folder, kept="out/incremental"):

@@ -7,11 +7,13 @@ import pathlib
 import re
 import subprocess
 import sys
+import tempfile
 import time
 
 sys.dont_write_bytecode = True
 TOP = pathlib.Path(__file__).resolve().parents[2]
 sys.path[:0] = [str(TOP / "tests"), str(TOP / "tools")]
+import kit
 from gate import Gate
 from lanes import Lanes, Task
 from spent import watched
@@ -153,6 +155,16 @@ def try_lanes(tally):
     tally.check("what still runs is ended", it.name == "quick" and time.monotonic() - began < 5, it)
 
 
+def try_layout(tally):
+    """A crate with a file that `rt fmt` would change; without the toolchain all pass."""
+    with tempfile.TemporaryDirectory() as folder:
+        source = pathlib.Path(folder, "src/lib.rt")
+        source.parent.mkdir()
+        for text, is_laid_out in ("pub fn one() -> u32 {\n    1\n}\n", True), ("pub fn one() -> u32 { 1 }\n", kit.script() is None):
+            source.write_text(text)
+            tally.check("the layout of a crate", kit.is_laid_out(folder) == is_laid_out, text)
+
+
 def main():
     os.environ["RT_JOBS"] = "3"
     tally = Tally()
@@ -165,6 +177,7 @@ def main():
     try_last(tally)
     try_bill(tally)
     try_spent(tally)
+    try_layout(tally)
     return tally.end()
 
 
