@@ -1,7 +1,7 @@
-pub mod OpenWays
-pub mod TreeEnds
-pub mod Settled
-pub mod NodeRows
 pub mod FreeNodes
-pub mod NodeChildren
 pub mod LeastBounds
+pub mod NodeChildren
+pub mod NodeRows
+pub mod OpenWays
+pub mod Settled
+pub mod TreeEnds

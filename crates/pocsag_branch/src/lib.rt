@@ -16,13 +16,13 @@ mod free_nodes;
 mod free_root;
 mod free_search;
 mod least;
-mod live;
 mod local_search;
 mod node;
 mod outcome;
 mod smaller_cuts;
 mod task;
 mod unfinished;
+mod usable_ways;
 mod within_one;
 
 pub use answer::Found;

@@ -1,8 +1,8 @@
 -- What is read of the bytes that a caller gives, by the number of a reading.
 use Rattle.std.specs.Prelude.{◌≡◌, ◌≢◌, ◌⊎◌, ℕ, List}
 use Rattle.pocsag_decode.specs.Repairs.{IsRepairOf}
-use Rattle.pocsag_capture.specs.ExtractedBytes.{ExplainsUnlifted, LiftsAll}
-use Rattle.pocsag_capture.specs.declared.lift.Extracted.{Extracted}
+use Rattle.pocsag_capture.specs.ExtractedBytes.{ExplainsUnextracted, ExtractsAll}
+use Rattle.pocsag_capture.specs.declared.extract.Extracted.{Extracted}
 use Rattle.pocsag_c.specs.Answers.{PrintsFault}
 use Rattle.pocsag_c.specs.Statuses.{capture_refusal, nowhere}
 use Rattle.pocsag_c.specs.declared.reading.Read.{Read}
@@ -26,10 +26,10 @@ abbrev pub bytes_in : Read → List ℕ
 bytes_in (Given bytes) = bytes.now
 bytes_in (Made bytes) = bytes.items
 
--- The bytes are those of all transmissions of a capture, as they are lifted out of it.
+-- The bytes are those of all transmissions of a capture, as they are extracted from it.
 pub record AreAllOf (capture bytes : List ℕ) : Type 0 where
   pub extracted : Extracted
-  pub lifts : LiftsAll capture extracted
+  pub extracts : ExtractsAll capture extracted
   pub same : bytes ≡ extracted.bytes.items
 
 -- The bytes that are read of those that are given: these, their repair, or all transmissions of a capture, one behind the other.
@@ -46,11 +46,11 @@ pub record IsSoAsRead (number : ℕ) (given : List ℕ) (P : List ℕ → Type 0
   pub read : AreReadAs reading given bytes
   pub holds : P bytes
 
--- Nothing is read: memory is wanting for the repair, or nothing is lifted out of the capture.
+-- Nothing is read: memory is wanting for the repair, or nothing is extracted from the capture.
 abbrev pub IsUnreadAs : Reading → (given : List ℕ) → (status : ℕ) → Place → Type 0
 IsUnreadAs Plain given status place = ⊥
 IsUnreadAs Repaired given status place = (status ≡ 3) × (place ≡ nowhere)
-IsUnreadAs Captured given status place = PrintsFault capture_refusal (ExplainsUnlifted given) status place
+IsUnreadAs Captured given status place = PrintsFault capture_refusal (ExplainsUnextracted given) status place
 
 -- The same by the reading of this number; or this is so of the bytes that are read.
 pub record IsUnreadBy (number : ℕ) (given : List ℕ) (status : ℕ) (place : Place) : Type 0 where

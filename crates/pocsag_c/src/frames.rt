@@ -7,7 +7,8 @@ ghost use Rattle.pocsag_c.specs.Statuses.{IsOfBytes, nowhere, stream_refusal};
 use crate::plan::{end_of, on_limit_of};
 use crate::refusal::{NOWHERE, Place, refused_stream};
 use crate::report::plan_in;
-use pocsag_plan::{FRAMES, FrameRoom, Search, frames_of};
+use pocsag_plan::{FrameRoom, Search, frames_of};
+use pocsag_words::FRAMES;
 use std::alloc::Global;
 
 /// What a plan puts into the frames; all but the place is 0 where there is none.

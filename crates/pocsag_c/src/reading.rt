@@ -1,13 +1,13 @@
 //! What is read of the bytes that a caller gives: these bytes, their repair, or the transmissions of a capture.
 ghost use Rattle.std.specs.Prelude.{◌≡◌, ◌≢◌, IfErr, IfOk, MatchOption};
-ghost use Rattle.pocsag_capture.specs.ExtractedBytes.{ExplainsUnlifted};
+ghost use Rattle.pocsag_capture.specs.ExtractedBytes.{ExplainsUnextracted};
 ghost use Rattle.pocsag_decode.specs.Repairs.{IsRepairOf};
 ghost use Rattle.pocsag_c.specs.Answers.{PrintsFault};
 ghost use Rattle.pocsag_c.specs.Readings.{AreAllOf, AreReadAs, IsNoReading, IsUnreadAs, bytes_in, number_of_reading};
 ghost use Rattle.pocsag_c.specs.Statuses.{IsOfBytes, IsRefusing, capture_refusal};
 
 use crate::refusal::{NOWHERE, StatusAt, refused_capture};
-use pocsag_capture::lift_all;
+use pocsag_capture::extract_all;
 use pocsag_decode::repair_all;
 use std::alloc::{AllocError, Global};
 
@@ -66,11 +66,11 @@ fn repaired(alloc: Global, tx: &[u8]) -> Result<Vec<u8>, AllocError>
 // All transmissions of a capture, one behind the other.
 fn extracted(alloc: Global, capture: &[u8]) -> Result<Vec<u8>, StatusAt>
     ensures all { IfOk result (λ bytes. AreAllOf capture.now bytes.items) }
-    ensures fault { IfErr result (λ r. PrintsFault capture_refusal (ExplainsUnlifted capture.now) r.status r.place) }
+    ensures fault { IfErr result (λ r. PrintsFault capture_refusal (ExplainsUnextracted capture.now) r.status r.place) }
     ensures refusing { IfErr result (λ r. IsRefusing r.status) }
     ensures of_bytes { IfErr result (λ r. IsOfBytes r.status) }
 {
-    match lift_all(alloc, capture) {
+    match extract_all(alloc, capture) {
         Ok(extracted) => Ok(extracted.bytes),
         Err(fault) => Err(refused_capture(fault)),
     }

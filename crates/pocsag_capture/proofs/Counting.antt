@@ -10,7 +10,7 @@ use Rattle.pocsag_capture.specs.Lost.{lost_words}
 use Rattle.pocsag_capture.specs.Receptions.{HasFewLost, sent_at}
 use Rattle.pocsag_capture.specs.TakenWords.{is_lost}
 use Rattle.pocsag_capture.specs.declared.reception.Run.{Run}
-use Rattle.pocsag_capture.proofs.Settled.{lost_more, mended_push}
+use Rattle.pocsag_capture.proofs.CorrectedWords.{lost_more, mended_push}
 
 pub not_false : (b : Bool) → not b ≡ false → IsTrue b
 not_false true e = refl

@@ -1,4 +1,4 @@
--- What is lifted of receptions that a capture holds.
+-- What is extracted of receptions that a capture holds.
 use Rattle.std.proofs.Common.{◌≡◌, ℕ, zero, suc, ◌+◌, ◌*◌, ◌%◌, ◌^◌, ◌<◌, ◌≤◌, false, List, [], ◌∷◌, ◌++◌, length, map, replicate, slice_get, All, Option, Some, None, lit<, refl, sym, ap, ap₂, subst, ◌∙◌, inl, inr, arith, append_assoc}
 use Rattle.std.specs.List.{AllZip, range_with_len}
 use Rattle.std.proofs.lemmas.Bool.{cases_eq, eq-eqb, ne_eqb}
@@ -14,15 +14,15 @@ use Rattle.pocsag_pages.specs.Plain.{pages_from}
 use Rattle.pocsag_pager.specs.Shown.{IsMended, said}
 use Rattle.pocsag_pager.proofs.Mended.{mended_same}
 use Rattle.pocsag_capture.specs.Bits.{capture_bits}
-use Rattle.pocsag_capture.specs.Caught.{without_orphans}
-use Rattle.pocsag_capture.specs.ExtractedBytes.{LiftsAll, LiftsReception, PutsLift, PutsLifts}
+use Rattle.pocsag_capture.specs.CapturedPages.{without_orphans}
+use Rattle.pocsag_capture.specs.ExtractedBytes.{ExtractsAll, ExtractsReception, PutsExtract, PutsExtracts}
 use Rattle.pocsag_capture.specs.Receptions.{AreFound, AreReceptions, IsReception, IsSyncRun, behind, counted, run_end, last_sync, nothing, passed, received, received_word}
-use Rattle.pocsag_capture.specs.declared.lift.Extracted.{Extracted}
+use Rattle.pocsag_capture.specs.declared.extract.Extracted.{Extracted}
 use Rattle.pocsag_capture.specs.declared.reception.ReceptionStats.{ReceptionStats}
 use Rattle.pocsag_capture.specs.declared.reception.Reception.{Reception}
 use Rattle.pocsag_capture.specs.declared.reception.Run.{Run}
-use Rattle.pocsag_capture.proofs.Joined.{IsBody, all_body, all_bytes, all_caught, all_codewords, all_pages, all_told, body_join, body_reads, join_body, one_body, one_caught, pages_in, sent_body}
-use Rattle.pocsag_capture.proofs.Lifts.{word_unread}
+use Rattle.pocsag_capture.proofs.Joined.{IsBody, all_body, all_bytes, all_captured, all_codewords, all_pages, all_told, body_join, body_reads, join_body, one_body, one_captured, pages_in, sent_body}
+use Rattle.pocsag_capture.proofs.Extracts.{word_unread}
 use Rattle.pocsag_capture.proofs.Windows.{bits_long}
 
 -- ---- how far receptions go
@@ -95,7 +95,7 @@ unread_pages i (w ∷ ws) (m ∷ ms) all each =
     let rest = unread_pages (i + 1) ws ms (All-tail (λ w. w ≡ 0x0000000b) w ws all) each.1 in
     ap (λ (n : Option ℕ). pages_from i (without_orphans false (said n ∷ map said ms))) is ∙ rest
 
-silent : (bits : List ℕ) (h : ReceptionStats) (before after : List ℕ) (f : PutsLift bits h before after) → h.reception.words ≡ 0 → pages_in f.codewords ≡ []
+silent : (bits : List ℕ) (h : ReceptionStats) (before after : List ℕ) (f : PutsExtract bits h before after) → h.reception.words ≡ 0 → pages_in f.codewords ≡ []
 silent bits h before after f none =
     let extracted = f.is.extracted in
     ap (pages_from 0) extracted.kinds
@@ -104,10 +104,10 @@ silent bits h before after f none =
 
 -- ---- all receptions, behind a batch that says nothing
 
-pub lifts_all : (capture : List ℕ) (l : Extracted) (start mid : List ℕ) (silence : ReceptionStats) (found : List Reception) → start ≡ replicate 72 0xaa
-    → silence.reception.words ≡ 0 → silence.reception.batches ≡ 1 → PutsLift (capture_bits capture) silence start mid
-    → PutsLifts (capture_bits capture) found l.heard.items mid l.bytes.items → AreReceptions (capture_bits capture) found → LiftsAll capture l
-lifts_all capture l start mid silence found begun unread one f g are =
+pub extracts_all : (capture : List ℕ) (l : Extracted) (start mid : List ℕ) (silence : ReceptionStats) (found : List Reception) → start ≡ replicate 72 0xaa
+    → silence.reception.words ≡ 0 → silence.reception.batches ≡ 1 → PutsExtract (capture_bits capture) silence start mid
+    → PutsExtracts (capture_bits capture) found l.heard.items mid l.bytes.items → AreReceptions (capture_bits capture) found → ExtractsAll capture l
+extracts_all capture l start mid silence found begun unread one f g are =
     let bits = capture_bits capture in
     let none = silent bits silence start mid f unread in
     let first = subst (IsBody f.codewords) none (one_body bits silence f.codewords f.is) in
@@ -119,10 +119,10 @@ lifts_all capture l start mid silence found begun unread one f g are =
     ∙ ap (λ (a : List ℕ). replicate 72 0xaa ++ a) (sym (body_join f.codewords (all_codewords g.codewords) first.whole)) in
     record {
       pages = all_pages g.codewords;
-      caught = record {
+      captured = record {
         found = subst (AreReceptions bits) (sym g.same) are;
         pages = map pages_in g.codewords;
-        each = all_caught bits l.heard.items g.codewords g.each;
+        each = all_captured bits l.heard.items g.codewords g.each;
         all = refl;
       };
       reads = body_reads l.bytes.items (f.codewords ++ all_codewords g.codewords) (all_pages g.codewords) bytes
@@ -130,9 +130,9 @@ lifts_all capture l start mid silence found begun unread one f g are =
       told = all_told bits l.heard.items g.codewords g.each;
     }
 
-pub lifts_reception : (capture : List ℕ) (r : Reception) (start bytes : List ℕ) (heard : ReceptionStats) → start ≡ replicate 72 0xaa → 0 < r.batches
-    → heard.reception ≡ r → PutsLift (capture_bits capture) heard start bytes → LiftsReception capture r heard bytes
-lifts_reception capture r start bytes heard begun some is f =
+pub extracts_reception : (capture : List ℕ) (r : Reception) (start bytes : List ℕ) (heard : ReceptionStats) → start ≡ replicate 72 0xaa → 0 < r.batches
+    → heard.reception ≡ r → PutsExtract (capture_bits capture) heard start bytes → ExtractsReception capture r heard bytes
+extracts_reception capture r start bytes heard begun some is f =
     let bits = capture_bits capture in
     let batches : heard.reception.batches ≡ r.batches = ap (λ (q : Reception). q.batches) is in
     let body = one_body bits heard f.codewords f.is in
@@ -146,6 +146,6 @@ lifts_reception capture r start bytes heard begun some is f =
       steady = f.is.steady;
       words = f.is.extracted;
       pages = pages_in f.codewords;
-      caught = one_caught bits heard f.codewords f.is;
+      captured = one_captured bits heard f.codewords f.is;
       reads = body_reads bytes f.codewords (pages_in f.codewords) whole long body;
     }

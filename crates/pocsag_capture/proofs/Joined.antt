@@ -1,4 +1,4 @@
--- Lifted receptions as one transmission.
+-- Extracted receptions as one transmission.
 use Rattle.std.proofs.Common.{◌≡◌, ℕ, ◌+◌, ◌*◌, ◌/◌, ◌%◌, ◌<◌, ◌==◌, Bool, true, false, List, [], ◌∷◌, ◌++◌, length, map, replicate, All, Option, Some, None, refl, sym, ap, ap₂, subst, ◌∙◌, arith, if◌then◌else◌}
 use Rattle.std.specs.Int.{to_be_bytes, w32}
 use Rattle.std.specs.List.{AllZip, flat_map}
@@ -16,14 +16,14 @@ use Rattle.pocsag_pages.specs.Reading.{frame_at}
 use Rattle.pocsag_pages.proofs.Readings.{plain_reads}
 use Rattle.pocsag_decode.specs.Faults.{ReadsAs}
 use Rattle.pocsag_pager.specs.Shown.{said}
-use Rattle.pocsag_capture.specs.Caught.{AreCaught, without_orphans}
-use Rattle.pocsag_capture.specs.ExtractedBytes.{IsLift, IsStatsOf}
+use Rattle.pocsag_capture.specs.CapturedPages.{AreCaptured, without_orphans}
+use Rattle.pocsag_capture.specs.ExtractedBytes.{IsExtract, IsStatsOf}
 use Rattle.pocsag_capture.specs.Receptions.{received}
 use Rattle.pocsag_capture.specs.declared.reception.ReceptionStats.{ReceptionStats}
 use Rattle.pocsag_capture.specs.declared.reception.Reception.{Reception}
-use Rattle.pocsag_capture.proofs.Settled.{synced_two}
+use Rattle.pocsag_capture.proofs.CorrectedWords.{synced_two}
 
--- ---- settled words read as pages
+-- ---- corrected words read as pages
 
 pub keeps_no_orphan : (b : Bool) (ms : List (Option Kind)) → HasNoOrphan b (without_orphans b ms)
 keeps_no_orphan b [] = tt
@@ -98,7 +98,7 @@ pub record IsBody (K : List ℕ) (ps : List Page) : Type 0 where
   pub no_orphan : HasNoOrphan false (map kind_of K)
   pub pages : ps ≡ pages_in K
 
-pub one_body : (bits : List ℕ) (h : ReceptionStats) (T : List ℕ) → IsLift bits h T → IsBody T (pages_in T)
+pub one_body : (bits : List ℕ) (h : ReceptionStats) (T : List ℕ) → IsExtract bits h T → IsBody T (pages_in T)
 one_body bits h T f = record {
   are = f.are;
   whole = omega (arith, f.long);
@@ -106,8 +106,8 @@ one_body bits h T f = record {
   pages = refl;
 }
 
-pub one_caught : (bits : List ℕ) (h : ReceptionStats) (T : List ℕ) → IsLift bits h T → AreCaught (received bits h.reception) (pages_in T)
-one_caught bits h T f = record {
+pub one_captured : (bits : List ℕ) (h : ReceptionStats) (T : List ℕ) → IsExtract bits h T → AreCaptured (received bits h.reception) (pages_in T)
+one_captured bits h T f = record {
   mended = f.extracted.mended;
   each = f.extracted.each;
   holds = plain_reads (without_orphans false (map said f.extracted.mended)) 0 (pages_in T) (keeps_no_orphan false (map said f.extracted.mended))
@@ -132,14 +132,14 @@ all_codewords Ts = flat_map (λ T. T) Ts
 abbrev pub all_pages : List (List ℕ) → List Page
 all_pages Ts = flat_map (λ ps. ps) (map pages_in Ts)
 
-pub all_body : (bits : List ℕ) (hs : List ReceptionStats) (Ts : List (List ℕ)) → AllZip (IsLift bits) hs Ts → IsBody (all_codewords Ts) (all_pages Ts)
+pub all_body : (bits : List ℕ) (hs : List ReceptionStats) (Ts : List (List ℕ)) → AllZip (IsExtract bits) hs Ts → IsBody (all_codewords Ts) (all_pages Ts)
 all_body bits [] [] each = record { are = All-nil IsCodeword; whole = refl; no_orphan = tt; pages = refl }
 all_body bits [] (T ∷ Ts) each = absurd each
 all_body bits (h ∷ hs) [] each = absurd each
 all_body bits (h ∷ hs) (T ∷ Ts) each =
     join_body T (all_codewords Ts) (pages_in T) (all_pages Ts) (one_body bits h T each.0) (all_body bits hs Ts each.1)
 
-pub all_bytes : (bits : List ℕ) (hs : List ReceptionStats) (Ts : List (List ℕ)) → AllZip (IsLift bits) hs Ts
+pub all_bytes : (bits : List ℕ) (hs : List ReceptionStats) (Ts : List (List ℕ)) → AllZip (IsExtract bits) hs Ts
     → flat_map body_bytes Ts ≡ body_bytes (all_codewords Ts)
 all_bytes bits [] [] each = refl
 all_bytes bits [] (T ∷ Ts) each = absurd each
@@ -147,14 +147,14 @@ all_bytes bits (h ∷ hs) [] each = absurd each
 all_bytes bits (h ∷ hs) (T ∷ Ts) each =
     ap (λ (l : List ℕ). body_bytes T ++ l) (all_bytes bits hs Ts each.1) ∙ sym (body_join T (all_codewords Ts) (omega (arith, each.0.long)))
 
-pub all_caught : (bits : List ℕ) (hs : List ReceptionStats) (Ts : List (List ℕ)) → AllZip (IsLift bits) hs Ts
-    → AllZip (λ (r : Reception) (here : List Page). AreCaught (received bits r) here) (map (λ (h : ReceptionStats). h.reception) hs) (map pages_in Ts)
-all_caught bits [] [] each = tt
-all_caught bits [] (T ∷ Ts) each = absurd each
-all_caught bits (h ∷ hs) [] each = absurd each
-all_caught bits (h ∷ hs) (T ∷ Ts) each = (one_caught bits h T each.0, all_caught bits hs Ts each.1)
+pub all_captured : (bits : List ℕ) (hs : List ReceptionStats) (Ts : List (List ℕ)) → AllZip (IsExtract bits) hs Ts
+    → AllZip (λ (r : Reception) (here : List Page). AreCaptured (received bits r) here) (map (λ (h : ReceptionStats). h.reception) hs) (map pages_in Ts)
+all_captured bits [] [] each = tt
+all_captured bits [] (T ∷ Ts) each = absurd each
+all_captured bits (h ∷ hs) [] each = absurd each
+all_captured bits (h ∷ hs) (T ∷ Ts) each = (one_captured bits h T each.0, all_captured bits hs Ts each.1)
 
-pub all_told : (bits : List ℕ) (hs : List ReceptionStats) (Ts : List (List ℕ)) → AllZip (IsLift bits) hs Ts → All (IsStatsOf bits) hs
+pub all_told : (bits : List ℕ) (hs : List ReceptionStats) (Ts : List (List ℕ)) → AllZip (IsExtract bits) hs Ts → All (IsStatsOf bits) hs
 all_told bits [] [] each = All-nil (IsStatsOf bits)
 all_told bits [] (T ∷ Ts) each = absurd each
 all_told bits (h ∷ hs) [] each = absurd each

@@ -1,11 +1,12 @@
+pub mod CorrectedWords
 pub mod Counting
 pub mod Ends
+pub mod Extracts
 pub mod Joined
-pub mod Lifts
 pub mod Once
 pub mod PageEnds
 pub mod Polarities
 pub mod SearchLemmas
 pub mod SentBits
-pub mod Settled
+pub mod SyncTables
 pub mod Windows

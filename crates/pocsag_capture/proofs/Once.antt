@@ -1,4 +1,4 @@
--- A capture holds one list of receptions, and one list of pages is caught of it.
+-- A capture holds one list of receptions, and one list of pages.
 use Rattle.std.proofs.Common.{◌≡◌, ℕ, ◌+◌, ◌-◌, ◌*◌, ◌^◌, ◌<◌, ◌≤◌, lit<, List, [], ◌∷◌, length, map, take, drop, filter, Option, Some, None, Bool, true, false, cond, refl, sym, ap, ap₂, subst, ◌∙◌, inl, inr, arith}
 use Rattle.std.specs.List.{AllZip, flat_map}
 use Rattle.std.proofs.Math.Pow.{pow_mono}
@@ -18,7 +18,7 @@ use Rattle.pocsag_pager.proofs.Chosen.{calls}
 use Rattle.pocsag_pager.proofs.Mended.{all_mended_same}
 use Rattle.pocsag_pager.proofs.Damage.{shown_is_chosen}
 use Rattle.pocsag_capture.specs.Bits.{capture_bits, word_on}
-use Rattle.pocsag_capture.specs.Caught.{AreCaught, HasCaught, without_orphans}
+use Rattle.pocsag_capture.specs.CapturedPages.{AreCaptured, HasCaptured, without_orphans}
 use Rattle.pocsag_capture.specs.Receptions.{AreFound, IsOnAir, HasBatches, IsBridged, IsInStep, IsReadTo, IsReception, IsSyncRun, IsSynchronised, counted, run_end, last_sync, nothing, passed, received}
 use Rattle.pocsag_capture.specs.declared.polarity.Polarity.{Polarity}
 use Rattle.pocsag_capture.specs.declared.polarity.Polarity.TheVariants.{Upright, Inverted}
@@ -140,15 +140,15 @@ same_found bits first held rs ss fits (passed u more run not rest) (passed v oth
 
 -- ---- one list of pages
 
-same_pages : (words : List ℕ) (ps qs : List Page) → AreCaught words ps → AreCaught words qs → ps ≡ qs
+same_pages : (words : List ℕ) (ps qs : List Page) → AreCaptured words ps → AreCaptured words qs → ps ≡ qs
 same_pages words ps qs f g =
     (reads_plainly f.holds).pages
     ∙ ap (λ (ms : List (Option ℕ)). pages_from 0 (without_orphans false (map said ms))) (all_mended_same (unsynced 0 words) f.mended g.mended f.each g.each)
     ∙ sym (reads_plainly g.holds).pages
 
 same_lists_of_pages : (bits : List ℕ) (rs : List Reception) (pss qss : List (List Page))
-    → AllZip (λ (r : Reception) (here : List Page). AreCaught (received bits r) here) rs pss
-    → AllZip (λ (r : Reception) (here : List Page). AreCaught (received bits r) here) rs qss → pss ≡ qss
+    → AllZip (λ (r : Reception) (here : List Page). AreCaptured (received bits r) here) rs pss
+    → AllZip (λ (r : Reception) (here : List Page). AreCaptured (received bits r) here) rs qss → pss ≡ qss
 same_lists_of_pages bits [] [] [] f g = refl
 same_lists_of_pages bits [] [] (q ∷ qss) f g = absurd g
 same_lists_of_pages bits [] (p ∷ pss) qss f g = absurd f
@@ -173,12 +173,12 @@ capture_fits capture bit =
     let room = pow_mono most in
     omega arith
 
-pub one_thing : (capture : List ℕ) (rs ss : List Reception) (ps qs : List Page) → HasCaught capture rs ps → HasCaught capture ss qs → (rs ≡ ss) × (ps ≡ qs)
+pub one_thing : (capture : List ℕ) (rs ss : List Reception) (ps qs : List Page) → HasCaptured capture rs ps → HasCaptured capture ss qs → (rs ≡ ss) × (ps ≡ qs)
 one_thing capture rs ss ps qs f g =
     let bits = capture_bits capture in
     let same = same_found bits 0 0 rs ss (capture_fits capture) f.found g.found in
     let pages = same_lists_of_pages bits rs f.pages g.pages f.each
-    (subst (λ (l : List Reception). AllZip (λ (r : Reception) (here : List Page). AreCaught (received bits r) here) l g.pages) (sym same) g.each) in
+    (subst (λ (l : List Reception). AllZip (λ (r : Reception) (here : List Page). AreCaptured (received bits r) here) l g.pages) (sym same) g.each) in
     (same, f.all ∙ ap (flat_map (λ (here : List Page). here)) pages ∙ sym g.all)
 
 -- ---- what a pager shows
@@ -200,8 +200,8 @@ without_orphans_shown a i b (Some (Address high function) ∷ ms) =
 without_orphans_shown a i true (Some (Message bits) ∷ ms) = without_orphans_shown a (i + 1) true ms
 without_orphans_shown a i false (Some (Message bits) ∷ ms) = without_orphans_shown a (i + 1) false ms
 
-pub caught_shown : (words : List ℕ) (a : ℕ) (ps qs : List Page) → AreCaught words ps → AreShown words a qs → qs ≡ filter (calls a) ps
-caught_shown words a ps qs f g =
+pub captured_shown : (words : List ℕ) (a : ℕ) (ps qs : List Page) → AreCaptured words ps → AreShown words a qs → qs ≡ filter (calls a) ps
+captured_shown words a ps qs f g =
     g.holds
     ∙ ap (λ (ms : List (Option ℕ)). shown_from a 0 (map said ms)) (all_mended_same (unsynced 0 words) g.mended f.mended g.each f.each)
     ∙ without_orphans_shown a 0 false (map said f.mended) ∙ shown_is_chosen a 0 (without_orphans false (map said f.mended))

@@ -1,12 +1,11 @@
 -- Where pages end: those that are cut, word by word, and those that are not, which stand whole.
-use Rattle.std.proofs.Common.{◌≡◌, ◌≢◌, ℕ, ◌+◌, ◌-◌, ◌*◌, ◌/◌, ◌%◌, ◌<◌, Bool, true, false, List, [], ◌∷◌, ◌++◌, length, filter, map, All, Option, Some, None, refl, sym, ap, ap₂, subst, ◌∙◌, inl, inr, arith, append_assoc, if◌then◌else◌}
+use Rattle.std.proofs.Common.{◌≡◌, ◌≢◌, ℕ, ◌+◌, ◌-◌, ◌*◌, ◌/◌, ◌%◌, ◌<◌, Bool, true, false, List, [], ◌∷◌, ◌++◌, length, filter, map, All, Option, Some, None, refl, sym, ap, ap₂, subst, ◌∙◌, inl, inr, arith, append_assoc}
 use Rattle.std.specs.Prelude.{IsTrue, bit_xor, count_ones, is_some, nat_le, not, option_to_list}
 use Rattle.std.specs.Int.{to_be_bytes, w32}
-use Rattle.std.specs.List.{AllZip, flat_map}
+use Rattle.std.specs.List.{AllZip}
 use Rattle.std.proofs.lemmas.Bool.{cases_lt, le-leb}
-use Rattle.std.proofs.lemmas.List.{append-nil, length-append, map-append}
-use Rattle.std.proofs.lemmas.List.Elements.{All-head, All-nil, All-tail}
-use Rattle.pocsag_words.specs.Codeword.{IsCodeword}
+use Rattle.std.proofs.lemmas.List.{length-append, map-append}
+use Rattle.std.proofs.lemmas.List.Elements.{All-head, All-tail}
 use Rattle.pocsag_words.specs.Kinds.{kind_of}
 use Rattle.pocsag_words.specs.declared.codeword.Kind.{Kind}
 use Rattle.pocsag_words.specs.declared.codeword.Kind.TheVariants.{Idle, Address, Message}
@@ -25,39 +24,39 @@ use Rattle.pocsag_pager.specs.Shown.{IsMended, said}
 use Rattle.pocsag_pager.specs.Turns.{IsHeardAs}
 use Rattle.pocsag_pager.proofs.Mended.{all_mended_same}
 use Rattle.pocsag_capture.specs.Bits.{capture_bits}
-use Rattle.pocsag_capture.specs.Caught.{AreCaught, HasCaught, without_orphans}
+use Rattle.pocsag_capture.specs.CapturedPages.{AreCaptured, HasCaptured, without_orphans}
 use Rattle.pocsag_capture.specs.Extracted.{count_cut, ends_cut, far_words, near_errors, page_cuts}
-use Rattle.pocsag_capture.specs.PageEnds.{AreCutsOf, HasCatches, IsCatch, IsPageEnd, StandsWhole, UncutStandWhole, pages_caught}
+use Rattle.pocsag_capture.specs.PageEnds.{AreCutsOf, HasTransmissions, IsCapturedTransmission, IsPageEnd, UncutStandWhole, pages_captured}
 use Rattle.pocsag_capture.specs.Receptions.{AreInStep, received, received_word}
 use Rattle.pocsag_capture.specs.TakenWords.{TakesWord, cut_by, stays_open}
-use Rattle.pocsag_capture.specs.declared.catching.Catch.{Catch}
+use Rattle.pocsag_capture.specs.declared.captured_transmission.CapturedTransmission.{CapturedTransmission}
 use Rattle.pocsag_capture.specs.declared.corrector.WordCorrector.{WordCorrector}
 use Rattle.pocsag_capture.specs.declared.reception.Reception.{Reception}
-use Rattle.pocsag_capture.proofs.Joined.{one_caught}
-use Rattle.pocsag_capture.proofs.Lifts.{first_long, first_more, first_words, lift_all_words}
-use Rattle.pocsag_capture.proofs.Settled.{IsSettling, all_ended, ended_from, ended_here, last_end, positive, settling_codeword, settling_none, settling_sync}
+use Rattle.pocsag_capture.proofs.Joined.{one_captured}
+use Rattle.pocsag_capture.proofs.Extracts.{first_long, first_more, first_words, extract_all_words}
+use Rattle.pocsag_capture.proofs.CorrectedWords.{IsCorrecting, all_ended, ended_from, ended_here, last_end, positive, correcting_codeword, correcting_none, correcting_sync}
 
 -- ---- the words of a reception, of which the first were taken
 
-pub record IsCatching (words : List ℕ) (steady : ℕ) (s : WordCorrector) (growing : Growing) (cuts : List Bool) : Type 0 where
+pub record IsCapturing (words : List ℕ) (steady : ℕ) (s : WordCorrector) (growing : Growing) (cuts : List Bool) : Type 0 where
   pub now : List ℕ
-  pub settling : IsSettling words steady s [] now
+  pub correcting : IsCorrecting words steady s [] now
   pub open_page : is_some growing.current ≡ s.is_open
   pub pages : (more : List Kind)
-      → pages_from 0 (map kind_of settling.codewords ++ more) ≡ growing.pages.items ++ resumed (length settling.codewords) growing.current more
-  pub ended : cuts ≡ ended_from (16 * steady) 0 false (map said settling.mended)
+      → pages_from 0 (map kind_of correcting.codewords ++ more) ≡ growing.pages.items ++ resumed (length correcting.codewords) growing.current more
+  pub ended : cuts ≡ ended_from (16 * steady) 0 false (map said correcting.mended)
 
-pub catching_none : (steady : ℕ) (s : WordCorrector) (growing : Growing) (cuts : List Bool) → s.is_open ≡ false → s.corrected ≡ 0 → s.lost ≡ 0 → s.cut ≡ 0
-    → growing.pages.items ≡ [] → growing.current ≡ None → cuts ≡ [] → IsCatching [] steady s growing cuts
-catching_none steady s growing cuts closed corrected lost cut pages current none = record {
+pub capturing_none : (steady : ℕ) (s : WordCorrector) (growing : Growing) (cuts : List Bool) → s.is_open ≡ false → s.corrected ≡ 0 → s.lost ≡ 0 → s.cut ≡ 0
+    → growing.pages.items ≡ [] → growing.current ≡ None → cuts ≡ [] → IsCapturing [] steady s growing cuts
+capturing_none steady s growing cuts closed corrected lost cut pages current none = record {
   now = [];
-  settling = settling_none steady s [] [] closed corrected lost cut refl;
+  correcting = correcting_none steady s [] [] closed corrected lost cut refl;
   open_page = ap (λ (o : Option OpenPage). is_some o) current ∙ sym closed;
   pages = λ more. sym (ap₂ (λ (l : List Page) (o : Option OpenPage). l ++ resumed 0 o more) pages current);
   ended = none;
 }
 
--- what a word is settled as
+-- what a word is corrected to
 same_head : (k j : Kind) → k ∷ [] ≡ j ∷ [] → j ≡ k
 same_head k j e = cc
 
@@ -77,42 +76,42 @@ message_by false (Some (Address high function)) k e message =
 message_by false (Some (Message bits)) k e message = absurd (cc (subst (λ (j : Kind). IsTrue (is_message j)) (same_head Idle k e) message))
 
 module _ (bits : List ℕ) (r : Reception) (place w : ℕ) (steady : ℕ) (s t : WordCorrector) (growing : Growing) (cuts : List Bool)
-    (is : w ≡ received_word bits r place) (f : IsCatching (first_words bits r place) steady s growing cuts) where
+    (is : w ≡ received_word bits r place) (f : IsCapturing (first_words bits r place) steady s growing cuts) where
   more_words : first_words bits r place ++ w ∷ [] ≡ first_words bits r (place + 1)
   more_words = ap (λ (v : ℕ). first_words bits r place ++ v ∷ []) is ∙ sym (first_more bits r place)
 
   as_long : length (first_words bits r place) ≡ place
   as_long = first_long bits r place
 
-  pub catching_sync : place % 17 ≡ 0 → t.corrected ≡ s.corrected + near_errors (count_ones (bit_xor sync_word w)) → t.is_open ≡ s.is_open
+  pub capturing_sync : place % 17 ≡ 0 → t.corrected ≡ s.corrected + near_errors (count_ones (bit_xor sync_word w)) → t.is_open ≡ s.is_open
       → t.lost ≡ s.lost + far_words (count_ones (bit_xor sync_word w)) → t.cut ≡ s.cut
-      → IsCatching (first_words bits r (place + 1)) steady t growing cuts
-  catching_sync sync corrected is_open lost cut =
-      subst (λ (l : List ℕ). IsCatching l steady t growing cuts) more_words (record {
+      → IsCapturing (first_words bits r (place + 1)) steady t growing cuts
+  capturing_sync sync corrected is_open lost cut =
+      subst (λ (l : List ℕ). IsCapturing l steady t growing cuts) more_words (record {
         now = f.now ++ to_be_bytes w32 sync_word;
-        settling = settling_sync (first_words bits r place) steady s t [] f.now (f.now ++ to_be_bytes w32 sync_word) w f.settling
+        correcting = correcting_sync (first_words bits r place) steady s t [] f.now (f.now ++ to_be_bytes w32 sync_word) w f.correcting
             (ap (λ (n : ℕ). n % 17) as_long ∙ sync) corrected is_open lost cut refl;
         open_page = f.open_page ∙ sym is_open;
         pages = f.pages;
         ended = f.ended;
       })
 
-  pub catching_word : (v frame : ℕ) (k : Kind) (is_out : Bool) (ended : Option Bool) (after : Growing) (cuts' : List Bool) → place % 17 ≢ 0
+  pub capturing_word : (v frame : ℕ) (k : Kind) (is_out : Bool) (ended : Option Bool) (after : Growing) (cuts' : List Bool) → place % 17 ≢ 0
       → is_out ≡ nat_le (17 * steady) place → frame ≡ (place % 17 - 1) / 2 → k ≡ kind_of v
       → TakesWord s t is_out w v ended → cuts' ≡ cuts ++ option_to_list ended
       → ((i : ℕ) (ks : List Kind) → frame ≡ frame_at i → growing.pages.items ++ resumed i growing.current (k ∷ ks)
       ≡ after.pages.items ++ resumed (i + 1) after.current ks)
-      → is_some after.current ≡ not (is_idle k) → IsCatching (first_words bits r (place + 1)) steady t after cuts'
-  catching_word v frame k is_out ended after cuts' inside step at_frame said_so takes pushed reads current =
+      → is_some after.current ≡ not (is_idle k) → IsCapturing (first_words bits r (place + 1)) steady t after cuts'
+  capturing_word v frame k is_out ended after cuts' inside step at_frame said_so takes pushed reads current =
       let words = first_words bits r place in
-      let codewords = f.settling.codewords in
+      let codewords = f.correcting.codewords in
       let here : length words % 17 ≢ 0 = λ e. inside (ap (λ (n : ℕ). n % 17) (sym as_long) ∙ e) in
       let in_step : is_out ≡ nat_le (17 * steady) (length words) = step ∙ ap (λ (n : ℕ). nat_le (17 * steady) n) (sym as_long) in
-      let index : frame ≡ frame_at (length codewords) = omega (arith, f.settling.long, as_long, at_frame, positive (place % 17) inside) in
+      let index : frame ≡ frame_at (length codewords) = omega (arith, f.correcting.long, as_long, at_frame, positive (place % 17) inside) in
       let one_more : length (codewords ++ v ∷ []) ≡ length codewords + 1 = omega (arith, length-append codewords (v ∷ [])) in
-      subst (λ (l : List ℕ). IsCatching l steady t after cuts') more_words (record {
+      subst (λ (l : List ℕ). IsCapturing l steady t after cuts') more_words (record {
         now = f.now ++ to_be_bytes w32 v;
-        settling = settling_codeword words steady s t [] f.now (f.now ++ to_be_bytes w32 v) w f.settling v is_out ended here in_step takes refl;
+        correcting = correcting_codeword words steady s t [] f.now (f.now ++ to_be_bytes w32 v) w f.correcting v is_out ended here in_step takes refl;
         open_page = current ∙ ap (λ (j : Kind). not (is_idle j)) said_so ∙ stays_by s.is_open (said takes.mended) (kind_of v) takes.kind ∙ sym takes.open_after;
         pages = λ more.
             ap (λ (l : List Kind). pages_from 0 (l ++ more)) (map-append kind_of codewords (v ∷ []))
@@ -122,37 +121,37 @@ module _ (bits : List ℕ) (r : Reception) (place w : ℕ) (steady : ℕ) (s t :
             ∙ reads (length codewords) more index
             ∙ ap (λ (n : ℕ). after.pages.items ++ resumed n after.current more) (sym one_more);
         ended = pushed ∙ ap (λ (l : List Bool). l ++ option_to_list ended) f.ended
-            ∙ sym (ended_here words steady s t [] f.now (f.now ++ to_be_bytes w32 v) w f.settling v is_out ended here in_step takes);
+            ∙ sym (ended_here words steady s t [] f.now (f.now ++ to_be_bytes w32 v) w f.correcting v is_out ended here in_step takes);
       })
 
 -- all of them
-pub record IsCaught (bits : List ℕ) (c : Catch) : Type 0 where
-  pub is : IsCatch bits c
+pub record IsCaptured (bits : List ℕ) (c : CapturedTransmission) : Type 0 where
+  pub is : IsCapturedTransmission bits c
   pub listable : All IsListable c.pages.items
 
-pub catching_all : (bits : List ℕ) (c : Catch) (place : ℕ) (s : WordCorrector) (growing : Growing) (cuts : List Bool) → place ≡ 17 * c.heard.reception.batches
+pub capturing_all : (bits : List ℕ) (c : CapturedTransmission) (place : ℕ) (s : WordCorrector) (growing : Growing) (cuts : List Bool) → place ≡ 17 * c.heard.reception.batches
     → AreInStep bits c.heard.reception c.heard.steady → c.heard.corrected ≡ s.corrected → c.heard.lost ≡ s.lost
     → c.heard.cut ≡ s.cut + cut_by (last_end s.is_open) → c.cuts.items ≡ cuts ++ option_to_list (last_end s.is_open)
     → c.pages.items ≡ growing.pages.items ++ closed growing.current
-    → IsCatching (first_words bits c.heard.reception place) c.heard.steady s growing cuts → IsCaught bits c
-catching_all bits c place s growing cuts all steady corrected lost cut ends pages f =
-    let lift = lift_all_words bits c.heard s [] f.now place all steady corrected lost cut f.settling in
-    let codewords = f.settling.codewords in
-    let mended = f.settling.mended in
+    → IsCapturing (first_words bits c.heard.reception place) c.heard.steady s growing cuts → IsCaptured bits c
+capturing_all bits c place s growing cuts all steady corrected lost cut ends pages f =
+    let extract = extract_all_words bits c.heard s [] f.now place all steady corrected lost cut f.correcting in
+    let codewords = f.correcting.codewords in
+    let mended = f.correcting.mended in
     let same : c.pages.items ≡ pages_from 0 (map kind_of codewords) =
     pages_end growing.pages.items growing.current (length codewords) (map kind_of codewords) f.pages c.pages.items pages in
     record {
       is = record {
-        pages = subst (λ (ps : List Page). AreCaught (received bits c.heard.reception) ps) (sym same) (one_caught bits c.heard codewords lift.is);
+        pages = subst (λ (ps : List Page). AreCaptured (received bits c.heard.reception) ps) (sym same) (one_captured bits c.heard codewords extract.is);
         cuts = record {
           mended = mended;
-          each = subst (λ (n : ℕ). AllZip IsMended (unsynced 0 (first_words bits c.heard.reception n)) mended) all f.settling.each;
-          holds = ends ∙ ap₂ (λ (l : List Bool) (b : Bool). l ++ option_to_list (last_end b)) f.ended f.settling.open_page
+          each = subst (λ (n : ℕ). AllZip IsMended (unsynced 0 (first_words bits c.heard.reception n)) mended) all f.correcting.each;
+          holds = ends ∙ ap₂ (λ (l : List Bool) (b : Bool). l ++ option_to_list (last_end b)) f.ended f.correcting.open_page
               ∙ all_ended (16 * c.heard.steady) 0 false (map said mended);
         };
-        told = record { steady = steady; codewords = codewords; extracted = lift.is.extracted };
+        told = record { steady = steady; codewords = codewords; extracted = extract.is.extracted };
       };
-      listable = subst (All IsListable) (sym same) (codewords_listable codewords f.settling.are);
+      listable = subst (All IsListable) (sym same) (codewords_listable codewords f.correcting.are);
     }
 
 -- ---- pages that are not cut stand whole
@@ -263,14 +262,14 @@ as_many steady i b (Some (Address high function) ∷ ks) = let rest = as_many st
 as_many steady i true (Some (Message bits) ∷ ks) = as_many steady (i + 1) true ks
 as_many steady i false (Some (Message bits) ∷ ks) = as_many steady (i + 1) false ks
 
--- both, of what is caught of words
-plain_pages : (words : List ℕ) (steady : ℕ) (ps : List Page) (cuts : List Bool) (f : AreCaught words ps) (g : AreCutsOf words steady cuts)
+-- both, of the pages of words
+plain_pages : (words : List ℕ) (steady : ℕ) (ps : List Page) (cuts : List Bool) (f : AreCaptured words ps) (g : AreCutsOf words steady cuts)
     → ps ≡ pages_from 0 (without_orphans false (map said g.mended))
 plain_pages words steady ps cuts f g =
     (reads_plainly f.holds).pages
     ∙ ap (λ (ms : List (Option ℕ)). pages_from 0 (without_orphans false (map said ms))) (all_mended_same (unsynced 0 words) f.mended g.mended f.each g.each)
 
-pub uncut_pages_stand : (words : List ℕ) (steady : ℕ) (ps : List Page) (cuts : List Bool) → AreCaught words ps → AreCutsOf words steady cuts
+pub uncut_pages_stand : (words : List ℕ) (steady : ℕ) (ps : List Page) (cuts : List Bool) → AreCaptured words ps → AreCutsOf words steady cuts
     → UncutStandWhole (unsynced 0 words) steady ps cuts
 uncut_pages_stand words steady ps cuts f g =
     let pages = plain_pages words steady ps cuts f g in
@@ -279,32 +278,32 @@ uncut_pages_stand words steady ps cuts f g =
     subst (λ (bs : List Bool). UncutStandWhole (unsynced 0 words) steady ps bs) (sym g.holds)
     (subst (λ (qs : List Page). UncutStandWhole (unsynced 0 words) steady qs (page_cuts steady 0 (map said g.mended))) (sym pages) stand)
 
-pub as_many_cuts : (words : List ℕ) (steady : ℕ) (ps : List Page) (cuts : List Bool) → AreCaught words ps → AreCutsOf words steady cuts
+pub as_many_cuts : (words : List ℕ) (steady : ℕ) (ps : List Page) (cuts : List Bool) → AreCaptured words ps → AreCutsOf words steady cuts
     → length cuts ≡ length ps
 as_many_cuts words steady ps cuts f g =
     ap (λ (bs : List Bool). length bs) g.holds ∙ as_many steady 0 false (map said g.mended)
     ∙ ap (λ (qs : List Page). length qs) (sym (plain_pages words steady ps cuts f g))
 
--- ---- what is caught of all of them
+-- ---- the pages of all of them
 
-each_caught : (bits : List ℕ) (cs : List Catch) → All (IsCatch bits) cs
-    → AllZip (λ (r : Reception) (here : List Page). AreCaught (received bits r) here) (map (λ (c : Catch). c.heard.reception) cs)
-    (map (λ (c : Catch). c.pages.items) cs)
-each_caught bits [] all = tt
-each_caught bits (c ∷ cs) all = ((All-head (IsCatch bits) c cs all).pages, each_caught bits cs (All-tail (IsCatch bits) c cs all))
+each_captured : (bits : List ℕ) (cs : List CapturedTransmission) → All (IsCapturedTransmission bits) cs
+    → AllZip (λ (r : Reception) (here : List Page). AreCaptured (received bits r) here) (map (λ (c : CapturedTransmission). c.heard.reception) cs)
+    (map (λ (c : CapturedTransmission). c.pages.items) cs)
+each_captured bits [] all = tt
+each_captured bits (c ∷ cs) all = ((All-head (IsCapturedTransmission bits) c cs all).pages, each_captured bits cs (All-tail (IsCapturedTransmission bits) c cs all))
 
-pub catches_are_caught_lem : (capture : List ℕ) (cs : List Catch) → HasCatches capture cs
-    → HasCaught capture (map (λ (c : Catch). c.heard.reception) cs) (pages_caught cs)
-catches_are_caught_lem capture cs f = record {
+pub transmissions_are_captured_lem : (capture : List ℕ) (cs : List CapturedTransmission) → HasTransmissions capture cs
+    → HasCaptured capture (map (λ (c : CapturedTransmission). c.heard.reception) cs) (pages_captured cs)
+transmissions_are_captured_lem capture cs f = record {
   found = f.found;
-  pages = map (λ (c : Catch). c.pages.items) cs;
-  each = each_caught (capture_bits capture) cs f.each;
+  pages = map (λ (c : CapturedTransmission). c.pages.items) cs;
+  each = each_captured (capture_bits capture) cs f.each;
   all = refl;
 }
 
 -- ---- how many pages are cut
 
-pub cuts_are_counted : (bits : List ℕ) (c : Catch) → IsCatch bits c → c.heard.cut ≡ length (filter (λ (is_cut : Bool). is_cut) c.cuts.items)
+pub cuts_are_counted : (bits : List ℕ) (c : CapturedTransmission) → IsCapturedTransmission bits c → c.heard.cut ≡ length (filter (λ (is_cut : Bool). is_cut) c.cuts.items)
 cuts_are_counted bits c f =
     let extracted = f.told.extracted in
     let words = unsynced 0 (received bits c.heard.reception) in

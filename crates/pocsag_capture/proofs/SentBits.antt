@@ -32,7 +32,7 @@ use Rattle.pocsag_decode.proofs.SentBytes.{body_begins}
 use Rattle.pocsag_pager.specs.Shown.{IsMended, said}
 use Rattle.pocsag_pager.proofs.Mended.{all_mended_same}
 use Rattle.pocsag_capture.specs.Bits.{as_sent, capture_bits, word_on}
-use Rattle.pocsag_capture.specs.Caught.{AreCaught, HasCaught, without_orphans}
+use Rattle.pocsag_capture.specs.CapturedPages.{AreCaptured, HasCaptured, without_orphans}
 use Rattle.pocsag_capture.specs.Lost.{lost_words}
 use Rattle.pocsag_capture.specs.Receptions.{AreFound, HasFewLost, IsLikeSynchronised, IsQuiet, IsReception, IsSyncRun, IsSynchronised, counted, run_end, last_sync, nothing, passed, received, received_word, sent_at}
 use Rattle.pocsag_capture.specs.Sent.{HoldsSent, NothingFollows, IsReceived, StandAmong}
@@ -41,9 +41,9 @@ use Rattle.pocsag_capture.specs.declared.polarity.Polarity.TheVariants.{Upright,
 use Rattle.pocsag_capture.specs.declared.reception.Reception.{Reception}
 use Rattle.pocsag_capture.specs.declared.reception.Run.{Run}
 use Rattle.pocsag_capture.proofs.Joined.{no_orphan_any, no_orphan_join, pages_join, pages_shift, keeps_no_orphan}
-use Rattle.pocsag_capture.proofs.Lifts.{word_read, word_there}
+use Rattle.pocsag_capture.proofs.Extracts.{word_read, word_there}
 use Rattle.pocsag_capture.proofs.Once.{WordsFit, capture_fits, no_more, same_polarity}
-use Rattle.pocsag_capture.proofs.Settled.{open_after_all}
+use Rattle.pocsag_capture.proofs.CorrectedWords.{open_after_all}
 use Rattle.pocsag_capture.specs.TakenWords.{stays_open}
 use Rattle.pocsag_capture.proofs.Windows.{number_behind}
 
@@ -67,11 +67,11 @@ like_back A B q p f = record {
 
 -- ---- the words of a transmission
 
-sent_twice : (p : Polarity) (w : ℕ) → w < 2 ^ 32 → as_sent p (as_sent p w) ≡ w
+pub sent_twice : (p : Polarity) (w : ℕ) → w < 2 ^ 32 → as_sent p (as_sent p w) ≡ w
 sent_twice Upright w small = refl
 sent_twice Inverted w small = omega arith
 
-sent_fits : (p : Polarity) (w : ℕ) → w < 2 ^ 32 → as_sent p w < 2 ^ 32
+pub sent_fits : (p : Polarity) (w : ℕ) → w < 2 ^ 32 → as_sent p w < 2 ^ 32
 sent_fits Upright w small = small
 sent_fits Inverted w small = omega arith
 
@@ -182,9 +182,9 @@ without_orphans_same false (Message bits ∷ ks) h = absurd (cc h.0)
 without_orphans_any : (b : Bool) (ks : List Kind) → HasNoOrphan false ks → without_orphans b (map Some ks) ≡ ks
 without_orphans_any b ks h = without_orphans_same b ks (no_orphan_any b ks h)
 
-caught_of_sent : (T Y : List ℕ) (ps : List Page) → All IsCodeword T → All (λ y. y < 2 ^ 32) Y → AllZip IsNear (synced 0 T) Y
-    → Reads (map kind_of T) 0 ps → AreCaught Y ps
-caught_of_sent T Y ps are fit near reads =
+captured_of_sent : (T Y : List ℕ) (ps : List Page) → All IsCodeword T → All (λ y. y < 2 ^ 32) Y → AllZip IsNear (synced 0 T) Y
+    → Reads (map kind_of T) 0 ps → AreCaptured Y ps
+captured_of_sent T Y ps are fit near reads =
     let same : without_orphans false (map said (map Some T)) ≡ map kind_of T =
     ap (without_orphans false) (said_some T) ∙ without_orphans_same false (map kind_of T) (reads_plainly reads).no_orphan in
     record {
@@ -335,7 +335,7 @@ found_on bits first held b p rs fits there quiet few low late (passed u more run
           ])
     ]
 
--- ---- what is caught behind other words
+-- ---- what is captured behind other words
 
 unsynced_shift : (i j : ℕ) (ws : List ℕ) → i % 17 ≡ j % 17 → unsynced i ws ≡ unsynced j ws
 unsynced_shift i j [] e = refl
@@ -443,9 +443,9 @@ module _ (before Y after T : List ℕ) (ps : List Page) (are : All IsCodeword T)
         λ idle. ap (open_after_all b) (said_some T) ∙ ends_closed b (map kind_of T) idle,
       )
 
-  caught_between : (here : List Page) → length before % 17 ≡ 0 → length Y % 17 ≡ 0 → (after ≡ []) ⊎ EndsIdle (map kind_of T)
-      → AreCaught (before ++ (Y ++ after)) here → StandAmong ps here
-  caught_between here first_whole whole ended g =
+  captured_between : (here : List Page) → length before % 17 ≡ 0 → length Y % 17 ≡ 0 → (after ≡ []) ⊎ EndsIdle (map kind_of T)
+      → AreCaptured (before ++ (Y ++ after)) here → StandAmong ps here
+  captured_between here first_whole whole ended g =
       let f = between g.mended first_whole whole g.each in
       let k = kinds_between g.mended f in
       let K : List Kind = map kind_of T in
@@ -644,12 +644,12 @@ module _ (A R : List ℕ) (p : Polarity) (ps : List Page) (X : List ℕ) (f : Is
         let none : 17 * (r.batches - (on.k + f.batches)) ≡ 0 = omega (arith, no_more_batches over) in
         ap (λ (n : ℕ). map (received_word whole_bits r) (range_with_len (17 * on.k + 17 * f.batches) n)) none
 
-    caught_of : (here : List Page) → EndsIdle (map kind_of f.codewords) ⊎ NothingFollows p R → AreCaught (received whole_bits r) here → StandAmong ps here
-    caught_of here ended g =
+    captured_of : (here : List Page) → EndsIdle (map kind_of f.codewords) ⊎ NothingFollows p R → AreCaptured (received whole_bits r) here → StandAmong ps here
+    captured_of here ended g =
         let long = length-map-range_with_len (received_word whole_bits r) 0 (17 * on.k) in
-        caught_between (placed_words 0 (17 * on.k)) f.words (placed_words (17 * on.k + 17 * f.batches) (17 * (r.batches - (on.k + f.batches)))) f.codewords ps f.are f.fit f.near f.reads here (omega (arith, long)) (omega (arith, words_long))
+        captured_between (placed_words 0 (17 * on.k)) f.words (placed_words (17 * on.k + 17 * f.batches) (17 * (r.batches - (on.k + f.batches)))) f.codewords ps f.are f.fit f.near f.reads here (omega (arith, long)) (omega (arith, words_long))
         (elim ended [ inl idle ↦ inr idle | inr over ↦ inl (no_words_behind over) ])
-        (subst (λ (ws : List ℕ). AreCaught ws here) received_are g)
+        (subst (λ (ws : List ℕ). AreCaptured ws here) received_are g)
 
 -- ---- the pages of a transmission stand among those of the capture
 
@@ -658,12 +658,12 @@ record IsAmongLists (bits : List ℕ) (r : Reception) (pss : List (List Page)) :
   pub here : List Page
   pub back : List (List Page)
   pub whole : pss ≡ front ++ here ∷ back
-  pub caught : AreCaught (received bits r) here
+  pub captured : AreCaptured (received bits r) here
 
 zip_at : (bits : List ℕ) (front : List Reception) (r : Reception) (back : List Reception) (pss : List (List Page))
-    → AllZip (λ (s : Reception) (here : List Page). AreCaught (received bits s) here) (front ++ r ∷ back) pss → IsAmongLists bits r pss
+    → AllZip (λ (s : Reception) (here : List Page). AreCaptured (received bits s) here) (front ++ r ∷ back) pss → IsAmongLists bits r pss
 zip_at bits [] r back [] each = absurd each
-zip_at bits [] r back (ps ∷ pss) each = record { front = []; here = ps; back = pss; whole = refl; caught = each.0 }
+zip_at bits [] r back (ps ∷ pss) each = record { front = []; here = ps; back = pss; whole = refl; captured = each.0 }
 zip_at bits (s ∷ front) r back [] each = absurd each
 zip_at bits (s ∷ front) r back (ps ∷ pss) each =
     let rest = zip_at bits front r back pss each.1 in
@@ -672,13 +672,13 @@ zip_at bits (s ∷ front) r back (ps ∷ pss) each =
       here = rest.here;
       back = rest.back;
       whole = ap (λ (l : List (List Page)). ps ∷ l) rest.whole;
-      caught = rest.caught;
+      captured = rest.captured;
     }
 
 abbrev pages_of : List (List Page) → List Page
 pages_of pss = flat_map (λ (here : List Page). here) pss
 
-pub shows_what_was_sent : (capture : List ℕ) (rs : List Reception) (ps qs : List Page) → HoldsSent (capture_bits capture) ps → HasCaught capture rs qs
+pub shows_what_was_sent : (capture : List ℕ) (rs : List Reception) (ps qs : List Page) → HoldsSent (capture_bits capture) ps → HasCaptured capture rs qs
     → StandAmong ps qs
 shows_what_was_sent capture rs ps qs h g =
     let A : List ℕ = h.before in
@@ -692,11 +692,11 @@ shows_what_was_sent capture rs ps qs h g =
     let holder = found_on bits 0 0 (length A) p rs (subst WordsFit h.whole (capture_fits capture)) there
     (subst (λ (l : List ℕ). IsQuiet l (length A - 544) (length A)) h.whole h.quiet) (few_lost A R p ps X f) (omega arith) (omega arith)
     (subst (λ (l : List ℕ). AreFound l 0 0 rs) h.whole g.found) in
-    let each : AllZip (λ (s : Reception) (here : List Page). AreCaught (received bits s) here) (holder.front ++ holder.reception ∷ holder.back) g.pages =
-    subst (λ (l : List Reception). AllZip (λ (s : Reception) (here : List Page). AreCaught (received bits s) here) l g.pages) holder.whole
-    (subst (λ (l : List ℕ). AllZip (λ (s : Reception) (here : List Page). AreCaught (received l s) here) rs g.pages) h.whole g.each) in
+    let each : AllZip (λ (s : Reception) (here : List Page). AreCaptured (received bits s) here) (holder.front ++ holder.reception ∷ holder.back) g.pages =
+    subst (λ (l : List Reception). AllZip (λ (s : Reception) (here : List Page). AreCaptured (received bits s) here) l g.pages) holder.whole
+    (subst (λ (l : List ℕ). AllZip (λ (s : Reception) (here : List Page). AreCaptured (received l s) here) rs g.pages) h.whole g.each) in
     let lists = zip_at bits holder.front holder.reception holder.back g.pages each in
-    let mine = caught_of A R p ps X f holder.first holder.run holder.reception holder.is_run holder.is holder.on lists.here h.ended lists.caught in
+    let mine = captured_of A R p ps X f holder.first holder.run holder.reception holder.is_run holder.is holder.on lists.here h.ended lists.captured in
     record {
       front = pages_of lists.front ++ mine.front;
       back = mine.back ++ pages_of lists.back;
@@ -713,11 +713,11 @@ zip_itself : (R : ℕ → ℕ → Type 0) (ws : List ℕ) → ((w : ℕ) → R w
 zip_itself R [] same = tt
 zip_itself R (w ∷ ws) same = (same w, zip_itself R ws same)
 
-pub reading_caught : (X : List ℕ) (ps : List Page) → ReadsAs X ps → AreCaught (words_of (after_preamble X)) ps
-reading_caught X ps f =
+pub reading_captured : (X : List ℕ) (ps : List Page) → ReadsAs X ps → AreCaptured (words_of (after_preamble X)) ps
+reading_captured X ps f =
     let T = f.codewords in
     let s = f.sent in
     let after : after_preamble X ≡ body_bytes T = after_is X s.preamble (body_bytes T) (record { whole = s.bytes; other = body_begins T }) in
     let words : words_of (after_preamble X) ≡ synced 0 T = ap words_of after ∙ words_again (synced 0 T) (synced_small 0 T s.codewords) in
-    subst (λ (ws : List ℕ). AreCaught ws ps) (sym words)
-    (caught_of_sent T (synced 0 T) ps s.codewords (synced_small 0 T s.codewords) (zip_itself IsNear (synced 0 T) (λ w. rw (xor_self w) (omega (arith, ones_le_self 0)))) f.reads)
+    subst (λ (ws : List ℕ). AreCaptured ws ps) (sym words)
+    (captured_of_sent T (synced 0 T) ps s.codewords (synced_small 0 T s.codewords) (zip_itself IsNear (synced 0 T) (λ w. rw (xor_self w) (omega (arith, ones_le_self 0)))) f.reads)

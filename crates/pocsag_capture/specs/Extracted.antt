@@ -1,4 +1,4 @@
--- A reception as a transmission: its words repaired and settled.
+-- A reception as a transmission: its words corrected.
 use Rattle.std.specs.Prelude.{◌≡◌, ℕ, ◌+◌, ◌%◌, ◌==◌, nat_le, if◌then◌else◌, List, [], ◌∷◌, filter, length, map, Bool, true, false, Option, Some, None, bit_xor, count_ones}
 use Rattle.std.specs.List.{AllZip}
 use Rattle.pocsag_words.specs.Frame.{batch_words}
@@ -7,7 +7,7 @@ use Rattle.pocsag_words.specs.declared.codeword.Kind.{Kind}
 use Rattle.pocsag_words.specs.declared.codeword.Kind.TheVariants.{Idle, Address, Message}
 use Rattle.pocsag_pages.specs.Bytes.{sync_word, unsynced}
 use Rattle.pocsag_pager.specs.Shown.{IsMended, said}
-use Rattle.pocsag_capture.specs.Caught.{without_orphans}
+use Rattle.pocsag_capture.specs.CapturedPages.{without_orphans}
 use Rattle.pocsag_capture.specs.Lost.{lost_words}
 
 -- Of a word that differs from the one that is due in so many bits: how many bits are corrected, and how many words are lost.
@@ -58,10 +58,10 @@ page_cuts steady i (Some (Message bits) ∷ ms) = page_cuts steady (i + 1) ms
 abbrev pub count_cut : List Bool → ℕ
 count_cut cuts = length (filter (λ (is_cut : Bool). is_cut) cuts)
 
--- *Lifted*: these are the codewords of the words once each is mended and what is left is settled; so many bits were wrong, in
+-- *Extracted*: these are the codewords of the words once each is corrected and what is lost is idle; so many bits were wrong, in
 -- synchronisation codewords and in those that were mended, and so many words are lost: past repair, not read, or a synchronisation
 -- codeword that cannot be recognised; and so many pages are cut, where so many codewords are in step.
-pub record AreLifted (words codewords : List ℕ) (steady corrected lost cut : ℕ) : Type 0 where
+pub record AreExtracted (words codewords : List ℕ) (steady corrected lost cut : ℕ) : Type 0 where
   pub mended : List (Option ℕ)
   pub each : AllZip IsMended (unsynced 0 words) mended
   pub kinds : map kind_of codewords ≡ without_orphans false (map said mended)

@@ -1,5 +1,5 @@
 pub mod Bits
-pub mod Caught
+pub mod CapturedPages
 pub mod Extracted
 pub mod ExtractedBytes
 pub mod Lost

@@ -1,20 +1,19 @@
 -- Which pages are cut, and which stand whole in a capture (this project's own).
-use Rattle.std.specs.Prelude.{◌≡◌, ◌⊎◌, ℕ, ◌+◌, ◌*◌, ◌<◌, Bool, false, List, [], ◌∷◌, ◌++◌, length, map, All, Option, Some}
+use Rattle.std.specs.Prelude.{◌≡◌, ◌⊎◌, ℕ, ◌+◌, ◌*◌, ◌<◌, Bool, false, List, [], ◌∷◌, ◌++◌, length, map, All, Some}
 use Rattle.std.specs.List.{AllZip, flat_map}
-use Rattle.pocsag_words.specs.declared.codeword.Kind.{Kind}
 use Rattle.pocsag_words.specs.declared.codeword.Kind.TheVariants.{Idle, Address, Message}
 use Rattle.pocsag_pages.specs.declared.page.Page.{Page}
 use Rattle.pocsag_pages.specs.Reading.{frame_at}
 use Rattle.pocsag_pager.specs.Shown.{HoldsOnceMended}
 use Rattle.pocsag_pager.specs.Turns.{IsHeardAs}
 use Rattle.pocsag_capture.specs.Bits.{capture_bits}
-use Rattle.pocsag_capture.specs.Caught.{AreCaught}
+use Rattle.pocsag_capture.specs.CapturedPages.{AreCaptured}
 use Rattle.pocsag_capture.specs.Extracted.{page_cuts}
 use Rattle.pocsag_capture.specs.ExtractedBytes.{IsStatsOf}
 use Rattle.pocsag_capture.specs.Receptions.{AreReceptions, received}
-use Rattle.pocsag_capture.specs.declared.catching.Catch.{Catch}
+use Rattle.pocsag_capture.specs.declared.captured_transmission.CapturedTransmission.{CapturedTransmission}
 
--- *State*: of each page that is caught of words, of whose codewords so many are in step, in order, whether it is cut; a page that is
+-- *State*: of each page of the words of a reception, of whose codewords so many are in step, in order, whether it is cut; a page that is
 -- not cut is whole.
 abbrev pub AreCutsOf : (words : List ℕ) → (steady : ℕ) → List Bool → Type 0
 AreCutsOf words steady cuts = HoldsOnceMended words (λ ms. cuts ≡ page_cuts steady 0 ms)
@@ -44,23 +43,23 @@ pub record StandsWhole (words : List ℕ) (steady : ℕ) (p : Page) : Type 0 whe
 abbrev pub UncutStandWhole : (words : List ℕ) → (steady : ℕ) → List Page → (cuts : List Bool) → Type 0
 UncutStandWhole words steady ps cuts = AllZip (λ (p : Page) (is_cut : Bool). is_cut ≡ false → StandsWhole words steady p) ps cuts
 
--- *Catch*: the pages that are caught of a reception, of each of them whether it is cut, and how the reception was received.
-pub record IsCatch (bits : List ℕ) (c : Catch) : Type 0 where
-  pub pages : AreCaught (received bits c.heard.reception) c.pages.items
+-- *Captured transmission*: the pages of a reception, of each of them whether it is cut, and how the reception was received.
+pub record IsCapturedTransmission (bits : List ℕ) (c : CapturedTransmission) : Type 0 where
+  pub pages : AreCaptured (received bits c.heard.reception) c.pages.items
   pub cuts : AreCutsOf (received bits c.heard.reception) (16 * c.heard.steady) c.cuts.items
   pub told : IsStatsOf bits c.heard
 
--- The catches are numbered in order, from this number on.
-abbrev pub AreNumbered : ℕ → List Catch → Type 0
+-- The transmissions are numbered in order, from this number on.
+abbrev pub AreNumbered : ℕ → List CapturedTransmission → Type 0
 AreNumbered n [] = Unit {0}
 AreNumbered n (c ∷ cs) = (c.number ≡ n) × AreNumbered (n + 1) cs
 
--- *Caught, each page with its state*: the bytes of a capture hold these receptions, and this is caught of each of them in order.
-pub record HasCatches (capture : List ℕ) (cs : List Catch) : Type 0 where
-  pub found : AreReceptions (capture_bits capture) (map (λ (c : Catch). c.heard.reception) cs)
-  pub each : All (IsCatch (capture_bits capture)) cs
+-- *Transmissions of a capture*: its bytes hold these receptions, and these are the pages of each of them, with their states, in order.
+pub record HasTransmissions (capture : List ℕ) (cs : List CapturedTransmission) : Type 0 where
+  pub found : AreReceptions (capture_bits capture) (map (λ (c : CapturedTransmission). c.heard.reception) cs)
+  pub each : All (IsCapturedTransmission (capture_bits capture)) cs
   pub numbers : AreNumbered 1 cs
 
--- The pages of catches, one behind the other.
-abbrev pub pages_caught : List Catch → List Page
-pages_caught cs = flat_map (λ here. here) (map (λ (c : Catch). c.pages.items) cs)
+-- The pages of transmissions, one behind the other.
+abbrev pub pages_captured : List CapturedTransmission → List Page
+pages_captured cs = flat_map (λ here. here) (map (λ (c : CapturedTransmission). c.pages.items) cs)

@@ -1,11 +1,11 @@
 -- What one word changes.
 use Rattle.std.specs.Prelude.{◌≡◌, ℕ, ◌+◌, if◌then◌else◌, Bool, true, false, [], ◌∷◌, Option, Some, None, bit_xor, count_ones}
 use Rattle.pocsag_words.specs.Codeword.{IsCodeword}
-use Rattle.pocsag_words.specs.Kinds.{kind_of}
+use Rattle.pocsag_words.specs.Kinds.{idle_word, kind_of}
 use Rattle.pocsag_words.specs.declared.codeword.Kind.{Kind}
 use Rattle.pocsag_words.specs.declared.codeword.Kind.TheVariants.{Idle, Address, Message}
 use Rattle.pocsag_pager.specs.Shown.{IsMended, said}
-use Rattle.pocsag_capture.specs.Caught.{without_orphans}
+use Rattle.pocsag_capture.specs.CapturedPages.{without_orphans}
 use Rattle.pocsag_capture.specs.declared.corrector.WordCorrector.{WordCorrector}
 
 -- Whether a page is open after a word.
@@ -36,12 +36,12 @@ abbrev pub cut_by : (ended : Option Bool) → ℕ
 cut_by None = 0
 cut_by (Some is_cut) = if is_cut then 1 else 0
 
--- The codeword that a word is settled as: the idle codeword where none is kept.
-abbrev pub settled : (kept : Option ℕ) → ℕ
-settled None = 0x7a89c197
-settled (Some w) = w
+-- The codeword that a word is corrected to: the idle codeword where none is kept.
+abbrev pub corrected_word : (kept : Option ℕ) → ℕ
+corrected_word None = idle_word
+corrected_word (Some w) = w
 
--- The word was taken, which may be out of step, and is settled as this codeword; and the open page ends at it as this says.
+-- The word was taken, which may be out of step, and is corrected to this codeword; and the open page ends at it as this says.
 pub record TakesWord (before after : WordCorrector) (is_out_of_step : Bool) (word codeword : ℕ) (ended : Option Bool) : Type 0 where
   pub mended : Option ℕ
   pub is_mended : IsMended word mended

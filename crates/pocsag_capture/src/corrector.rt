@@ -3,7 +3,7 @@ ghost use Rattle.std.specs.Prelude.{◌≡◌, ◌+◌, ◌^◌, ◌<◌, false,
 ghost use Rattle.pocsag_words.specs.Kinds.{IsInRange, kind_of};
 ghost use Rattle.pocsag_pages.specs.Bytes.{sync_word};
 ghost use Rattle.pocsag_capture.specs.Extracted.{far_words, near_errors};
-ghost use Rattle.pocsag_capture.specs.TakenWords.{TakesWord, cut_by, settled};
+ghost use Rattle.pocsag_capture.specs.TakenWords.{TakesWord, cut_by, corrected_word};
 
 use crate::polarity::NEAR_BITS;
 use pocsag_words::{BATCH_WORDS, IDLE_WORD, Kind, SYNC_WORD, Word, kind, repair};
@@ -24,20 +24,20 @@ pub(crate) struct WordCorrector {
     pub(crate) cut: u64,
 }
 
-// What a word is settled as.
+// What a word is corrected to.
 #[derive(Clone, Copy)]
-pub(crate) struct SettledWord {
+pub(crate) struct CorrectedWord {
     // The codeword that is kept; where there is none, the idle codeword stands there.
     pub(crate) kept: Option<Word>,
     // Where a page ends at the word, whether it is cut.
     pub(crate) ended: Option<bool>,
 }
 
-impl SettledWord {
+impl CorrectedWord {
     // The codeword as a number.
     #[inline(always)]
     pub(crate) fn number(self) -> u32
-        ensures { result ≡ settled self.kept }
+        ensures { result ≡ corrected_word self.kept }
     {
         match self.kept {
             Some(word) => word.raw(),
@@ -48,7 +48,7 @@ impl SettledWord {
     // What the codeword says.
     #[inline(always)]
     pub(crate) fn kind(self) -> Kind
-        ensures kind { result ≡ kind_of (settled self.kept) }
+        ensures kind { result ≡ kind_of (corrected_word self.kept) }
         ensures ranges { IsInRange result }
     {
         match self.kept {
@@ -97,22 +97,22 @@ impl WordCorrector {
 
     // Takes a word at the place of a codeword, which may be out of step.
     #[inline(always)]
-    pub(crate) fn take(&mut self, word: u32, is_out_of_step: bool) -> SettledWord
+    pub(crate) fn take(&mut self, word: u32, is_out_of_step: bool) -> CorrectedWord
         requires corrected { self.old.corrected + 32 < 2 ^ 64 }
         requires lost { self.old.lost + 1 < 2 ^ 64 }
         requires cut { self.old.cut + 1 < 2 ^ 64 }
-        ensures { TakesWord self.old self.new is_out_of_step word (settled result.kept) result.ended }
+        ensures { TakesWord self.old self.new is_out_of_step word (corrected_word result.kept) result.ended }
     {
         let Some(mended) = repair(word) else {
             self.lost += 1;
             let ended = self.close(true);
-            return SettledWord { kept: None, ended };
+            return CorrectedWord { kept: None, ended };
         };
         self.corrected += u64::from((mended.raw() ^ word).count_ones());
         match kind(mended) {
             Kind::Idle => {
                 let ended = self.close(is_out_of_step);
-                SettledWord {
+                CorrectedWord {
                     kept: Some(mended),
                     ended,
                 }
@@ -123,19 +123,19 @@ impl WordCorrector {
             } => {
                 let ended = self.close(is_out_of_step);
                 self.is_open = true;
-                SettledWord {
+                CorrectedWord {
                     kept: Some(mended),
                     ended,
                 }
             }
             Kind::Message(_) => {
                 if !self.is_open {
-                    return SettledWord {
+                    return CorrectedWord {
                         kept: None,
                         ended: None,
                     };
                 }
-                SettledWord {
+                CorrectedWord {
                     kept: Some(mended),
                     ended: None,
                 }

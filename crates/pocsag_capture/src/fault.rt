@@ -4,7 +4,7 @@ ghost use Rattle.pocsag_capture.specs.declared.fault.CaptureFault.TheVariants as
 use std::alloc::AllocError;
 use thiserror::Error;
 
-/// Why nothing is lifted out of a capture.
+/// Why nothing is extracted from a capture.
 #[derive(Clone, Copy, PartialEq, Eq, Debug, Error)]
 pub enum CaptureFault {
     /// It has more than 268,435,456 bytes.

@@ -1,19 +1,20 @@
 #![tactic(auto)]
 //! Captures: bits off the air, in which transmissions begin at any bit and in either polarity. Each is found, repaired
-//! and lifted out as a transmission of whole bytes, which the decoder, the pager and the pictures read like any other.
+//! and extracted as a transmission of whole bytes, which the decoder, the pager and the pictures read like any other.
 
 mod bits;
-mod catching;
+mod captured_transmission;
 mod corrector;
+mod extract;
 mod fault;
-mod lift;
 mod polarity;
-mod reading;
+mod received_words;
 mod reception;
 mod search;
+mod sync_table;
 
-pub use catching::{Catch, catch_pages};
+pub use captured_transmission::{CapturedTransmission, capture_pages};
+pub use extract::{Extracted, extract_all, extract_one, receptions_in};
 pub use fault::CaptureFault;
-pub use lift::{Extracted, lift_all, lift_one, receptions_in};
 pub use polarity::Polarity;
 pub use reception::{Reception, ReceptionStats, Run};

@@ -12,8 +12,9 @@ ghost use Rattle.pocsag_capture.specs.declared.reception.Run.{Run};
 
 use crate::bits::{window_on, word_in, word_on};
 use crate::polarity::{NEAR_BITS, Polarity, polarity_of};
-use crate::reading::{has_few_lost, reception_of};
+use crate::received_words::{has_few_lost, reception_of};
 use crate::reception::{Reception, Run};
+use crate::sync_table::may_begin;
 use pocsag_words::{BATCH_BITS, SYNC_WORD};
 use std::alloc::{AllocError, Global};
 
@@ -35,6 +36,9 @@ fn is_quiet(window: u64) -> bool
     ensures { OnTrue result ((bit : ℕ) (polarity : Polarity) → bit < 8 →
         ¬ IsNear sync_word (as_sent polarity (window / 2 ^ (8 - bit) % 2 ^ 32))) }
 {
+    if !may_begin(window) {
+        return true;
+    }
     for bit in 0..8 {
         if polarity_of(word_in(window, bit)).is_some() {
             return false;

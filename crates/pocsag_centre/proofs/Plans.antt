@@ -38,8 +38,3 @@ module _ (file : List ℕ) (search : Search) (tx tx' cert cert' : List ℕ) (bou
       PlannedAndPrinted file search tx tx' cert cert' out out'
   unfolding planned
   told_planned out out' printed = record { planned = planned; printed = printed }
-
--- what is shown holds where there is no value too
-pub where_none : {T : Type 0} (o : Option T) (P : Type 0) → P → IfNone o P
-where_none None P p = p
-where_none (Some x) P p = tt

@@ -1,5 +1,5 @@
-pub mod Commands
 pub mod Checks
+pub mod Commands
 pub mod Faults
 pub mod Frames
 pub mod FramesPrinted

@@ -8,13 +8,9 @@ use crate::fault::CentreFault;
 use crate::front::{FrontAsked, written_pages};
 use pocsag_decode::{page_files_are_read_back, pages_of_files_are_spellable};
 use pocsag_pages::{Page, held_pages};
-use pocsag_plan::FRAMES;
 use pocsag_shell::FileFault;
-use pocsag_words::{End, OutOfMemory};
+use pocsag_words::{BATCH_CODEWORDS, End, FRAMES, OutOfMemory};
 use std::alloc::Global;
-
-// How many codewords a batch has.
-const BATCH_ROOM: u64 = 16;
 
 /// A page file in two parts.
 #[derive(Drop)]
@@ -103,5 +99,5 @@ fn fits_alone(page: &Page, end: End, batches: u32) -> bool
         End::Idle => 1,
     };
     let least = u64::from(2 * (page.address % FRAMES as u32)) + 1 + items + idles;
-    least <= BATCH_ROOM * u64::from(batches)
+    least <= BATCH_CODEWORDS as u64 * u64::from(batches)
 }

@@ -24,7 +24,7 @@ pub(crate) struct Claim<'a> {
 
 // Where a class is split: fewer than m of its pages start early, or at least m do.
 #[derive(Clone, Copy)]
-struct Halving {
+struct SplitPoint {
     class: u8,
     m: u32,
 }
@@ -85,7 +85,7 @@ pub(crate) fn check_node(claim: &Claim, limits: &mut Limits, tree: &Tree, depth:
             if !splits(limits, *class, *m) {
                 return false;
             }
-            let at = Halving {
+            let at = SplitPoint {
                 class: *class,
                 m: u32::from(*m),
             };
@@ -113,7 +113,7 @@ pub(crate) fn check_node(claim: &Claim, limits: &mut Limits, tree: &Tree, depth:
 
 // Whether the node is accepted under the limits where fewer than m pages of the class start early.
 #[cycle(checking)]
-fn check_below(claim: &Claim, limits: &mut Limits, at: Halving, tree: &Tree, depth: u32) -> bool
+fn check_below(claim: &Claim, limits: &mut Limits, at: SplitPoint, tree: &Tree, depth: u32) -> bool
     requires ordered { AreInOrder claim.now.classes.now limits.old }
     requires class { at.class < 136 }
     requires above { slice_index limits.old.lo at.class < at.m }
@@ -132,7 +132,7 @@ fn check_below(claim: &Claim, limits: &mut Limits, at: Halving, tree: &Tree, dep
 
 // Whether the node is accepted under the limits where at least m pages of the class start early.
 #[cycle(checking)]
-fn check_from(claim: &Claim, limits: &mut Limits, at: Halving, tree: &Tree, depth: u32) -> bool
+fn check_from(claim: &Claim, limits: &mut Limits, at: SplitPoint, tree: &Tree, depth: u32) -> bool
     requires ordered { AreInOrder claim.now.classes.now limits.old }
     requires class { at.class < 136 }
     requires above { slice_index limits.old.lo at.class < at.m }

@@ -3,7 +3,7 @@
 
 use pocsag_capture::{CaptureFault, Polarity, Reception, ReceptionStats};
 use pocsag_receiver::{
-    Catching, Picking, ReceiverFault, Viewing, run_list_capture, run_show_capture,
+    CaptureListing, Picking, ReceiverFault, Viewing, run_list_capture, run_show_capture,
 };
 use pocsag_shell::ErrorStream;
 use pocsag_show::{Rows, View};
@@ -11,8 +11,8 @@ use pocsag_words::{MemorySink, SliceSource};
 use std::alloc::Global;
 
 // What is asked of a capture.
-fn catching(alloc: Global, only: Option<u32>, is_json: bool) -> Catching {
-    Catching {
+fn capture_listing(alloc: Global, only: Option<u32>, is_json: bool) -> CaptureListing {
+    CaptureListing {
         picking: Picking {
             only,
             texts: [false; 3],
@@ -38,7 +38,7 @@ fn late_tone() -> [u8; 69] {
 }
 
 #[test]
-fn a_late_tone_is_caught(rt: HostRuntime) {
+fn a_late_tone_is_captured(rt: HostRuntime) {
     let capture = late_tone();
     let due = ReceptionStats {
         reception: Reception {
@@ -55,7 +55,7 @@ fn a_late_tone_is_caught(rt: HostRuntime) {
     let alloc = rt.alloc();
     let mut err = ErrorStream::new(MemorySink::<100>::new(1, 1000));
     let mut listing = MemorySink::<4000>::new(1000, 4000);
-    let mut told = catching(alloc, None, false);
+    let mut told = capture_listing(alloc, None, false);
     let tx = &mut SliceSource::new(&capture);
     assert_eq!(rt;
         run_list_capture(alloc, &mut told, tx, &mut listing, &mut err),
@@ -67,7 +67,7 @@ fn a_late_tone_is_caught(rt: HostRuntime) {
         b"address,kind,message,state\n8,tone0,,whole\n".as_slice()
     );
     let mut other = MemorySink::<4000>::new(1000, 4000);
-    let mut listening = catching(alloc, Some(16), false);
+    let mut listening = capture_listing(alloc, Some(16), false);
     let tx = &mut SliceSource::new(&capture);
     assert_eq!(rt;
         run_list_capture(alloc, &mut listening, tx, &mut other, &mut err),
@@ -75,7 +75,7 @@ fn a_late_tone_is_caught(rt: HostRuntime) {
     );
     assert_eq!(rt; other.bytes(), b"address,kind,message,state\n".as_slice());
     let mut lines = MemorySink::<4000>::new(1000, 4000);
-    let mut asked = catching(alloc, Some(8), true);
+    let mut asked = capture_listing(alloc, Some(8), true);
     let tx = &mut SliceSource::new(&capture);
     assert_eq!(rt;
         run_list_capture(alloc, &mut asked, tx, &mut lines, &mut err),
@@ -119,7 +119,7 @@ fn bridged_tone() -> [u8; 204] {
 }
 
 #[test]
-fn a_bridged_tone_is_caught(rt: HostRuntime) {
+fn a_bridged_tone_is_captured(rt: HostRuntime) {
     let capture = bridged_tone();
     let due = ReceptionStats {
         reception: Reception {
@@ -136,7 +136,7 @@ fn a_bridged_tone_is_caught(rt: HostRuntime) {
     let alloc = rt.alloc();
     let mut err = ErrorStream::new(MemorySink::<100>::new(1, 1000));
     let mut listing = MemorySink::<4000>::new(1000, 4000);
-    let mut told = catching(alloc, None, false);
+    let mut told = capture_listing(alloc, None, false);
     let tx = &mut SliceSource::new(&capture);
     assert_eq!(rt;
         run_list_capture(alloc, &mut told, tx, &mut listing, &mut err),
@@ -170,7 +170,7 @@ fn tones_are_cut(rt: HostRuntime) {
     let alloc = rt.alloc();
     let mut err = ErrorStream::new(MemorySink::<100>::new(1, 1000));
     let mut listing = MemorySink::<4000>::new(1000, 4000);
-    let mut told = catching(alloc, None, false);
+    let mut told = capture_listing(alloc, None, false);
     let tx = &mut SliceSource::new(&capture);
     assert_eq!(rt;
         run_list_capture(alloc, &mut told, tx, &mut listing, &mut err),

@@ -59,7 +59,7 @@ pub(crate) struct CrashDisk {
     unsynced: usize,
     past: Vec<Text>,
     bytes_left: usize,
-    settlings_left: u64,
+    compactions_left: u64,
     pub(crate) syncs: u64,
     failures: u64,
     // Whether a `sync` failed: no later one brings to the disk what was to be written.
@@ -76,7 +76,7 @@ impl CrashDisk {
         alloc: Global,
         bytes: &[u8],
         takes: usize,
-        settles: u64,
+        compacts: u64,
     ) -> Result<CrashDisk, AllocError>
         ensures held { IfOk result (λ disk. disk_bytes disk ≡ bytes.now) }
         ensures safe { IfOk result (λ disk. IsSafe bytes.now (DiskLeaves disk)) }
@@ -92,7 +92,7 @@ impl CrashDisk {
             unsynced: 0,
             past: Vec::new(alloc),
             bytes_left: takes,
-            settlings_left: settles,
+            compactions_left: compacts,
             syncs: 0,
             failures: 0,
             is_lost: false,
@@ -159,12 +159,12 @@ impl Disk for CrashDisk {
 
     fn sync(&mut self) -> Result<(), DeviceFault> {
         self.syncs = self.syncs.saturating_add(1);
-        if self.settlings_left == 0 {
+        if self.compactions_left == 0 {
             self.is_lost = true;
             self.failures = self.failures.saturating_add(1);
             return Err(DeviceFault);
         }
-        self.settlings_left -= 1;
+        self.compactions_left -= 1;
         if !self.is_lost {
             self.unsynced = 0;
         }
@@ -175,14 +175,14 @@ impl Disk for CrashDisk {
         // It has failed unless it is done.
         let failures = self.failures;
         self.failures = failures.saturating_add(1);
-        if self.settlings_left == 0 {
+        if self.compactions_left == 0 {
             return Err(DeviceFault);
         }
         let Ok(()) = put(self.alloc, &mut self.text, &mut self.past, text) else {
             return Err(DeviceFault);
         };
         self.failures = failures;
-        self.settlings_left -= 1;
+        self.compactions_left -= 1;
         self.unsynced = 0;
         self.is_lost = false;
         Ok(())

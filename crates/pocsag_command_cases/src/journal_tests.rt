@@ -132,7 +132,7 @@ struct Due {
     is_all: bool,
 }
 
-fn due_of(alloc: Global, takes: usize, settles: u64) -> Result<Due, Fail> {
+fn due_of(alloc: Global, takes: usize, compacts: u64) -> Result<Due, Fail> {
     let mut due = Due {
         answers: Vec::new(alloc),
         safe: first_line().to_vec(alloc)?,
@@ -148,7 +148,7 @@ fn due_of(alloc: Global, takes: usize, settles: u64) -> Result<Due, Fail> {
             }
             left -= line.len();
             due.syncs = due.syncs.saturating_add(1);
-            if due.syncs > settles {
+            if due.syncs > compacts {
                 due.is_all = false;
                 return Ok(due);
             }
@@ -177,12 +177,12 @@ fn edits_are_kept_before_they_are_answered(rt: HostRuntime) -> Result<(), Fail> 
     for takes in 0..100 {
         limits.push((takes, u64::MAX))?;
     }
-    for settles in 0..7 {
-        limits.push((usize::MAX, settles))?;
+    for compacts in 0..7 {
+        limits.push((usize::MAX, compacts))?;
     }
-    for (takes, settles) in limits.as_slice() {
-        let due = due_of(alloc, *takes, *settles)?;
-        let disk = CrashDisk::of(alloc, b"", *takes, settles.saturating_add(1))?;
+    for (takes, compacts) in limits.as_slice() {
+        let due = due_of(alloc, *takes, *compacts)?;
+        let disk = CrashDisk::of(alloc, b"", *takes, compacts.saturating_add(1))?;
         let left = keep(alloc, disk, lines.as_slice());
         assert_eq!(rt; is_ended(&left), due.is_all);
         assert_eq!(rt; left.answers.bytes(), due.answers.as_slice());
@@ -311,8 +311,8 @@ fn long_journals_are_written_anew(rt: HostRuntime) -> Result<(), Fail> {
         (u64::MAX, true, 600, 160_897, (80, 0, 0)),
         (522, false, 521, 1_049_750, (521, 1, 0)),
     ];
-    for (settles, done, syncs, bytes, read) in cases {
-        let disk = CrashDisk::of(alloc, b"", usize::MAX, settles)?;
+    for (compacts, done, syncs, bytes, read) in cases {
+        let disk = CrashDisk::of(alloc, b"", usize::MAX, compacts)?;
         let left = keep(alloc, disk, lines.as_slice());
         assert_eq!(rt; is_ended(&left), done);
         assert_eq!(rt; left.disk.syncs, syncs);
@@ -403,10 +403,10 @@ fn cut_last<R: Abort>(
         (written.saturating_add(line.len() / 2), u64::MAX),
         (usize::MAX, before.edits.saturating_add(1)),
     ];
-    for (takes, settles) in cuts {
+    for (takes, compacts) in cuts {
         let cut = keep(
             alloc,
-            CrashDisk::of(alloc, b"", takes, settles)?,
+            CrashDisk::of(alloc, b"", takes, compacts)?,
             lines.as_bytes(),
         );
         assert_eq!(rt; is_ended(&cut), false);

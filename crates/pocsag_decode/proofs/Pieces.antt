@@ -6,7 +6,7 @@ use Rattle.pocsag_pages.specs.Bytes.{leading, after_preamble, words_of}
 use Rattle.pocsag_decode.specs.declared.fault.DecodeFault.{DecodeFault}
 use Rattle.pocsag_decode.specs.declared.fault.DecodeFault.TheVariants as fault
 use Rattle.pocsag_decode.specs.declared.state.Decoder.{Decoder}
-use Rattle.pocsag_decode.specs.Carried.{size_of}
+use Rattle.pocsag_decode.specs.PartialWords.{size_of}
 use Rattle.pocsag_decode.specs.Faults.{HasFaultThere, HasFaultOfEnd, RefusesPiece, no_memory, fault_there, words}
 use Rattle.pocsag_decode.specs.Places.{KeepsFrom}
 use Rattle.pocsag_decode.specs.States.{HasTakenIn, HoldsOf}
@@ -35,10 +35,10 @@ skips_alone X Z rest leads size count e s z c r =
     )
 
 module _ (d : Decoder) (X : List ℕ) (s : HasTakenIn d X) where
-  pub body_size : size_of d.body.place d.body.carry ≡ length (after_preamble X)
+  pub body_size : size_of d.body.place d.body.partial ≡ length (after_preamble X)
   body_size = size_is d.body (after_preamble X) s.words
 
-  pub full_size : d.leading + size_of d.body.place d.body.carry ≡ length X
+  pub full_size : d.leading + size_of d.body.place d.body.partial ≡ length X
   full_size = let b = body_size in let e = s.preamble in let c = count_is X [] in omega arith
 
   pub short_end : d.leading < 72 → HasFaultOfEnd X fault.ShortPreamble
@@ -48,13 +48,13 @@ module _ (d : Decoder) (X : List ℕ) (s : HasTakenIn d X) where
         | inr n ↦ absurd (let p = s.preamble in let q = s.past n in omega arith)
       ]
 
-  pub no_batch_end : 72 ≤ d.leading → size_of d.body.place d.body.carry ≡ 0 → HasFaultOfEnd X fault.NoBatch
+  pub no_batch_end : 72 ≤ d.leading → size_of d.body.place d.body.partial ≡ 0 → HasFaultOfEnd X fault.NoBatch
   no_batch_end h z = HasFaultOfEnd.no_batch (let p = s.preamble in omega arith) (nil_from_length (after_preamble X) (sym body_size ∙ z))
 
-  pub cut_end : 72 ≤ d.leading → ¬ (size_of d.body.place d.body.carry % 68 ≡ 0) → HasFaultOfEnd X fault.Truncated
+  pub cut_end : 72 ≤ d.leading → ¬ (size_of d.body.place d.body.partial % 68 ≡ 0) → HasFaultOfEnd X fault.Truncated
   cut_end h n = HasFaultOfEnd.cut (let p = s.preamble in omega arith) s.words.read.good (λ z. n (ap (λ (x : ℕ). x % 68) body_size ∙ z))
 
-  pub ended_whole : 72 ≤ d.leading → 0 < size_of d.body.place d.body.carry → size_of d.body.place d.body.carry % 68 ≡ 0 → IsWhole X
+  pub ended_whole : 72 ≤ d.leading → 0 < size_of d.body.place d.body.partial → size_of d.body.place d.body.partial % 68 ≡ 0 → IsWhole X
   ended_whole long some whole =
       let size = body_size in
       record {

@@ -10,7 +10,7 @@ use Rattle.std.proofs.lemmas.Nat.{from_be_bytes-to_be_bytes_4, ones_le_self}
 use Rattle.pocsag_pages.specs.Bytes.{after_preamble, leading, words_of}
 use Rattle.pocsag_pages.proofs.Lengths.{body_length}
 use Rattle.pocsag_pager.proofs.WholeWords.{words_small}
-use Rattle.pocsag_decode.specs.Carried.{unfinished}
+use Rattle.pocsag_decode.specs.PartialWords.{unfinished}
 use Rattle.pocsag_decode.specs.Faults.{words}
 use Rattle.pocsag_decode.specs.Repairs.{AreRepaired, IsRepairOf, IsRepaired, differing_bits, differing_words, sync, no_sync, codeword, beyond}
 use Rattle.pocsag_decode.proofs.Preambles.{BeginsOther, Parts, after_is, parts}

@@ -19,7 +19,7 @@ use Rattle.pocsag_pager.specs.Shown.{AreShown, IsMended, said, shown_from}
 use Rattle.pocsag_pager.proofs.Chosen.{calls}
 use Rattle.pocsag_pager.proofs.Mended.{mended_same}
 use Rattle.pocsag_pager.proofs.Damage.{shown_is_chosen}
-use Rattle.pocsag_decode.specs.Carried.{unfinished}
+use Rattle.pocsag_decode.specs.PartialWords.{unfinished}
 use Rattle.pocsag_decode.specs.Faults.{IsFaultless, ReadsAs, words}
 use Rattle.pocsag_decode.specs.Repairs.{AreRepaired, IsRepairOf, IsRepaired, sync, no_sync, codeword, beyond}
 use Rattle.pocsag_decode.proofs.Preambles.{Parts, after_is, count_is, leading_is}

@@ -16,7 +16,7 @@ use Rattle.pocsag_pages.specs.Bytes.{codewords_in, sync_word, synced, unsynced, 
 use Rattle.pocsag_pages.specs.Plain.{HasNoOrphan, items_of, pages_from}
 use Rattle.pocsag_pages.proofs.Readings.{plain_reads}
 use Rattle.pocsag_decode.specs.declared.open_page.OpenPage.{OpenPage}
-use Rattle.pocsag_decode.specs.Carried.{unfinished}
+use Rattle.pocsag_decode.specs.PartialWords.{unfinished}
 use Rattle.pocsag_decode.specs.Faults.{words, ReadsAs}
 use Rattle.pocsag_decode.specs.OpenPages.{resumed, closed}
 use Rattle.pocsag_pages.specs.Listable.{IsListable}

@@ -7,8 +7,8 @@ use Rattle.pocsag_pages.specs.Bytes.{words_of}
 use Rattle.pocsag_pages.proofs.Lengths.{first_word, words_long}
 use Rattle.pocsag_decode.specs.declared.fault.DecodeFault.{DecodeFault}
 use Rattle.pocsag_decode.specs.declared.body.Body.{Body}
-use Rattle.pocsag_decode.specs.declared.carry.Carry.{Carry}
-use Rattle.pocsag_decode.specs.Carried.{carried, size_of, unfinished}
+use Rattle.pocsag_decode.specs.declared.partial_word.PartialWord.{PartialWord}
+use Rattle.pocsag_decode.specs.PartialWords.{partial_bytes, size_of, unfinished}
 use Rattle.pocsag_decode.specs.Places.{HasBadWord, KeepsFrom}
 use Rattle.pocsag_decode.specs.States.{HasRead, HoldsOf}
 use Rattle.pocsag_decode.specs.Intake.{IsTaking, IsWantingOrBad}
@@ -36,25 +36,25 @@ bytes_count (a ∷ b ∷ c ∷ []) = refl
 bytes_count (a ∷ b ∷ c ∷ d ∷ Y) = let e = bytes_count Y in omega arith
 
 -- as many bytes as the decoder's count
-pub size_is : (b : Body) (Y : List ℕ) → HoldsOf b Y → size_of b.place b.carry ≡ length Y
+pub size_is : (b : Body) (Y : List ℕ) → HoldsOf b Y → size_of b.place b.partial ≡ length Y
 size_is b Y s =
     let e = bytes_count Y in
     let n = s.read.count in
-    let l = ap length s.carry in
+    let l = ap length s.partial in
     omega arith
 
 pub bad_on : (Y Z : List ℕ) (f : DecodeFault) → HasBadWord (words_of Y) f → HasBadWord (words_of (Y ++ Z)) f
 bad_on Y Z f b = subst (λ (ws : List ℕ). HasBadWord ws f) (sym (words_on Y Z)) (bad_stays (words_of Y) (words_of (unfinished Y ++ Z)) f b)
 
 -- a byte that makes no word whole
-pub byte_more : (b : Body) (old new : Carry) (Y : List ℕ) (x : ℕ) → b.carry ≡ old → words_of (carried old ++ x ∷ []) ≡ []
-    → unfinished (carried old ++ x ∷ []) ≡ carried new
-    → HoldsOf b Y → HoldsOf (record b { carry = new }) (Y ++ x ∷ [])
+pub byte_more : (b : Body) (old new : PartialWord) (Y : List ℕ) (x : ℕ) → b.partial ≡ old → words_of (partial_bytes old ++ x ∷ []) ≡ []
+    → unfinished (partial_bytes old ++ x ∷ []) ≡ partial_bytes new
+    → HoldsOf b Y → HoldsOf (record b { partial = new }) (Y ++ x ∷ [])
 byte_more b old new Y x is none one s =
-    let left : unfinished Y ≡ carried old = sym s.carry ∙ ap carried is in
+    let left : unfinished Y ≡ partial_bytes old = sym s.partial ∙ ap partial_bytes is in
     record {
       read = rw (words_on Y (x ∷ []), left, none, append-nil (words_of Y)) s.read;
-      carry = sym (rest_on Y (x ∷ []) ∙ (ap (λ (l : List ℕ). unfinished (l ++ x ∷ [])) left ∙ one));
+      partial = sym (rest_on Y (x ∷ []) ∙ (ap (λ (l : List ℕ). unfinished (l ++ x ∷ [])) left ∙ one));
     }
 
 words_le : (Y Z : List ℕ) → length Y ≤ length Z → length (words_of Y) ≤ length (words_of Z)
@@ -75,17 +75,17 @@ four_left l e = nil_from_length (unfinished l) (let n = bytes_count l in let m =
 
 -- bytes that make a word whole
 module _ (b : Body) (Y Z : List ℕ) (w : ℕ) (s : HoldsOf b Y)
-    (e : length (carried b.carry ++ Z) ≡ 4) (is : w ≡ from_be_bytes w32 (carried b.carry ++ Z)) where
+    (e : length (partial_bytes b.partial ++ Z) ≡ 4) (is : w ≡ from_be_bytes w32 (partial_bytes b.partial ++ Z)) where
   words_are : words_of (Y ++ Z) ≡ words_of Y ++ w ∷ []
   words_are =
       words_on Y Z
       ∙ ap (λ (l : List ℕ). words_of Y ++ l)
-      (ap (λ (l : List ℕ). words_of (l ++ Z)) (sym s.carry) ∙ (four_words _ e ∙ ap (λ (x : ℕ). x ∷ []) (sym is)))
+      (ap (λ (l : List ℕ). words_of (l ++ Z)) (sym s.partial) ∙ (four_words _ e ∙ ap (λ (x : ℕ). x ∷ []) (sym is)))
 
-  pub word_more : (new : Body) → HasRead new.place new.growing (words_of Y ++ w ∷ []) → carried new.carry ≡ [] → HoldsOf new (Y ++ Z)
+  pub word_more : (new : Body) → HasRead new.place new.growing (words_of Y ++ w ∷ []) → partial_bytes new.partial ≡ [] → HoldsOf new (Y ++ Z)
   word_more new r none = record {
     read = rw words_are r;
-    carry = none ∙ sym (rest_on Y Z ∙ (ap (λ (l : List ℕ). unfinished (l ++ Z)) (sym s.carry) ∙ four_left _ e));
+    partial = none ∙ sym (rest_on Y Z ∙ (ap (λ (l : List ℕ). unfinished (l ++ Z)) (sym s.partial) ∙ four_left _ e));
   }
 
   pub refused_more : (f : DecodeFault) → IsWantingOrBad (length (words_of Y)) (words_of Y ++ w ∷ []) f
@@ -94,7 +94,7 @@ module _ (b : Body) (Y Z : List ℕ) (w : ℕ) (s : HoldsOf b Y)
 
 -- a part of the bytes more
 module _ (first now : Body) (bytes rest front back : List ℕ) (t : IsTaking first now bytes rest) (e : rest ≡ front ++ back) where
-  pub taken : (new : Body) → size_of new.place new.carry ≡ size_of now.place now.carry + length front
+  pub taken : (new : Body) → size_of new.place new.partial ≡ size_of now.place now.partial + length front
       → ((Y : List ℕ) → HoldsOf now Y → HoldsOf new (Y ++ front)) → IsTaking first new bytes back
   taken new size stands = record {
     size = let s = t.size in let l = length-append front back in let r = ap length e in omega arith;

@@ -4,7 +4,7 @@ use Rattle.pocsag_pages.specs.Bytes.{words_of}
 use Rattle.pocsag_decode.specs.declared.body.Body.{Body}
 use Rattle.pocsag_decode.specs.declared.fault.DecodeFault.{DecodeFault}
 use Rattle.pocsag_decode.specs.declared.fault.DecodeFault.TheVariants as fault
-use Rattle.pocsag_decode.specs.Carried.{size_of}
+use Rattle.pocsag_decode.specs.PartialWords.{size_of}
 use Rattle.pocsag_decode.specs.Places.{HasBadWord, KeepsFrom}
 use Rattle.pocsag_decode.specs.States.{HasRead, HoldsOf}
 
@@ -29,8 +29,8 @@ RefusesWord result before word =
 -- So many bytes more, where the call answers, and never more than these.
 abbrev pub CountsBytes : {T : Type 0} → Result T DecodeFault → (before after : Body) → ℕ → Type 0
 CountsBytes result before after count =
-    OnOk result (size_of after.place after.carry ≡ size_of before.place before.carry + count)
-    × (size_of after.place after.carry ≤ size_of before.place before.carry + count)
+    OnOk result (size_of after.place after.partial ≡ size_of before.place before.partial + count)
+    × (size_of after.place after.partial ≤ size_of before.place before.partial + count)
 
 -- It stands after the bytes before and these, where the call answers.
 abbrev pub TakesIn : {T : Type 0} → Result T DecodeFault → (before after : Body) → List ℕ → Type 0
@@ -49,6 +49,6 @@ pub record HoldsAllBut (b : Body) (Y rest : List ℕ) : Type 0 where
 
 -- Of these bytes the rest is still to be taken.
 pub record IsTaking (at_first now : Body) (bytes rest : List ℕ) : Type 0 where
-  pub size : size_of now.place now.carry + length rest ≡ size_of at_first.place at_first.carry + length bytes
+  pub size : size_of now.place now.partial + length rest ≡ size_of at_first.place at_first.partial + length bytes
   pub less : length rest ≤ length bytes
   pub before : (Y : List ℕ) → HoldsOf at_first Y → HoldsAllBut now (Y ++ bytes) rest

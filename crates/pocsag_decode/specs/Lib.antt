@@ -1,4 +1,3 @@
-pub mod Carried
 pub mod Faults
 pub mod Intake
 pub mod Judgements
@@ -8,6 +7,7 @@ pub mod Listers
 pub mod Listing
 pub mod OpenPages
 pub mod PageFiles
+pub mod PartialWords
 pub mod Places
 pub mod Repairs
 pub mod States

@@ -7,7 +7,7 @@ use Rattle.pocsag_words.specs.Codeword.{HasNoneNear, IsNear, IsOnlyNear}
 use Rattle.pocsag_words.specs.Frame.{batch_words, preamble_byte}
 use Rattle.pocsag_pages.specs.Bytes.{after_preamble, leading, sync_word}
 use Rattle.pocsag_decode.specs.declared.repaired.Repaired.{Repaired}
-use Rattle.pocsag_decode.specs.Carried.{unfinished}
+use Rattle.pocsag_decode.specs.PartialWords.{unfinished}
 use Rattle.pocsag_decode.specs.Faults.{words}
 
 -- The word at a place, counted from 0 with the synchronisation codewords, and what it is repaired to: the synchronisation

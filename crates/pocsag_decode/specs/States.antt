@@ -7,7 +7,7 @@ use Rattle.pocsag_pages.specs.Plain.{pages_from}
 use Rattle.pocsag_decode.specs.declared.open_page.Growing.{Growing}
 use Rattle.pocsag_decode.specs.declared.body.Body.{Body}
 use Rattle.pocsag_decode.specs.declared.state.Decoder.{Decoder}
-use Rattle.pocsag_decode.specs.Carried.{carried, unfinished}
+use Rattle.pocsag_decode.specs.PartialWords.{partial_bytes, unfinished}
 use Rattle.pocsag_decode.specs.OpenPages.{resumed}
 use Rattle.pocsag_decode.specs.Places.{AllMayStand, may_follow}
 
@@ -25,7 +25,7 @@ pub record HasRead (place : ℕ) (growing : Growing) (ws : List ℕ) : Type 0 wh
 -- The same of bytes after the preamble, with those of a word that is not whole.
 pub record HoldsOf (b : Body) (Y : List ℕ) : Type 0 where
   pub read : HasRead b.place b.growing (words_of Y)
-  pub carry : carried b.carry ≡ unfinished Y
+  pub partial : partial_bytes b.partial ≡ unfinished Y
 
 -- *Standing*: the decoder has met no fault and no end, and holds of the bytes X what a decoder has to.
 pub record HasTakenIn (d : Decoder) (X : List ℕ) : Type 0 where

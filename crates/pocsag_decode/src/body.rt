@@ -1,14 +1,14 @@
 ghost use Rattle.std.specs.Prelude.{◌≡◌, ◌≢◌, ◌↔◌, ℕ, ◌+◌, ◌*◌, ◌%◌, ◌^◌, ◌<◌, ◌≤◌, ◌∷◌, ◌++◌, [], length, is_some, IsTrue, IfOk, OnErr};
 ghost use Rattle.std.specs.Int.{from_be_bytes, w32};
-ghost use Rattle.pocsag_decode.specs.Carried.{carried, size_of};
+ghost use Rattle.pocsag_decode.specs.PartialWords.{partial_bytes, size_of};
 ghost use Rattle.pocsag_decode.specs.OpenPages.{closed};
 ghost use Rattle.pocsag_decode.specs.Places.{is_message};
 ghost use Rattle.pocsag_decode.specs.States.{HoldsOf};
 ghost use Rattle.pocsag_decode.specs.Intake.{CountsBytes, CountsWord, ReadsWord, RefusesBytes, RefusesWord, TakesIn};
 
-use crate::carry::Carry;
 use crate::fault::DecodeFault;
 use crate::open_page::Growing;
+use crate::partial_word::PartialWord;
 use pocsag_pages::Page;
 use pocsag_words::{BATCH_WORDS, Kind, SYNC_WORD, from_raw, kind};
 use std::alloc::{AllocError, Global};
@@ -21,29 +21,29 @@ const BATCH: u64 = BATCH_WORDS as u64;
 pub(crate) struct Body {
     // How many whole words were read.
     pub(crate) place: u64,
-    pub(crate) carry: Carry,
+    pub(crate) partial: PartialWord,
     pub(crate) growing: Growing,
 }
 
 impl Body {
     // How many bytes were read.
     pub(crate) fn size(&self) -> u64
-        requires { size_of self.now.place self.now.carry < 2 ^ 64 }
-        ensures { result ≡ size_of self.now.place self.now.carry }
+        requires { size_of self.now.place self.now.partial < 2 ^ 64 }
+        ensures { result ≡ size_of self.now.place self.now.partial }
     {
-        let carried = match self.carry {
-            Carry::None => 0,
-            Carry::One(_) => 1,
-            Carry::Two(_, _) => 2,
-            Carry::Three(_, _, _) => 3,
+        let partial_bytes = match self.partial {
+            PartialWord::None => 0,
+            PartialWord::One(_) => 1,
+            PartialWord::Two(_, _) => 2,
+            PartialWord::Three(_, _, _) => 3,
         };
-        4 * self.place + carried
+        4 * self.place + partial_bytes
     }
 
     fn take_codeword(&mut self, number: u32) -> Result<(), DecodeFault>
         requires small { self.old.place < 2 ^ 62 }
         requires other { 0 < self.old.place % 17 }
-        ensures carry { self.new.carry ≡ self.old.carry }
+        ensures partial { self.new.partial ≡ self.old.partial }
         ensures count { CountsWord result self.old self.new }
         ensures read { ReadsWord result self.old self.new number }
         ensures bad { RefusesWord result self.old number }
@@ -64,7 +64,7 @@ impl Body {
     #[inline(always)]
     fn take_word(&mut self, word: u32) -> Result<(), DecodeFault>
         requires { self.old.place < 2 ^ 62 }
-        ensures carry { self.new.carry ≡ self.old.carry }
+        ensures partial { self.new.partial ≡ self.old.partial }
         ensures count { CountsWord result self.old self.new }
         ensures read { ReadsWord result self.old self.new word }
         ensures bad { RefusesWord result self.old word }
@@ -80,26 +80,26 @@ impl Body {
     }
 
     fn take_byte(&mut self, byte: u8) -> Result<(), DecodeFault>
-        requires { size_of self.old.place self.old.carry + 1 < 2 ^ 64 }
+        requires { size_of self.old.place self.old.partial + 1 < 2 ^ 64 }
         ensures count { CountsBytes result self.old self.new 1 }
         ensures stands { TakesIn result self.old self.new (byte ∷ []) }
         ensures bad { RefusesBytes result self.old (byte ∷ []) }
     {
-        match self.carry {
-            Carry::None => {
-                self.carry = Carry::One(byte);
+        match self.partial {
+            PartialWord::None => {
+                self.partial = PartialWord::One(byte);
                 Ok(())
             }
-            Carry::One(a) => {
-                self.carry = Carry::Two(a, byte);
+            PartialWord::One(a) => {
+                self.partial = PartialWord::Two(a, byte);
                 Ok(())
             }
-            Carry::Two(a, b) => {
-                self.carry = Carry::Three(a, b, byte);
+            PartialWord::Two(a, b) => {
+                self.partial = PartialWord::Three(a, b, byte);
                 Ok(())
             }
-            Carry::Three(a, b, c) => {
-                self.carry = Carry::None;
+            PartialWord::Three(a, b, c) => {
+                self.partial = PartialWord::None;
                 self.take_word(u32::from_be_bytes([a, b, c, byte]))
             }
         }
@@ -107,14 +107,14 @@ impl Body {
 
     // Takes the next bytes after the preamble: whole words at once where no word is begun.
     pub(crate) fn take(&mut self, bytes: &[u8]) -> Result<(), DecodeFault>
-        requires { size_of self.old.place self.old.carry + length bytes.now < 2 ^ 64 }
+        requires { size_of self.old.place self.old.partial + length bytes.now < 2 ^ 64 }
         ensures count { CountsBytes result self.old self.new (length bytes.now) }
         ensures stands { TakesIn result self.old self.new bytes.now }
         ensures bad { RefusesBytes result self.old bytes.now }
     {
         let mut rest = bytes;
         while let [byte, tail @ ..] = rest {
-            if let (Carry::None, [a, b, c, d, others @ ..]) = (self.carry, rest) {
+            if let (PartialWord::None, [a, b, c, d, others @ ..]) = (self.partial, rest) {
                 self.take_word(u32::from_be_bytes([*a, *b, *c, *d]))?;
                 rest = others;
             } else {

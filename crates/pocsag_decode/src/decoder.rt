@@ -1,14 +1,14 @@
 ghost use Rattle.std.specs.Prelude.{◌≡◌, ◌⊎◌, ℕ, ◌+◌, ◌%◌, ◌^◌, ◌<◌, ◌≤◌, ◌++◌, [], List, length, true, All, OnOk, OnErr, IfErr, IfOk, MatchResult};
 ghost use Rattle.pocsag_pages.specs.Bytes.{after_preamble, leading};
-ghost use Rattle.pocsag_decode.specs.Carried.{size_of};
+ghost use Rattle.pocsag_decode.specs.PartialWords.{size_of};
 ghost use Rattle.pocsag_decode.specs.Faults.{EndsOpen, HasFaultOfEnd, IsFaultless, ReadsAs, RefusesPiece};
 ghost use Rattle.pocsag_pages.specs.Listable.{IsListable};
 ghost use Rattle.pocsag_decode.specs.States.{HasStopped, HasTakenIn};
 
 use crate::body::Body;
-use crate::carry::Carry;
 use crate::fault::DecodeFault;
 use crate::open_page::Growing;
+use crate::partial_word::PartialWord;
 use crate::state::Decoder;
 use pocsag_pages::{Page, preamble_len};
 use pocsag_words::{BATCH_BYTES, PREAMBLE_BYTES};
@@ -27,7 +27,7 @@ impl Decoder {
             leading: 0,
             body: Body {
                 place: 0,
-                carry: Carry::None,
+                partial: PartialWord::None,
                 growing: Growing {
                     alloc,
                     pages: Vec::new(alloc),
@@ -95,13 +95,13 @@ impl Decoder {
     // Counts the bytes AA with which the piece begins, where no other byte came before; gives the rest
     // of the piece.
     fn skip_preamble<'a>(&mut self, piece: &'a [u8]) -> &'a [u8]
-        requires { self.old.leading + size_of self.old.body.place self.old.body.carry + length piece.now < 2 ^ 64 }
+        requires { self.old.leading + size_of self.old.body.place self.old.body.partial + length piece.now < 2 ^ 64 }
         ensures body { self.new.body ≡ self.old.body }
         ensures works { self.new.has_failed ≡ self.old.has_failed }
         ensures within { length result.now ≤ length piece.entry.now }
         ensures counted { self.new.leading + length result.now ≡ self.old.leading + length piece.entry.now }
         ensures skipped { (X : List ℕ) → self.old.leading ≡ leading X →
-            size_of self.old.body.place self.old.body.carry ≡ length (after_preamble X) →
+            size_of self.old.body.place self.old.body.partial ≡ length (after_preamble X) →
             (self.new.leading ≡ leading (X ++ piece.entry.now))
             × (after_preamble (X ++ piece.entry.now) ≡ after_preamble X ++ result.now) }
     {

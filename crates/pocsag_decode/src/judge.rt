@@ -10,17 +10,14 @@ ghost use Rattle.pocsag_decode.specs.Places.{AllMayStand, HasBadWord, index_at};
 use crate::fault::DecodeFault;
 use pocsag_pages::preamble_len;
 use pocsag_words::{
-    BATCH_BYTES, BATCH_WORDS, Kind, PREAMBLE_BYTES, SYNC_WORD, check_all, from_raw,
-    kind_of_number,
+    BATCH_BYTES, BATCH_CODEWORDS, BATCH_WORDS, Kind, PREAMBLE_BYTES, SYNC_WORD, check_all,
+    from_raw, kind_of_number,
 };
 
 // The words of a batch, its synchronisation codeword among them.
 const BATCH: u64 = BATCH_WORDS as u64;
 
 const WORDS: usize = BATCH_WORDS as usize;
-
-// The codewords of a batch.
-const BATCH_CODEWORDS: usize = 16;
 
 // The bytes of a batch of idle codewords.
 pub(crate) const IDLE_BATCH: [u8; 68] = [

@@ -3,7 +3,6 @@
 //! listing of pages (Recommendation ITU-R M.584-2, Annex 1).
 
 mod body;
-mod carry;
 mod decoder;
 mod fault;
 mod judge;
@@ -11,6 +10,7 @@ mod laws;
 mod lister;
 mod listing;
 mod open_page;
+mod partial_word;
 mod repair;
 mod repaired;
 mod state;

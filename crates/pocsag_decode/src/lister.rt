@@ -17,7 +17,7 @@ ghost use Rattle.pocsag_decode.specs.Listing.{header, listing};
 
 use crate::fault::ListFault;
 use crate::judge::IDLE_BATCH;
-use crate::listing::{begun, pour, pour_many, put_spent};
+use crate::listing::{begun, put_spent, write_many_records, write_records};
 use crate::open_page::OpenPage;
 use csv::Writer;
 use pocsag_pages::{Page, Payload, preamble_len};
@@ -129,10 +129,10 @@ fn list_batches<S: Sink>(lister: &mut Lister, bytes: &[u8], sink: &mut S) -> Res
     for i in 0..bytes.len() / BATCH_BYTES {
         let start = BATCH_BYTES * i;
         lister.take_batch(&bytes[start..start + BATCH_BYTES])?;
-        pour_many(lister.alloc, &mut lister.records, sink)?;
+        write_many_records(lister.alloc, &mut lister.records, sink)?;
     }
     lister.close()?;
-    pour(lister.alloc, &mut lister.records, sink)
+    write_records(lister.alloc, &mut lister.records, sink)
 }
 
 /// Writes the listing of the pages that the bytes of a transmission read as, as `list` does, but as they are read: no more
@@ -174,9 +174,9 @@ fn put_all<S: Sink>(
 {
     for page in pages {
         put_spent(alloc, records, page)?;
-        pour_many(alloc, records, sink)?;
+        write_many_records(alloc, records, sink)?;
     }
-    pour(alloc, records, sink)
+    write_records(alloc, records, sink)
 }
 
 /// Writes the listing of the pages, as `list` does, but each page is let go as its record is made. After a fault a prefix

@@ -204,7 +204,7 @@ pub(crate) fn begun(alloc: Global) -> Result<Writer<Vec<u8>>, AllocError>
 }
 
 // Writes the records so far out.
-pub(crate) fn pour<S: Sink>(
+pub(crate) fn write_records<S: Sink>(
     alloc: Global,
     writer: &mut Writer<Vec<u8>>,
     sink: &mut S,
@@ -227,7 +227,7 @@ pub(crate) fn pour<S: Sink>(
 }
 
 // The same, where they are many.
-pub(crate) fn pour_many<S: Sink>(
+pub(crate) fn write_many_records<S: Sink>(
     alloc: Global,
     writer: &mut Writer<Vec<u8>>,
     sink: &mut S,
@@ -243,7 +243,7 @@ pub(crate) fn pour_many<S: Sink>(
     if writer.get_ref().len() < PIECE {
         return Ok(());
     }
-    pour(alloc, writer, sink)
+    write_records(alloc, writer, sink)
 }
 
 // The page file of pages, or their listing.

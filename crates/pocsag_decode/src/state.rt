@@ -1,5 +1,5 @@
 ghost use Rattle.std.specs.Prelude.{◌+◌, ◌^◌, ◌<◌};
-ghost use Rattle.pocsag_decode.specs.Carried.{size_of};
+ghost use Rattle.pocsag_decode.specs.PartialWords.{size_of};
 
 use crate::body::Body;
 
@@ -13,5 +13,5 @@ pub struct Decoder {
     pub(crate) leading: u64,
     // What came after them.
     pub(crate) body: Body,
-    ghost counted: { leading + size_of body.place body.carry < 2 ^ 64 },
+    ghost counted: { leading + size_of body.place body.partial < 2 ^ 64 },
 }

@@ -7,7 +7,7 @@ use crate::finding::Finding;
 use crate::lines::{Margins, push_lines};
 use crate::node_number::Numbering;
 use crate::outline::{conclusion, first_refused, first_words, write_node_line};
-use crate::subject::Subject;
+use crate::refuted::Explanation;
 use std::alloc::{AllocError, Global};
 
 // How many characters stand in a line at the most, where its words are no longer.
@@ -65,16 +65,20 @@ impl Sheet {
     }
 
     // Adds the nodes of which columns are found, one below the other, each with its line and its columns on one scale.
-    fn put_nodes(&mut self, alloc: Global, subject: &Subject<'_>) -> Result<(), AllocError> {
-        let most = most_of(subject.findings);
+    fn put_nodes(
+        &mut self,
+        alloc: Global,
+        explanation: &Explanation<'_>,
+    ) -> Result<(), AllocError> {
+        let most = most_of(explanation.findings);
         let mut numbering = Numbering {
             path: Vec::new(alloc),
         };
         let mut line = String::new(alloc);
-        for finding in subject.findings {
+        for finding in explanation.findings {
             numbering.step(finding.depth)?;
             if finding.columns.len() > 0 {
-                write_node_line(&mut line, subject.refuted, &numbering, finding)?;
+                write_node_line(&mut line, explanation.refuted, &numbering, finding)?;
                 self.put_node(line.as_str(), most, finding)?;
             }
         }
@@ -94,13 +98,14 @@ impl Sheet {
 }
 
 // The verdict; if the checker does not accept the certificate, the first node that does not hold too.
-fn heading(alloc: Global, subject: &Subject<'_>) -> Result<String, AllocError>
+fn heading(alloc: Global, explanation: &Explanation<'_>) -> Result<String, AllocError>
     ensures { IfOk result (λ text. BeginsWith
-        (verdict_words subject.now.is_shown subject.now.refuted.end subject.now.batches) (string_bytes text)) }
+        (verdict_words explanation.now.is_shown explanation.now.refuted.end explanation.now.batches)
+        (string_bytes text)) }
 {
-    let mut text = first_words(alloc, subject)?;
-    if !subject.is_shown {
-        let refused = first_refused(alloc, subject)?;
+    let mut text = first_words(alloc, explanation)?;
+    if !explanation.is_shown {
+        let refused = first_refused(alloc, explanation)?;
         text.push_str(": ")?;
         text.push_str(refused.as_str())?;
     }
@@ -108,11 +113,12 @@ fn heading(alloc: Global, subject: &Subject<'_>) -> Result<String, AllocError>
 }
 
 /// The explanation as SVG 1.1: the nodes of which columns are found, one below the other, on one scale.
-pub(crate) fn drawing(alloc: Global, subject: &Subject<'_>) -> Result<String, AllocError>
+pub(crate) fn drawing(alloc: Global, explanation: &Explanation<'_>) -> Result<String, AllocError>
     ensures { IfOk result (λ text. (height : ℕ) × BeginsWith (drawing_head height
-        ++ verdict_words subject.now.is_shown subject.now.refuted.end subject.now.batches) (string_bytes text)) }
+        ++ verdict_words explanation.now.is_shown explanation.now.refuted.end explanation.now.batches)
+        (string_bytes text)) }
 {
-    let heading = heading(alloc, subject)?;
+    let heading = heading(alloc, explanation)?;
     let heading = heading.as_str();
     let mut sheet = Sheet {
         text: String::new(alloc),
@@ -120,9 +126,9 @@ pub(crate) fn drawing(alloc: Global, subject: &Subject<'_>) -> Result<String, Al
         height: 8,
     };
     sheet.put_words(heading)?;
-    sheet.put_nodes(alloc, subject)?;
-    if subject.is_shown {
-        let closing = conclusion(alloc, subject.refuted)?;
+    sheet.put_nodes(alloc, explanation)?;
+    if explanation.is_shown {
+        let closing = conclusion(alloc, explanation.refuted)?;
         sheet.put_words(closing.as_str())?;
     }
     sheet.put_words(KEY)?;

@@ -8,7 +8,7 @@ use crate::judgement::DRAWN_DEPTH;
 use crate::kind::kinds_of;
 use crate::listing::findings;
 use crate::outline::{first_words, outline};
-use crate::subject::Subject;
+use crate::refuted::Explanation;
 use pocsag_pages::Round;
 use pocsag_slots::classes_of;
 use pocsag_tree::{Certificate, DEPTH_LIMIT};
@@ -35,27 +35,31 @@ pub fn explanation(
     };
     let found = findings(alloc, &classes, certificate, depth)?;
     let kinds = kinds_of(alloc, round, certificate.end, &classes)?;
-    let subject = Subject::new(
+    let explanation = Explanation::new(
         round,
         certificate,
         is_shown,
         found.as_slice(),
         kinds.as_slice(),
     );
-    Ok(told(alloc, format, &subject)?)
+    Ok(told(alloc, format, &explanation)?)
 }
 
-fn told(alloc: Global, format: Format, subject: &Subject<'_>) -> Result<String, AllocError>
+fn told(alloc: Global, format: Format, explanation: &Explanation<'_>) -> Result<String, AllocError>
     ensures { IfOk result (λ text.
-        GivesVerdict format subject.now.is_shown subject.now.refuted.end subject.now.batches (string_bytes text)) }
+        GivesVerdict format explanation.now.is_shown explanation.now.refuted.end explanation.now.batches
+        (string_bytes text)) }
 {
     let (mut text, others) = match format {
-        Format::Lines(_) => (first_words(alloc, subject)?, outline(alloc, subject)?),
-        Format::Json(depth) => (
-            verdict(alloc, subject)?,
-            other_members(alloc, subject, depth)?,
+        Format::Lines(_) => (
+            first_words(alloc, explanation)?,
+            outline(alloc, explanation)?,
         ),
-        Format::Drawing => return drawing(alloc, subject),
+        Format::Json(depth) => (
+            verdict(alloc, explanation)?,
+            other_members(alloc, explanation, depth)?,
+        ),
+        Format::Drawing => return drawing(alloc, explanation),
     };
     text.push_str(others.as_str())?;
     Ok(text)

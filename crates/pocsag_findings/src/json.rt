@@ -4,24 +4,25 @@ ghost use Rattle.pocsag_findings.specs.Beginnings.{BeginsWith, verdict_members};
 
 use crate::finding::{Fact, Finding, Narrowed, Reached, Share};
 use crate::node_number::Numbering;
+use crate::refuted::Explanation;
 use crate::sets::{FIRST_ALONE, smaller_side, start_slot};
-use crate::subject::Subject;
 use pocsag_slots::{CLASSES, SLOTS, Way, frame, holds, rest};
 use pocsag_words::End;
 use std::alloc::{AllocError, Global};
 use std::fmt::{self, Display, Formatter};
 
 /// The first members of the explanation as one line of JSON.
-pub(crate) fn verdict(alloc: Global, subject: &Subject<'_>) -> Result<String, AllocError>
+pub(crate) fn verdict(alloc: Global, explanation: &Explanation<'_>) -> Result<String, AllocError>
     ensures { IfOk result (λ text. BeginsWith
-        (verdict_members subject.now.is_shown subject.now.refuted.end subject.now.batches) (string_bytes text)) }
+        (verdict_members explanation.now.is_shown explanation.now.refuted.end explanation.now.batches)
+        (string_bytes text)) }
 {
-    let Subject {
+    let Explanation {
         is_shown,
         batches,
         ..
-    } = *subject;
-    let end = match subject.refuted.end {
+    } = *explanation;
+    let end = match explanation.refuted.end {
         End::Open => "open",
         End::Closed => "closed",
         End::Idle => "idle",
@@ -32,17 +33,17 @@ pub(crate) fn verdict(alloc: Global, subject: &Subject<'_>) -> Result<String, Al
 /// The members after them, with the nodes no deeper than so.
 pub(crate) fn other_members(
     alloc: Global,
-    subject: &Subject<'_>,
+    explanation: &Explanation<'_>,
     depth: u32,
 ) -> Result<String, AllocError> {
-    let Subject {
+    let Explanation {
         pages,
         codewords,
         room,
         nodes,
         findings,
         ..
-    } = *subject;
+    } = *explanation;
     let mut text = format!(in alloc;
         r#""pages":{pages},"codewords":{codewords},"room":{room},"nodes":{nodes},"refused":"#
     )?;

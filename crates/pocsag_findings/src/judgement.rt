@@ -7,7 +7,7 @@ ghost use Rattle.pocsag_findings.specs.declared.finding.Fact.TheVariants.{Split}
 ghost use Rattle.pocsag_findings.specs.Rules.{column_of, columns_at, columns_of, early_limits, fact_holds, fact_of, is_narrower, least_of_set, narrowed_of, shares_at, shares_of};
 
 use crate::finding::{Column, Fact, Narrowed, Share};
-use crate::inquiry::Inquiry;
+use crate::position::NodeContext;
 use pocsag_slots::{
     CLASSES, Class, Classes, Limits, SLOTS, ending_ways, holds, is_certain, least_by_class,
     least_load, total_cap, ways,
@@ -57,46 +57,46 @@ fn least_of_set(classes: &Classes, limits: &Limits, set: u16) -> u64
 }
 
 // What must stand in the slot under the limits, and the room in it.
-fn column_of(inquiry: &Inquiry, limits: &Limits, slot: u8) -> Column
-    requires ordered { AreInOrder inquiry.now.classes.now limits.now }
+fn column_of(context: &NodeContext, limits: &Limits, slot: u8) -> Column
+    requires ordered { AreInOrder context.now.classes.now limits.now }
     requires slot { slot < 16 }
-    ensures { result ≡ column_of inquiry.now.classes.now limits.now slot }
+    ensures { result ≡ column_of context.now.classes.now limits.now slot }
 {
     Column {
-        least: least_of_set(inquiry.classes, limits, 1 << slot),
+        least: least_of_set(context.classes, limits, 1 << slot),
         room: limits.cap[slot as usize],
     }
 }
 
 // The columns that are found of a node below so many.
 pub(crate) fn columns_at(
-    inquiry: &Inquiry,
+    context: &NodeContext,
     limits: &Limits,
     above: u32,
 ) -> Result<Vec<Column>, OutOfMemory>
-    requires { AreInOrder inquiry.now.classes.now limits.now }
-    ensures { IfOk result (λ found. found.items ≡ columns_at inquiry.now.classes.now limits.now above) }
+    requires { AreInOrder context.now.classes.now limits.now }
+    ensures { IfOk result (λ found. found.items ≡ columns_at context.now.classes.now limits.now above) }
 {
-    let mut found = Vec::new(inquiry.alloc);
+    let mut found = Vec::new(context.alloc);
     if above >= DRAWN_DEPTH {
         return Ok(found);
     }
     for slot in 0..SLOTS as u8 {
-        found.push(column_of(inquiry, limits, slot))?;
+        found.push(column_of(context, limits, slot))?;
     }
     Ok(found)
 }
 
 // What the node states under the limits. Its room for the ways is not part of a level of `put_node`.
 #[inline(never)]
-pub(crate) fn fact_of(inquiry: &Inquiry, limits: &Limits, tree: &Tree) -> Fact
-    requires { AreInOrder inquiry.now.classes.now limits.now }
-    ensures { result ≡ fact_of inquiry.now.classes.now inquiry.now.end limits.now (bound_tree_of tree.now) }
+pub(crate) fn fact_of(context: &NodeContext, limits: &Limits, tree: &Tree) -> Fact
+    requires { AreInOrder context.now.classes.now limits.now }
+    ensures { result ≡ fact_of context.now.classes.now context.now.end limits.now (bound_tree_of tree.now) }
 {
     match tree {
         Tree::Overload(set) => Fact::Overload {
             set: *set,
-            least: least_of_set(inquiry.classes, limits, *set),
+            least: least_of_set(context.classes, limits, *set),
             room: total_cap(limits, *set),
         },
         Tree::Split { class, m, .. } => Fact::Split {
@@ -112,12 +112,12 @@ pub(crate) fn fact_of(inquiry: &Inquiry, limits: &Limits, tree: &Tree) -> Fact
         } => Fact::Cut {
             set: *set,
             needed: *needed,
-            is_certain: may_cut(inquiry.classes, limits, *set, *needed),
-            ways: ways(inquiry.classes, limits, *set, inquiry.batches).len(),
+            is_certain: may_cut(context.classes, limits, *set, *needed),
+            ways: ways(context.classes, limits, *set, context.batches).len(),
             children: children.len(),
         },
         Tree::Close { children } => Fact::Close {
-            ways: ending_ways(inquiry.classes, inquiry.end, limits).len(),
+            ways: ending_ways(context.classes, context.end, limits).len(),
             children: children.len(),
         },
         Tree::Open => Fact::Open,
@@ -127,24 +127,24 @@ pub(crate) fn fact_of(inquiry: &Inquiry, limits: &Limits, tree: &Tree) -> Fact
 // The shares that the node states: of an overload those of the classes in the least load of its set.
 #[inline(never)]
 pub(crate) fn shares_at(
-    inquiry: &Inquiry,
+    context: &NodeContext,
     limits: &Limits,
     tree: &Tree,
 ) -> Result<Vec<Share>, OutOfMemory>
-    requires { AreInOrder inquiry.now.classes.now limits.now }
+    requires { AreInOrder context.now.classes.now limits.now }
     ensures { IfOk result
-        (λ found. found.items ≡ shares_at inquiry.now.classes.now limits.now (bound_tree_of tree.now)) }
+        (λ found. found.items ≡ shares_at context.now.classes.now limits.now (bound_tree_of tree.now)) }
 {
-    let mut found = Vec::new(inquiry.alloc);
+    let mut found = Vec::new(context.alloc);
     let Tree::Overload(set) = tree else {
         return Ok(found);
     };
     for class in 0..CLASSES as u8 {
-        let least = least_by_class(inquiry.classes, limits, *set, Class { number: class });
+        let least = least_by_class(context.classes, limits, *set, Class { number: class });
         if 0 < least {
             found.push(Share {
                 class,
-                pages: inquiry.classes.count[class as usize],
+                pages: context.classes.count[class as usize],
                 least,
             })?;
         }
@@ -161,14 +161,17 @@ fn is_narrower(early: Narrowed) -> bool
 
 // The classes that the limits narrow.
 #[inline(never)]
-pub(crate) fn narrowed_of(inquiry: &Inquiry, limits: &Limits) -> Result<Vec<Narrowed>, OutOfMemory>
-    ensures { IfOk result (λ found. found.items ≡ narrowed_of inquiry.now.classes.now limits.now) }
+pub(crate) fn narrowed_of(
+    context: &NodeContext,
+    limits: &Limits,
+) -> Result<Vec<Narrowed>, OutOfMemory>
+    ensures { IfOk result (λ found. found.items ≡ narrowed_of context.now.classes.now limits.now) }
 {
-    let mut found = Vec::new(inquiry.alloc);
+    let mut found = Vec::new(context.alloc);
     for number in 0..CLASSES as u8 {
         let early = Narrowed {
             class: number,
-            pages: inquiry.classes.count[number as usize],
+            pages: context.classes.count[number as usize],
             lo: limits.lo[number as usize],
             hi: limits.hi[number as usize],
         };

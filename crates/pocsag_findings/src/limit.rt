@@ -2,8 +2,8 @@
 
 use crate::finding::{Finding, Narrowed};
 use crate::kind::KindWords;
+use crate::refuted::Refuted;
 use crate::sets::{Counted, start_slot};
-use crate::subject::Refuted;
 use std::fmt::{self, Display, Formatter};
 
 /// What the limits of a node say beyond those of the root; nothing where they are the same.

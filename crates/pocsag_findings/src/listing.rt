@@ -7,8 +7,8 @@ ghost use Rattle.pocsag_findings.specs.Rules.{columns_at, fact_holds, narrowed_o
 ghost use Rattle.pocsag_findings.specs.Views.{all_stated};
 
 use crate::finding::{Fact, Finding, Reached, Share};
-use crate::inquiry::{Inquiry, Position};
 use crate::judgement::{columns_at, fact_of, is_met, narrowed_of, shares_at};
+use crate::position::{NodeContext, Position};
 use pocsag_slots::{Classes, Way, all_limits, ending_ways, ways};
 use pocsag_tree::{Certificate, Tree};
 use pocsag_words::OutOfMemory;
@@ -17,31 +17,31 @@ use std::alloc::Global;
 // Puts what a node states behind the findings, and returns whether its rule holds.
 #[inline(never)]
 fn put_fact(
-    inquiry: &Inquiry,
+    context: &NodeContext,
     place: &Position,
     fact: Fact,
     shares: Vec<Share>,
     found: &mut Vec<Finding>,
 ) -> Result<bool, OutOfMemory>
-    requires above { place.now.above < inquiry.now.depth }
-    requires ordered { AreInOrder inquiry.now.classes.now place.now.limits }
+    requires above { place.now.above < context.now.depth }
+    requires ordered { AreInOrder context.now.classes.now place.now.limits }
     ensures put { OnOk result (all_stated found.new.items ≡ all_stated found.old.items
         ++ (record {
           depth = place.now.above + 1;
           reached = place.now.reached;
           fact = fact;
           shares = shares.items;
-          columns = columns_at inquiry.now.classes.now place.now.limits place.now.above;
-          narrowed = narrowed_of inquiry.now.classes.now place.now.limits;
+          columns = columns_at context.now.classes.now place.now.limits place.now.above;
+          narrowed = narrowed_of context.now.classes.now place.now.limits;
           caps = place.now.limits.cap;
-          holds = fact_holds inquiry.now.end inquiry.now.batches fact;
+          holds = fact_holds context.now.end context.now.batches fact;
         } ∷ [])) }
-    ensures holds { IfOk result (λ holds. holds ≡ fact_holds inquiry.now.end inquiry.now.batches fact) }
+    ensures holds { IfOk result (λ holds. holds ≡ fact_holds context.now.end context.now.batches fact) }
 {
-    let holds = is_met(fact, inquiry.end, inquiry.batches);
-    let columns = columns_at(inquiry, &place.limits, place.above)?;
-    let narrowed = narrowed_of(inquiry, &place.limits)?;
-    let caps = place.limits.cap.to_vec(inquiry.alloc)?;
+    let holds = is_met(fact, context.end, context.batches);
+    let columns = columns_at(context, &place.limits, place.above)?;
+    let narrowed = narrowed_of(context, &place.limits)?;
+    let caps = place.limits.cap.to_vec(context.alloc)?;
     found.push(Finding {
         depth: place.above + 1,
         reached: place.reached,
@@ -58,64 +58,64 @@ fn put_fact(
 // Puts the findings of a node that cannot be judged, and of those below it.
 #[cycle(passing)]
 fn put_unjudged(
-    inquiry: &Inquiry,
+    context: &NodeContext,
     above: u32,
     tree: &Tree,
     found: &mut Vec<Finding>,
 ) -> Result<(), OutOfMemory>
     ensures { OnOk result (all_stated found.new.items ≡ all_stated found.old.items
-        ++ unjudged_within inquiry.now.depth above (bound_tree_of tree.now)) }
+        ++ unjudged_within context.now.depth above (bound_tree_of tree.now)) }
 {
-    if above >= inquiry.depth {
+    if above >= context.depth {
         return Ok(());
     }
     found.push(Finding {
         depth: above + 1,
         reached: Reached::Unreached,
         fact: Fact::Unjudged,
-        shares: Vec::new(inquiry.alloc),
-        columns: Vec::new(inquiry.alloc),
-        narrowed: Vec::new(inquiry.alloc),
-        caps: Vec::new(inquiry.alloc),
+        shares: Vec::new(context.alloc),
+        columns: Vec::new(context.alloc),
+        narrowed: Vec::new(context.alloc),
+        caps: Vec::new(context.alloc),
         holds: false,
     })?;
-    put_below_unjudged(inquiry, above + 1, tree, found)
+    put_below_unjudged(context, above + 1, tree, found)
 }
 
 // Puts the findings of the nodes below one whose rule does not hold, or that cannot be judged.
 #[cycle(passing)]
 fn put_below_unjudged(
-    inquiry: &Inquiry,
+    context: &NodeContext,
     above: u32,
     tree: &Tree,
     found: &mut Vec<Finding>,
 ) -> Result<(), OutOfMemory>
     ensures { OnOk result (all_stated found.new.items ≡ all_stated found.old.items
-        ++ unjudged_below inquiry.now.depth above (bound_tree_of tree.now)) }
+        ++ unjudged_below context.now.depth above (bound_tree_of tree.now)) }
 {
     match tree {
         Tree::Overload(_) | Tree::Open => Ok(()),
         Tree::Split { below, from, .. } => {
-            put_unjudged(inquiry, above, below, found)?;
-            put_unjudged(inquiry, above, from, found)
+            put_unjudged(context, above, below, found)?;
+            put_unjudged(context, above, from, found)
         }
-        Tree::Cut { children, .. } => put_each_unjudged(inquiry, above, children, found),
-        Tree::Close { children } => put_each_unjudged(inquiry, above, children, found),
+        Tree::Cut { children, .. } => put_each_unjudged(context, above, children, found),
+        Tree::Close { children } => put_each_unjudged(context, above, children, found),
     }
 }
 
 #[cycle(passing)]
 fn put_each_unjudged(
-    inquiry: &Inquiry,
+    context: &NodeContext,
     above: u32,
     children: &[Tree],
     found: &mut Vec<Finding>,
 ) -> Result<(), OutOfMemory>
     ensures { OnOk result (all_stated found.new.items ≡ all_stated found.old.items
-        ++ each_unjudged inquiry.now.depth above (bounds_of children.now)) }
+        ++ each_unjudged context.now.depth above (bounds_of children.now)) }
 {
     for child in children {
-        put_unjudged(inquiry, above, child, found)?;
+        put_unjudged(context, above, child, found)?;
     }
     Ok(())
 }
@@ -123,23 +123,23 @@ fn put_each_unjudged(
 // Puts the findings of a node, and of those below it.
 #[cycle(listing)]
 fn put_node(
-    inquiry: &Inquiry,
+    context: &NodeContext,
     place: &Position,
     tree: &Tree,
     found: &mut Vec<Finding>,
 ) -> Result<(), OutOfMemory>
-    requires { AreInOrder inquiry.now.classes.now place.now.limits }
+    requires { AreInOrder context.now.classes.now place.now.limits }
     ensures { OnOk result (all_stated found.new.items ≡ all_stated found.old.items
-        ++ findings_within inquiry.now.classes.now inquiry.now.end inquiry.now.batches inquiry.now.depth
+        ++ findings_within context.now.classes.now context.now.end context.now.batches context.now.depth
         place.now.limits place.now.above place.now.reached (bound_tree_of tree.now)) }
 {
-    if place.above >= inquiry.depth {
+    if place.above >= context.depth {
         return Ok(());
     }
-    let fact = fact_of(inquiry, &place.limits, tree);
-    let shares = shares_at(inquiry, &place.limits, tree)?;
-    if !put_fact(inquiry, place, fact, shares, found)? {
-        return put_below_unjudged(inquiry, place.above + 1, tree, found);
+    let fact = fact_of(context, &place.limits, tree);
+    let shares = shares_at(context, &place.limits, tree)?;
+    if !put_fact(context, place, fact, shares, found)? {
+        return put_below_unjudged(context, place.above + 1, tree, found);
     }
     match tree {
         Tree::Overload(_) | Tree::Open => Ok(()),
@@ -149,18 +149,18 @@ fn put_node(
             below,
             from,
         } => {
-            let low = place.child_below(inquiry, *class, u32::from(*m))?;
-            put_node(inquiry, &low, below, found)?;
-            let high = place.child_from(inquiry, *class, u32::from(*m))?;
-            put_node(inquiry, &high, from, found)
+            let low = place.child_below(context, *class, u32::from(*m))?;
+            put_node(context, &low, below, found)?;
+            let high = place.child_from(context, *class, u32::from(*m))?;
+            put_node(context, &high, from, found)
         }
         Tree::Cut { set, children, .. } => {
-            let out = ways(inquiry.classes, &place.limits, *set, inquiry.batches);
-            put_each(inquiry, place, out.as_slice(), children, found)
+            let out = ways(context.classes, &place.limits, *set, context.batches);
+            put_each(context, place, out.as_slice(), children, found)
         }
         Tree::Close { children } => {
-            let out = ending_ways(inquiry.classes, inquiry.end, &place.limits);
-            put_each(inquiry, place, out.as_slice(), children, found)
+            let out = ending_ways(context.classes, context.end, &place.limits);
+            put_each(context, place, out.as_slice(), children, found)
         }
     }
 }
@@ -168,24 +168,24 @@ fn put_node(
 // Puts the findings of the children of a node whose rule holds, each under the limits that its way leaves.
 #[cycle(listing)]
 fn put_each(
-    inquiry: &Inquiry,
+    context: &NodeContext,
     place: &Position,
     ways: &[Way],
     children: &[Tree],
     found: &mut Vec<Finding>,
 ) -> Result<(), OutOfMemory>
-    requires above { place.now.above < inquiry.now.depth }
-    requires ordered { AreInOrder inquiry.now.classes.now place.now.limits }
-    requires batches { 0 < inquiry.now.batches }
-    requires allowed { All (MayTake inquiry.now.classes.now place.now.limits) ways.now }
+    requires above { place.now.above < context.now.depth }
+    requires ordered { AreInOrder context.now.classes.now place.now.limits }
+    requires batches { 0 < context.now.batches }
+    requires allowed { All (MayTake context.now.classes.now place.now.limits) ways.now }
     requires long { length ways.now ≡ length children.now }
     ensures { OnOk result (all_stated found.new.items ≡ all_stated found.old.items
-        ++ findings_by inquiry.now.classes.now inquiry.now.end inquiry.now.batches inquiry.now.depth
+        ++ findings_by context.now.classes.now context.now.end context.now.batches context.now.depth
         place.now.limits (place.now.above + 1) ways.now (bounds_of children.now)) }
 {
     for (index, child) in children.iter().enumerate() {
-        let narrowed = place.child_by(inquiry, ways[index])?;
-        put_node(inquiry, &narrowed, child, found)?;
+        let narrowed = place.child_by(context, ways[index])?;
+        put_node(context, &narrowed, child, found)?;
     }
     Ok(())
 }
@@ -203,7 +203,7 @@ pub fn findings(
         (bound_tree_of certificate.now.tree)) }
 {
     let batches = certificate.batches.saturating_sub(1);
-    let inquiry = Inquiry {
+    let context = NodeContext {
         alloc,
         classes,
         end: certificate.end,
@@ -216,6 +216,6 @@ pub fn findings(
         reached: Reached::Root,
     };
     let mut found = Vec::new(alloc);
-    put_node(&inquiry, &root, &certificate.tree, &mut found)?;
+    put_node(&context, &root, &certificate.tree, &mut found)?;
     Ok(found)
 }

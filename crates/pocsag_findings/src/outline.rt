@@ -6,9 +6,9 @@ use crate::finding::Finding;
 use crate::limit::LimitWords;
 use crate::lines::{Margins, push_lines};
 use crate::node_number::Numbering;
+use crate::refuted::{Explanation, Refuted};
 use crate::sentences::{Sentence, WayWords};
 use crate::sets::Counted;
-use crate::subject::{Refuted, Subject};
 use pocsag_words::End;
 use std::alloc::{AllocError, Global};
 
@@ -33,10 +33,10 @@ pub(crate) fn margins(indent: usize) -> Margins {
 /// What follows the first words: a line for each finding, and one for its limits where they say more than those of the
 /// root; how many nodes are not listed, and the conclusion. Or, if the checker does not accept the certificate, the first
 /// node that does not hold.
-pub(crate) fn outline(alloc: Global, subject: &Subject<'_>) -> Result<String, AllocError> {
+pub(crate) fn outline(alloc: Global, explanation: &Explanation<'_>) -> Result<String, AllocError> {
     let mut text = format!(in alloc; "\n")?;
-    if !subject.is_shown {
-        let refused = first_refused(alloc, subject)?;
+    if !explanation.is_shown {
+        let refused = first_refused(alloc, explanation)?;
         push_lines(&mut text, margins(0), refused.as_str())?;
         return Ok(text);
     }
@@ -44,24 +44,26 @@ pub(crate) fn outline(alloc: Global, subject: &Subject<'_>) -> Result<String, Al
         path: Vec::new(alloc),
     };
     let mut words = String::new(alloc);
-    for finding in subject.findings {
+    for finding in explanation.findings {
         numbering.step(finding.depth)?;
         let indent = (finding.depth as usize).saturating_sub(1).saturating_mul(2);
-        write_node_line(&mut words, subject.refuted, &numbering, finding)?;
+        write_node_line(&mut words, explanation.refuted, &numbering, finding)?;
         push_lines(&mut text, margins(indent), words.as_str())?;
-        let limits = LimitWords(subject.refuted, finding);
+        let limits = LimitWords(explanation.refuted, finding);
         words.clear();
         write!(words, "{limits}")?;
         if words.len() > 0 {
             push_lines(&mut text, margins(indent.saturating_add(2)), words.as_str())?;
         }
     }
-    let below = subject.nodes.saturating_sub(subject.findings.len() as u64);
+    let below = explanation
+        .nodes
+        .saturating_sub(explanation.findings.len() as u64);
     if below > 0 {
         let nodes = Counted(below, "node");
         write!(text, ".. {nodes} below\n")?;
     }
-    let closing = conclusion(alloc, subject.refuted)?;
+    let closing = conclusion(alloc, explanation.refuted)?;
     write!(text, "{closing}\n")?;
     Ok(text)
 }
@@ -79,17 +81,21 @@ pub(crate) fn conclusion(alloc: Global, refuted: Refuted<'_>) -> Result<String, 
 }
 
 /// The first line of the text, or of the drawing its title: what is shown, and what the round and the batches hold.
-pub(crate) fn first_words(alloc: Global, subject: &Subject<'_>) -> Result<String, AllocError>
+pub(crate) fn first_words(
+    alloc: Global,
+    explanation: &Explanation<'_>,
+) -> Result<String, AllocError>
     ensures { IfOk result (λ text. BeginsWith
-        (verdict_words subject.now.is_shown subject.now.refuted.end subject.now.batches) (string_bytes text)) }
+        (verdict_words explanation.now.is_shown explanation.now.refuted.end explanation.now.batches)
+        (string_bytes text)) }
 {
-    if !subject.is_shown {
+    if !explanation.is_shown {
         return format!(in alloc; "not shown");
     }
-    let held = held_words(alloc, subject)?;
-    let batches = subject.batches;
+    let held = held_words(alloc, explanation)?;
+    let batches = explanation.batches;
     let noun = if batches == 1 { "batch" } else { "batches" };
-    let end = match subject.refuted.end {
+    let end = match explanation.refuted.end {
         End::Open => "open end",
         End::Closed => "closed end",
         End::Idle => "idle last",
@@ -98,12 +104,12 @@ pub(crate) fn first_words(alloc: Global, subject: &Subject<'_>) -> Result<String
 }
 
 // What the round and the batches that do not suffice hold.
-fn held_words(alloc: Global, subject: &Subject<'_>) -> Result<String, AllocError> {
-    let pages = Counted(subject.pages, "page");
-    let codewords = Counted(subject.codewords, "codeword");
-    let room = subject.room;
-    let refuted = Counted(u64::from(subject.refuted.batches), "batch");
-    let yet = if subject.codewords <= room {
+fn held_words(alloc: Global, explanation: &Explanation<'_>) -> Result<String, AllocError> {
+    let pages = Counted(explanation.pages, "page");
+    let codewords = Counted(explanation.codewords, "codeword");
+    let room = explanation.room;
+    let refuted = Counted(u64::from(explanation.refuted.batches), "batch");
+    let yet = if explanation.codewords <= room {
         ", yet"
     } else {
         ""
@@ -125,13 +131,16 @@ pub(crate) fn write_node_line(
 }
 
 /// The first finding that does not hold, and why: `node 1.2: slot 15: 1 codeword at the least, room for 1`.
-pub(crate) fn first_refused(alloc: Global, subject: &Subject<'_>) -> Result<String, AllocError> {
+pub(crate) fn first_refused(
+    alloc: Global,
+    explanation: &Explanation<'_>,
+) -> Result<String, AllocError> {
     let mut numbering = Numbering {
         path: Vec::new(alloc),
     };
-    let Some(finding) = numbering.step_to_refused(subject.findings)? else {
+    let Some(finding) = numbering.step_to_refused(explanation.findings)? else {
         return Ok(String::new(alloc));
     };
-    let why = Sentence(subject.refuted, finding);
+    let why = Sentence(explanation.refuted, finding);
     format!(in alloc; "node {numbering}: {why}")
 }

@@ -2,10 +2,10 @@
 
 use crate::finding::{Fact, Finding, Reached, Share};
 use crate::kind::{ClassPages, KindWords};
+use crate::refuted::Refuted;
 use crate::sets::{
     BOUNDARY, Counted, Members, SlotWords, are_frames, outside, side_note, smaller_side, start_slot,
 };
-use crate::subject::Refuted;
 use pocsag_slots::{CLASSES, Way, frame, holds, size};
 use pocsag_words::End;
 use std::fmt::{self, Display, Formatter};

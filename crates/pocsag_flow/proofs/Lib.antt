@@ -1,5 +1,5 @@
+pub mod Ends
 pub mod FlowSums
+pub mod Places
 pub mod Shifts
 pub mod Steps
-pub mod Ends
-pub mod Places

@@ -56,7 +56,7 @@ fn choose_within(classes: &Classes, limits: &Limits, within: &Choice) -> Result<
         end: 0,
     };
     while let Some(slot) = overfull(&counted, limits) {
-        relieve(classes, limits, &mut counted, &mut search, slot)?;
+        move_load(classes, limits, &mut counted, &mut search, slot)?;
     }
     Ok(Choice {
         early: search.early,
@@ -94,7 +94,7 @@ fn overfull(counted: &[u32; 16], limits: &Limits) -> Option<u8>
 
 // Moves some of the load of the slot to one with room, which leaves less overload; or returns the set of all slots
 // to which load can be moved from there.
-fn relieve(
+fn move_load(
     classes: &Classes,
     limits: &Limits,
     counted: &mut [u32; 16],

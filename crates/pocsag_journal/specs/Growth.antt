@@ -25,17 +25,17 @@ pub record IsDue (counted bytes : ℕ) : Type 0 where
   pub long : least_anew < bytes
   pub grown : counted + counted / growth_parts < bytes
 
--- *Settled*: what a journal holds between two edits, and how many bytes it had when what its pages need was counted last.
+-- *Compacted*: what a journal holds between two edits, and how many bytes it had when what its pages need was counted last.
 -- It stays as it is where it is not due, or where it has at most four times the bytes of a text that adds its pages, a line for
 -- each; otherwise it is such a text.
-pub data IsSettled (pages : List Page) (counted later : ℕ) (before after : List ℕ) : Type 0 where
-  early : ¬ IsDue counted (length before) → after ≡ before → later ≡ counted → IsSettled pages counted later before after
+pub data IsCompacted (pages : List Page) (counted later : ℕ) (before after : List ℕ) : Type 0 where
+  early : ¬ IsDue counted (length before) → after ≡ before → later ≡ counted → IsCompacted pages counted later before after
   small :
       (text : List ℕ) → IsDue counted (length before) → ListsPages text pages → length before ≤ times_needed * length text → after ≡ before →
-      later ≡ length before → IsSettled pages counted later before after
+      later ≡ length before → IsCompacted pages counted later before after
   anew :
       IsDue counted (length before) → times_needed * length after < length before → ListsPages after pages → later ≡ length after →
-      IsSettled pages counted later before after
+      IsCompacted pages counted later before after
 
 -- *Put off*: it is due and stays as it is, until it has grown again.
 pub record IsPutOff (counted later : ℕ) (before after : List ℕ) : Type 0 where
@@ -43,7 +43,7 @@ pub record IsPutOff (counted later : ℕ) (before after : List ℕ) : Type 0 whe
   pub same : after ≡ before
   pub counts : later ≡ length before
 
--- It is settled, or where that was not done, it is put off.
-abbrev pub SettlesAs : Bool → List Page → (counted later : ℕ) → (before after : List ℕ) → Type 0
-SettlesAs true pages counted later before after = IsSettled pages counted later before after
-SettlesAs false pages counted later before after = IsPutOff counted later before after
+-- It is compacted, or where that was not done, it is put off.
+abbrev pub CompactsAs : Bool → List Page → (counted later : ℕ) → (before after : List ℕ) → Type 0
+CompactsAs true pages counted later before after = IsCompacted pages counted later before after
+CompactsAs false pages counted later before after = IsPutOff counted later before after

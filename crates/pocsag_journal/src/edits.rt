@@ -8,10 +8,10 @@ ghost use Rattle.pocsag_journal.specs.Runs.{asked_by_line, asked_in, asked_of};
 ghost use Rattle.pocsag_pages.specs.RecordTexts.{IsRowText};
 ghost use Rattle.pocsag_journal.specs.LineTexts.{IsUnread, record_text};
 
-use crate::quote::{quoting_of, without_return};
+use crate::quote::{quote_state_of, without_return};
 use crate::refusal::{Refusal, UndoneFault};
 use csv::ByteRecord;
-use pocsag_pages::{Quoting, only_row};
+use pocsag_pages::{QuoteState, only_row};
 use pocsag_words::End;
 use std::alloc::Global;
 use std::str;
@@ -57,11 +57,11 @@ pub fn record_of(alloc: Global, line: &[u8]) -> Result<ByteRecord, Refusal>
     ensures refused { IfErr result (IsUnread (record_text line.now)) }
 {
     let bare = without_return(line);
-    match quoting_of(bare) {
-        Quoting::Open => return Err(Refusal::InQuotes),
-        Quoting::Broken => return Err(Refusal::StrayQuote),
-        Quoting::Ended => return Err(Refusal::Unknown),
-        Quoting::Start | Quoting::Bare | Quoting::Closed => {}
+    match quote_state_of(bare) {
+        QuoteState::Open => return Err(Refusal::InQuotes),
+        QuoteState::Broken => return Err(Refusal::StrayQuote),
+        QuoteState::Ended => return Err(Refusal::Unknown),
+        QuoteState::Start | QuoteState::Bare | QuoteState::Closed => {}
     }
     match only_row(alloc, bare) {
         Ok(Some(row)) => Ok(row),

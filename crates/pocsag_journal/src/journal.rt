@@ -89,7 +89,7 @@ impl<D: Disk + Drop> Journal<D> {
 
 impl<D: Disk + Drop> Keeper for Journal<D> {
     ghost use Rattle.std.specs.Prelude.{ℕ, List};
-    ghost use Rattle.pocsag_journal.specs.Growth.{SettlesAs};
+    ghost use Rattle.pocsag_journal.specs.Growth.{CompactsAs};
     ghost use Rattle.pocsag_journal.specs.Views.{IsHeld};
     ghost use Rattle.pocsag_journal.specs.Restarts.{held_restarts};
 
@@ -114,10 +114,10 @@ impl<D: Disk + Drop> Keeper for Journal<D> {
     ghost represents = { λ journal pages. D.is_known →
         IsHeld journal (D.held (disk_of journal)) (D.may_leave (disk_of journal)) pages × D.is_sound (disk_of journal) };
 
-    ghost settles = { λ done pages old new. SettlesAs done pages (counted_of old) (counted_of new)
+    ghost compacts = { λ done pages old new. CompactsAs done pages (counted_of old) (counted_of new)
         (D.held (disk_of old)) (D.held (disk_of new)) };
 
-    ghost settled_at = { counted_of };
+    ghost compacted_at = { counted_of };
 
     ghost restarts = { λ journal pages left is_known stands now.
         held_restarts journal (D.held (disk_of journal)) (D.may_leave (disk_of journal)) pages left (stands is_known).0 now };

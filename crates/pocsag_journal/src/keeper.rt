@@ -44,10 +44,10 @@ pub trait Keeper {
     ghost represents: { Self → List Page → Type 0 };
 
     // What it took between two edits of these pages is put shorter where that is due, or that is put off.
-    ghost settles: { Bool → List Page → Self → Self → Type 0 };
+    ghost compacts: { Bool → List Page → Self → Self → Type 0 };
 
     // How many bytes it had when what its pages need was counted last.
-    ghost settled_at: { Self → ℕ };
+    ghost compacted_at: { Self → ℕ };
 
     ghost restarts: { (keeper : Self) (pages : List Page) (left : List ℕ) → is_known → represents keeper pages →
         may_leave keeper left → reads_as left pages };
@@ -73,7 +73,7 @@ pub trait Keeper {
         ensures any_moment { is_known → (before after : List Page) → represents self.old before →
             IsEdit (fields_of row.now) before after →
             LeavesOnly moment left_since self.old self.new (ReadsAsEither reads_as before after) }
-        ensures same { settled_at self.new ≡ settled_at self.old }
+        ensures same { compacted_at self.new ≡ compacted_at self.old }
         ensures explained { counts → (before : List Page) → represents self.old before → IfErr result
             (ExplainsKeeping most (taken self.old) (taken self.new) (row_text default_writer (fields_of row.now))
             (failures self.old) (failures self.new)) }
@@ -84,8 +84,8 @@ pub trait Keeper {
     /// memory is wanting for that, it is put off.
     fn compact_if_due(&mut self, alloc: Global, book: &Book) -> Result<bool, FileFault>
         ensures stands { represents self.old book.now → OnOk result (represents self.new book.now) }
-        ensures settled { is_known → represents self.old book.now →
-            IfOk result (λ done. settles done book.now self.old self.new) }
+        ensures compacted { is_known → represents self.old book.now →
+            IfOk result (λ done. compacts done book.now self.old self.new) }
 
         // A crash at any moment of it leaves what is read as these pages.
         ensures any_moment { is_known → represents self.old book.now →
@@ -122,9 +122,9 @@ impl Keeper for NoKeeper {
 
     ghost represents = { λ _ _. Unit {0} };
 
-    ghost settles = { λ _ _ _ _. Unit {0} };
+    ghost compacts = { λ _ _ _ _. Unit {0} };
 
-    ghost settled_at = { λ _. 0 };
+    ghost compacted_at = { λ _. 0 };
 
     ghost restarts = { λ keeper pages left is_known stands now. absurd is_known };
 

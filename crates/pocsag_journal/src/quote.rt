@@ -1,20 +1,20 @@
 ghost use Rattle.std.specs.Prelude.{◌≡◌};
 ghost use Rattle.csv.specs.Reading.{strip_bom};
-ghost use Rattle.pocsag_pages.specs.Quotings.{quoting_from};
+ghost use Rattle.pocsag_pages.specs.QuoteStates.{quote_state_from};
 ghost use Rattle.pocsag_journal.specs.LineTexts.{without_return};
 
-use pocsag_pages::{Quoting, behind_mark};
+use pocsag_pages::{QuoteState, behind_mark};
 
 /// Where a line stands at its end, a byte order mark at its head passed over.
-pub fn quoting_of(line: &[u8]) -> Quoting
-    ensures { result ≡ quoting_from Quoting.Start (strip_bom line.now) }
+pub fn quote_state_of(line: &[u8]) -> QuoteState
+    ensures { result ≡ quote_state_from QuoteState.Start (strip_bom line.now) }
 {
     let text = behind_mark(line);
-    let mut quoting = Quoting::Start;
+    let mut state = QuoteState::Start;
     for byte in text {
-        quoting = quoting.after(*byte);
+        state = state.after(*byte);
     }
-    quoting
+    state
 }
 
 /// The line without a carriage return at its end.

@@ -26,7 +26,7 @@ use Rattle.pocsag_pages.proofs.Lengths.{synced_count}
 use Rattle.pocsag_pages.proofs.Readings.{reads_plainly}
 use Rattle.pocsag_pager.specs.Shown.{IsMended, said}
 use Rattle.pocsag_capture.specs.Bits.{as_sent, capture_bits, word_on}
-use Rattle.pocsag_capture.specs.Caught.{AreCaught, HasCaught, without_orphans}
+use Rattle.pocsag_capture.specs.CapturedPages.{AreCaptured, HasCaptured, without_orphans}
 use Rattle.pocsag_capture.specs.Lost.{lost_words}
 use Rattle.pocsag_capture.specs.Receptions.{AreFound, AreReceptions, HasFewLost, IsBridged, IsLikeSynchronised, IsOnAir, IsReception, IsSyncRun, IsSynchronised, counted, run_end, last_sync, nothing, passed, received, received_word, sent_at}
 use Rattle.pocsag_capture.specs.Sent.{NothingFollows, IsReceived}
@@ -34,9 +34,9 @@ use Rattle.pocsag_capture.specs.declared.polarity.Polarity.{Polarity}
 use Rattle.pocsag_capture.specs.declared.polarity.Polarity.TheVariants.{Upright, Inverted}
 use Rattle.pocsag_capture.specs.declared.reception.Reception.{Reception}
 use Rattle.pocsag_capture.specs.declared.reception.Run.{Run}
-use Rattle.pocsag_capture.proofs.Lifts.{word_cut, word_read, word_there}
+use Rattle.pocsag_capture.proofs.Extracts.{word_cut, word_read, word_there}
 use Rattle.pocsag_capture.proofs.Once.{WordsFit, capture_fits, no_more, one_thing, same_polarity}
-use Rattle.pocsag_capture.proofs.Settled.{synced_two}
+use Rattle.pocsag_capture.proofs.CorrectedWords.{synced_two}
 use Rattle.pocsag_capture.proofs.Windows.{number_behind}
 use Rattle.pocsag_laws.specs.OnlySent.{HasManyLost, HoldsNoOther, IsAlone, IsCaptureOf, IsNoise, noise, sent}
 
@@ -379,15 +379,15 @@ found_behind bits first end rs holds low high (passed u more run not rest) =
 
 -- ---- a transmission among other bits
 
-abbrev Catch : (bits : List ℕ) → List Reception → List (List Page) → Type 0
-Catch bits rs pss = AllZip (λ (r : Reception) (here : List Page). AreCaught (received bits r) here) rs pss
+abbrev CapturedTransmission : (bits : List ℕ) → List Reception → List (List Page) → Type 0
+CapturedTransmission bits rs pss = AllZip (λ (r : Reception) (here : List Page). AreCaptured (received bits r) here) rs pss
 
 -- the first reception is that of a transmission, and others are found behind it
 record IsBehind (bits : List ℕ) (end : ℕ) (ps : List Page) (rs : List Reception) : Type 0 where
   pub reception : Reception
   pub back : List Reception
   pub whole : rs ≡ reception ∷ back
-  pub caught : AreCaught (received bits reception) ps
+  pub captured : AreCaptured (received bits reception) ps
   pub found : AreFound bits end end back
 
 module _ (A R : List ℕ) (p : Polarity) (ps : List Page) (X : List ℕ) (f : IsReceived p ps X) where
@@ -508,10 +508,10 @@ module _ (A R : List ℕ) (p : Polarity) (ps : List Page) (X : List ℕ) (f : Is
           ∙ ap (λ (q : Polarity). sent_at (A ++ (X ++ R)) q (r.bit + 32 * i)) (is.polarity ∙ polarity)
           ∙ read_at (r.bit + 32 * i) i (omega (arith, is.bit, bit)) small)
 
-      own_pages : AreCaught (received (A ++ (X ++ R)) r) ps
+      own_pages : AreCaptured (received (A ++ (X ++ R)) r) ps
       own_pages =
           let same = without_orphans_words false f.codewords (reads_plainly f.reads).no_orphan in
-          subst (λ (ws : List ℕ). AreCaught ws ps) (sym own_words) (record {
+          subst (λ (ws : List ℕ). AreCaptured ws ps) (sym own_words) (record {
             mended = map Some f.codewords;
             each = each_mended f.codewords (unsynced 0 f.words) f.are
                 (zip_unsynced NearAndFits 0 0 f.codewords f.words (omega arith) (near_and_fits (synced 0 f.codewords) f.words f.near f.fit));
@@ -536,32 +536,32 @@ module _ (A R : List ℕ) (p : Polarity) (ps : List Page) (X : List ℕ) (f : Is
         reception = holder.reception;
         back = holder.back;
         whole = holder.whole;
-        caught = own_pages over holder.first holder.run holder.is_run holder.bit holder.polarity holder.reception holder.is;
+        captured = own_pages over holder.first holder.run holder.is_run holder.bit holder.polarity holder.reception holder.is;
         found = found_behind (A ++ (X ++ R)) (last_sync holder.run + 1) (length A + 544 * f.batches) holder.back none (omega arith) (omega arith) rest;
       }
 
 -- ---- all transmissions
 
-none_caught : (bits : List ℕ) (first held : ℕ) (rs : List Reception) → IsNoise bits first (length bits) → AreFound bits first held rs → Catch bits rs []
-none_caught bits first held rs noisy (nothing other) = tt
-none_caught bits first held rs noisy (counted u r more run counts is rest) =
+none_captured : (bits : List ℕ) (first held : ℕ) (rs : List Reception) → IsNoise bits first (length bits) → AreFound bits first held rs → CapturedTransmission bits rs []
+none_captured bits first held rs noisy (nothing other) = tt
+none_captured bits first held rs noisy (counted u r more run counts is rest) =
     absurd (noise_off bits first held u run (noisy u.bit run.later (omega (arith, run.begins.within)) u.polarity run.begins) counts)
-none_caught bits first held rs noisy (passed u more run not rest) =
+none_captured bits first held rs noisy (passed u more run not rest) =
     let later = run.later in
-    none_caught bits (last_sync u + 1) held more (noise_later bits first (length bits) (last_sync u + 1) (omega arith) noisy) rest
+    none_captured bits (last_sync u + 1) held more (noise_later bits first (length bits) (last_sync u + 1) (omega arith) noisy) rest
 
-catch_more : (bits : List ℕ) (end : ℕ) (ps : List Page) (rs : List Reception) (pss : List (List Page)) (step : IsBehind bits end ps rs)
-    → Catch bits step.back pss → Catch bits rs (ps ∷ pss)
-catch_more bits end ps rs pss step more = subst (λ (l : List Reception). Catch bits l (ps ∷ pss)) (sym step.whole) (step.caught, more)
+capture_more : (bits : List ℕ) (end : ℕ) (ps : List Page) (rs : List Reception) (pss : List (List Page)) (step : IsBehind bits end ps rs)
+    → CapturedTransmission bits step.back pss → CapturedTransmission bits rs (ps ∷ pss)
+capture_more bits end ps rs pss step more = subst (λ (l : List Reception). CapturedTransmission bits l (ps ∷ pss)) (sym step.whole) (step.captured, more)
 
--- noise, a transmission, and what is behind them, as the bits behind both are caught
-caught_next : (A N X R : List ℕ) (p : Polarity) (here : List Page) (there : List (List Page)) (rs : List Reception)
+-- noise, a transmission, and what is behind them, as the bits behind both are captured
+captured_next : (A N X R : List ℕ) (p : Polarity) (here : List Page) (there : List (List Page)) (rs : List Reception)
     → IsNoise (N ++ (X ++ R)) 0 (length N) → IsReceived p here X → NothingFollows p R → HoldsNoOther (X ++ R) (length X)
     → WordsFit ((A ++ N) ++ (X ++ R)) → AreFound ((A ++ N) ++ (X ++ R)) (length A) (length A) rs
     → ((back : List Reception) → AreFound (((A ++ N) ++ X) ++ R) (length ((A ++ N) ++ X)) (length ((A ++ N) ++ X)) back
-    → Catch (((A ++ N) ++ X) ++ R) back there)
-    → Catch ((A ++ N) ++ (X ++ R)) rs (here ∷ there)
-caught_next A N X R p here there rs noisy f over holds fits found more =
+    → CapturedTransmission (((A ++ N) ++ X) ++ R) back there)
+    → CapturedTransmission ((A ++ N) ++ (X ++ R)) rs (here ∷ there)
+captured_next A N X R p here there rs noisy f over holds fits found more =
     let long = length-append A N in
     let front = subst (λ (l : List ℕ). IsNoise l (length A) (length (A ++ N))) (sym (append_assoc A N (X ++ R)))
     (noise_behind A (N ++ (X ++ R)) (length A) (length (A ++ N)) (length N) noisy (omega arith) (omega (arith, long))) in
@@ -571,39 +571,39 @@ caught_next A N X R p here there rs noisy f over holds fits found more =
     omega (arith, length-append (A ++ N) X, (how_long (A ++ N) R p here X f).2) in
     let behind = subst (λ (l : List ℕ). AreFound l (length ((A ++ N) ++ X)) (length ((A ++ N) ++ X)) step.back) (sym next)
     (subst (λ (n : ℕ). AreFound ((A ++ N) ++ (X ++ R)) n n step.back) end step.found) in
-    catch_more ((A ++ N) ++ (X ++ R)) (length (A ++ N) + 544 * f.batches) here rs there step
-    (subst (λ (l : List ℕ). Catch l step.back there) next (more step.back behind))
+    capture_more ((A ++ N) ++ (X ++ R)) (length (A ++ N) + 544 * f.batches) here rs there step
+    (subst (λ (l : List ℕ). CapturedTransmission l step.back there) next (more step.back behind))
 
-each_caught : (A B : List ℕ) (pss : List (List Page)) (rs : List Reception) → IsCaptureOf B pss → WordsFit (A ++ B)
-    → AreFound (A ++ B) (length A) (length A) rs → Catch (A ++ B) rs pss
-each_caught A B pss rs (noise noisy) fits found =
-    none_caught (A ++ B) (length A) (length A) rs
+each_captured : (A B : List ℕ) (pss : List (List Page)) (rs : List Reception) → IsCaptureOf B pss → WordsFit (A ++ B)
+    → AreFound (A ++ B) (length A) (length A) rs → CapturedTransmission (A ++ B) rs pss
+each_captured A B pss rs (noise noisy) fits found =
+    none_captured (A ++ B) (length A) (length A) rs
     (noise_behind A B (length A) (length (A ++ B)) (length B) noisy (omega arith) (omega (arith, length-append A B))) found
-each_caught A B pss rs (sent N X R p here there noisy f over holds rest) fits found =
+each_captured A B pss rs (sent N X R p here there noisy f over holds rest) fits found =
     let whole : (A ++ N) ++ (X ++ R) ≡ A ++ (N ++ (X ++ R)) = append_assoc A N (X ++ R) in
     let next : ((A ++ N) ++ X) ++ R ≡ (A ++ N) ++ (X ++ R) = append_assoc (A ++ N) X R in
-    subst (λ (l : List ℕ). Catch l rs (here ∷ there)) whole
-    (caught_next A N X R p here there rs noisy f over holds (subst WordsFit (sym whole) fits)
+    subst (λ (l : List ℕ). CapturedTransmission l rs (here ∷ there)) whole
+    (captured_next A N X R p here there rs noisy f over holds (subst WordsFit (sym whole) fits)
     (subst (λ (l : List ℕ). AreFound l (length A) (length A) rs) (sym whole) found)
-    (λ back. each_caught ((A ++ N) ++ X) R there back rest (subst WordsFit (sym whole ∙ sym next) fits)))
+    (λ back. each_captured ((A ++ N) ++ X) R there back rest (subst WordsFit (sym whole ∙ sym next) fits)))
 
 pub holds_just_these : (capture : List ℕ) (rs : List Reception) (pss : List (List Page)) → IsCaptureOf (capture_bits capture) pss
-    → AreReceptions (capture_bits capture) rs → Catch (capture_bits capture) rs pss
-holds_just_these capture rs pss h found = each_caught [] (capture_bits capture) pss rs h (capture_fits capture) found
+    → AreReceptions (capture_bits capture) rs → CapturedTransmission (capture_bits capture) rs pss
+holds_just_these capture rs pss h found = each_captured [] (capture_bits capture) pss rs h (capture_fits capture) found
 
 pub shows_no_others : (capture : List ℕ) (rs : List Reception) (pss : List (List Page)) (qs : List Page) → IsCaptureOf (capture_bits capture) pss
-    → HasCaught capture rs qs → qs ≡ flat_map (λ (ps : List Page). ps) pss
+    → HasCaptured capture rs qs → qs ≡ flat_map (λ (ps : List Page). ps) pss
 shows_no_others capture rs pss qs h g =
-    let all : HasCaught capture rs (flat_map (λ (ps : List Page). ps) pss) =
+    let all : HasCaptured capture rs (flat_map (λ (ps : List Page). ps) pss) =
     record { found = g.found; pages = pss; each = holds_just_these capture rs pss h g.found; all = refl } in
     (one_thing capture rs rs qs (flat_map (λ (ps : List Page). ps) pss) g all).1
 
-none_of : (bits : List ℕ) (rs : List Reception) → Catch bits rs [] → rs ≡ []
+none_of : (bits : List ℕ) (rs : List Reception) → CapturedTransmission bits rs [] → rs ≡ []
 none_of bits [] each = refl
 none_of bits (r ∷ rs) each = absurd each
 
 pub nothing_of_noise : (capture : List ℕ) (rs : List Reception) (ps : List Page) → IsNoise (capture_bits capture) 0 (length (capture_bits capture))
-    → HasCaught capture rs ps → (rs ≡ []) × (ps ≡ [])
+    → HasCaptured capture rs ps → (rs ≡ []) × (ps ≡ [])
 nothing_of_noise capture rs ps noisy g = (
   none_of (capture_bits capture) rs (holds_just_these capture rs [] (noise noisy) g.found),
   shows_no_others capture rs [] ps (noise noisy) g,

@@ -13,12 +13,12 @@ use Rattle.pocsag_plan.specs.declared.refusal.AddFault.TheVariants as adding
 use Rattle.pocsag_plan.specs.declared.search.OnLimit.{OnLimit}
 use Rattle.pocsag_words.specs.declared.ending.End.{End}
 use Rattle.pocsag_journal.specs.Asks.{AsksPlan}
-use Rattle.pocsag_pages.specs.Quotings.{MayEnd, quoting_after, quoting_from}
+use Rattle.pocsag_pages.specs.QuoteStates.{MayEnd, quote_state_after, quote_state_from}
 use Rattle.pocsag_journal.specs.Runs.{IsEdit, IsRun, asked_of, first_record, wants_memory}
 use Rattle.pocsag_pages.specs.RecordTexts.{IsLostAt, IsRowText}
 use Rattle.pocsag_journal.specs.LineTexts.{IsUnread, IsWholeLine, is_return, record_text, without_return}
-use Rattle.pocsag_pages.specs.declared.quoting.Quoting.{Quoting}
-use Rattle.pocsag_pages.specs.declared.quoting.Quoting.TheVariants as at
+use Rattle.pocsag_pages.specs.declared.quote_state.QuoteState.{QuoteState}
+use Rattle.pocsag_pages.specs.declared.quote_state.QuoteState.TheVariants as at
 use Rattle.pocsag_journal.specs.declared.refusal.Refusal.{Refusal}
 use Rattle.pocsag_journal.specs.declared.refusal.Refusal.TheVariants as refusal
 use Rattle.pocsag_journal.specs.declared.refusal.UndoneFault.{UndoneFault}
@@ -33,7 +33,7 @@ use Rattle.pocsag_journal.proofs.LineLengths.{line_length}
 use Rattle.pocsag_journal.proofs.Replays.{edit_some, is_true, pair_word}
 use Rattle.pocsag_journal.proofs.TextLines.{at_line, first_line, no_whole_line, split_lines}
 use Rattle.pocsag_open.specs.Lines.{AreLines, IsFirstLine}
-use Rattle.pocsag_open.specs.Plans.{Placing}
+use Rattle.pocsag_open.specs.Plans.{PlacementResult}
 use Rattle.pocsag_open.specs.Words.{refusal_words}
 use Rattle.pocsag_laws.specs.Reopened.{NamesNoMemory}
 use Rattle.pocsag_open.specs.Replies.{AreReplies, IsLineReply, IsRefusalPrinted, IsReply, IsSession, edited, listed, noted, planned, read, refused, sent_first, too_long, unread}
@@ -64,7 +64,7 @@ edit_plain (w ∷ a ∷ k ∷ m ∷ []) pages after d =
 edit_plain (w ∷ a ∷ k ∷ m ∷ n ∷ row) pages after d = absurd d
 
 -- no text of a record ends with a carriage return
-returned : (q : Quoting) → MayEnd (quoting_after q 13) → ⊥
+returned : (q : QuoteState) → MayEnd (quote_state_after q 13) → ⊥
 returned at.Start may = may
 returned at.Bare may = may
 returned at.Open may = may
@@ -72,10 +72,10 @@ returned at.Closed may = may
 returned at.Broken may = may
 returned at.Ended may = may
 
-no_return : (q : Quoting) (front : List ℕ) → MayEnd (quoting_from q (front ++ 13 ∷ [])) → ⊥
-unfolding quoting_from
+no_return : (q : QuoteState) (front : List ℕ) → MayEnd (quote_state_from q (front ++ 13 ∷ [])) → ⊥
+unfolding quote_state_from
 no_return q [] may = returned q may
-no_return q (b ∷ front) may = no_return (quoting_after q b) front may
+no_return q (b ∷ front) may = no_return (quote_state_after q b) front may
 
 return_last : (xs : List ℕ) → is_return (slice_get xs (length xs - 1)) ≡ true → (front : List ℕ) × (xs ≡ front ++ 13 ∷ [])
 return_last [] e = absurd (cc e)
@@ -91,7 +91,7 @@ whole_text : (row : Row) (text : List ℕ) → IsRowText row text → without_re
 whole_text row text spelled =
     let none = false_from_ne_true (is_return (slice_get text (length text - 1)))
     (λ t. let h = return_last text t in
-    no_return at.Start h.0 (subst (λ (l : List ℕ). MayEnd (quoting_from at.Start l)) h.1 (row_place row text spelled))) in
+    no_return at.Start h.0 (subst (λ (l : List ℕ). MayEnd (quote_state_from at.Start l)) h.1 (row_place row text spelled))) in
     rw none refl
 
 -- the line of an edit reads as its record alone
@@ -178,7 +178,7 @@ plan_edits end (Some b) tx cert row pages after e d = subst (λ (r : Row). IsEdi
 abbrev Leaves : (after due : List Page) (told : List ℕ) → Type 0
 Leaves after due told = (after ≡ due) ⊎ NamesNoMemory told
 
-record_reply : (IsKnown OutputFails : Type 0) (on_limit : OnLimit) (row : Row) (pages after due : List Page) (told : List ℕ) (placed : List Placing) →
+record_reply : (IsKnown OutputFails : Type 0) (on_limit : OnLimit) (row : Row) (pages after due : List Page) (told : List ℕ) (placed : List PlacementResult) →
     IsEdit row pages due → IsReply IsKnown OutputFails on_limit row pages after told placed → Leaves after due told
 unfolding asked_of
 record_reply IsKnown OutputFails on_limit row pages after due told placed d (edited e t n) = inl (edit_once row pages after due e d)
@@ -193,7 +193,7 @@ record_reply IsKnown OutputFails on_limit row pages after due told placed d (ref
   | inr none ↦ absurd (none due d)
 ]
 
-heading_reply : (IsKnown OutputFails : Type 0) (on_limit : OnLimit) (pages after : List Page) (told : List ℕ) (placed : List Placing) →
+heading_reply : (IsKnown OutputFails : Type 0) (on_limit : OnLimit) (pages after : List Page) (told : List ℕ) (placed : List PlacementResult) →
     IsReply IsKnown OutputFails on_limit first_record pages after told placed → Leaves after pages told
 unfolding asked_of
 heading_reply IsKnown OutputFails on_limit pages after told placed (edited e t n) = absurd e
@@ -206,7 +206,7 @@ heading_reply IsKnown OutputFails on_limit pages after told placed (refused why 
 
 -- the reply to its line
 line_reply : (IsKnown OutputFails : Type 0) (on_limit : OnLimit) (line : List ℕ) (row : Row) (pages after due : List Page) (told : List ℕ)
-    (placed : List Placing) → length line ≤ kept_line_limit → IsRowText row (record_text line) → record_text line ≢ [] →
+    (placed : List PlacementResult) → length line ≤ kept_line_limit → IsRowText row (record_text line) → record_text line ≢ [] →
     (IsReply IsKnown OutputFails on_limit row pages after told placed → Leaves after due told) →
     IsLineReply IsKnown OutputFails on_limit line pages after told placed → Leaves after due told
 line_reply IsKnown OutputFails on_limit line row pages after due told placed short spelled some reply (too_long long s t n) = absurd (omega (arith, short, long))
@@ -276,7 +276,7 @@ short_line row pages after d =
     omega (arith, text, length-append (row_body default_writer row) (line_feed ∷ []), line_length row pages after d)
 
 rows_reopened : (IsKnown OutputFails : Type 0) (on_limit : OnLimit) (rows : List Row) (lines : List (List ℕ)) (before pages after : List Page) (told : List ℕ)
-    (placed : List Placing) → AllByRecursion IsLine rows → IsRun rows before pages → AreLines lines (rows_text rows) →
+    (placed : List PlacementResult) → AllByRecursion IsLine rows → IsRun rows before pages → AreLines lines (rows_text rows) →
     AreReplies IsKnown OutputFails on_limit lines before after told placed → Leaves after pages told
 unfolding IsRun rows_text AreLines AreReplies
 rows_reopened IsKnown OutputFails on_limit [] [] start pages after told placed each run cut replies = inl (replies.0 ∙ sym run)
@@ -319,7 +319,7 @@ unfolding fields_text
 heading_short = omega arith
 
 session_reopened : (IsKnown OutputFails : Type 0) (on_limit : OnLimit) (rows : List Row) (lines : List (List ℕ)) (pages after : List Page) (told : List ℕ)
-    (placed : List Placing) → AllByRecursion IsLine rows → IsRun rows [] pages → AreLines lines (journal_text rows) →
+    (placed : List PlacementResult) → AllByRecursion IsLine rows → IsRun rows [] pages → AreLines lines (journal_text rows) →
     AreReplies IsKnown OutputFails on_limit lines [] after told placed → Leaves after pages told
 unfolding AreLines AreReplies
 session_reopened IsKnown OutputFails on_limit rows [] pages after told placed each run cut replies =
@@ -346,7 +346,7 @@ session_reopened IsKnown OutputFails on_limit rows (line ∷ lines) pages after 
     ]
 
 -- *Reopened*
-pub reopened : (IsKnown OutputFails : Type 0) (on_limit : OnLimit) (rows : List Row) (pages after : List Page) (told : List ℕ) (placed : List Placing) →
+pub reopened : (IsKnown OutputFails : Type 0) (on_limit : OnLimit) (rows : List Row) (pages after : List Page) (told : List ℕ) (placed : List PlacementResult) →
     AllByRecursion IsLine rows → IsRun rows [] pages → IsSession IsKnown OutputFails on_limit (journal_text rows) [] after told placed →
     (after ≡ pages) ⊎ NamesNoMemory told
 reopened IsKnown OutputFails on_limit rows pages after told placed each run session =

@@ -16,7 +16,7 @@ use Rattle.pocsag_journal.proofs.FieldLines.{feedless_front, read_line, row_line
 use Rattle.pocsag_journal.proofs.LineFeeds.{none_found}
 use Rattle.pocsag_journal.proofs.LinedPages.{decimal_feedless, run_lined}
 use Rattle.pocsag_open.specs.Lines.{AreLines}
-use Rattle.pocsag_open.specs.Plans.{Placing}
+use Rattle.pocsag_open.specs.Plans.{PlacementResult}
 use Rattle.pocsag_open.specs.Replies.{AreReplies, IsLineReply, IsReply, IsSession, edited, listed, noted, planned, read, refused, sent_first, too_long, unread}
 use Rattle.pocsag_open.proofs.Ends.{sent_line, text_feedless}
 use Rattle.pocsag_open.proofs.Fronts.{front_edit}
@@ -25,7 +25,7 @@ use Rattle.pocsag_open.proofs.Fronts.{front_edit}
 abbrev LineRun : (before after : List Page) → Type 0
 LineRun before after = (rows : List Row) × AllByRecursion IsLine rows × IsRun rows before after
 
-reply_run : (IsKnown OutputFails : Type 0) (on_limit : OnLimit) (row : Row) (before after : List Page) (told : List ℕ) (placed : List Placing) → IsLine row →
+reply_run : (IsKnown OutputFails : Type 0) (on_limit : OnLimit) (row : Row) (before after : List Page) (told : List ℕ) (placed : List PlacementResult) → IsLine row →
     IsReply IsKnown OutputFails on_limit row before after told placed → LineRun before after
 unfolding IsRun
 reply_run IsKnown OutputFails on_limit row before after told placed line (edited edit t n) = (row ∷ [], (line, tt), (after, edit, refl))
@@ -37,7 +37,7 @@ reply_run IsKnown OutputFails on_limit row before after told placed line (sent_f
     (sent_record count ∷ [], (sent_line count (omega (arith, is.front.among, is.round.few)), tt), (after, edit, refl))
 reply_run IsKnown OutputFails on_limit row before after told placed line (refused why due same t) = ([], tt, same)
 
-line_run : (IsKnown OutputFails : Type 0) (on_limit : OnLimit) (line : List ℕ) (before after : List Page) (told : List ℕ) (placed : List Placing) →
+line_run : (IsKnown OutputFails : Type 0) (on_limit : OnLimit) (line : List ℕ) (before after : List Page) (told : List ℕ) (placed : List PlacementResult) →
     HasNoLineFeed line → IsLineReply IsKnown OutputFails on_limit line before after told placed → LineRun before after
 unfolding IsRun
 line_run IsKnown OutputFails on_limit line before after told placed none (too_long long same t n) = ([], tt, same)
@@ -50,7 +50,7 @@ all_joined [] more each others = others
 all_joined (row ∷ rows) more each others = (each.0, all_joined rows more each.1 others)
 
 replies_run : (IsKnown OutputFails : Type 0) (on_limit : OnLimit) (lines : List (List ℕ)) (bytes : List ℕ) (before after : List Page) (told : List ℕ)
-    (placed : List Placing) → AreLines lines bytes → AreReplies IsKnown OutputFails on_limit lines before after told placed → LineRun before after
+    (placed : List PlacementResult) → AreLines lines bytes → AreReplies IsKnown OutputFails on_limit lines before after told placed → LineRun before after
 unfolding AreLines AreReplies IsRun
 replies_run IsKnown OutputFails on_limit [] bytes before after told placed cut replies = ([], tt, replies.0)
 replies_run IsKnown OutputFails on_limit (line ∷ lines) bytes before after told placed (rest, first, cut)
@@ -59,12 +59,12 @@ replies_run IsKnown OutputFails on_limit (line ∷ lines) bytes before after tol
     let others = replies_run IsKnown OutputFails on_limit lines rest between after more others cut next in
     (one.0 ++ others.0, all_joined one.0 others.0 one.1 others.1, runs_join one.0 others.0 before between after one.2 others.2)
 
-pub session_run : (IsKnown OutputFails : Type 0) (on_limit : OnLimit) (input told : List ℕ) (before after : List Page) (placed : List Placing) →
+pub session_run : (IsKnown OutputFails : Type 0) (on_limit : OnLimit) (input told : List ℕ) (before after : List Page) (placed : List PlacementResult) →
     IsSession IsKnown OutputFails on_limit input before after told placed → LineRun before after
 session_run IsKnown OutputFails on_limit input told before after placed session =
     replies_run IsKnown OutputFails on_limit session.lines input before after told placed session.cut session.replies
 
-pub session_lined : (IsKnown OutputFails : Type 0) (on_limit : OnLimit) (input told : List ℕ) (before after : List Page) (placed : List Placing) →
+pub session_lined : (IsKnown OutputFails : Type 0) (on_limit : OnLimit) (input told : List ℕ) (before after : List Page) (placed : List PlacementResult) →
     IsSession IsKnown OutputFails on_limit input before after told placed → HaveLines before → HaveLines after
 session_lined IsKnown OutputFails on_limit input told before after placed session lined =
     let run = session_run IsKnown OutputFails on_limit input told before after placed session in

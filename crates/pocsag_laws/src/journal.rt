@@ -8,7 +8,7 @@ ghost use Rattle.pocsag_journal.specs.declared.refusal.Refusal.{Refusal};
 ghost use Rattle.pocsag_journal.specs.Growth.{kept_line_limit};
 ghost use Rattle.pocsag_journal.specs.Journals.{IsBadLine, IsBegun, IsLine, IsRead, ReadsFirst, journal_text};
 ghost use Rattle.pocsag_journal.specs.Runs.{IsEdit, IsRun};
-ghost use Rattle.pocsag_open.specs.Plans.{HasFailedOutput, Placing};
+ghost use Rattle.pocsag_open.specs.Plans.{HasFailedOutput, PlacementResult};
 ghost use Rattle.pocsag_open.specs.Replies.{IsSession};
 ghost use Rattle.pocsag_laws.specs.Reopened.{NamesNoMemory};
 ghost use Rattle.pocsag_journal.specs.Faults.{HasNoLine};
@@ -73,7 +73,7 @@ pub fn texts_have_one_reason()
 /// `open` over the text of a journal: the session leaves the pages of the journal, unless it reported that memory was wanting.
 pub fn a_journal_opens_as_its_pages<P: OutputStore>()
     ensures { (on_limit : OnLimit) (rows : List Row) (pages after : List Page) (told : List ℕ)
-        (placed : List Placing) → AllByRecursion IsLine rows → IsRun rows [] pages →
+        (placed : List PlacementResult) → AllByRecursion IsLine rows → IsRun rows [] pages →
         IsSession P.is_known (HasFailedOutput P.Output.failures)
         on_limit (journal_text rows) [] after told placed → (after ≡ pages) ⊎ NamesNoMemory told }
 {}
@@ -81,11 +81,12 @@ pub fn a_journal_opens_as_its_pages<P: OutputStore>()
 /// A session is a run of edits whose records are lines. So where all pages before it have lines in a journal, as no pages
 /// and those of a journal have, all pages after it have.
 pub fn sessions_are_runs<P: OutputStore>()
-    ensures run { (on_limit : OnLimit) (input told : List ℕ) (before after : List Page) (placed : List Placing) →
+    ensures run { (on_limit : OnLimit) (input told : List ℕ) (before after : List Page)
+        (placed : List PlacementResult) →
         IsSession P.is_known (HasFailedOutput P.Output.failures) on_limit input before after told placed →
         (rows : List Row) × AllByRecursion IsLine rows × IsRun rows before after }
     ensures lined { (on_limit : OnLimit) (input told : List ℕ) (before after : List Page)
-        (placed : List Placing) → IsSession P.is_known (HasFailedOutput P.Output.failures)
+        (placed : List PlacementResult) → IsSession P.is_known (HasFailedOutput P.Output.failures)
         on_limit input before after told placed →
         HaveLines before → HaveLines after }
 {}

@@ -11,7 +11,7 @@ ghost use Rattle.pocsag_pages.specs.Reading.{AreApart, IsLegalList};
 ghost use Rattle.pocsag_decode.specs.PageFiles.{IsSpellable, page_file};
 ghost use Rattle.pocsag_journal.specs.Runs.{IsEdit, IsRun};
 ghost use Rattle.pocsag_capture.specs.Bits.{capture_bits};
-ghost use Rattle.pocsag_capture.specs.Caught.{AreCaught, HasCaught};
+ghost use Rattle.pocsag_capture.specs.CapturedPages.{AreCaptured, HasCaptured};
 ghost use Rattle.pocsag_capture.specs.Receptions.{AreReceptions, IsQuiet, received};
 ghost use Rattle.pocsag_capture.specs.declared.polarity.Polarity.{Polarity};
 ghost use Rattle.pocsag_capture.specs.declared.reception.Reception.{Reception};
@@ -103,17 +103,17 @@ pub fn pages_of_open_rounds_are_spellable()
         verdict (page_file pages) ≡ Ok pages }
 {}
 
-/// Nothing is caught of noise alone: there is no reception.
+/// Noise alone has no page: there is no reception.
 pub fn noise_shows_nothing()
     ensures { (capture : List ℕ) (receptions : List Reception) (ps : List Page) →
-        IsNoise (capture_bits capture) 0 (length (capture_bits capture)) → HasCaught capture receptions ps →
+        IsNoise (capture_bits capture) 0 (length (capture_bits capture)) → HasCaptured capture receptions ps →
         (receptions ≡ []) × (ps ≡ []) }
 {}
 
 /// A capture has one list of receptions and of pages.
 pub fn captures_say_one_thing()
     ensures { (capture : List ℕ) (rs ss : List Reception) (ps qs : List Page) →
-        HasCaught capture rs ps → HasCaught capture ss qs → (rs ≡ ss) × (ps ≡ qs) }
+        HasCaptured capture rs ps → HasCaptured capture ss qs → (rs ≡ ss) × (ps ≡ qs) }
 {}
 
 /// In the last 544 bits of a preamble of 576 bits that was received as it was sent, before a synchronisation codeword, no
@@ -124,12 +124,12 @@ pub fn clean_preambles_are_quiet()
 {}
 
 /// A capture of sent transmissions and noise alone holds just these transmissions, in order: it has a reception of each
-/// and no others, of which its pages are caught. So it shows their pages *and no others*, whatever the bits and the polarities
+/// and no others, of which its pages are captured. So it shows their pages *and no others*, whatever the bits and the polarities
 /// are at which they begin, and with up to two wrong bits in each word.
 pub fn captures_of_transmissions_show_no_others()
     ensures receptions { (capture : List ℕ) (receptions : List Reception) (pss : List (List Page)) →
         IsCaptureOf (capture_bits capture) pss → AreReceptions (capture_bits capture) receptions →
-        AllZip (λ r ps. AreCaught (received (capture_bits capture) r) ps) receptions pss }
+        AllZip (λ r ps. AreCaptured (received (capture_bits capture) r) ps) receptions pss }
     ensures pages { (capture : List ℕ) (receptions : List Reception) (pss : List (List Page)) (qs : List Page) →
-        IsCaptureOf (capture_bits capture) pss → HasCaught capture receptions qs → qs ≡ flat_map (λ ps. ps) pss }
+        IsCaptureOf (capture_bits capture) pss → HasCaptured capture receptions qs → qs ≡ flat_map (λ ps. ps) pss }
 {}

@@ -8,7 +8,7 @@
 //! Nothing here runs: each function is a theorem.
 
 mod bound;
-mod catches;
+mod captures;
 mod certificate;
 mod codeword;
 mod journal;
@@ -23,7 +23,9 @@ pub use bound::{
     accepted_nodes_refute, accepted_trees_bound, accepted_trees_have_texts, accepted_trees_hold,
     tight_headlines_are_headlines, trees_that_hold_are_accepted,
 };
-pub use catches::{captures_show_what_was_sent, catches_are_caught, caught_pages_are_shown};
+pub use captures::{
+    captured_pages_are_shown, captures_show_what_was_sent, transmissions_are_captured,
+};
 pub use certificate::{no_text_begins_another, one_certificate, one_fault};
 pub use codeword::{codewords_differ, kinds_have_codewords, same_from_kind};
 pub use journal::{

@@ -9,7 +9,7 @@ use Rattle.pocsag_journal.specs.Keepers.{ReadsAsEither}
 use Rattle.pocsag_journal.specs.Runs.{IsEdit, sent_record}
 use Rattle.pocsag_journal.proofs.Counts.{sent_edit}
 use Rattle.pocsag_open.specs.Answers.{front_answer}
-use Rattle.pocsag_open.specs.Plans.{IsFrontPlanned, Placing, PlanBytes, placed_plan}
+use Rattle.pocsag_open.specs.Plans.{IsFrontPlanned, PlacementResult, PlanBytes, placed_plan}
 use Rattle.pocsag_open.specs.Replies.{front_sent}
 use Rattle.pocsag_open.specs.Survival.{FrontRepliesAndPlaces, FrontRepliesTo, ReadsOrReplied}
 use Rattle.pocsag_open.proofs.Survival.{either_read}
@@ -42,12 +42,12 @@ module _ (IsKnown : Type 0) (on_limit : OnLimit) (end : End) (most : ℕ) (tx ce
       either_read (FrontRepliesTo IsKnown OutputFails on_limit end most tx cert) pages after (front_answer batches count bound) reads_as left (front_replied OutputFails) is
 
   -- and where its outputs were put
-  pub front_placed : (OutputFails : Type 0) (first later : List Placing) → (IsKnown → later ≡ first ++ placed_plan tx cert sent ∷ []) →
+  pub front_placed : (OutputFails : Type 0) (first later : List PlacementResult) → (IsKnown → later ≡ first ++ placed_plan tx cert sent ∷ []) →
       FrontRepliesAndPlaces IsKnown OutputFails on_limit end most tx cert first later pages after (front_answer batches count bound)
   front_placed OutputFails first later placed =
       (placed_plan tx cert sent ∷ [], front_sent count batches bound sent planned left_is refl refl, placed)
 
-  pub front_read_placed : (OutputFails : Type 0) (first later : List Placing) → (IsKnown → later ≡ first ++ placed_plan tx cert sent ∷ []) →
+  pub front_read_placed : (OutputFails : Type 0) (first later : List PlacementResult) → (IsKnown → later ≡ first ++ placed_plan tx cert sent ∷ []) →
       (reads_as : List ℕ → List Page → Type 0) (left : List ℕ) → ReadsAsEither reads_as pages after left →
       ReadsOrReplied reads_as (FrontRepliesAndPlaces IsKnown OutputFails on_limit end most tx cert first later) pages left
   front_read_placed OutputFails first later placed reads_as left is =

@@ -13,7 +13,7 @@ use Rattle.pocsag_plan.specs.BookPlans.{ExplainsBookFront, ExplainsBookStream}
 use Rattle.pocsag_plan.specs.Plans.{IsStopped}
 use Rattle.pocsag_plan.specs.Searches.{default_limit}
 use Rattle.pocsag_plan.specs.Streams.{WritesAllOf, WritesInTurn}
-use Rattle.pocsag_open.specs.Plans.{ArePlacesOfRefused, ExplainsFrontUndone, ExplainsUndone, HasFailedOutput, IsUnplaced, Placing, plan_search, undone_of}
+use Rattle.pocsag_open.specs.Plans.{ArePlacesOfRefused, ExplainsFrontUndone, ExplainsUndone, HasFailedOutput, IsUnplaced, PlacementResult, plan_search, undone_of}
 
 -- outputs that were empty hold what was written
 pub all_held : (Holds : List ℕ → List ℕ → Type 0) (tx tx_after cert cert_after : List ℕ) → tx ≡ [] → cert ≡ [] →
@@ -48,7 +48,7 @@ explains_front on_limit end most pages (streaming.Transmission f) h = tt
 explains_front on_limit end most pages (streaming.Certificate f) h = tt
 
 -- a store whose outputs failed, or one of whose outputs could not be written, did not place them
-pub unsent : {Output : Type 0} (failures : Output → ℕ) (IsKnown : Type 0) (tx_name cert_name : List ℕ) (before after : List Placing)
+pub unsent : {Output : Type 0} (failures : Output → ℕ) (IsKnown : Type 0) (tx_name cert_name : List ℕ) (before after : List PlacementResult)
     (tx tx_after cert cert_after : Output) (f : StreamFault) → WritesInTurn failures failures tx tx_after cert cert_after (Some f) →
     (IsKnown → after ≡ before) → IsUnplaced IsKnown (HasFailedOutput failures) tx_name cert_name before after (undone_of f)
 unsent failures IsKnown tx_name cert_name before after tx tx_after cert cert_after f w same =

@@ -2,7 +2,7 @@
 use Rattle.std.proofs.Common.{◌≡◌, ℕ, List, [], ◌++◌, sym, append-nil}
 use Rattle.std.specs.Prelude.{OnOk, Result, Ok, Err}
 use Rattle.pocsag_words.specs.Devices.{Delivers}
-use Rattle.pocsag_open.specs.Plans.{Placing}
+use Rattle.pocsag_open.specs.Plans.{PlacementResult}
 use Rattle.pocsag_open.specs.Replies.{PrintsAndPlaces, TookMore}
 
 pub on_ok : {X E : Type 0} (r : Result X E) (P Q : Type 0) → (P → Q) → OnOk r P → OnOk r Q
@@ -10,8 +10,8 @@ on_ok (Ok x) P Q f h = f h
 on_ok (Err e) P Q f h = tt
 
 -- what is reported is of another kind too, and this became of the places
-pub told_as : {X E : Type 0} (r : Result X E) (IsKnown : Type 0) (before after : List ℕ) (placed later more : List Placing) (P : List ℕ → Type 0)
-    (Q : List ℕ → List Placing → Type 0) → (IsKnown → later ≡ placed ++ more) → ((printed : List ℕ) → P printed → Q printed more) →
+pub told_as : {X E : Type 0} (r : Result X E) (IsKnown : Type 0) (before after : List ℕ) (placed later more : List PlacementResult) (P : List ℕ → Type 0)
+    (Q : List ℕ → List PlacementResult → Type 0) → (IsKnown → later ≡ placed ++ more) → ((printed : List ℕ) → P printed → Q printed more) →
     OnOk r (TookMore before after P) → OnOk r (PrintsAndPlaces IsKnown before after placed later Q)
 told_as r IsKnown before after placed later more P Q on f h =
     on_ok r _ _
@@ -19,8 +19,8 @@ told_as r IsKnown before after placed later more P Q on f h =
     h
 
 -- it is of another kind too
-pub told_like : {X E : Type 0} (r : Result X E) (IsKnown : Type 0) (before after : List ℕ) (placed later : List Placing)
-    (P Q : List ℕ → List Placing → Type 0) → ((printed : List ℕ) (sent : List Placing) → P printed sent → Q printed sent) →
+pub told_like : {X E : Type 0} (r : Result X E) (IsKnown : Type 0) (before after : List ℕ) (placed later : List PlacementResult)
+    (P Q : List ℕ → List PlacementResult → Type 0) → ((printed : List ℕ) (sent : List PlacementResult) → P printed sent → Q printed sent) →
     OnOk r (PrintsAndPlaces IsKnown before after placed later P) → OnOk r (PrintsAndPlaces IsKnown before after placed later Q)
 told_like r IsKnown before after placed later P Q f h =
     on_ok r _ _
@@ -29,13 +29,13 @@ told_like r IsKnown before after placed later P Q f h =
     h
 
 -- this is reported, and nothing is placed
-pub told_once : (IsKnown : Type 0) (before after printed : List ℕ) (placed : List Placing) (Q : List ℕ → List Placing → Type 0) → Q printed [] →
+pub told_once : (IsKnown : Type 0) (before after printed : List ℕ) (placed : List PlacementResult) (Q : List ℕ → List PlacementResult → Type 0) → Q printed [] →
     after ≡ before ++ printed → PrintsAndPlaces IsKnown before after placed placed Q
 told_once IsKnown before after printed placed Q q e =
     record { printed = printed; placed = []; answers = e; outputs = λ is_known. sym (append-nil placed); holds = q }
 
-pub told_this : {X E : Type 0} (r : Result X E) (IsKnown : Type 0) (before after printed : List ℕ) (placed : List Placing)
-    (Q : List ℕ → List Placing → Type 0) → Q printed [] → OnOk r (after ≡ before ++ printed) → OnOk r (PrintsAndPlaces IsKnown before after placed placed Q)
+pub told_this : {X E : Type 0} (r : Result X E) (IsKnown : Type 0) (before after printed : List ℕ) (placed : List PlacementResult)
+    (Q : List ℕ → List PlacementResult → Type 0) → Q printed [] → OnOk r (after ≡ before ++ printed) → OnOk r (PrintsAndPlaces IsKnown before after placed placed Q)
 told_this r IsKnown before after printed placed Q q h =
     on_ok r _ _ (told_once IsKnown before after printed placed Q q) h
 

@@ -12,7 +12,7 @@ use Rattle.pocsag_journal.specs.declared.edits.Line.TheVariants as line
 use Rattle.pocsag_journal.specs.declared.refusal.Refusal.TheVariants as refusal
 use Rattle.pocsag_journal.specs.declared.refusal.UndoneFault.{UndoneFault}
 use Rattle.pocsag_journal.specs.declared.refusal.UndoneFault.TheVariants as undone
-use Rattle.pocsag_open.specs.Plans.{ArePlacesOfRefused, ExplainsPlanUndone, Placing}
+use Rattle.pocsag_open.specs.Plans.{ArePlacesOfRefused, ExplainsPlanUndone, PlacementResult}
 use Rattle.pocsag_open.specs.Replies.{IsEditReply, IsFrontReply, IsPlanRefused, IsRefusalDue, IsReply, edited, front_refused, front_sent, refused, sent_first}
 
 -- what asks for no edit makes none
@@ -45,7 +45,7 @@ other_none line.Unknown row l p j h = h
 
 -- a reason that applies to the plan is due where it is refused
 pub plan_due : (OutputFails : Type 0) (on_limit : OnLimit) (end : End) (most : Option ℕ) (tx cert : List ℕ) (row : Row) (pages : List Page)
-    (fault : UndoneFault) (placed : List Placing) → AsksPlan end most tx cert row → None ≡ asked_of row →
+    (fault : UndoneFault) (placed : List PlacementResult) → AsksPlan end most tx cert row → None ≡ asked_of row →
     ExplainsPlanUndone on_limit end most pages fault → ArePlacesOfRefused tx cert OutputFails fault placed →
     IsRefusalDue OutputFails on_limit row pages (refusal.Undone fault) placed
 plan_due OutputFails on_limit end most tx cert row pages fault placed asks e explained places =
@@ -98,7 +98,7 @@ edit_reply IsKnown OutputFails on_limit row before after printed none (inr h) =
 
 -- the reply to a record that asks for a plan of a front
 pub front_reply : (IsKnown OutputFails : Type 0) (on_limit : OnLimit) (end : End) (most : ℕ) (tx cert : List ℕ) (row : Row) (before after : List Page)
-    (printed : List ℕ) (placed : List Placing) → AsksPlan end (Some most) tx cert row → None ≡ asked_of row →
+    (printed : List ℕ) (placed : List PlacementResult) → AsksPlan end (Some most) tx cert row → None ≡ asked_of row →
     IsFrontReply IsKnown OutputFails on_limit end most tx cert before after printed placed → IsReply IsKnown OutputFails on_limit row before after printed placed
 front_reply IsKnown OutputFails on_limit end most tx cert row before after printed placed asks e (front_sent count batches bound sent is left t n) =
     sent_first end most tx cert count batches bound sent asks is left t n

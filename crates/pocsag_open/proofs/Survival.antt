@@ -7,7 +7,7 @@ use Rattle.pocsag_pages.specs.declared.page.Page.{Page}
 use Rattle.pocsag_plan.specs.declared.search.OnLimit.{OnLimit}
 use Rattle.pocsag_journal.specs.Keepers.{ReadsAsEither}
 use Rattle.pocsag_open.specs.Lines.{AreLines, IsFirstLine}
-use Rattle.pocsag_open.specs.Plans.{Placing}
+use Rattle.pocsag_open.specs.Plans.{PlacementResult}
 use Rattle.pocsag_open.specs.Replies.{AreReplies, IsLineReply, IsSession, PrintsAndPlaces}
 use Rattle.pocsag_open.specs.Survival.{AreFirstLines, IsCutShort, ReadsAfterLines, ReadsOrReplied, RepliesAndPlaces, RepliesTo, Survives, TookPartOf, begun, between, untold, within}
 
@@ -121,7 +121,7 @@ lines_more (l ∷ lines) line bytes pending rest firsts first =
     (firsts.0, firsts.1, lines_more lines line firsts.0 pending rest firsts.2 first)
 
 replies_more : (IsKnown OutputFails : Type 0) (on_limit : OnLimit) (lines : List (List ℕ)) (line : List ℕ) (before now after : List Page) (printed reply : List ℕ)
-    (placed its : List Placing) → AreReplies IsKnown OutputFails on_limit lines before now printed placed → IsLineReply IsKnown OutputFails on_limit line now after reply its →
+    (placed its : List PlacementResult) → AreReplies IsKnown OutputFails on_limit lines before now printed placed → IsLineReply IsKnown OutputFails on_limit line now after reply its →
     AreReplies IsKnown OutputFails on_limit (lines ++ line ∷ []) before after (printed ++ reply) (placed ++ its)
 unfolding AreReplies
 replies_more IsKnown OutputFails on_limit [] line before now after printed reply placed its replies next =
@@ -135,7 +135,7 @@ replies_more IsKnown OutputFails on_limit [] line before now after printed reply
       here,
       (refl, refl, refl),
       ap (λ (l : List ℕ). l ++ reply) replies.1 ∙ sym (append-nil reply),
-      ap (λ (l : List Placing). l ++ its) replies.2 ∙ sym (append-nil its),
+      ap (λ (l : List PlacementResult). l ++ its) replies.2 ∙ sym (append-nil its),
     )
 replies_more IsKnown OutputFails on_limit (l ∷ lines) line before now after printed reply placed its (mid, first, more, one, others, here, rest, parts, sent) next = (
   mid,
@@ -146,21 +146,21 @@ replies_more IsKnown OutputFails on_limit (l ∷ lines) line before now after pr
   here,
   replies_more IsKnown OutputFails on_limit lines line mid now after more reply others its rest next,
   ap (λ (t : List ℕ). t ++ reply) parts ∙ append_assoc first more reply,
-  ap (λ (t : List Placing). t ++ its) sent ∙ append_assoc one others its,
+  ap (λ (t : List PlacementResult). t ++ its) sent ∙ append_assoc one others its,
 )
 
 -- the lines so far are answered
 pub record Answered (IsKnown OutputFails : Type 0) (on_limit : OnLimit) (input pending : List ℕ) (before now : List Page) (out_before out_after : List ℕ)
-    (placed_before placed_after : List Placing) : Type 0 where
+    (placed_before placed_after : List PlacementResult) : Type 0 where
   pub lines : List (List ℕ)
   pub printed : List ℕ
-  pub placed : List Placing
+  pub placed : List PlacementResult
   pub firsts : AreFirstLines lines input pending
   pub replies : AreReplies IsKnown OutputFails on_limit lines before now printed placed
   pub answers : out_after ≡ out_before ++ printed
   pub outputs : IsKnown → placed_after ≡ placed_before ++ placed
 
-pub none_answered : (IsKnown OutputFails : Type 0) (on_limit : OnLimit) (input pending : List ℕ) (before : List Page) (out : List ℕ) (placed : List Placing) →
+pub none_answered : (IsKnown OutputFails : Type 0) (on_limit : OnLimit) (input pending : List ℕ) (before : List Page) (out : List ℕ) (placed : List PlacementResult) →
     pending ≡ input → Answered IsKnown OutputFails on_limit input pending before before out out placed placed
 unfolding AreFirstLines AreReplies
 none_answered IsKnown OutputFails on_limit input pending before out placed e = record {
@@ -174,7 +174,7 @@ none_answered IsKnown OutputFails on_limit input pending before out placed e = r
 }
 
 pub one_answered : (IsKnown OutputFails : Type 0) (on_limit : OnLimit) (input pending line rest : List ℕ) (before now after : List Page)
-    (start out next : List ℕ) (first_placed placed then_placed : List Placing) →
+    (start out next : List ℕ) (first_placed placed then_placed : List PlacementResult) →
     Answered IsKnown OutputFails on_limit input pending before now start out first_placed placed → IsFirstLine pending line rest →
     PrintsAndPlaces IsKnown out next placed then_placed (IsLineReply IsKnown OutputFails on_limit line now after) →
     Answered IsKnown OutputFails on_limit input rest before after start next first_placed then_placed
@@ -185,7 +185,7 @@ one_answered IsKnown OutputFails on_limit input pending line rest before now aft
   firsts = lines_more so_far.lines line input pending rest so_far.firsts first;
   replies = replies_more IsKnown OutputFails on_limit so_far.lines line before now after so_far.printed reply.printed so_far.placed reply.placed so_far.replies reply.holds;
   answers = reply.answers ∙ ap (λ (l : List ℕ). l ++ reply.printed) so_far.answers ∙ append_assoc start so_far.printed reply.printed;
-  outputs = λ is_known. reply.outputs is_known ∙ ap (λ (l : List Placing). l ++ reply.placed) (so_far.outputs is_known)
+  outputs = λ is_known. reply.outputs is_known ∙ ap (λ (l : List PlacementResult). l ++ reply.placed) (so_far.outputs is_known)
       ∙ append_assoc first_placed so_far.placed reply.placed;
 }
 
@@ -196,7 +196,7 @@ all_lines (line ∷ lines) bytes rest none firsts = (firsts.0, firsts.1, all_lin
 
 -- no line is left
 pub all_answered : (IsKnown OutputFails : Type 0) (on_limit : OnLimit) (input pending : List ℕ) (before now : List Page) (start out : List ℕ)
-    (first_placed placed : List Placing) → pending ≡ [] → Answered IsKnown OutputFails on_limit input pending before now start out first_placed placed →
+    (first_placed placed : List PlacementResult) → pending ≡ [] → Answered IsKnown OutputFails on_limit input pending before now start out first_placed placed →
     PrintsAndPlaces IsKnown start out first_placed placed (IsSession IsKnown OutputFails on_limit input before now)
 all_answered IsKnown OutputFails on_limit input pending before now start out first_placed placed none so_far = record {
   printed = so_far.printed;
@@ -208,7 +208,7 @@ all_answered IsKnown OutputFails on_limit input pending before now start out fir
 
 -- what a crash leaves between two lines
 pub survives_between : (IsKnown OutputFails : Type 0) (on_limit : OnLimit) (input pending : List ℕ) (before now : List Page) (start out : List ℕ)
-    (first_placed placed : List Placing) (reads_as : List ℕ → List Page → Type 0) (may_leave : List ℕ → Type 0) →
+    (first_placed placed : List PlacementResult) (reads_as : List ℕ → List Page → Type 0) (may_leave : List ℕ → Type 0) →
     Answered IsKnown OutputFails on_limit input pending before now start out first_placed placed → ((left : List ℕ) → may_leave left → reads_as left now) →
     Survives IsKnown OutputFails on_limit input before start out first_placed placed reads_as may_leave
 survives_between IsKnown OutputFails on_limit input pending before now start out first_placed placed reads_as may_leave so_far kept = record {
@@ -223,15 +223,15 @@ survives_between IsKnown OutputFails on_limit input pending before now start out
 }
 
 -- what was placed more, behind what was placed so far
-placed_on : (IsKnown OutputFails : Type 0) (on_limit : OnLimit) (line : List ℕ) (first mid more later : List Placing) (before after : List Page) (printed : List ℕ) →
+placed_on : (IsKnown OutputFails : Type 0) (on_limit : OnLimit) (line : List ℕ) (first mid more later : List PlacementResult) (before after : List Page) (printed : List ℕ) →
     (IsKnown → mid ≡ first ++ more) → RepliesAndPlaces IsKnown OutputFails on_limit line mid later before after printed →
     RepliesAndPlaces IsKnown OutputFails on_limit line (first ++ more) later before after printed
 placed_on IsKnown OutputFails on_limit line first mid more later before after printed so_far (its, is, placed) =
-    (its, is, λ is_known. placed is_known ∙ ap (λ (l : List Placing). l ++ its) (so_far is_known))
+    (its, is, λ is_known. placed is_known ∙ ap (λ (l : List PlacementResult). l ++ its) (so_far is_known))
 
 -- and within one
 pub survives_within : (IsKnown OutputFails : Type 0) (on_limit : OnLimit) (input pending line behind : List ℕ) (before now : List Page) (start out next : List ℕ)
-    (first_placed placed then_placed : List Placing) (reads_as : List ℕ → List Page → Type 0) (may_leave : List ℕ → Type 0) →
+    (first_placed placed then_placed : List PlacementResult) (reads_as : List ℕ → List Page → Type 0) (may_leave : List ℕ → Type 0) →
     Answered IsKnown OutputFails on_limit input pending before now start out first_placed placed → IsFirstLine pending line behind →
     IsCutShort (RepliesAndPlaces IsKnown OutputFails on_limit line placed then_placed) now out next reads_as may_leave →
     Survives IsKnown OutputFails on_limit input before start next first_placed then_placed reads_as may_leave
@@ -253,7 +253,7 @@ survives_within IsKnown OutputFails on_limit input pending line behind before no
 
 -- what is read as the pages now is read after the lines so far
 pub read_now : (IsKnown OutputFails : Type 0) (on_limit : OnLimit) (input pending : List ℕ) (before now : List Page) (start out : List ℕ)
-    (first_placed placed : List Placing) (reads_as : List ℕ → List Page → Type 0) (left : List ℕ) →
+    (first_placed placed : List PlacementResult) (reads_as : List ℕ → List Page → Type 0) (left : List ℕ) →
     Answered IsKnown OutputFails on_limit input pending before now start out first_placed placed → reads_as left now →
     ReadsAfterLines IsKnown OutputFails on_limit input before reads_as left
 read_now IsKnown OutputFails on_limit input pending before now start out first_placed placed reads_as left so_far is = record {
@@ -269,7 +269,7 @@ read_now IsKnown OutputFails on_limit input pending before now start out first_p
 
 -- and as those that the reply leaves, after one line more
 pub read_next : (IsKnown OutputFails : Type 0) (on_limit : OnLimit) (input pending line behind : List ℕ) (before now : List Page) (start out : List ℕ)
-    (first_placed placed : List Placing) (reads_as : List ℕ → List Page → Type 0) (left : List ℕ) →
+    (first_placed placed : List PlacementResult) (reads_as : List ℕ → List Page → Type 0) (left : List ℕ) →
     Answered IsKnown OutputFails on_limit input pending before now start out first_placed placed → IsFirstLine pending line behind →
     ReadsOrReplied reads_as (RepliesTo IsKnown OutputFails on_limit line) now left → ReadsAfterLines IsKnown OutputFails on_limit input before reads_as left
 read_next IsKnown OutputFails on_limit input pending line behind before now start out first_placed placed reads_as left so_far first (inl is) =

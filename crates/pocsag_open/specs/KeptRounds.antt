@@ -11,7 +11,7 @@ use Rattle.pocsag_journal.specs.Faults.{HasNoLine, IsPrinted}
 use Rattle.pocsag_journal.specs.Journals.{IsRead, Replays, journal_limit}
 use Rattle.pocsag_journal.specs.declared.fault.JournalFault.{JournalFault}
 use Rattle.pocsag_journal.specs.declared.fault.JournalFault.TheVariants as journal
-use Rattle.pocsag_open.specs.Plans.{Placing}
+use Rattle.pocsag_open.specs.Plans.{PlacementResult}
 use Rattle.pocsag_open.specs.Survival.{ReadsAfterLines, Survives}
 use Rattle.pocsag_open.specs.declared.fault.OpenFault.{OpenFault}
 use Rattle.pocsag_open.specs.declared.fault.OpenFault.TheVariants as fault
@@ -35,7 +35,7 @@ ReadsKept IsKnown OutputFails on_limit input bytes file could_leave left =
 -- *Kept*: no line was answered, and whatever a crash leaves might have been left before, or is read as the beginning; or the round
 -- survives from its beginning on.
 pub data IsKeptRound (IsKnown OutputFails : Type 0) (on_limit : OnLimit) (input bytes : List ℕ) (file : Option (List ℕ)) (out_before out_after : List ℕ)
-    (placed_before placed_after : List Placing) (could_leave may_leave : List ℕ → Type 0) : Type 0 where
+    (placed_before placed_after : List PlacementResult) (could_leave may_leave : List ℕ → Type 0) : Type 0 where
   not_begun :
       out_after ≡ out_before → ((left : List ℕ) → may_leave left → could_leave left ⊎ ReadsBeginning bytes file left) →
       IsKeptRound IsKnown OutputFails on_limit input bytes file out_before out_after placed_before placed_after could_leave may_leave

@@ -41,9 +41,9 @@ abbrev pub PlaceFault : Type 0
 PlaceFault = PlaceNames × FileFault
 
 -- What became of the places of a plan: its outputs were put there; or they could not be made or put, for this fault.
-pub data Placing : Type 0 where
-  put : PlacedPlan → Placing
-  failed : PlaceFault → Placing
+pub data PlacementResult : Type 0 where
+  put : PlacedPlan → PlacementResult
+  failed : PlaceFault → PlacementResult
 
 -- No names, no bytes, no plan, one that was put, and one that failed.
 abbrev pub no_names : Option PlaceNames
@@ -52,13 +52,13 @@ no_names = None
 abbrev pub no_bytes : PlanBytes
 no_bytes = ([], [])
 
-abbrev pub no_plans : List Placing
+abbrev pub no_plans : List PlacementResult
 no_plans = []
 
-abbrev pub placed_plan : (tx cert : List ℕ) → PlanBytes → Placing
+abbrev pub placed_plan : (tx cert : List ℕ) → PlanBytes → PlacementResult
 placed_plan tx cert sent = put (record { tx = tx; cert = cert; sent = sent })
 
-abbrev pub failed_plan : (tx cert : List ℕ) → FileFault → Placing
+abbrev pub failed_plan : (tx cert : List ℕ) → FileFault → PlacementResult
 failed_plan tx cert f = failed ((tx, cert), f)
 
 -- A plan of the pages for the end has so many batches and this bound, which is its batches where only the fewest are an
@@ -87,13 +87,13 @@ pub record IsFrontPlanned (IsKnown : Type 0) (on_limit : OnLimit) (end : End) (m
   pub within : batches ≤ most
 
 -- There is such a plan, and its outputs were put in these two places, behind those of the plans before it.
-pub record IsPlanPlaced (IsKnown : Type 0) (on_limit : OnLimit) (end : End) (tx cert : List ℕ) (pages : List Page) (batches bound : ℕ) (before after : List Placing) : Type 0 where
+pub record IsPlanPlaced (IsKnown : Type 0) (on_limit : OnLimit) (end : End) (tx cert : List ℕ) (pages : List Page) (batches bound : ℕ) (before after : List PlacementResult) : Type 0 where
   pub sent : PlanBytes
   pub planned : IsPlanned IsKnown on_limit end pages batches bound sent
   pub placed : IsKnown → after ≡ before ++ placed_plan tx cert sent ∷ []
 
 -- There is such a plan of a front, and its outputs were put in these two places.
-pub record IsFrontPlaced (IsKnown : Type 0) (on_limit : OnLimit) (end : End) (most : ℕ) (tx cert : List ℕ) (pages : List Page) (count batches bound : ℕ) (before after : List Placing) : Type 0 where
+pub record IsFrontPlaced (IsKnown : Type 0) (on_limit : OnLimit) (end : End) (most : ℕ) (tx cert : List ℕ) (pages : List Page) (count batches bound : ℕ) (before after : List PlacementResult) : Type 0 where
   pub sent : PlanBytes
   pub planned : IsFrontPlanned IsKnown on_limit end most pages count batches bound sent
   pub placed : IsKnown → after ≡ before ++ placed_plan tx cert sent ∷ []
@@ -115,14 +115,14 @@ HasFailedOutput {Output} failures = (before after : Output) × HasFailed (failur
 
 -- What became of the places of a plan that is refused: where it is for its files, just these could not be made or put in their
 -- places, for just this fault, or one of them could not be written; and else nothing.
-abbrev pub ArePlacesOfRefused : (tx cert : List ℕ) → (OutputFails : Type 0) → UndoneFault → List Placing → Type 0
+abbrev pub ArePlacesOfRefused : (tx cert : List ℕ) → (OutputFails : Type 0) → UndoneFault → List PlacementResult → Type 0
 ArePlacesOfRefused tx cert OutputFails (undone.File f) placed =
     (placed ≡ failed_plan tx cert f ∷ []) ⊎ ((f ≡ file.Write) × OutputFails × (placed ≡ []))
 ArePlacesOfRefused tx cert OutputFails _ placed = placed ≡ []
 
 -- The same of the outputs that are made for the plan, behind those of the plans before it.
-pub record IsUnplaced (IsKnown OutputFails : Type 0) (tx cert : List ℕ) (before after : List Placing) (fault : UndoneFault) : Type 0 where
-  pub placed : List Placing
+pub record IsUnplaced (IsKnown OutputFails : Type 0) (tx cert : List ℕ) (before after : List PlacementResult) (fault : UndoneFault) : Type 0 where
+  pub placed : List PlacementResult
   pub refused : ArePlacesOfRefused tx cert OutputFails fault placed
   pub outputs : IsKnown → after ≡ before ++ placed
 

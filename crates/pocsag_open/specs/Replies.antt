@@ -16,7 +16,7 @@ use Rattle.pocsag_journal.specs.declared.refusal.UndoneFault.{UndoneFault}
 use Rattle.pocsag_journal.specs.declared.refusal.UndoneFault.TheVariants as undone
 use Rattle.pocsag_open.specs.Answers.{front_answer, pages_answer, plan_answer, refusal_answer}
 use Rattle.pocsag_open.specs.Lines.{AreLines, line_limit}
-use Rattle.pocsag_open.specs.Plans.{ArePlacesOfRefused, ExplainsPlanUndone, IsFrontPlanned, IsPlanned, Placing, PlanBytes, placed_plan}
+use Rattle.pocsag_open.specs.Plans.{ArePlacesOfRefused, ExplainsPlanUndone, IsFrontPlanned, IsPlanned, PlacementResult, PlanBytes, placed_plan}
 
 -- The line that reports a refusal: `refused: ` and its words.
 abbrev pub IsRefusalPrinted : Refusal → (printed : List ℕ) → Type 0
@@ -24,7 +24,7 @@ IsRefusalPrinted why printed = printed ≡ refusal_answer why
 
 -- The reason is that of a plan which the record asks for, and it applies to the plan of these pages for that end; and this became
 -- of the two places that the record names.
-pub record IsPlanRefused (OutputFails : Type 0) (on_limit : OnLimit) (row : Row) (pages : List Page) (why : Refusal) (placed : List Placing) : Type 0 where
+pub record IsPlanRefused (OutputFails : Type 0) (on_limit : OnLimit) (row : Row) (pages : List Page) (why : Refusal) (placed : List PlacementResult) : Type 0 where
   pub end : End
   pub at_most : Option ℕ
   pub tx : List ℕ
@@ -39,7 +39,7 @@ pub record IsPlanRefused (OutputFails : Type 0) (on_limit : OnLimit) (row : Row)
 -- reason is that of the edit, unless it asks for the list or is that of a plan; the list is refused for want of memory alone, a
 -- plan whose places are texts for a reason that applies to it, and the first record of a journal never. No outputs failed but those
 -- of a plan.
-pub record IsRefusalDue (OutputFails : Type 0) (on_limit : OnLimit) (row : Row) (pages : List Page) (why : Refusal) (placed : List Placing) : Type 0 where
+pub record IsRefusalDue (OutputFails : Type 0) (on_limit : OnLimit) (row : Row) (pages : List Page) (why : Refusal) (placed : List PlacementResult) : Type 0 where
   pub edit : IsRefusedFor row pages why
   pub reason : ((IsReasonFor row pages why ⊎ (row ≡ list_record)) × (placed ≡ [])) ⊎ IsPlanRefused OutputFails on_limit row pages why placed
   pub list : row ≡ list_record → why ≡ refusal.Undone undone.OutOfMemory
@@ -54,7 +54,7 @@ IsEditReply row before after printed =
     ⊎ ((after ≡ before) × ((why : Refusal) × IsRefusedFor row before why × IsReasonFor row before why × IsRefusalPrinted why printed))
 
 -- *Reply* to a record, and what became of the places of the plan that it asks for, if it asks for one.
-pub data IsReply (IsKnown OutputFails : Type 0) (on_limit : OnLimit) (row : Row) (before after : List Page) (printed : List ℕ) (placed : List Placing) : Type 0 where
+pub data IsReply (IsKnown OutputFails : Type 0) (on_limit : OnLimit) (row : Row) (before after : List Page) (printed : List ℕ) (placed : List PlacementResult) : Type 0 where
   -- It is an edit that the pages accept: it is made, and the reply is the number of pages.
   edited :
       IsEdit row before after → printed ≡ pages_answer (length after) → placed ≡ [] →
@@ -88,7 +88,7 @@ pub data IsReply (IsKnown OutputFails : Type 0) (on_limit : OnLimit) (row : Row)
 
 -- The reply where a record asks for a plan of a front, for the end and so many batches: the first pages that are planned are
 -- taken out; or nothing is changed, and the reply reports why the plan is refused.
-pub data IsFrontReply (IsKnown OutputFails : Type 0) (on_limit : OnLimit) (end : End) (most : ℕ) (tx cert : List ℕ) (before after : List Page) (printed : List ℕ) (placed : List Placing) : Type 0 where
+pub data IsFrontReply (IsKnown OutputFails : Type 0) (on_limit : OnLimit) (end : End) (most : ℕ) (tx cert : List ℕ) (before after : List Page) (printed : List ℕ) (placed : List PlacementResult) : Type 0 where
   front_sent :
       (count batches bound : ℕ) (sent : PlanBytes) → IsFrontPlanned IsKnown on_limit end most before count batches bound sent →
       after ≡ drop count before → printed ≡ front_answer batches count bound → placed ≡ placed_plan tx cert sent ∷ [] →
@@ -99,7 +99,7 @@ pub data IsFrontReply (IsKnown OutputFails : Type 0) (on_limit : OnLimit) (end :
       IsFrontReply IsKnown OutputFails on_limit end most tx cert before after printed placed
 
 -- *Reply* to a line, its line feed not counted.
-pub data IsLineReply (IsKnown OutputFails : Type 0) (on_limit : OnLimit) (line : List ℕ) (before after : List Page) (printed : List ℕ) (placed : List Placing) : Type 0 where
+pub data IsLineReply (IsKnown OutputFails : Type 0) (on_limit : OnLimit) (line : List ℕ) (before after : List Page) (printed : List ℕ) (placed : List PlacementResult) : Type 0 where
   -- It has too many bytes, and is refused.
   too_long :
       line_limit < length line → after ≡ before → IsRefusalPrinted refusal.Unknown printed → placed ≡ [] →
@@ -115,16 +115,16 @@ pub data IsLineReply (IsKnown OutputFails : Type 0) (on_limit : OnLimit) (line :
 
 -- The replies to lines, one behind another: each is that to its line and the pages that the lines before it left. So is what
 -- became of the places of the plans.
-unfoldable pub AreReplies : (IsKnown OutputFails : Type 0) → OnLimit → (lines : List (List ℕ)) → (before after : List Page) → (printed : List ℕ) → (placed : List Placing) → Type 0
+unfoldable pub AreReplies : (IsKnown OutputFails : Type 0) → OnLimit → (lines : List (List ℕ)) → (before after : List Page) → (printed : List ℕ) → (placed : List PlacementResult) → Type 0
 AreReplies IsKnown OutputFails on_limit [] before after printed placed = (after ≡ before) × (printed ≡ []) × (placed ≡ [])
 AreReplies IsKnown OutputFails on_limit (line ∷ lines) before after printed placed =
-    (between : List Page) × (reply more : List ℕ) × (its others : List Placing) × IsLineReply IsKnown OutputFails on_limit line before between reply its
+    (between : List Page) × (reply more : List ℕ) × (its others : List PlacementResult) × IsLineReply IsKnown OutputFails on_limit line before between reply its
     × AreReplies IsKnown OutputFails on_limit lines between after more others × (printed ≡ reply ++ more) × (placed ≡ its ++ others)
 
 -- *Session*: what is reported are the replies to the lines of an input, from these pages on, which leave those; and this became
 -- of the places of the plans: the outputs of each that is reported were put there, and those of each that is refused for them
 -- failed, for just the fault that is reported.
-pub record IsSession (IsKnown OutputFails : Type 0) (on_limit : OnLimit) (input : List ℕ) (before after : List Page) (printed : List ℕ) (placed : List Placing) : Type 0 where
+pub record IsSession (IsKnown OutputFails : Type 0) (on_limit : OnLimit) (input : List ℕ) (before after : List Page) (printed : List ℕ) (placed : List PlacementResult) : Type 0 where
   pub lines : List (List ℕ)
   pub cut : AreLines lines input
   pub replies : AreReplies IsKnown OutputFails on_limit lines before after printed placed
@@ -134,9 +134,9 @@ abbrev pub TookMore : (before after : List ℕ) → (List ℕ → Type 0) → Ty
 TookMore before after is = (printed : List ℕ) × (after ≡ before ++ printed) × is printed
 
 -- What was reported more is such a text, and what became of more places, where that is known, is such a list.
-pub record PrintsAndPlaces (IsKnown : Type 0) (out_before out_after : List ℕ) (placed_before placed_after : List Placing) (Holds : List ℕ → List Placing → Type 0) : Type 0 where
+pub record PrintsAndPlaces (IsKnown : Type 0) (out_before out_after : List ℕ) (placed_before placed_after : List PlacementResult) (Holds : List ℕ → List PlacementResult → Type 0) : Type 0 where
   pub printed : List ℕ
-  pub placed : List Placing
+  pub placed : List PlacementResult
   pub answers : out_after ≡ out_before ++ printed
   pub outputs : IsKnown → placed_after ≡ placed_before ++ placed
   pub holds : Holds printed placed

@@ -4,7 +4,7 @@ use Rattle.pocsag_words.specs.declared.ending.End.{End}
 use Rattle.pocsag_pages.specs.declared.page.Page.{Page}
 use Rattle.pocsag_plan.specs.declared.search.OnLimit.{OnLimit}
 use Rattle.pocsag_open.specs.Lines.{IsFirstLine}
-use Rattle.pocsag_open.specs.Plans.{Placing}
+use Rattle.pocsag_open.specs.Plans.{PlacementResult}
 use Rattle.pocsag_open.specs.Replies.{AreReplies, IsFrontReply, IsLineReply}
 
 -- *First lines*: the bytes begin with these lines, one after another, and this stands behind them.
@@ -15,22 +15,22 @@ AreFirstLines (line ∷ lines) bytes rest = (more : List ℕ) × IsFirstLine byt
 -- A reply to a line, whatever plan it places.
 abbrev pub RepliesTo : (IsKnown OutputFails : Type 0) → OnLimit → (line : List ℕ) → (before after : List Page) → (printed : List ℕ) → Type 0
 RepliesTo IsKnown OutputFails on_limit line before after printed =
-    (placed : List Placing) × IsLineReply IsKnown OutputFails on_limit line before after printed placed
+    (placed : List PlacementResult) × IsLineReply IsKnown OutputFails on_limit line before after printed placed
 
 -- A reply to what asks for a plan of a front, whatever plan it places.
 abbrev pub FrontRepliesTo : (IsKnown OutputFails : Type 0) → OnLimit → End → (most : ℕ) → (tx cert : List ℕ) → (before after : List Page) → (printed : List ℕ) → Type 0
 FrontRepliesTo IsKnown OutputFails on_limit end most tx cert before after printed =
-    (placed : List Placing) × IsFrontReply IsKnown OutputFails on_limit end most tx cert before after printed placed
+    (placed : List PlacementResult) × IsFrontReply IsKnown OutputFails on_limit end most tx cert before after printed placed
 
 -- A reply to a line, and what was put in its places more, where that is known, are the outputs of the plan that it reports.
-abbrev pub RepliesAndPlaces : (IsKnown OutputFails : Type 0) → OnLimit → (line : List ℕ) → (placed_before placed_after : List Placing) → (before after : List Page) → (printed : List ℕ) → Type 0
+abbrev pub RepliesAndPlaces : (IsKnown OutputFails : Type 0) → OnLimit → (line : List ℕ) → (placed_before placed_after : List PlacementResult) → (before after : List Page) → (printed : List ℕ) → Type 0
 RepliesAndPlaces IsKnown OutputFails on_limit line placed_before placed_after before after printed =
-    (placed : List Placing) × IsLineReply IsKnown OutputFails on_limit line before after printed placed × (IsKnown → placed_after ≡ placed_before ++ placed)
+    (placed : List PlacementResult) × IsLineReply IsKnown OutputFails on_limit line before after printed placed × (IsKnown → placed_after ≡ placed_before ++ placed)
 
 -- The same of a reply to what asks for a plan of a front.
-abbrev pub FrontRepliesAndPlaces : (IsKnown OutputFails : Type 0) → OnLimit → End → (most : ℕ) → (tx cert : List ℕ) → (placed_before placed_after : List Placing) → (before after : List Page) → (printed : List ℕ) → Type 0
+abbrev pub FrontRepliesAndPlaces : (IsKnown OutputFails : Type 0) → OnLimit → End → (most : ℕ) → (tx cert : List ℕ) → (placed_before placed_after : List PlacementResult) → (before after : List Page) → (printed : List ℕ) → Type 0
 FrontRepliesAndPlaces IsKnown OutputFails on_limit end most tx cert placed_before placed_after before after printed =
-    (placed : List Placing) × IsFrontReply IsKnown OutputFails on_limit end most tx cert before after printed placed × (IsKnown → placed_after ≡ placed_before ++ placed)
+    (placed : List PlacementResult) × IsFrontReply IsKnown OutputFails on_limit end most tx cert before after printed placed × (IsKnown → placed_after ≡ placed_before ++ placed)
 
 -- The bytes are read as these pages, or as those that a reply leaves.
 abbrev pub ReadsOrReplied : (List ℕ → List Page → Type 0) → (Replies : (before after : List Page) → List ℕ → Type 0) → List Page → List ℕ → Type 0
@@ -53,7 +53,7 @@ pub data IsCutShort (Replies : (before after : List Page) → List ℕ → Type 
 -- whatever a crash leaves is read as the pages now. Where it is read as the pages after that line, the outputs of the plan that
 -- its reply reports were put in their places.
 pub data IsCutBehind (IsKnown OutputFails : Type 0) (on_limit : OnLimit) (rest : List ℕ) (now : List Page) (out_before out_after : List ℕ)
-    (placed_before placed_after : List Placing) (reads_as : List ℕ → List Page → Type 0) (may_leave : List ℕ → Type 0) : Type 0 where
+    (placed_before placed_after : List PlacementResult) (reads_as : List ℕ → List Page → Type 0) (may_leave : List ℕ → Type 0) : Type 0 where
   between :
       out_after ≡ out_before → ((left : List ℕ) → may_leave left → reads_as left now) →
       IsCutBehind IsKnown OutputFails on_limit rest now out_before out_after placed_before placed_after reads_as may_leave
@@ -66,12 +66,12 @@ pub data IsCutBehind (IsKnown OutputFails : Type 0) (on_limit : OnLimit) (rest :
 -- Whatever a crash leaves is read as the pages after the lines that were answered, or as those after one line more; and the
 -- outputs of the plans that the replies to these lines report were put in their places.
 pub record Survives (IsKnown OutputFails : Type 0) (on_limit : OnLimit) (input : List ℕ) (before : List Page) (out_before out_after : List ℕ)
-    (placed_before placed_after : List Placing) (reads_as : List ℕ → List Page → Type 0) (may_leave : List ℕ → Type 0) : Type 0 where
+    (placed_before placed_after : List PlacementResult) (reads_as : List ℕ → List Page → Type 0) (may_leave : List ℕ → Type 0) : Type 0 where
   pub lines : List (List ℕ)
   pub rest : List ℕ
   pub now : List Page
   pub printed : List ℕ
-  pub placed : List Placing
+  pub placed : List PlacementResult
   pub firsts : AreFirstLines lines input rest
   pub replies : AreReplies IsKnown OutputFails on_limit lines before now printed placed
   pub cut : IsCutBehind IsKnown OutputFails on_limit rest now (out_before ++ printed) out_after (placed_before ++ placed) placed_after reads_as may_leave
@@ -82,7 +82,7 @@ pub record ReadsAfterLines (IsKnown OutputFails : Type 0) (on_limit : OnLimit) (
   pub rest : List ℕ
   pub pages : List Page
   pub printed : List ℕ
-  pub placed : List Placing
+  pub placed : List PlacementResult
   pub firsts : AreFirstLines lines input rest
   pub replies : AreReplies IsKnown OutputFails on_limit lines before pages printed placed
   pub read : reads_as left pages

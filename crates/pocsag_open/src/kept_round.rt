@@ -1,7 +1,7 @@
 use crate::answer::KeptRound;
 use crate::fault::OpenFault;
 use crate::journal_file::{FirstPages, JournalFile, JournalPlace};
-use crate::opening::{KeptStreams, open_kept, print_read};
+use crate::kept_streams::{KeptStreams, open_kept, print_read};
 use crate::round_files::{OpenArgs, RoundFiles};
 use crate::session::PlanSettings;
 use pocsag_journal::{Journal, Replayed, list_journal};

@@ -1,5 +1,5 @@
 ghost use Rattle.std.specs.Prelude.{◌≡◌, List, [], ◌∷◌, ◌++◌, Option, None, Some, IfErr, IfOk, OnOk};
-ghost use Rattle.pocsag_open.specs.Plans.{failed_plan, PlaceNames, Placing, placed_plan};
+ghost use Rattle.pocsag_open.specs.Plans.{failed_plan, PlaceNames, PlacementResult, placed_plan};
 
 use csv::ByteRecord;
 use pocsag_shell::{FileFault, Outputs};
@@ -13,7 +13,7 @@ pub trait OutputStore {
     ghost is_known: { Type 0 };
 
     // What became of the places of the plans, one after another.
-    ghost placed: { Self → List Placing };
+    ghost placed: { Self → List PlacementResult };
 
     // The names of the two places for which outputs, or a part of them, were made and are neither put nor left; none if all
     // that was made is put or left.

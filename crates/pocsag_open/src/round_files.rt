@@ -177,7 +177,7 @@ impl<'a> OutputStore for RoundFiles<'a> {
             open_outputs(context, pages, tx, cert)?
         };
         let outputs = opened.emptied(context)?;
-        context.forget_trouble();
+        context.forget_refused_call();
         Ok(outputs)
     }
 

@@ -10,8 +10,8 @@ pub mod PageLists
 pub mod QueueParts
 pub mod QueueRows
 pub mod QuoteFaults
+pub mod QuoteStates
 pub mod QuoteWalks
-pub mod Quotings
 pub mod Readings
 pub mod RecordPages
 pub mod RowTexts

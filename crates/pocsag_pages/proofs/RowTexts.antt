@@ -9,11 +9,11 @@ use Rattle.csv.specs.Reading.{default_config, records, records_from}
 use Rattle.csv.specs.Writing.{default_writer, escaped, needs_byte, needs_quotes, quoted}
 use Rattle.csv.specs.declared.parser.State.TheVariants as st
 use Rattle.csv.proofs.RoundTrip.{plain-run, quoted-run, start-same}
-use Rattle.pocsag_pages.specs.declared.quoting.Quoting.{Quoting}
-use Rattle.pocsag_pages.specs.declared.quoting.Quoting.TheVariants as at
-use Rattle.pocsag_pages.specs.Quotings.{MayEnd, bare_after, quoting_after, quoting_from}
+use Rattle.pocsag_pages.specs.declared.quote_state.QuoteState.{QuoteState}
+use Rattle.pocsag_pages.specs.declared.quote_state.QuoteState.TheVariants as at
+use Rattle.pocsag_pages.specs.QuoteStates.{MayEnd, bare_after, quote_state_after, quote_state_from}
 use Rattle.pocsag_pages.specs.RecordTexts.{EndsInQuotes, HasNoRecord, IsFieldText, IsRowText}
-use Rattle.pocsag_pages.proofs.Quotings.{text_of}
+use Rattle.pocsag_pages.proofs.QuoteStates.{text_of}
 use Rattle.pocsag_pages.specs.RecordTexts.IsFieldText.{bare, between_quotes}
 use Rattle.pocsag_pages.specs.RecordTexts.IsRowText.{last, before}
 
@@ -29,15 +29,15 @@ plain_byte b e =
 plain_goes_on : (b : ℕ) → needs_byte default_writer b ≡ false → bare_after b ≡ at.Bare
 plain_goes_on b e = rw (e, (plain_byte b e).0) refl
 
-plain_starts : (b : ℕ) → needs_byte default_writer b ≡ false → quoting_after at.Start b ≡ at.Bare
+plain_starts : (b : ℕ) → needs_byte default_writer b ≡ false → quote_state_after at.Start b ≡ at.Bare
 plain_starts b e = rw (e, (plain_byte b e).0, (plain_byte b e).1) refl
 
 -- where a field stands, and behind it
-next : (q r : Quoting) (b : ℕ) (bytes : List ℕ) → quoting_after q b ≡ r → quoting_from q (b ∷ bytes) ≡ quoting_from r bytes
-unfolding quoting_from
-next q r b bytes e = ap (λ (s : Quoting). quoting_from s bytes) e
+next : (q r : QuoteState) (b : ℕ) (bytes : List ℕ) → quote_state_after q b ≡ r → quote_state_from q (b ∷ bytes) ≡ quote_state_from r bytes
+unfolding quote_state_from
+next q r b bytes e = ap (λ (s : QuoteState). quote_state_from s bytes) e
 
-bare_run : (x tail : List ℕ) → needs_quotes default_writer x ≡ false → quoting_from at.Bare (x ++ tail) ≡ quoting_from at.Bare tail
+bare_run : (x tail : List ℕ) → needs_quotes default_writer x ≡ false → quote_state_from at.Bare (x ++ tail) ≡ quote_state_from at.Bare tail
 bare_run [] tail e = refl
 bare_run (b ∷ x) tail e = next at.Bare at.Bare b (x ++ tail) (plain_goes_on b (or_parts _ _ e).0) ∙ bare_run x tail (or_parts _ _ e).1
 
@@ -45,55 +45,55 @@ pub escaped_plain : (b : ℕ) (x : List ℕ) → (b == 34) ≡ false → escaped
 unfolding escaped
 escaped_plain b x e = rw e refl
 
-inside : (b : ℕ) → (b == 34) ≡ false → quoting_after at.Open b ≡ at.Open
+inside : (b : ℕ) → (b == 34) ≡ false → quote_state_after at.Open b ≡ at.Open
 inside b e = rw e refl
 
-pub quoted_place : (x tail : List ℕ) → quoting_from at.Open (escaped default_writer x ++ 34 ∷ tail) ≡ quoting_from at.Closed tail
-unfolding quoting_from escaped
+pub quoted_place : (x tail : List ℕ) → quote_state_from at.Open (escaped default_writer x ++ 34 ∷ tail) ≡ quote_state_from at.Closed tail
+unfolding quote_state_from escaped
 quoted_place [] tail = refl
 quoted_place (b ∷ x) tail = elim (cases_Bool (b == 34)) [
   | inl quote ↦
-      subst (λ (z : ℕ). quoting_from at.Open (escaped default_writer (z ∷ x) ++ 34 ∷ tail) ≡ quoting_from at.Closed tail)
+      subst (λ (z : ℕ). quote_state_from at.Open (escaped default_writer (z ∷ x) ++ 34 ∷ tail) ≡ quote_state_from at.Closed tail)
       (sym (eqb-true b 34 quote)) (quoted_place x tail)
   | inr other ↦
-      ap (λ (t : List ℕ). quoting_from at.Open (t ++ 34 ∷ tail)) (escaped_plain b x other)
+      ap (λ (t : List ℕ). quote_state_from at.Open (t ++ 34 ∷ tail)) (escaped_plain b x other)
       ∙ next at.Open at.Open b (escaped default_writer x ++ 34 ∷ tail) (inside b other) ∙ quoted_place x tail
 ]
 
 quoted_with : (x tail : List ℕ) → quoted default_writer x ++ tail ≡ 34 ∷ (escaped default_writer x ++ 34 ∷ tail)
 quoted_with x tail = ap (λ (t : List ℕ). 34 ∷ t) (append_assoc (escaped default_writer x) (34 ∷ []) tail)
 
-opened : (bytes : List ℕ) → quoting_from at.Start (34 ∷ bytes) ≡ quoting_from at.Open bytes
-unfolding quoting_from
+opened : (bytes : List ℕ) → quote_state_from at.Start (34 ∷ bytes) ≡ quote_state_from at.Open bytes
+unfolding quote_state_from
 opened bytes = refl
 
-after_comma : (q : Quoting) (bytes : List ℕ) → quoting_after q 44 ≡ at.Start → quoting_from q (44 ∷ bytes) ≡ quoting_from at.Start bytes
+after_comma : (q : QuoteState) (bytes : List ℕ) → quote_state_after q 44 ≡ at.Start → quote_state_from q (44 ∷ bytes) ≡ quote_state_from at.Start bytes
 after_comma q bytes e = next q at.Start 44 bytes e
 
-bare_place : (x : List ℕ) → needs_quotes default_writer x ≡ false → MayEnd (quoting_from at.Start x)
-unfolding quoting_from
+bare_place : (x : List ℕ) → needs_quotes default_writer x ≡ false → MayEnd (quote_state_from at.Start x)
+unfolding quote_state_from
 bare_place [] e = tt
 bare_place (b ∷ x) e =
-    let ends : quoting_from at.Bare x ≡ at.Bare = ap (quoting_from at.Bare) (sym (append-nil x)) ∙ bare_run x [] (or_parts _ _ e).1 in
+    let ends : quote_state_from at.Bare x ≡ at.Bare = ap (quote_state_from at.Bare) (sym (append-nil x)) ∙ bare_run x [] (or_parts _ _ e).1 in
     subst MayEnd (sym (next at.Start at.Bare b x (plain_starts b (or_parts _ _ e).0) ∙ ends)) tt
 
-field_place : (field text : List ℕ) → IsFieldText field text → MayEnd (quoting_from at.Start text)
-unfolding quoting_from
+field_place : (field text : List ℕ) → IsFieldText field text → MayEnd (quote_state_from at.Start text)
+unfolding quote_state_from
 field_place x text (bare e) = bare_place x e
 field_place x text between_quotes = subst MayEnd (sym (opened (escaped default_writer x ++ 34 ∷ []) ∙ quoted_place x [])) tt
 
-bare_comma : (x rest : List ℕ) → needs_quotes default_writer x ≡ false → quoting_from at.Start (x ++ 44 ∷ rest) ≡ quoting_from at.Start rest
+bare_comma : (x rest : List ℕ) → needs_quotes default_writer x ≡ false → quote_state_from at.Start (x ++ 44 ∷ rest) ≡ quote_state_from at.Start rest
 bare_comma [] rest e = after_comma at.Start rest refl
 bare_comma (b ∷ x) rest e =
     next at.Start at.Bare b (x ++ 44 ∷ rest) (plain_starts b (or_parts _ _ e).0)
     ∙ bare_run x (44 ∷ rest) (or_parts _ _ e).1 ∙ after_comma at.Bare rest refl
 
-field_comma : (field text rest : List ℕ) → IsFieldText field text → quoting_from at.Start (text ++ 44 ∷ rest) ≡ quoting_from at.Start rest
+field_comma : (field text rest : List ℕ) → IsFieldText field text → quote_state_from at.Start (text ++ 44 ∷ rest) ≡ quote_state_from at.Start rest
 field_comma x text rest (bare e) = bare_comma x rest e
 field_comma x text rest between_quotes =
-    ap (quoting_from at.Start) (quoted_with x (44 ∷ rest)) ∙ opened _ ∙ quoted_place x (44 ∷ rest) ∙ after_comma at.Closed rest refl
+    ap (quote_state_from at.Start) (quoted_with x (44 ∷ rest)) ∙ opened _ ∙ quoted_place x (44 ∷ rest) ∙ after_comma at.Closed rest refl
 
-pub row_place : (fields : List (List ℕ)) (text : List ℕ) → IsRowText fields text → MayEnd (quoting_from at.Start text)
+pub row_place : (fields : List (List ℕ)) (text : List ℕ) → IsRowText fields text → MayEnd (quote_state_from at.Start text)
 row_place [] t x = elim x [ ]
 row_place (f ∷ []) t (last h) = field_place f t h
 row_place (f ∷ fs) line (before {text = t} {rest = r} h more) = subst MayEnd (sym (field_comma f t r h)) (row_place fs r more)
@@ -180,17 +180,17 @@ none_in : (row : List (List ℕ)) → only_row (records default_config []) ≡ S
 unfolding records_from next_record
 none_in row e = cc e
 
-pub closes : (q : Quoting) (text : List ℕ) → quoting_from q text ≡ at.Open → MayEnd (quoting_from q (text ++ 34 ∷ []))
-unfolding quoting_from
+pub closes : (q : QuoteState) (text : List ℕ) → quote_state_from q text ≡ at.Open → MayEnd (quote_state_from q (text ++ 34 ∷ []))
+unfolding quote_state_from
 closes q [] e = rw e tt
-closes q (b ∷ text) e = closes (quoting_after q b) text e
+closes q (b ∷ text) e = closes (quote_state_after q b) text e
 
 -- of nothing is it the text, where it may not end there
-pub no_row : (text : List ℕ) → (MayEnd (quoting_from at.Start text) → ⊥) → HasNoRecord text
+pub no_row : (text : List ℕ) → (MayEnd (quote_state_from at.Start text) → ⊥) → HasNoRecord text
 no_row text not = λ fields row. not (row_place fields text row)
 
 -- the record that was read is that of the text
-pub row_is : (text : List ℕ) (row : List (List ℕ)) → MayEnd (quoting_from at.Start text) → only_row (records default_config text) ≡ Some row → IsRowText row text
+pub row_is : (text : List ℕ) (row : List (List ℕ)) → MayEnd (quote_state_from at.Start text) → only_row (records default_config text) ≡ Some row → IsRowText row text
 row_is [] row may e = absurd (none_in row e)
 row_is (b ∷ xs) row may e =
     let text = text_of (b ∷ xs) may in
@@ -199,7 +199,7 @@ row_is (b ∷ xs) row may e =
     subst (λ (fields : List (List ℕ)). IsRowText fields (b ∷ xs)) same text.1
 
 -- no record is read of an empty text alone
-pub empty_is : (text : List ℕ) → MayEnd (quoting_from at.Start text) → only_row (records default_config text) ≡ None → text ≡ []
+pub empty_is : (text : List ℕ) → MayEnd (quote_state_from at.Start text) → only_row (records default_config text) ≡ None → text ≡ []
 empty_is [] may e = refl
 empty_is (b ∷ xs) may e =
     let text = text_of (b ∷ xs) may in
@@ -207,10 +207,10 @@ empty_is (b ∷ xs) may e =
     absurd (cc (ap only_row (sym read) ∙ e))
 
 -- one quote more would end the record of a text that ends in quotes
-pub open_quote : (text : List ℕ) → quoting_from at.Start text ≡ at.Open → EndsInQuotes text
+pub open_quote : (text : List ℕ) → quote_state_from at.Start text ≡ at.Open → EndsInQuotes text
 open_quote text e = text_of (text ++ 34 ∷ []) (closes at.Start text e)
 
-pub may_end : (q : Quoting) → (q ≡ at.Start) ⊎ ((q ≡ at.Bare) ⊎ (q ≡ at.Closed)) → MayEnd q
+pub may_end : (q : QuoteState) → (q ≡ at.Start) ⊎ ((q ≡ at.Bare) ⊎ (q ≡ at.Closed)) → MayEnd q
 may_end at.Start h = tt
 may_end at.Bare h = tt
 may_end at.Closed h = tt

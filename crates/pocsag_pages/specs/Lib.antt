@@ -6,8 +6,8 @@ pub mod Pages
 pub mod Plain
 pub mod Queues
 pub mod QuotePlaces
+pub mod QuoteStates
 pub mod Quotes
-pub mod Quotings
 pub mod Reading
 pub mod RecordTexts
 pub mod RoundBuilders

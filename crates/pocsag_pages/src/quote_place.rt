@@ -3,12 +3,12 @@ ghost use Rattle.pocsag_pages.specs.Quotes.{HasQuoteFault, ends_line};
 ghost use Rattle.pocsag_pages.specs.QuotePlaces.{HasSeen};
 
 use crate::fault::QuoteFault;
-use crate::quoting::Quoting;
+use crate::quote_state::QuoteState;
 
 // Where a walk over the quotes of a page file stands.
 #[derive(Clone, Copy)]
 pub(crate) struct QuotePlace {
-    pub(crate) quoting: Quoting,
+    pub(crate) state: QuoteState,
     // Whether no byte of the record was seen.
     pub(crate) is_blank: bool,
     pub(crate) number: usize,
@@ -36,9 +36,9 @@ impl QuotePlace {
             HasQuoteFault (seen ++ byte ∷ rest) f) }
     {
         let line = self.line + usize::from(byte == b'\n');
-        if ends_line(byte) && !matches!(self.quoting, Quoting::Open) {
+        if ends_line(byte) && !matches!(self.state, QuoteState::Open) {
             return Ok(QuotePlace {
-                quoting: Quoting::Start,
+                state: QuoteState::Start,
                 is_blank: true,
                 number: self.number + usize::from(!self.is_blank),
                 line,
@@ -46,25 +46,25 @@ impl QuotePlace {
             });
         }
         let QuotePlace {
-            quoting: before,
+            state: before,
             number,
             line: here,
             ..
         } = self;
         match before.after(byte) {
-            Quoting::Broken | Quoting::Ended => {
+            QuoteState::Broken | QuoteState::Ended => {
                 if byte == b'"' {
                     return Err(QuoteFault::Inside { number, line: here });
                 }
                 Err(QuoteFault::Followed { number, line: here })
             }
-            quoting => {
+            state => {
                 let opened = match before {
-                    Quoting::Start => here,
+                    QuoteState::Start => here,
                     _ => self.opened,
                 };
                 Ok(QuotePlace {
-                    quoting,
+                    state,
                     is_blank: false,
                     number,
                     line,

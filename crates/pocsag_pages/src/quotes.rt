@@ -3,7 +3,7 @@ ghost use Rattle.pocsag_pages.specs.Quotes.{HasQuoteFault, IsWellQuoted, text_of
 
 use crate::fault::QuoteFault;
 use crate::quote_place::QuotePlace;
-use crate::quoting::{Quoting, behind_mark};
+use crate::quote_state::{QuoteState, behind_mark};
 
 /// The first quote of a page file that does not stand as CSV has it: one inside a field that begins without a quote, one
 /// that closes a field of which more follows, or one that is open at the end of the file.
@@ -12,7 +12,7 @@ pub fn quote_fault(file: &[u8]) -> Option<QuoteFault>
     ensures fault { IfSome result (HasQuoteFault (text_of_file file.now)) }
 {
     let mut place = QuotePlace {
-        quoting: Quoting::Start,
+        state: QuoteState::Start,
         is_blank: true,
         number: 0,
         line: 1,
@@ -24,8 +24,8 @@ pub fn quote_fault(file: &[u8]) -> Option<QuoteFault>
             Err(fault) => return Some(fault),
         };
     }
-    match place.quoting {
-        Quoting::Open => Some(QuoteFault::Unclosed {
+    match place.state {
+        QuoteState::Open => Some(QuoteFault::Unclosed {
             number: place.number,
             line: place.opened,
         }),

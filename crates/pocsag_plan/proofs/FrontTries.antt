@@ -27,8 +27,8 @@ use Rattle.pocsag_plan.specs.declared.outcome.Outcome.{Outcome}
 use Rattle.pocsag_plan.specs.declared.search.OnLimit.{OnLimit}
 use Rattle.pocsag_plan.specs.declared.search.OnLimit.TheVariants.{Fewest, Always}
 use Rattle.pocsag_plan.specs.declared.search.Search.{Search}
-use Rattle.pocsag_plan.specs.declared.attempt.Bracket.{Bracket}
-use Rattle.pocsag_plan.specs.Attempts.{ExceedsPages, HasSpare, IsBracket, IsCut, IsExcess, IsUndecidedAt, IsUpper, StopsAt}
+use Rattle.pocsag_plan.specs.declared.attempt.FrontBounds.{FrontBounds}
+use Rattle.pocsag_plan.specs.Attempts.{ExceedsPages, HasSpare, AreFrontBounds, IsCut, IsExcess, IsUndecidedAt, IsUpper, StopsAt}
 use Rattle.pocsag_plan.specs.Fronts.{AreBeyond, AreToBeSearched, ExplainsFront, FirstNeeds, IsFrontFor, IsLongestFront, IsUndecidedFor, IsWhyNoMore, ShowsBeyond}
 use Rattle.pocsag_plan.specs.Plans.{NoneHasFewer}
 use Rattle.pocsag_plan.specs.Within.{IsOutcome, IsOutcomeFault, IsTightOrStopped}
@@ -179,23 +179,23 @@ stops_at k search least (planning.SearchLimit stop) is said =
     omega (arith, said.1.is_least.least least is.carried, is.least stop.least said.1.is_least.carried)
 stops_at k search least planning.OutOfMemory is said = tt
 
--- The first pages of a closed bracket are the front, where the loads leave a batch to spare and a search stopped.
-pub spare_front : (search : Search) (R : List Page) (batches : ℕ) (bracket : Bracket) (stop : SearchLimit) → IsRound R → IsNodeLimit search.limit →
-    IsBracket search R batches bracket → bracket.beyond ≤ bracket.fitting + 1 → HasSpare bracket.classes search batches →
-    IsLimit bracket.classes search.end search.limit stop.least stop.found (bound_tree_of stop.tree) →
-    IsFrontFor search R batches bracket.fitting
-spare_front search R batches bracket stop round limited is closed spare at =
-    let k = bracket.classes in
-    let next : bracket.beyond ≡ bracket.fitting + 1 = omega (arith, is.order) in
-    let among : bracket.fitting ≤ length R = omega (arith, is.order, is.few) in
+-- The first pages of a closed bounds are the front, where the loads leave a batch to spare and a search stopped.
+pub spare_front : (search : Search) (R : List Page) (batches : ℕ) (bounds : FrontBounds) (stop : SearchLimit) → IsRound R → IsNodeLimit search.limit →
+    AreFrontBounds search R batches bounds → bounds.beyond ≤ bounds.fitting + 1 → HasSpare bounds.classes search batches →
+    IsLimit bounds.classes search.end search.limit stop.least stop.found (bound_tree_of stop.tree) →
+    IsFrontFor search R batches bounds.fitting
+spare_front search R batches bounds stop round limited is closed spare at =
+    let k = bounds.classes in
+    let next : bounds.beyond ≡ bounds.fitting + 1 = omega (arith, is.order) in
+    let among : bounds.fitting ≤ length R = omega (arith, is.order, is.few) in
     let least : stop.least ≤ spare.least = at.is_least.least spare.least spare.is_least.carried in
-    let sent = at.sent (take bracket.fitting R) (first_round bracket.fitting R round is.some among) is.counted in
+    let sent = at.sent (take bounds.fitting R) (first_round bounds.fitting R round is.some among) is.counted in
     record {
       some = is.some;
       among = among;
       sent = record { codewords = sent.0; used = stop.found; legal = sent.1; few = omega (arith, least, at.one_more, spare.below) };
-      longest = longest_beyond search R batches bracket.fitting round limited bracket.why
-          (subst (λ (n : ℕ). IsUpper search R batches n bracket.why) next is.upper);
+      longest = longest_beyond search R batches bounds.fitting round limited bounds.why
+          (subst (λ (n : ℕ). IsUpper search R batches n bounds.why) next is.upper);
     }
 
 -- The first pages that a table counts have a page.
@@ -217,18 +217,18 @@ first_needs k search R batches outcome round limited counted is more U legal =
       more = more;
     }
 
--- The cut behind the pages that fit, where the bracket is closed.
-pub cut_of : (search : Search) (R : List Page) (batches : ℕ) (bracket : Bracket) (outcome : Outcome) → IsBracket search R batches bracket →
-    bracket.beyond ≤ bracket.fitting + 1 → IsOutcome bracket.classes search outcome → outcome.found.batches ≤ batches →
-    IsCut search R batches (record { count = bracket.fitting; outcome = outcome; why = bracket.why })
-cut_of search R batches bracket outcome is closed found within =
-    let next : bracket.beyond ≡ bracket.fitting + 1 = omega (arith, is.order) in
+-- The cut behind the pages that fit, where the bounds is closed.
+pub cut_of : (search : Search) (R : List Page) (batches : ℕ) (bounds : FrontBounds) (outcome : Outcome) → AreFrontBounds search R batches bounds →
+    bounds.beyond ≤ bounds.fitting + 1 → IsOutcome bounds.classes search outcome → outcome.found.batches ≤ batches →
+    IsCut search R batches (record { count = bounds.fitting; outcome = outcome; why = bounds.why })
+cut_of search R batches bounds outcome is closed found within =
+    let next : bounds.beyond ≡ bounds.fitting + 1 = omega (arith, is.order) in
     record {
       some = is.some;
       among = omega (arith, is.order, is.few);
-      outcome = record { table = bracket.classes; classes = is.counted; of_classes = found };
+      outcome = record { table = bounds.classes; classes = is.counted; of_classes = found };
       within = within;
-      upper = subst (λ (n : ℕ). IsUpper search R batches n bracket.why) next is.upper;
+      upper = subst (λ (n : ℕ). IsUpper search R batches n bounds.why) next is.upper;
     }
 
 -- The front that ends at the cut.

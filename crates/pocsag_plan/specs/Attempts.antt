@@ -12,7 +12,7 @@ use Rattle.pocsag_branch.specs.Found.{CanBeSent, IsBound, IsLimit}
 use Rattle.pocsag_branch.specs.declared.fault.SearchLimit.{SearchLimit}
 use Rattle.pocsag_plan.specs.declared.attempt.Tried.{Tried}
 use Rattle.pocsag_plan.specs.declared.attempt.Tried.TheVariants.{Fits, Exceeds}
-use Rattle.pocsag_plan.specs.declared.attempt.Bracket.{Bracket}
+use Rattle.pocsag_plan.specs.declared.attempt.FrontBounds.{FrontBounds}
 use Rattle.pocsag_plan.specs.declared.fault.PlanFault.{PlanFault}
 use Rattle.pocsag_plan.specs.declared.fault.PlanFault.TheVariants as planning
 use Rattle.pocsag_plan.specs.declared.front.FrontCut.{FrontCut}
@@ -70,13 +70,13 @@ IsUpper search R batches count (Some certificate) =
     (count ≤ length R) × ExceedsPages search (take count R) batches certificate
 
 -- The first `fitting` pages fit, and the first `beyond` do not or are one more than all.
-pub record IsBracket (search : Search) (R : List Page) (batches : ℕ) (bracket : Bracket) : Type 0 where
-  pub some : 0 < bracket.fitting
-  pub order : bracket.fitting < bracket.beyond
-  pub few : bracket.beyond ≤ length R + 1
-  pub counted : AreClassesOf bracket.classes search.end (take bracket.fitting R)
-  pub fit : IsFit bracket.classes search batches bracket.outcome
-  pub upper : IsUpper search R batches bracket.beyond bracket.why
+pub record AreFrontBounds (search : Search) (R : List Page) (batches : ℕ) (bounds : FrontBounds) : Type 0 where
+  pub some : 0 < bounds.fitting
+  pub order : bounds.fitting < bounds.beyond
+  pub few : bounds.beyond ≤ length R + 1
+  pub counted : AreClassesOf bounds.classes search.end (take bounds.fitting R)
+  pub fit : IsFit bounds.classes search batches bounds.outcome
+  pub upper : IsUpper search R batches bounds.beyond bounds.why
 
 -- Behind so many first pages the longest front ends: they fit, a search left a plan for them, and one page more does not.
 pub record IsCut (search : Search) (R : List Page) (batches : ℕ) (cut : FrontCut) : Type 0 where

@@ -3,7 +3,7 @@ ghost use Rattle.std.specs.Prelude.{ℕ, ◌+◌, ◌<◌, List, take, IfErr, If
 ghost use Rattle.pocsag_pages.specs.declared.page.Page.{Page};
 ghost use Rattle.pocsag_slots.specs.Loads.{AreClassesOf};
 ghost use Rattle.pocsag_branch.specs.Found.{HasPage, IsNodeLimit};
-ghost use Rattle.pocsag_plan.specs.Attempts.{IsTried, IsBracket, StopsAt};
+ghost use Rattle.pocsag_plan.specs.Attempts.{IsTried, AreFrontBounds, StopsAt};
 ghost use Rattle.pocsag_plan.specs.declared.search.Search.{Search};
 ghost use Rattle.pocsag_plan.specs.Within.{IsOutcomeFault};
 
@@ -61,7 +61,7 @@ pub(crate) fn attempt(
 // How many first pages are known to fit, with their class table and with what a search left for them, if one did; and
 // how many are known not to, with what shows it, or are one more than all.
 #[derive(Drop)]
-pub(crate) struct Bracket {
+pub(crate) struct FrontBounds {
     pub(crate) fitting: usize,
     pub(crate) classes: Classes,
     pub(crate) outcome: Option<Outcome>,
@@ -69,25 +69,25 @@ pub(crate) struct Bracket {
     pub(crate) why: Option<Certificate>,
 }
 
-impl Bracket {
-    // The bracket that a try of so many first pages, between the two, leaves; the table is theirs.
-    pub(crate) fn narrowed(self, count: usize, classes: &Classes, attempt: Tried) -> Bracket
+impl FrontBounds {
+    // The bounds that a try of so many first pages, between the two, leaves; the table is theirs.
+    pub(crate) fn narrowed(self, count: usize, classes: &Classes, attempt: Tried) -> FrontBounds
         requires above { self.fitting < count }
         requires below { count < self.beyond }
-        ensures bracket { (search : Search) (R : List Page) (batches : ℕ) →
+        ensures bounds { (search : Search) (R : List Page) (batches : ℕ) →
             AreClassesOf classes.now search.end (take count R) → IsTried classes.now search batches attempt →
-            IsBracket search R batches self → IsBracket search R batches result }
+            AreFrontBounds search R batches self → AreFrontBounds search R batches result }
         ensures narrower { result.beyond + self.fitting < self.beyond + result.fitting }
     {
         match attempt {
-            Tried::Fits(outcome) => Bracket {
+            Tried::Fits(outcome) => FrontBounds {
                 fitting: count,
                 classes: *classes,
                 outcome,
                 beyond: self.beyond,
                 why: self.why,
             },
-            Tried::Exceeds(certificate) => Bracket {
+            Tried::Exceeds(certificate) => FrontBounds {
                 fitting: self.fitting,
                 classes: self.classes,
                 outcome: self.outcome,

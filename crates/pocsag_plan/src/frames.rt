@@ -4,9 +4,7 @@ ghost use Rattle.pocsag_plan.specs.Frames.{HasClasses, frame_idles, frame_row, f
 
 use pocsag_pages::{Page, Round};
 use pocsag_slots::{SLOTS, Step, finish};
-
-/// How many frames a batch has.
-pub const FRAMES: usize = 8;
+use pocsag_words::FRAMES;
 
 // The same as the number that a frame is.
 const FRAME_COUNT: u32 = FRAMES as u32;

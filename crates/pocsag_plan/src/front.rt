@@ -7,7 +7,7 @@ ghost use Rattle.pocsag_plan.specs.Attempts.{IsCut};
 ghost use Rattle.pocsag_plan.specs.Fronts.{ExplainsFront, IsFrontFor, IsLongestFront, IsWhyNoMore};
 ghost use Rattle.pocsag_plan.specs.Plans.{IsPlanFor};
 
-use crate::attempt::{Bracket, attempt};
+use crate::attempt::{FrontBounds, attempt};
 use crate::bounded::Bounded;
 use crate::fault::{NoFront, PlanFault};
 use crate::outcome::{Outcome, outcome_of};
@@ -101,7 +101,7 @@ fn front_cut(
     if first.found.batches > batches {
         return Err(NoFront::FirstPage(first.found.batches));
     }
-    let mut bracket = Bracket {
+    let mut bounds = FrontBounds {
         fitting: 1,
         classes,
         outcome: Some(first),
@@ -109,20 +109,20 @@ fn front_cut(
         why: None,
     };
     let mut counted = 1;
-    while bracket.fitting + 1 < bracket.beyond {
-        let count = bracket.fitting + (bracket.beyond - bracket.fitting) / 2;
+    while bounds.fitting + 1 < bounds.beyond {
+        let count = bounds.fitting + (bounds.beyond - bounds.fitting) / 2;
         recount(&mut classes, pages, counted, count, search.end);
         counted = count;
         let tried = attempt(alloc, &classes, batches, search)?;
-        bracket = bracket.narrowed(count, &classes, tried);
+        bounds = bounds.narrowed(count, &classes, tried);
     }
-    let Bracket {
+    let FrontBounds {
         fitting: count,
         classes,
         outcome,
         why,
         ..
-    } = bracket;
+    } = bounds;
     if let Some(outcome) = outcome {
         return Ok(FrontCut {
             count,

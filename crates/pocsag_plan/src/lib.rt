@@ -25,7 +25,7 @@ pub use answer::Plan;
 pub use book::Book;
 pub use bounded::Bounded;
 pub use fault::{BadRate, NoFront, PlanFault, StreamFault, UnsentFront};
-pub use frames::{FRAMES, FrameRoom, frames_of};
+pub use frames::{FrameRoom, frames_of};
 pub use front::{FrontPlan, longest_front};
 pub use plans::{bounded_plan, is_node_limit, plan};
 pub use refusal::{AddFault, BookFault, NotThere, Refused};

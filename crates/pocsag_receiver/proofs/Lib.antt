@@ -1,4 +1,4 @@
-pub mod Captured
-pub mod Received
+pub mod CapturedTexts
 pub mod Read
+pub mod Received
 pub mod Tokens

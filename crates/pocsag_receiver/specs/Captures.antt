@@ -5,76 +5,76 @@ use Rattle.pocsag_words.specs.Frame.{input_limit}
 use Rattle.pocsag_pages.specs.declared.page.Page.{Page}
 use Rattle.pocsag_pages.specs.Bytes.{unsynced}
 use Rattle.pocsag_capture.specs.Bits.{capture_bits}
-use Rattle.pocsag_capture.specs.ExtractedBytes.{ExplainsNone, ExplainsUnlifted, LiftsOne}
-use Rattle.pocsag_capture.specs.PageEnds.{AreNumbered, HasCatches, IsCatch, UncutStandWhole, pages_caught}
+use Rattle.pocsag_capture.specs.ExtractedBytes.{ExplainsNone, ExplainsUnextracted, ExtractsOne}
+use Rattle.pocsag_capture.specs.PageEnds.{AreNumbered, HasTransmissions, IsCapturedTransmission, UncutStandWhole, pages_captured}
 use Rattle.pocsag_capture.specs.Receptions.{AreInStep, AreReceptions, received}
 use Rattle.pocsag_capture.specs.Sent.{StandAmong}
-use Rattle.pocsag_capture.specs.declared.catching.Catch.{Catch}
+use Rattle.pocsag_capture.specs.declared.captured_transmission.CapturedTransmission.{CapturedTransmission}
 use Rattle.pocsag_capture.specs.declared.reception.ReceptionStats.{ReceptionStats}
 use Rattle.pocsag_capture.specs.declared.reception.Reception.{Reception}
 use Rattle.pocsag_pager.specs.Faults.{address_fault}
 use Rattle.pocsag_shell.specs.declared.fault.FileFault.TheVariants as file
 use Rattle.pocsag_show.specs.declared.view.View.{View}
-use Rattle.pocsag_receiver.specs.CaughtForms.{caught_listing}
+use Rattle.pocsag_receiver.specs.CapturedForms.{captured_listing}
 use Rattle.pocsag_receiver.specs.Views.{HasRows, IsBehindLast, Viewed, ViewedPart}
-use Rattle.pocsag_receiver.specs.declared.caught.Picking.{Picking}
+use Rattle.pocsag_receiver.specs.declared.captured.Picking.{Picking}
 use Rattle.pocsag_receiver.specs.declared.fault.ReceiverFault.{ReceiverFault}
 use Rattle.pocsag_receiver.specs.declared.fault.ReceiverFault.TheVariants as fault
 
--- The text of what is caught of receptions, and how each was received is reported behind the others.
-pub record TextOfCatches (bits : List ℕ) (k : Picking) (receptions : List Reception) (heard_before heard_after : List ReceptionStats) (text : List ℕ) : Type 0 where
-  pub catches : List Catch
-  pub of : map (λ (c : Catch). c.heard.reception) catches ≡ receptions
-  pub each : All (IsCatch bits) catches
-  pub numbers : AreNumbered 1 catches
-  pub printed : heard_after ≡ heard_before ++ map (λ (c : Catch). c.heard) catches
-  pub written : text ≡ caught_listing k catches
+-- The text of receptions, and how each was received is reported behind the others.
+pub record TextOfTransmissions (bits : List ℕ) (k : Picking) (receptions : List Reception) (heard_before heard_after : List ReceptionStats) (text : List ℕ) : Type 0 where
+  pub transmissions : List CapturedTransmission
+  pub of : map (λ (c : CapturedTransmission). c.heard.reception) transmissions ≡ receptions
+  pub each : All (IsCapturedTransmission bits) transmissions
+  pub numbers : AreNumbered 1 transmissions
+  pub printed : heard_after ≡ heard_before ++ map (λ (c : CapturedTransmission). c.heard) transmissions
+  pub written : text ≡ captured_listing k transmissions
 
--- What is caught of a capture was listed: those of its pages that are asked for, each with its state; and how each transmission was
+-- A capture was listed: those of its pages that are asked for, each with its state; and how each transmission was
 -- received is reported.
-pub record ListsCaught (capture : List ℕ) (k : Picking) (heard : List ReceptionStats) (out_before out_after : List ℕ) : Type 0 where
-  pub catches : List Catch
-  pub caught : HasCatches capture catches
-  pub printed : heard ≡ map (λ (c : Catch). c.heard) catches
-  pub listed : out_after ≡ out_before ++ caught_listing k catches
+pub record ListsCaptured (capture : List ℕ) (k : Picking) (heard : List ReceptionStats) (out_before out_after : List ℕ) : Type 0 where
+  pub transmissions : List CapturedTransmission
+  pub captured : HasTransmissions capture transmissions
+  pub printed : heard ≡ map (λ (c : CapturedTransmission). c.heard) transmissions
+  pub listed : out_after ≡ out_before ++ captured_listing k transmissions
 
 -- *Listed as whole*: pages of the receptions of a capture were listed, and each that is listed as whole stands whole among the words
 -- of its reception that are in step.
 pub record ListsWhole (capture : List ℕ) (k : Picking) (out_before out_after : List ℕ) : Type 0 where
-  pub catches : List Catch
-  pub found : AreReceptions (capture_bits capture) (map (λ (c : Catch). c.heard.reception) catches)
-  pub in_step : All (λ (c : Catch). AreInStep (capture_bits capture) c.heard.reception c.heard.steady) catches
-  pub whole : All (λ (c : Catch). UncutStandWhole (unsynced 0 (received (capture_bits capture) c.heard.reception)) (16 * c.heard.steady) c.pages.items c.cuts.items) catches
-  pub listed : out_after ≡ out_before ++ caught_listing k catches
+  pub transmissions : List CapturedTransmission
+  pub found : AreReceptions (capture_bits capture) (map (λ (c : CapturedTransmission). c.heard.reception) transmissions)
+  pub in_step : All (λ (c : CapturedTransmission). AreInStep (capture_bits capture) c.heard.reception c.heard.steady) transmissions
+  pub whole : All (λ (c : CapturedTransmission). UncutStandWhole (unsynced 0 (received (capture_bits capture) c.heard.reception)) (16 * c.heard.steady) c.pages.items c.cuts.items) transmissions
+  pub listed : out_after ≡ out_before ++ captured_listing k transmissions
 
 -- Pages were listed among which these stand, one behind the other: of all of them those that are asked for.
 pub record ListsAmong (k : Picking) (ps : List Page) (out_before out_after : List ℕ) : Type 0 where
-  pub catches : List Catch
-  pub among : StandAmong ps (pages_caught catches)
-  pub listed : out_after ≡ out_before ++ caught_listing k catches
+  pub transmissions : List CapturedTransmission
+  pub among : StandAmong ps (pages_captured transmissions)
+  pub listed : out_after ≡ out_before ++ captured_listing k transmissions
 
 -- A prefix of what is listed was taken.
-pub record ListsCaughtPart (capture : List ℕ) (k : Picking) (out_before out_after : List ℕ) : Type 0 where
-  pub catches : List Catch
-  pub caught : HasCatches capture catches
-  pub part : TookPrefix out_before out_after (caught_listing k catches)
+pub record ListsCapturedPart (capture : List ℕ) (k : Picking) (out_before out_after : List ℕ) : Type 0 where
+  pub transmissions : List CapturedTransmission
+  pub captured : HasTransmissions capture transmissions
+  pub part : TookPrefix out_before out_after (captured_listing k transmissions)
 
 -- The capture is too large, or memory or the writer refused: it is never refused for what it holds.
 abbrev pub ExplainsCapture : (capture : List ℕ) → ReceiverFault → Type 0
-ExplainsCapture capture (fault.Capture f) = ExplainsUnlifted capture f
+ExplainsCapture capture (fault.Capture f) = ExplainsUnextracted capture f
 ExplainsCapture capture (fault.File file.OutOfMemory) = length capture ≤ input_limit
 ExplainsCapture capture (fault.File file.Write) = length capture ≤ input_limit
 ExplainsCapture capture _ = ⊥
 
 -- The capture is too large, or memory or the writer refused; or pages of one address are asked for, and the address has this fault.
-abbrev pub ExplainsCaught : (only : Option ℕ) → (capture : List ℕ) → ReceiverFault → Type 0
-ExplainsCaught only capture (fault.Pager f) = (address : ℕ) × (only ≡ Some address) × (address_fault address ≡ Some f)
-ExplainsCaught only capture e = ExplainsCapture capture e
+abbrev pub ExplainsCaptured : (only : Option ℕ) → (capture : List ℕ) → ReceiverFault → Type 0
+ExplainsCaptured only capture (fault.Pager f) = (address : ℕ) × (only ≡ Some address) × (address_fault address ≡ Some f)
+ExplainsCaptured only capture e = ExplainsCapture capture e
 
--- The transmission of this number was lifted, and it was shown.
+-- The transmission of this number was extracted, and it was shown.
 pub record ViewsOne (view : View) (capture : List ℕ) (nth : ℕ) (heard : List ReceptionStats) (out_before out_after : List ℕ) : Type 0 where
   pub bytes : List ℕ
-  pub lifts : LiftsOne capture nth heard bytes
+  pub extracts : ExtractsOne capture nth heard bytes
   pub rows : HasRows view bytes
   pub viewed : Viewed view bytes out_before out_after
 
@@ -82,14 +82,14 @@ pub record ViewsOne (view : View) (capture : List ℕ) (nth : ℕ) (heard : List
 pub record ViewsOnePart (view : View) (capture : List ℕ) (nth : ℕ) (out_before out_after : List ℕ) : Type 0 where
   pub heard : List ReceptionStats
   pub bytes : List ℕ
-  pub lifts : LiftsOne capture nth heard bytes
+  pub extracts : ExtractsOne capture nth heard bytes
   pub viewed : ViewedPart view bytes out_before out_after
 
--- These are the bytes of the transmission of this number, as it is lifted.
+-- These are the bytes of the transmission of this number, as it is extracted.
 pub record IsSoOfOne (capture : List ℕ) (nth : ℕ) (P : List ℕ → Type 0) : Type 0 where
   pub heard : List ReceptionStats
   pub bytes : List ℕ
-  pub lifts : LiftsOne capture nth heard bytes
+  pub extracts : ExtractsOne capture nth heard bytes
   pub holds : P bytes
 
 -- There is no such transmission, the rows that are asked for are behind its last batch, or memory or the writer refused.

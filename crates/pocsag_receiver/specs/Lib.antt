@@ -1,5 +1,5 @@
+pub mod CapturedForms
 pub mod Captures
-pub mod CaughtForms
 pub mod Faults
 pub mod Files
 pub mod Forms

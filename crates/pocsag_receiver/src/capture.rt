@@ -6,16 +6,16 @@ ghost use Rattle.pocsag_capture.specs.Bits.{capture_bits};
 ghost use Rattle.pocsag_capture.specs.Sent.{HoldsSent};
 ghost use Rattle.pocsag_shell.specs.ErrorStreams.{stream_of, printed_by};
 ghost use Rattle.pocsag_shell.specs.declared.fault.FileFault.TheVariants as file;
-ghost use Rattle.pocsag_receiver.specs.Captures.{ExplainsCaught, ExplainsOne, ListsAmong, ListsCaught, ListsCaughtPart, ListsWhole, ViewsOne, ViewsOnePart};
+ghost use Rattle.pocsag_receiver.specs.Captures.{ExplainsCaptured, ExplainsOne, ListsAmong, ListsCaptured, ListsCapturedPart, ListsWhole, ViewsOne, ViewsOnePart};
 ghost use Rattle.pocsag_receiver.specs.Faults.{receiver_status};
 ghost use Rattle.pocsag_receiver.specs.Files.{ExplainsUnread};
 ghost use Rattle.pocsag_receiver.specs.declared.fault.ReceiverFault.TheVariants as fault;
 
-use crate::caught::{Picking, text_caught};
+use crate::captured::{Picking, text_captured};
 use crate::fault::ReceiverFault;
 use crate::show::show_bytes;
 use crate::transmission::{read_transmission, refuse_long};
-use pocsag_capture::{Extracted, ReceptionStats, lift_one, receptions_in};
+use pocsag_capture::{Extracted, ReceptionStats, extract_one, receptions_in};
 use pocsag_decode::readings_have_no_fault;
 use pocsag_pager::Pager;
 use pocsag_shell::{ErrorStream, FileFault};
@@ -25,7 +25,7 @@ use std::alloc::Global;
 
 /// Which pages of a capture are listed and in which form, and how each transmission was received.
 #[derive(Drop)]
-pub struct Catching {
+pub struct CaptureListing {
     pub picking: Picking,
     pub heard: Vec<ReceptionStats>,
 }
@@ -39,38 +39,45 @@ pub struct Viewing {
 }
 
 // Lists the pages of all transmissions of the bytes of a capture, one behind the other, or those of one address.
-fn list_caught<O: Sink>(
+fn list_captured<O: Sink>(
     alloc: Global,
-    catching: &mut Catching,
+    capture_listing: &mut CaptureListing,
     capture: &[u8],
     out: &mut O,
 ) -> Result<u8, ReceiverFault>
     ensures status { IfOk result (λ status. status ≡ 0) }
     ensures listed { O.is_known → OnOk result
-        (ListsCaught capture.now catching.old.picking catching.new.heard.items (O.taken out.old) (O.taken out.new)) }
+        (ListsCaptured capture.now capture_listing.old.picking capture_listing.new.heard.items (O.taken out.old)
+        (O.taken out.new)) }
     ensures whole { O.is_known → OnOk result
-        (ListsWhole capture.now catching.old.picking (O.taken out.old) (O.taken out.new)) }
+        (ListsWhole capture.now capture_listing.old.picking (O.taken out.old) (O.taken out.new)) }
     ensures sent { O.is_known → (pages : List Page) → HoldsSent (capture_bits capture.now) pages →
-        OnOk result (ListsAmong catching.old.picking pages (O.taken out.old) (O.taken out.new)) }
+        OnOk result (ListsAmong capture_listing.old.picking pages (O.taken out.old) (O.taken out.new)) }
     ensures part { O.is_known → IsErrOf result (fault.File file.Write) →
-        ListsCaughtPart capture.now catching.old.picking (O.taken out.old) (O.taken out.new) }
-    ensures explained { IfErr result (ExplainsCaught catching.old.picking.only capture.now) }
+        ListsCapturedPart capture.now capture_listing.old.picking (O.taken out.old) (O.taken out.new) }
+    ensures explained { IfErr result (ExplainsCaptured capture_listing.old.picking.only capture.now) }
     ensures refused { IfErr result (λ e. receiver_status e ≡ 1 → out.new ≡ out.old) }
     ensures write_failed { IsErrOf result (fault.File file.Write) →
         HasFailed (O.failures out.old) (O.failures out.new) }
 {
     let found = receptions_in(alloc, capture)?;
-    if let Some(address) = catching.picking.only
+    if let Some(address) = capture_listing.picking.only
         && let Err(refused) = Pager::new(alloc, address)
     {
         return Err(ReceiverFault::Pager(refused));
     }
     let mut heard = Vec::new(alloc);
     let receptions = found.as_slice();
-    let Ok(text) = text_caught(alloc, catching.picking, capture, receptions, &mut heard) else {
+    let Ok(text) = text_captured(
+        alloc,
+        capture_listing.picking,
+        capture,
+        receptions,
+        &mut heard,
+    ) else {
         return Err(ReceiverFault::File(FileFault::OutOfMemory));
     };
-    catching.heard = heard;
+    capture_listing.heard = heard;
     match write_all(out, text.as_slice()) {
         Ok(()) => Ok(0),
         Err(_) => Err(ReceiverFault::File(FileFault::Write)),
@@ -81,7 +88,7 @@ fn list_caught<O: Sink>(
 /// other, or those of one address, each with its state, and says how each transmission was received. Returns the exit status.
 pub fn run_list_capture<T: Source, O: Sink, E: Sink + Drop>(
     alloc: Global,
-    catching: &mut Catching,
+    capture_listing: &mut CaptureListing,
     tx: &mut T,
     out: &mut O,
     err: &mut ErrorStream<ReceiverFault, E>,
@@ -89,21 +96,21 @@ pub fn run_list_capture<T: Source, O: Sink, E: Sink + Drop>(
     ensures done { IfNone (printed_by err.new) ((result ≡ 0) × (stream_of err.new ≡ stream_of err.old)) }
     ensures status { IfSome (printed_by err.new) (λ e. result ≡ receiver_status e) }
     ensures listed { T.is_known → O.is_known → IfNone (printed_by err.new)
-        (ListsCaught (T.held tx.old) catching.old.picking catching.new.heard.items (O.taken out.old)
+        (ListsCaptured (T.held tx.old) capture_listing.old.picking capture_listing.new.heard.items (O.taken out.old)
         (O.taken out.new)) }
 
     // *Listed as whole*: each page that is listed as whole stands in the capture with all its codewords and one that ends it, each
     // within two bits and in step.
     ensures whole { T.is_known → O.is_known → IfNone (printed_by err.new)
-        (ListsWhole (T.held tx.old) catching.old.picking (O.taken out.old) (O.taken out.new)) }
+        (ListsWhole (T.held tx.old) capture_listing.old.picking (O.taken out.old) (O.taken out.new)) }
 
     // *A capture that holds a sent transmission shows its pages*, one behind the other, whatever else it holds.
     ensures sent { T.is_known → O.is_known → (pages : List Page) → HoldsSent (capture_bits (T.held tx.old)) pages →
-        IfNone (printed_by err.new) (ListsAmong catching.old.picking pages (O.taken out.old) (O.taken out.new)) }
+        IfNone (printed_by err.new) (ListsAmong capture_listing.old.picking pages (O.taken out.old) (O.taken out.new)) }
     ensures part { T.is_known → O.is_known → printed_by err.new ≡ Some (fault.File file.Write) →
-        ListsCaughtPart (T.held tx.old) catching.old.picking (O.taken out.old) (O.taken out.new) }
+        ListsCapturedPart (T.held tx.old) capture_listing.old.picking (O.taken out.old) (O.taken out.new) }
     ensures explained { T.is_known → IfSome (printed_by err.new) (λ e. ExplainsUnread (T.held tx.old) e
-        ⊎ ExplainsCaught catching.old.picking.only (T.held tx.old) e) }
+        ⊎ ExplainsCaptured capture_listing.old.picking.only (T.held tx.old) e) }
     ensures refused { IfSome (printed_by err.new) (λ e. receiver_status e ≡ 1 → out.new ≡ out.old) }
 
     // A device's fault is reported only where that device failed.
@@ -116,14 +123,14 @@ pub fn run_list_capture<T: Source, O: Sink, E: Sink + Drop>(
     let done = 'listed: {
         let Some(capture) = tx.lent() else {
             break 'listed match read_transmission(alloc, tx) {
-                Ok(capture) => list_caught(alloc, catching, capture.as_slice(), out),
+                Ok(capture) => list_captured(alloc, capture_listing, capture.as_slice(), out),
                 Err(refused) => Err(ReceiverFault::File(refused)),
             };
         };
         if let Err(refused) = refuse_long(capture) {
             break 'listed Err(ReceiverFault::File(refused));
         }
-        let listed = list_caught(alloc, catching, capture, out);
+        let listed = list_captured(alloc, capture_listing, capture, out);
         tx.take_all();
         listed
     };
@@ -131,7 +138,7 @@ pub fn run_list_capture<T: Source, O: Sink, E: Sink + Drop>(
 }
 
 // Shows one of the transmissions of the bytes of a capture.
-fn show_caught<O: Sink>(
+fn show_captured<O: Sink>(
     alloc: Global,
     viewing: &mut Viewing,
     capture: &[u8],
@@ -149,7 +156,7 @@ fn show_caught<O: Sink>(
         HasFailed (O.failures out.old) (O.failures out.new) }
 {
     readings_have_no_fault();
-    let Extracted { bytes, heard } = lift_one(alloc, capture, viewing.nth)?;
+    let Extracted { bytes, heard } = extract_one(alloc, capture, viewing.nth)?;
     viewing.heard = heard;
     match show_bytes(alloc, viewing.view, bytes.as_slice(), out) {
         Ok(status) => Ok(status),
@@ -186,14 +193,14 @@ pub fn run_show_capture<T: Source, O: Sink, E: Sink + Drop>(
     let done = 'shown: {
         let Some(capture) = tx.lent() else {
             break 'shown match read_transmission(alloc, tx) {
-                Ok(capture) => show_caught(alloc, viewing, capture.as_slice(), out),
+                Ok(capture) => show_captured(alloc, viewing, capture.as_slice(), out),
                 Err(refused) => Err(ReceiverFault::File(refused)),
             };
         };
         if let Err(refused) = refuse_long(capture) {
             break 'shown Err(ReceiverFault::File(refused));
         }
-        let shown = show_caught(alloc, viewing, capture, out);
+        let shown = show_captured(alloc, viewing, capture, out);
         tx.take_all();
         shown
     };

@@ -20,7 +20,7 @@ pub enum ReceiverFault {
     /// The pager shows nothing of these bytes.
     #[error(transparent)]
     Pager(PagerFault),
-    /// Nothing is lifted out of this capture.
+    /// Nothing is extracted from this capture.
     #[error(transparent)]
     Capture(CaptureFault),
     /// The transmission has so many batches, and the first row that `show` is asked for is behind them.

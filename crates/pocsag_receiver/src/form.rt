@@ -9,7 +9,7 @@ ghost use Rattle.pocsag_pages.specs.Listable.{IsListable};
 ghost use Rattle.pocsag_decode.specs.Faults.{NamesFailures};
 ghost use Rattle.pocsag_decode.specs.Lines.{IsReady, PutsRow, text_in};
 ghost use Rattle.pocsag_decode.specs.Listing.{header};
-ghost use Rattle.pocsag_receiver.specs.CaughtForms.{state_field, state_fields};
+ghost use Rattle.pocsag_receiver.specs.CapturedForms.{state_field, state_fields};
 ghost use Rattle.pocsag_receiver.specs.Forms.{is_text, json_line, json_lines, kind_read, listed_in, message_read, record_read, text_listing};
 
 use pocsag_decode::{ListFault, list_owned, message_of};

@@ -1,5 +1,5 @@
-use crate::capture::{Catching, Viewing, run_list_capture, run_show_capture};
-use crate::caught::Picking;
+use crate::capture::{CaptureListing, Viewing, run_list_capture, run_show_capture};
+use crate::captured::Picking;
 use crate::decode::{Decoding, run_decode};
 use crate::fault::ReceiverFault;
 use crate::form::ListForm;
@@ -35,7 +35,7 @@ enum Receiving {
     Decode(Decoding),
     Hear(Hearing),
     Show(Showing),
-    ListCapture(Catching),
+    ListCapture(CaptureListing),
     ShowCapture(Viewing),
 }
 
@@ -75,7 +75,7 @@ fn asked_of(alloc: Global, name: &str, found: &ArgMatches<'_>) -> Option<Receivi
             form: wanted_form(found)?,
             repairing,
         })),
-        (DECODE, true) => Some(Receiving::ListCapture(Catching {
+        (DECODE, true) => Some(Receiving::ListCapture(CaptureListing {
             picking: picking_of(wanted_form(found)?, None),
             heard,
         })),
@@ -83,7 +83,7 @@ fn asked_of(alloc: Global, name: &str, found: &ArgMatches<'_>) -> Option<Receivi
             form: wanted_form(found)?,
             address: found.get_one::<u32>(ADDRESS)?,
         })),
-        (HEAR, true) => Some(Receiving::ListCapture(Catching {
+        (HEAR, true) => Some(Receiving::ListCapture(CaptureListing {
             picking: picking_of(wanted_form(found)?, Some(found.get_one::<u32>(ADDRESS)?)),
             heard,
         })),
@@ -160,7 +160,7 @@ fn receive(context: Context<'_>, mut asked: Receiving, mut tx: Loaded, names: Na
             &mut err,
         );
         if err.fault().is_none() {
-            context.forget_trouble();
+            context.forget_refused_call();
         }
         note_capture(context, names, &asked, err.fault());
         context.print_more(names);
@@ -184,7 +184,13 @@ fn carry_out<O: Sink, E: Sink + Drop>(
         Receiving::Decode(decoding) => run_decode(alloc, decoding, tx, out, err),
         Receiving::Hear(hearing) => run_hear(alloc, *hearing, tx, out, err),
         Receiving::Show(showing) => run_show(alloc, showing, tx, out, err),
-        Receiving::ListCapture(catching) => run_list_capture(alloc, catching, tx, out, err),
+        Receiving::ListCapture(capture_listing) => run_list_capture(
+            alloc,
+            capture_listing,
+            tx,
+            out,
+            err,
+        ),
         Receiving::ShowCapture(viewing) => run_show_capture(alloc, viewing, tx, out, err),
     }
 }
@@ -195,7 +201,11 @@ fn print_received(context: Context<'_>, asked: &Receiving, names: Names<'_>) {
         Receiving::Hear(_) => {}
         Receiving::Decode(decoding) => note_repair(context, names, decoding.repairing),
         Receiving::Show(showing) => note_repair(context, names, showing.repairing),
-        Receiving::ListCapture(catching) => print_heard(context, 1, catching.heard.as_slice()),
+        Receiving::ListCapture(capture_listing) => print_heard(
+            context,
+            1,
+            capture_listing.heard.as_slice(),
+        ),
         Receiving::ShowCapture(viewing) => {
             print_heard(context, viewing.nth, viewing.heard.as_slice());
         }

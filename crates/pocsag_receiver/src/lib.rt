@@ -2,7 +2,7 @@
 //! The commands `decode`, `hear` and `show`: what each answers for the bytes of a transmission, and how the command line calls it.
 
 mod capture;
-mod caught;
+mod captured;
 mod decode;
 mod fault;
 mod form;
@@ -13,8 +13,8 @@ mod show;
 mod transmission;
 mod words;
 
-pub use capture::{Catching, Viewing, run_list_capture, run_show_capture};
-pub use caught::{Mark, Picking};
+pub use capture::{CaptureListing, Viewing, run_list_capture, run_show_capture};
+pub use captured::{Mark, Picking};
 pub use decode::{Decoding, run_decode};
 pub use fault::ReceiverFault;
 pub use form::ListForm;

@@ -1,5 +1,5 @@
-pub mod StagedFiles
-pub mod Loads
-pub mod Printed
 pub mod Folders
+pub mod Loads
 pub mod Placements
+pub mod Printed
+pub mod StagedFiles

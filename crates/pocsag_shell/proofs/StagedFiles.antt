@@ -1,14 +1,20 @@
 -- The names of the files beside a place, and the numbers in them.
-use Rattle.std.proofs.Common.{◌≡◌, ◌≢◌, inl, inr, ◌↔◌, ℕ, zero, suc, ◌+◌, ◌^◌, ◌<◌, ◌≤◌, List, [], ◌∷◌, ◌++◌, length, get_or, drop, sym, ap, ◌∙◌, arith, length-append}
-use Rattle.std.specs.Prelude.{Option, Some, None, Result, Ok, Err, codes, slice_get}
+use Rattle.std.proofs.Common.{◌≡◌, ◌≢◌, inl, inr, ◌↔◌, ℕ, zero, suc, ◌+◌, ◌^◌, ◌<◌, ◌≤◌, List, [], ◌∷◌, ◌++◌, length, get_or, take, drop, true, false, Bool, Bor, refl, sym, ap, subst, ◌∙◌, arith, length-append}
+use Rattle.std.specs.Prelude.{IfNone, nat_eq, Option, Some, None, Result, Ok, Err, codes, slice_get}
 use Rattle.std.specs.Result.{result_ok}
 use Rattle.std.specs.Fmt.{decimal}
 use Rattle.std.specs.Str.Parse.{AllDigits, ParsesUnsigned, digits_value}
-use Rattle.std.proofs.Math.Seq.{drop-append_seam}
-use Rattle.std.proofs.lemmas.Fmt.{decimal-digits_value, decimal_digit, first_decimal, parse-decimal}
-use Rattle.std.proofs.lemmas.List.{append_cancel_left, append_cancel_right}
+use Rattle.std.specs.Char.{digit_value}
+use Rattle.std.specs.Cmp.Lexicographic.{other_text, pointwise, same_text}
+use Rattle.std.specs.Option.{MatchOption}
+use Rattle.std.proofs.Math.Seq.{drop-append_seam, get_or-append_seam}
+use Rattle.std.proofs.lemmas.Fmt.{decimal-digits_value, decimal_digit, decimal_injective, digits_decimal, first_decimal, parse-decimal}
+use Rattle.std.proofs.lemmas.List.{append_assoc, append_cancel_right, take-append-drop}
 use Rattle.std.proofs.lemmas.Str.Parse.{IsNumeralModel, numerals_by_value, parse_plain, tells_digits}
-use Rattle.pocsag_shell.specs.StagedFiles.{IsStagedName}
+use Rattle.std.proofs.lemmas.Str.Pattern.{NoCharPasses-char, drop_at_char}
+use Rattle.std.specs.Str.Pattern.{RFindsChar, SplitsAroundMatch}
+use Rattle.pocsag_shell.specs.declared.left_over.LeftOver.TheVariants.{Lock, Made, Neither}
+use Rattle.pocsag_shell.specs.StagedFiles.{IsLeftName, IsLockName, IsStagedName, MayTakeNew, MayTakeOld}
 
 own : IsNumeralModel (AllDigits 10) (digits_value 10)
 own = numerals_by_value _ tells_digits
@@ -36,15 +42,48 @@ begins bs n some small e = rw e (first_decimal n some (omega arith))
 pub read_again : {E : Type 0} (bs : List ℕ) (r : Result ℕ E) (n : ℕ) → ParsesUnsigned 32 10 bs r → n < 2 ^ 32 → bs ≡ decimal n → r ≡ Ok n
 read_again bs r n h small e = parse-decimal 32 n bs r small (omega arith) e h
 
--- no text ends in both ways
-pub two_endings : (a b : List ℕ) → a ++ codes ".new" ≡ b ++ codes ".old" → ⊥
-two_endings a b e =
-    let long : length a + 4 ≡ length b + 4 = sym (length-append a (codes ".new")) ∙ (ap length e ∙ length-append b (codes ".old")) in
-    let same : length a ≡ length b = omega arith in
-    let last : codes ".new" ≡ codes ".old" =
-    sym (drop-append_seam a (codes ".new")) ∙ (ap (drop (length a)) e ∙ (ap (λ n. drop n (b ++ codes ".old")) same ∙ drop-append_seam b (codes ".old"))) in
-    let letter : 110 ≡ 111 = ap (λ (v : List ℕ). get_or v 1 0) last in
-    omega (arith, letter)
+-- a text has one ending of a length
+pub same_ending : (a b e f : List ℕ) → length e ≡ length f → a ++ e ≡ b ++ f → e ≡ f
+same_ending a b e f long is =
+    let whole : length a + length e ≡ length b + length f = sym (length-append a e) ∙ (ap length is ∙ length-append b f) in
+    let same : length a ≡ length b = omega (arith, whole, long) in
+    sym (drop-append_seam a e) ∙ (ap (drop (length a)) is ∙ (ap (λ n. drop n (b ++ f)) same ∙ drop-append_seam b f))
+
+-- no dot stands in these bytes
+abbrev pub HasNoDot : List ℕ → Type 0
+HasNoDot bs = (i : ℕ) → i < length bs → get_or bs i 0 ≢ 46
+
+dot_within : (x y : List ℕ) → HasNoDot (x ++ 46 ∷ y) → ⊥
+dot_within x y free = free (length x) (omega (arith, length-append x (46 ∷ y))) (get_or-append_seam x 46 y 0)
+
+-- the last dot is where no other one follows
+pub last_dot : (x a y b : List ℕ) → HasNoDot y → HasNoDot b → x ++ 46 ∷ y ≡ a ++ 46 ∷ b → (x ≡ a) × (y ≡ b)
+last_dot [] [] y b one two e = (refl, cc (e))
+last_dot [] (c ∷ a) y b one two e = let rest : y ≡ a ++ 46 ∷ b = cc (e) in absurd (dot_within a b (subst HasNoDot rest one))
+last_dot (c ∷ x) [] y b one two e = let rest : b ≡ x ++ 46 ∷ y = cc (e) in absurd (dot_within x y (subst HasNoDot rest two))
+last_dot (c ∷ x) (d ∷ a) y b one two e =
+    let rest : x ++ 46 ∷ y ≡ a ++ 46 ∷ b = cc (e) in
+    let same : c ≡ d = cc (e) in
+    let more = last_dot x a y b one two rest in (cc (same, more.0), more.1)
+
+no_dot_more : (c : ℕ) (cs : List ℕ) → digit_value c < 10 → HasNoDot cs → HasNoDot (c ∷ cs)
+no_dot_more c cs digit free zero less = λ e. let wrong : digit_value 46 < 10 = subst (λ (d : ℕ). digit_value d < 10) e digit in omega (arith, wrong)
+no_dot_more c cs digit free (suc i) less = free i (omega (arith, less))
+
+no_dot_in : (ds : List ℕ) → AllDigits 10 ds → HasNoDot ds
+no_dot_in [] h = λ i less. absurd (omega (arith, less))
+no_dot_in (c ∷ cs) h = no_dot_more c cs h.0 (no_dot_in cs h.1)
+
+-- where a text is split at its last dot
+pub split_dot : (s : List ℕ) (r : Option (Bor (List ℕ) × Bor (List ℕ))) →
+    MatchOption r (RFindsChar 46 s None) (λ x. SplitsAroundMatch (RFindsChar 46) s x.0.now x.1.now) →
+    MatchOption r ((x y : List ℕ) → s ≢ x ++ 46 ∷ y) (λ x. (s ≡ x.0.now ++ 46 ∷ x.1.now) × HasNoDot x.1.now)
+split_dot s None h = λ x y e. dot_within x y (subst HasNoDot e (λ i less. NoCharPasses-char 46 s i h (omega arith) less))
+split_dot s (Some x) (i, j, found, front, back, le, fore, aft) =
+    let here : drop i s ≡ 46 ∷ drop j s = drop_at_char 46 s i j found.1 (omega arith) in (
+      sym (take-append-drop i s) ∙ (ap (λ (v : List ℕ). take i s ++ v) here ∙ cc (front, back)),
+      subst HasNoDot (sym back) (λ k less. NoCharPasses-char 46 (drop j s) k found.0 (omega arith) less),
+    )
 
 -- what number is read of digits
 abbrev pub IsNumberIn : List ℕ → Option ℕ → Type 0
@@ -75,62 +114,113 @@ parsed {E} bs r o is h first n = (
   λ d. is ∙ ap result_ok (read_again bs r n h d.1 d.2),
 )
 
+-- what stands before the ending of a name that a process gave
+whole_name : (front digits ending : List ℕ) → (front ++ 46 ∷ digits) ++ ending ≡ front ++ 46 ∷ (digits ++ ending)
+whole_name front digits ending = append_assoc front (46 ∷ digits) ending
+
+text_of : (front : List ℕ) (n : ℕ) (ending file : List ℕ) → IsStagedName front n ending file → file ≡ (front ++ 46 ∷ decimal n) ++ ending
+text_of front n ending file is = is.named ∙ sym (whole_name front (decimal n) ending)
+
+no_dot_decimal : (n : ℕ) → n < 2 ^ 32 → HasNoDot (decimal n)
+no_dot_decimal n small = no_dot_in (decimal n) (digits_decimal own n (omega (arith, small)))
+
+module _ (file ending : List ℕ) where
+  pub staged : (text front digits : List ℕ) (n : ℕ) → file ≡ text ++ ending → text ≡ front ++ 46 ∷ digits →
+      (0 < n) × (n < 2 ^ 32) × (digits ≡ decimal n) → IsStagedName front n ending file
+  staged text front digits n ends parts number = record {
+    some = number.0;
+    small = number.1;
+    named = ends ∙ (ap (λ (v : List ℕ). v ++ ending) parts ∙ (whole_name front digits ending ∙ ap (λ (v : List ℕ). front ++ 46 ∷ (v ++ ending)) number.2));
+  }
+
+  pub without_ending : ((front : List ℕ) → file ≢ front ++ ending) → (front : List ℕ) (n : ℕ) → IsStagedName front n ending file → ⊥
+  without_ending none front n is = none (front ++ 46 ∷ decimal n) (text_of front n ending file is)
+
+  split_text : (text front : List ℕ) (n : ℕ) → file ≡ text ++ ending → IsStagedName front n ending file → text ≡ front ++ 46 ∷ decimal n
+  split_text text front n ends is = append_cancel_right text (front ++ 46 ∷ decimal n) ending (sym ends ∙ text_of front n ending file is)
+
+  pub without_dot : (text : List ℕ) → file ≡ text ++ ending → ((x y : List ℕ) → text ≢ x ++ 46 ∷ y) → (front : List ℕ) (n : ℕ) →
+      IsStagedName front n ending file → ⊥
+  without_dot text ends none front n is = none front (decimal n) (split_text text front n ends is)
+
+  pub without_number : (text before digits : List ℕ) (r : Option ℕ) → file ≡ text ++ ending → (text ≡ before ++ 46 ∷ digits) × HasNoDot digits →
+      IsNumberIn digits r → r ≡ None → (front : List ℕ) (n : ℕ) → IsStagedName front n ending file → ⊥
+  without_number text before digits r ends parts reads none front n is =
+      let same = last_dot before front digits (decimal n) parts.1 (no_dot_decimal n is.small) (sym parts.0 ∙ split_text text front n ends is) in
+      let some : r ≡ Some n = (reads n).1 (is.some, is.small, same.1) in cc (some, none)
+
+  pub same_name : (one two : List ℕ) (m n : ℕ) → IsStagedName one m ending file → IsStagedName two n ending file → (one ≡ two) × (m ≡ n)
+  same_name one two m n first second =
+      let same = last_dot one two (decimal m) (decimal n) (no_dot_decimal m first.small) (no_dot_decimal n second.small)
+      (sym (split_text (one ++ 46 ∷ decimal m) one m (text_of one m ending file first) first) ∙ split_text (one ++ 46 ∷ decimal m) two n (text_of one m ending file first) second) in
+      (same.0, decimal_injective m n (omega (arith, first.small)) (omega (arith, second.small)) same.1)
+
+-- no name has both endings, and none is that of a lock too
+pub two_endings : (file one two : List ℕ) (m n : ℕ) → IsStagedName one m (codes ".new") file → IsStagedName two n (codes ".old") file → ⊥
+two_endings file one two m n first second =
+    let last : codes ".new" ≡ codes ".old" =
+    same_ending (one ++ 46 ∷ decimal m) (two ++ 46 ∷ decimal n) (codes ".new") (codes ".old") refl
+    (sym (text_of one m (codes ".new") file first) ∙ text_of two n (codes ".old") file second) in
+    let letter : 110 ≡ 111 = ap (λ (v : List ℕ). get_or v 1 0) last in
+    omega (arith, letter)
+
+lock_ending : (file one ending : List ℕ) (m : ℕ) → length ending ≡ 4 → get_or ending 0 0 ≡ 46 → IsLockName file → IsStagedName one m ending file → ⊥
+lock_ending file one ending m four dot lock is =
+    let last : codes "lock" ≡ ending =
+    same_ending (lock.place ++ codes ".pocsag.") (one ++ 46 ∷ decimal m) (codes "lock") ending (sym four)
+    (append_assoc lock.place (codes ".pocsag.") (codes "lock") ∙ (sym lock.named ∙ text_of one m ending file is)) in
+    let letter : 108 ≡ 46 = ap (λ (v : List ℕ). get_or v 0 0) last ∙ dot in
+    omega (arith, letter)
+
 module _ (name file : List ℕ) where
-  pub made_new : (digits : List ℕ) (r : Option ℕ) → file ≡ name ++ 46 ∷ (digits ++ codes ".new") → IsNumberIn digits r → (n : ℕ) →
-      (r ≡ Some n) ↔ IsStagedName name n file
-  made_new digits r parts reads n = (
-    λ is.
-        let printed = (reads n).0 is in
-        record { some = printed.0; small = printed.1; named = inl (parts ∙ ap (λ (v : List ℕ). name ++ 46 ∷ (v ++ codes ".new")) printed.2) },
-    λ made. (reads n).1 (
-      made.some,
-      made.small,
-      elim made.named [
-        | inl e ↦
-            append_cancel_right digits (decimal n) (codes ".new")
-            (append_cancel_left (46 ∷ []) _ _ (append_cancel_left name (46 ∷ (digits ++ codes ".new")) (46 ∷ (decimal n ++ codes ".new")) (sym parts ∙ e)))
-        | inr e ↦
-            absurd (two_endings digits (decimal n)
-            (append_cancel_left (46 ∷ []) _ _ (append_cancel_left name (46 ∷ (digits ++ codes ".new")) (46 ∷ (decimal n ++ codes ".old")) (sym parts ∙ e))))
-      ],
-    ),
-  )
-
-  pub made_old : (digits : List ℕ) (r : Option ℕ) → file ≡ name ++ 46 ∷ (digits ++ codes ".old") → IsNumberIn digits r → (n : ℕ) →
-      (r ≡ Some n) ↔ IsStagedName name n file
-  made_old digits r parts reads n = (
-    λ is.
-        let printed = (reads n).0 is in
-        record { some = printed.0; small = printed.1; named = inr (parts ∙ ap (λ (v : List ℕ). name ++ 46 ∷ (v ++ codes ".old")) printed.2) },
-    λ made. (reads n).1 (
-      made.some,
-      made.small,
-      elim made.named [
-        | inl e ↦
-            absurd (two_endings (decimal n) digits
-            (append_cancel_left (46 ∷ []) _ _ (append_cancel_left name (46 ∷ (decimal n ++ codes ".new")) (46 ∷ (digits ++ codes ".old")) (sym e ∙ parts))))
-        | inr e ↦
-            append_cancel_right digits (decimal n) (codes ".old")
-            (append_cancel_left (46 ∷ []) _ _ (append_cancel_left name (46 ∷ (digits ++ codes ".old")) (46 ∷ (decimal n ++ codes ".old")) (sym parts ∙ e)))
-      ],
-    ),
-  )
-
-  -- none is read where no process made the file
-  pub none_made : (r : Option ℕ) → r ≡ None → ((n : ℕ) → IsStagedName name n file → ⊥) → (n : ℕ) → (r ≡ Some n) ↔ IsStagedName name n file
-  none_made r is denied n = (λ (e : r ≡ Some n). cc (e, is), λ made. absurd (denied n made))
-
-  pub without_dot : (rest : List ℕ) → file ≡ name ++ rest → ((more : List ℕ) → rest ≢ 46 ∷ more) → (n : ℕ) → IsStagedName name n file → ⊥
-  without_dot rest parts denied n made = elim made.named [
-    | inl e ↦ denied _ (append_cancel_left name rest (46 ∷ (decimal n ++ codes ".new")) (sym parts ∙ e))
-    | inr e ↦ denied _ (append_cancel_left name rest (46 ∷ (decimal n ++ codes ".old")) (sym parts ∙ e))
+  pub no_lock : IsLockName file → (n : ℕ) → IsLeftName name n file → ⊥
+  no_lock lock n left = elim left.made [
+    | inl new ↦ lock_ending file left.front (codes ".new") n refl refl lock new.0
+    | inr old ↦ lock_ending file left.front (codes ".old") n refl refl lock old.0
   ]
 
-  pub without_ending : (rest : List ℕ) → file ≡ name ++ 46 ∷ rest → ((front : List ℕ) → rest ≢ front ++ codes ".new") →
-      ((front : List ℕ) → rest ≢ front ++ codes ".old") → (n : ℕ) → IsStagedName name n file → ⊥
-  without_ending rest parts denied none n made = elim made.named [
-    | inl e ↦
-        denied (decimal n) (append_cancel_left (46 ∷ []) _ _ (append_cancel_left name (46 ∷ rest) (46 ∷ (decimal n ++ codes ".new")) (sym parts ∙ e)))
-    | inr e ↦
-        none (decimal n) (append_cancel_left (46 ∷ []) _ _ (append_cancel_left name (46 ∷ rest) (46 ∷ (decimal n ++ codes ".old")) (sym parts ∙ e)))
+  pub left_new : (front : List ℕ) (m : ℕ) → IsStagedName front m (codes ".new") file → (n : ℕ) → IsLeftName name n file → MayTakeNew name front × (m ≡ n)
+  left_new front m is n left = elim left.made [
+    | inl new ↦
+        let same = same_name file (codes ".new") front left.front m n is new.0 in
+        (subst (MayTakeNew name) (sym same.0) new.1, same.1)
+    | inr old ↦ absurd (two_endings file front left.front m n is old.0)
   ]
+
+  pub left_old : (front : List ℕ) (m : ℕ) → IsStagedName front m (codes ".old") file → (n : ℕ) → IsLeftName name n file → MayTakeOld name front × (m ≡ n)
+  left_old front m is n left = elim left.made [
+    | inl new ↦ absurd (two_endings file left.front front n m new.0 is)
+    | inr old ↦
+        let same = same_name file (codes ".old") front left.front m n is old.0 in
+        (subst (MayTakeOld name) (sym same.0) old.1, same.1)
+  ]
+
+pub where_none : {X : Type 0} (r : Option X) (P : Type 0) → P → IfNone r P
+where_none None P p = p
+where_none (Some x) P p = tt
+
+-- what a test of two texts tells
+pub text_is : (r : Bool) (one two : List ℕ) → r ≡ pointwise nat_eq one two → (r ≡ true) ↔ (one ≡ two)
+text_is true one two h = (λ e. same_text one two h, λ e. refl)
+text_is false one two h = (λ e. cc (e), λ e. absurd (other_text one two h e))
+
+pub taken_marked : (name front place : List ℕ) (r : Bool) → front ≡ place ++ codes ".pocsag" → (r ≡ true) ↔ (place ≡ name) →
+    (r ≡ true) ↔ MayTakeOld name front
+taken_marked name front place r parts same = (
+  λ is. inl (parts ∙ ap (λ (v : List ℕ). v ++ codes ".pocsag") (same.0 is)),
+  λ may. elim may [
+    | inl e ↦ same.1 (append_cancel_right place name (codes ".pocsag") (sym parts ∙ e))
+    | inr e ↦ absurd (e.1 (record { place = place; named = sym e.0 ∙ parts }))
+  ],
+)
+
+-- the number of what was left, and none
+pub made_by : (name file : List ℕ) (m : ℕ) → IsLeftName name m file → ((n : ℕ) → IsLeftName name n file → m ≡ n) → (n : ℕ) →
+    (Made m ≡ Made n) ↔ IsLeftName name n file
+made_by name file m left one n = (λ e. let same : m ≡ n = cc (e) in subst (λ (k : ℕ). IsLeftName name k file) same left, λ also. ap Made (one n also))
+
+pub locked : (name file : List ℕ) → ((n : ℕ) → IsLeftName name n file → ⊥) → (n : ℕ) → (Lock ≡ Made n) ↔ IsLeftName name n file
+locked name file none n = (λ e. cc (e), λ left. absurd (none n left))
+
+pub neither : (name file : List ℕ) → ((n : ℕ) → IsLeftName name n file → ⊥) → (n : ℕ) → (Neither ≡ Made n) ↔ IsLeftName name n file
+neither name file none n = (λ e. cc (e), λ left. absurd (none n left))

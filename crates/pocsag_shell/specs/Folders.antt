@@ -97,6 +97,25 @@ pub record IsPut (held : List ℕ → Option Stored) (may_leave : Left → Type 
   pub place : IsOnDisk held may_leave (place_of file) (bytes (staged_at file))
   pub gone : held (staged_at file) ≡ None
 
+-- No second name of an older file is left.
+abbrev pub KeepsNone : (held : List ℕ → Option Stored) → StagedFile → Type 0
+KeepsNone held file = held (kept_at file) ≡ None
+
+-- *Gone*: nothing stands beside the place, neither a file that is still to be put there nor the second name of the older one.
+pub record IsGone (held : List ℕ → Option Stored) (file : StagedFile) : Type 0 where
+  pub staged : held (staged_at file) ≡ None
+  pub kept : KeepsNone held file
+
+-- *Beside*: of the first files, so many of them, nothing stands any more where they were made; the others still stand there.
+pub record StandBeside (files : List StagedFile) (was now : List ℕ → Option Stored) : Type 0 where
+  pub count : ℕ
+  pub first : AllByRecursion (λ file. now (staged_at file) ≡ None) (take count files)
+  pub others : AllByRecursion (λ file. now (staged_at file) ≡ was (staged_at file)) (drop count files)
+
+-- All paths but those where the older files are kept have what they had.
+abbrev pub IsSameButKept : {X : Type 0} → (files : List StagedFile) → (was now : List ℕ → X) → Type 0
+IsSameButKept files was now = (path : List ℕ) → AllByRecursion (λ file. path ≢ kept_at file) files → now path ≡ was path
+
 -- At the place is what stood there before, and no crash takes it away.
 abbrev pub IsBack : (held : List ℕ → Option Stored) → (may_leave : Left → Type 0) → (bytes : List ℕ → Option (List ℕ)) → StagedFile → Type 0
 IsBack held may_leave bytes file = IsOnDisk held may_leave (place_of file) (bytes (place_of file))

@@ -1,7 +1,7 @@
-pub mod StagedFiles
 pub mod ErrorStreams
 pub mod Faults
+pub mod Folders
 pub mod Loads
 pub mod Notes
 pub mod Paths
-pub mod Folders
+pub mod StagedFiles

@@ -1,7 +1,7 @@
 ghost use Rattle.std.specs.Prelude.{◌≡◌, ◌⊎◌, IfErr, IfOk, IsErrAnd, IsErrOf, Ok, OnErr};
 
 use crate::devices::WriterSink;
-use crate::diagnostics::{Diagnostics, OWN_REFUSAL, Trouble};
+use crate::diagnostics::{Diagnostics, OWN_REFUSAL, RefusedCall};
 use crate::fault::{Failure, FileFault};
 use crate::files::one_file;
 use crate::lines::print_fault;
@@ -11,7 +11,7 @@ use std::alloc::{AllocError, Global};
 use std::fmt::Display;
 use std::io::{self, ErrorKind, Stderr, Stdout};
 
-/// What each step of a command needs: the runtime, the allocator, and the watch for `--verbose`.
+/// What each step of a command needs: the runtime, the allocator, and the diagnostics for `--verbose`.
 #[derive(Clone, Copy)]
 pub struct Context<'a> {
     pub rt: &'a HostRuntime,
@@ -77,8 +77,8 @@ impl<'a> Context<'a> {
             return;
         }
         let kept = self.diagnostics.note.try_replace(None).ok().flatten();
-        let printed = match (kept, self.diagnostics.take_trouble()) {
-            (None, Some(trouble)) => self.trouble_text(names, trouble).ok(),
+        let printed = match (kept, self.diagnostics.take_refused_call()) {
+            (None, Some(refused_call)) => self.refused_call_text(names, refused_call).ok(),
             (kept, _) => kept,
         };
         if let Some(printed) = printed {
@@ -86,10 +86,14 @@ impl<'a> Context<'a> {
         }
     }
 
-    // The file of a trouble, and the system's reason; or, where the command refused it, the two files that are one, if two are.
-    fn trouble_text(&self, names: Names<'_>, trouble: Trouble) -> Result<String, AllocError> {
-        let place = names.place(trouble.role);
-        match trouble.code {
+    // The file of a refused call, and the system's reason; or, where the command refused it, the two files that are one, if two are.
+    fn refused_call_text(
+        &self,
+        names: Names<'_>,
+        refused_call: RefusedCall,
+    ) -> Result<String, AllocError> {
+        let place = names.place(refused_call.role);
+        match refused_call.code {
             Some(OWN_REFUSAL) => match one_file(self.rt, names) {
                 Some((one, other)) => { format!(in self.alloc; "{one} and {other} are one file") }
                 None => format!(in self.alloc; "{place}"),
@@ -104,9 +108,9 @@ impl<'a> Context<'a> {
         }
     }
 
-    /// Forgets which file the system refused, which is no trouble of a command that did what it was asked.
-    pub fn forget_trouble(&self) {
-        let _ = self.diagnostics.take_trouble();
+    /// Forgets which file the system refused, which is no fault of a command that did what it was asked.
+    pub fn forget_refused_call(&self) {
+        let _ = self.diagnostics.take_refused_call();
     }
 
     /// Ends a command: writes its fault to standard error, and the line of `--verbose` behind it. Returns the exit status.
@@ -116,7 +120,7 @@ impl<'a> Context<'a> {
     {
         let status = match done {
             Ok(status) => {
-                self.forget_trouble();
+                self.forget_refused_call();
                 status
             }
             Err(fault) => print_fault(&mut self.err(), fault),

@@ -5,7 +5,7 @@ use crate::role::Role;
 use pocsag_words::{DeviceFault, Sink, Source};
 use std::io::{Read, Write};
 
-/// A reader of the system as a `Source`. It records each refused call in the watch. Every error counts as a failure, an
+/// A reader of the system as a `Source`. It records each refused call in the diagnostics. Every error counts as a failure, an
 /// interruption too. Contracts know nothing of its bytes.
 #[derive(Drop)]
 pub struct ReaderSource<'a, R: Read> {
@@ -51,7 +51,7 @@ impl<'a, R: Read> Source for ReaderSource<'a, R> {
     }
 }
 
-/// A writer of the system as a `Sink`. It records each refused call in the watch. Every error counts as a failure, an
+/// A writer of the system as a `Sink`. It records each refused call in the diagnostics. Every error counts as a failure, an
 /// interruption too, and so does a write that takes nothing of a non-empty piece. Contracts know nothing of its bytes.
 #[derive(Drop)]
 pub struct WriterSink<'a, W: Write> {

@@ -6,7 +6,7 @@ pub(crate) const OWN_REFUSAL: i32 = 0;
 
 /// The system refused a call on a file or a stream, or the command refuses the file.
 #[derive(Clone, Copy)]
-pub(crate) struct Trouble {
+pub(crate) struct RefusedCall {
     /// What the file is to the command.
     pub(crate) role: Role,
     /// The system's error number, if it gave one.
@@ -18,38 +18,38 @@ pub(crate) struct Trouble {
 #[derive(Drop)]
 pub struct Diagnostics {
     is_asked: bool,
-    trouble: Cell<Option<Trouble>>,
+    refused_call: Cell<Option<RefusedCall>>,
     pub(crate) note: RefCell<Option<String>>,
 }
 
 impl Diagnostics {
-    /// An empty watch. `is_asked` says whether the user gave `--verbose`.
+    /// No diagnostics yet. `is_asked` says whether the user gave `--verbose`.
     pub(crate) fn new(is_asked: bool) -> Diagnostics {
         Diagnostics {
             is_asked,
-            trouble: Cell::new(None),
+            refused_call: Cell::new(None),
             note: RefCell::new(None),
         }
     }
 
     /// Records that the system refused a call on a file or a stream.
     pub fn meet(&self, role: Role, code: Option<i32>) {
-        self.trouble.set(Some(Trouble { role, code }));
+        self.refused_call.set(Some(RefusedCall { role, code }));
     }
 
     /// Records that the command refuses a file, unless the system refused a call before.
     pub fn refuse(&self, role: Role) {
-        let refused = Trouble {
+        let refused = RefusedCall {
             role,
             code: Some(OWN_REFUSAL),
         };
-        let trouble = self.take_trouble().unwrap_or(refused);
-        self.trouble.set(Some(trouble));
+        let refused_call = self.take_refused_call().unwrap_or(refused);
+        self.refused_call.set(Some(refused_call));
     }
 
-    /// The last refused call. The watch forgets it.
-    pub(crate) fn take_trouble(&self) -> Option<Trouble> {
-        self.trouble.replace(None)
+    /// The last refused call. It is forgotten.
+    pub(crate) fn take_refused_call(&self) -> Option<RefusedCall> {
+        self.refused_call.replace(None)
     }
 
     /// Whether the user gave `--verbose`.

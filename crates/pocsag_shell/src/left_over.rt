@@ -1,6 +1,7 @@
-ghost use Rattle.std.specs.Prelude.{◌≡◌, ◌↔◌, ◌^◌, ◌<◌, ℕ, Some};
+ghost use Rattle.std.specs.Prelude.{◌≡◌, ◌↔◌, ◌^◌, ◌<◌, ℕ, List, true, IfNone, IfSome, Some};
 ghost use Rattle.std.specs.Fmt.{decimal};
-ghost use Rattle.pocsag_shell.specs.StagedFiles.{IsStagedName};
+ghost use Rattle.pocsag_shell.specs.StagedFiles.{IsLeftName, IsLockName, IsStagedName, MayTakeOld};
+ghost use Rattle.pocsag_shell.specs.declared.left_over.LeftOver.TheVariants.{Lock, Made};
 
 use crate::files::is_regular_or_none;
 use crate::paths::Named;
@@ -11,10 +12,24 @@ use std::os::unix::fs::PermissionsExt;
 use std::process;
 
 // The ending of the locks of places.
-const LOCK: &str = ".lock";
+const LOCK: &str = ".pocsag.lock";
+
+// What marks the names of files that runs make beside places.
+const FILE_MARK: &str = ".pocsag";
 
 // The mode that lets everybody read.
 const ALL_READ: u32 = 0o444;
+
+// What a killed run may have left under a name.
+#[derive(Clone, Copy)]
+enum LeftOver {
+    // The lock of a place.
+    Lock,
+    // What the process of this number made beside a place.
+    Made(u32),
+    // Nothing that may be removed.
+    Neither,
+}
 
 /// Removes what runs that were killed left in the folder of a place, and what nobody holds: the locks of places, the files that
 /// runs made beside any place, `PLACE.pocsag.NUMBER.new`, and, of this place alone, the older file that they kept,
@@ -46,15 +61,10 @@ pub(crate) fn remove_left_over(rt: &HostRuntime, place: &str) {
 // Whether the name is that of the lock of a place, or of a file that a process which is gone made beside the place of a name or
 // beside another one.
 fn may_be_left(rt: &HostRuntime, name: &str, file: &str) -> bool {
-    let number = match file.rsplit_once(".pocsag") {
-        Some((_, rest)) if rest == LOCK => return true,
-        Some((place, rest)) if place == name || rest.ends_with(".new") => process_of("", rest),
-        Some(_) => None,
-        // Earlier versions marked no name, and nobody but the user knows whose such a name is beside another place.
-        None => process_of(name, file),
-    };
-    let Some(number) = number else {
-        return false;
+    let number = match left_over(name, file) {
+        LeftOver::Lock => return true,
+        LeftOver::Made(number) => number,
+        LeftOver::Neither => return false,
     };
     let Ok(path) = format!(in rt.alloc(); "/proc/{number}") else {
         return false;
@@ -62,6 +72,40 @@ fn may_be_left(rt: &HostRuntime, name: &str, file: &str) -> bool {
     match fs::metadata(rt, path.as_str()) {
         Ok(_) => false,
         Err(error) => error.kind() == ErrorKind::NotFound,
+    }
+}
+
+// What killed runs may have left under the name of a file, in the folder of the place of a name.
+fn left_over(name: &str, file: &str) -> LeftOver
+    ensures lock { (result ≡ Lock) ↔ IsLockName file.now }
+    ensures made { (number : ℕ) → (result ≡ Made number) ↔ IsLeftName name.now number file.now }
+{
+    if file.ends_with(LOCK) {
+        return LeftOver::Lock;
+    }
+    if let Some((front, number)) = process_of(file, ".new") {
+        if front == name || front.ends_with(FILE_MARK) {
+            return LeftOver::Made(number);
+        }
+        return LeftOver::Neither;
+    }
+    let Some((front, number)) = process_of(file, ".old") else {
+        return LeftOver::Neither;
+    };
+    if may_take_old(name, front) {
+        return LeftOver::Made(number);
+    }
+    LeftOver::Neither
+}
+
+// Whether what stood at a place before stood at the place of this name. Earlier versions marked no name, and nobody but the user knows
+// whose such a name is beside another place.
+fn may_take_old(name: &str, front: &str) -> bool
+    ensures { (result ≡ true) ↔ MayTakeOld name.now front.now }
+{
+    match front.strip_suffix(FILE_MARK) {
+        Some(place) => place == name,
+        None => front == name,
     }
 }
 
@@ -118,16 +162,14 @@ fn readable_by_all(made: io::Result<File>) -> Option<File> {
     Some(file)
 }
 
-// The number of the process that made the file beside the place of a name, if a process made it.
-fn process_of(name: &str, file: &str) -> Option<u32>
-    ensures { (number : ℕ) → (result ≡ Some number) ↔ IsStagedName name.now number file.now }
+// What stands before the number in the name of a file with this ending, and the number of the process that made it, if a process
+// made it.
+fn process_of<'a>(file: &'a str, ending: &str) -> Option<(&'a str, u32)>
+    ensures named { IfSome result (λ parts. IsStagedName parts.0.now parts.1 ending.now file.now) }
+    ensures none { IfNone result ((front : List ℕ) (number : ℕ) → IsStagedName front number ending.now file.now → ⊥) }
 {
-    let rest = file.strip_prefix(name)?.strip_prefix('.')?;
-    let digits = match rest.strip_suffix(".new") {
-        Some(digits) => digits,
-        None => rest.strip_suffix(".old")?,
-    };
-    written_number(digits)
+    let (front, digits) = file.strip_suffix(ending)?.rsplit_once('.')?;
+    Some((front, written_number(digits)?))
 }
 
 // The number from 1 on that is written so.

@@ -39,7 +39,7 @@ impl<F: Failure + From<FileFault> + PartialEq + Drop> MemoryStreams<F> {
             }
             (Ok(status), None) => match put_whole(&mut context.out(), out.into_bytes().as_slice()) {
                 Ok(()) => {
-                    context.forget_trouble();
+                    context.forget_refused_call();
                     status
                 }
                 Err(fault) => print_fault(errors, fault),

@@ -1,7 +1,7 @@
-ghost use Rattle.std.specs.Prelude.{◌≡◌, ◌⊎◌, ℕ, List, Option, None, IfErr, IfOk, IsFalse, IsTrue, OnErr, OnOk};
+ghost use Rattle.std.specs.Prelude.{◌≡◌, ◌⊎◌, ◌≤◌, ℕ, List, Option, None, IfErr, IfOk, IsFalse, IsTrue, OnErr, OnOk};
 ghost use Rattle.std.specs.List.{AllByRecursion};
 ghost use Rattle.pocsag_words.specs.Devices.{HasFailed, one_more};
-ghost use Rattle.pocsag_shell.specs.Folders.{HaveOwnPaths, CountsCalls, FailsTwice, IsNoPathOf, IsBack, IsDistinct, IsPut, IsStaged, IsSameButTwo, IsOnDisk, MayMove, MayPut, MayPutAll, StepsBy, kept_at, place_of, on_disk};
+ghost use Rattle.pocsag_shell.specs.Folders.{HaveOwnPaths, CountsCalls, FailsTwice, IsNoPathOf, IsBack, IsDistinct, IsGone, IsPut, IsStaged, IsSameButKept, IsSameButTwo, KeepsNone, IsOnDisk, MayMove, MayPut, MayPutAll, StandBeside, StepsBy, kept_at, place_of, on_disk, staged_at};
 
 use crate::fault::FileFault;
 use crate::folder::Folder;
@@ -9,7 +9,7 @@ use crate::staged_file::StagedFile;
 
 // Why files were not put at their places, and whether all places have again what stood there before.
 #[derive(Clone, Copy)]
-pub(crate) struct Unput {
+pub(crate) struct FailedPlacement {
     pub fault: FileFault,
     pub is_back: bool,
 }
@@ -54,7 +54,7 @@ fn bring_back<F: Folder>(folder: &mut F, file: &StagedFile, stood: bool) -> Resu
 
 // Puts a file at its place and keeps the older one beside it. Returns whether there was one. Where it cannot, it brings the older
 // file back.
-fn put_first<F: Folder>(folder: &mut F, file: &StagedFile) -> Result<bool, Unput>
+fn put_first<F: Folder>(folder: &mut F, file: &StagedFile) -> Result<bool, FailedPlacement>
     ensures put { F.is_known → (bytes : List ℕ → Option (List ℕ)) → IsDistinct file.now →
         IsStaged (F.held folder.old) (F.may_leave folder.old) bytes file.now →
         OnOk result (IsPut (F.held folder.new) (F.may_leave folder.new) bytes file.now) }
@@ -68,6 +68,9 @@ fn put_first<F: Folder>(folder: &mut F, file: &StagedFile) -> Result<bool, Unput
         IsStaged (F.held folder.old) (F.may_leave folder.old) bytes file.now →
         IfErr result (λ unput. IsTrue unput.is_back →
         IsBack (F.held folder.new) (F.may_leave folder.new) bytes file.now) }
+    ensures taken { F.is_known → IsDistinct file.now → OnOk result (F.held folder.new (staged_at file.now) ≡ None) }
+    ensures beside { F.is_known → IsDistinct file.now → OnErr result ((F.held folder.new (staged_at file.now) ≡ None)
+        ⊎ (F.held folder.new (staged_at file.now) ≡ F.held folder.old (staged_at file.now))) }
     ensures others { F.is_known → (path : List ℕ) → IsNoPathOf path file.now →
         F.held folder.new path ≡ F.held folder.old path }
     ensures any_moment { F.is_known → (bytes : List ℕ → Option (List ℕ)) → IsDistinct file.now →
@@ -82,13 +85,13 @@ fn put_first<F: Folder>(folder: &mut F, file: &StagedFile) -> Result<bool, Unput
     let (role, place) = (file.role, &file.place);
     let stood = match folder.link(role, place, &file.kept) {
         Ok(stood) => stood,
-        Err(fault) => return Err(Unput {
+        Err(fault) => return Err(FailedPlacement {
             fault,
             is_back: true,
         }),
     };
     if let Err(fault) = folder.rename(role, &file.path, place) {
-        return Err(Unput {
+        return Err(FailedPlacement {
             fault,
             is_back: true,
         });
@@ -97,11 +100,11 @@ fn put_first<F: Folder>(folder: &mut F, file: &StagedFile) -> Result<bool, Unput
         return Ok(stood);
     };
     match bring_back(folder, file, stood) {
-        Ok(()) => Err(Unput {
+        Ok(()) => Err(FailedPlacement {
             fault,
             is_back: true,
         }),
-        Err(_) => Err(Unput {
+        Err(_) => Err(FailedPlacement {
             fault,
             is_back: false,
         }),
@@ -110,7 +113,7 @@ fn put_first<F: Folder>(folder: &mut F, file: &StagedFile) -> Result<bool, Unput
 
 // Puts the files at their places, one by one. Where it cannot, it brings the older files back, the last first, and stops where one
 // does not come back: the older files of those before it keep their second names.
-fn put_rest<F: Folder>(folder: &mut F, files: &[StagedFile]) -> Result<(), Unput>
+fn put_rest<F: Folder>(folder: &mut F, files: &[StagedFile]) -> Result<(), FailedPlacement>
     ensures put { F.is_known → (bytes : List ℕ → Option (List ℕ)) → HaveOwnPaths files.now →
         AllByRecursion (IsStaged (F.held folder.old) (F.may_leave folder.old) bytes) files.now →
         OnOk result (AllByRecursion (IsPut (F.held folder.new) (F.may_leave folder.new) bytes) files.now) }
@@ -118,11 +121,14 @@ fn put_rest<F: Folder>(folder: &mut F, files: &[StagedFile]) -> Result<(), Unput
         AllByRecursion (IsStaged (F.held folder.old) (F.may_leave folder.old) bytes) files.now →
         IfErr result (λ unput. IsTrue unput.is_back →
         AllByRecursion (IsBack (F.held folder.new) (F.may_leave folder.new) bytes) files.now) }
+    ensures beside { F.is_known → HaveOwnPaths files.now →
+        OnErr result (StandBeside files.now (F.held folder.old) (F.held folder.new)) }
     ensures others { F.is_known → (path : List ℕ) → AllByRecursion (IsNoPathOf path) files.now →
         F.held folder.new path ≡ F.held folder.old path }
     ensures any_moment { F.is_known → (bytes : List ℕ → Option (List ℕ)) → HaveOwnPaths files.now →
         AllByRecursion (IsStaged (F.held folder.old) (F.may_leave folder.old) bytes) files.now →
         StepsBy F.moment F.left_since F.may_leave folder.old folder.new (MayPutAll files.now bytes) }
+    ensures succeeded { F.is_known → OnOk result (F.failures folder.new ≡ F.failures folder.old) }
     ensures once { F.is_known → IfErr result (λ unput. IsTrue unput.is_back →
         F.failures folder.new ≡ one_more (F.failures folder.old)) }
     ensures twice { F.is_known → IfErr result (λ unput. IsFalse unput.is_back →
@@ -136,17 +142,13 @@ fn put_rest<F: Folder>(folder: &mut F, files: &[StagedFile]) -> Result<(), Unput
         Err(unput) => return Err(unput),
     };
     let unput = match put_rest(folder, others) {
-        Ok(()) => {
-            // A failure changes nothing.
-            let _ = folder.remove(&file.kept);
-            return Ok(());
-        }
+        Ok(()) => return Ok(()),
         Err(unput) => unput,
     };
     if unput.is_back {
         return match bring_back(folder, file, stood) {
             Ok(()) => Err(unput),
-            Err(_) => Err(Unput {
+            Err(_) => Err(FailedPlacement {
                 fault: unput.fault,
                 is_back: false,
             }),
@@ -155,9 +157,26 @@ fn put_rest<F: Folder>(folder: &mut F, files: &[StagedFile]) -> Result<(), Unput
     Err(unput)
 }
 
+// Removes the second names of the older files. A failure leaves one.
+fn remove_kept<F: Folder>(folder: &mut F, files: &[StagedFile])
+    ensures gone { F.is_known → HaveOwnPaths files.now → AllByRecursion (KeepsNone (F.held folder.new)) files.now
+        ⊎ HasFailed (F.failures folder.old) (F.failures folder.new) }
+    ensures others { F.is_known → IsSameButKept files.now (F.held folder.old) (F.held folder.new) }
+    ensures any_moment { F.is_known → StepsBy F.moment F.left_since F.may_leave folder.old folder.new
+        (IsSameButKept files.now) }
+    ensures failures { F.is_known → F.failures folder.old ≤ F.failures folder.new }
+{
+    let [file, others @ ..] = files else {
+        return;
+    };
+    let _ = folder.remove(&file.kept);
+    remove_kept(folder, others);
+}
+
 /// Puts the files at their places, in this order. Each stands beside its place and is on the disk. Each new name is on the disk
 /// before the next file is renamed. Where one cannot be put, the older files come back, the last first, each before the one before
-/// it; if one does not come back the others stay where they are.
+/// it; if one does not come back the others stay where they are. At last the second names of the older files are removed, unless one of
+/// these files has to stay.
 pub fn put_files<F: Folder>(folder: &mut F, files: &[StagedFile]) -> Result<(), FileFault>
     ensures put { F.is_known → (bytes : List ℕ → Option (List ℕ)) → HaveOwnPaths files.now →
         AllByRecursion (IsStaged (F.held folder.old) (F.may_leave folder.old) bytes) files.now →
@@ -174,9 +193,33 @@ pub fn put_files<F: Folder>(folder: &mut F, files: &[StagedFile]) -> Result<(), 
         OnErr result (AllByRecursion (IsBack (F.held folder.new) (F.may_leave folder.new) bytes) files.now
         ⊎ FailsTwice (F.failures folder.old) (F.failures folder.new)) }
     ensures failed { F.is_known → OnErr result (HasFailed (F.failures folder.old) (F.failures folder.new)) }
+
+    // Where all are put nothing stands beside the places, unless a call failed, which was to remove a second name.
+    ensures gone { F.is_known → (bytes : List ℕ → Option (List ℕ)) → HaveOwnPaths files.now →
+        AllByRecursion (IsStaged (F.held folder.old) (F.may_leave folder.old) bytes) files.now →
+        OnOk result (AllByRecursion (IsGone (F.held folder.new)) files.now
+        ⊎ HasFailed (F.failures folder.old) (F.failures folder.new)) }
+
+    // Where it fails no second name is left, unless a second call failed.
+    ensures none_kept { F.is_known → HaveOwnPaths files.now → OnErr result
+        (AllByRecursion (KeepsNone (F.held folder.new)) files.now
+        ⊎ HasFailed (one_more (F.failures folder.old)) (F.failures folder.new)) }
+
+    // Where it fails the files that were never renamed, the last ones, still stand beside their places: `StagedFile::remove` removes
+    // them.
+    ensures beside { F.is_known → HaveOwnPaths files.now →
+        OnErr result (StandBeside files.now (F.held folder.old) (F.held folder.new)) }
 {
-    match put_rest(folder, files) {
-        Ok(()) => Ok(()),
-        Err(unput) => Err(unput.fault),
+    let unput = match put_rest(folder, files) {
+        Ok(()) => {
+            remove_kept(folder, files);
+            return Ok(());
+        }
+        Err(unput) => unput,
+    };
+    if !unput.is_back {
+        return Err(unput.fault);
     }
+    remove_kept(folder, files);
+    Err(unput.fault)
 }

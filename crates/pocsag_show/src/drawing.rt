@@ -9,12 +9,12 @@ use crate::heading::put_heading;
 use crate::judged::Judged;
 use crate::legend::{legend_lines, put_key, put_legend};
 use crate::page_lines::put_pages;
-use crate::picture::{CODEWORDS, FRAMES};
 use crate::pieces::{put, put_printed};
 use crate::placed::Placed;
 use crate::places::row_top;
 use crate::rows::Rows;
 use crate::window::Window;
+use pocsag_words::{BATCH_CODEWORDS, FRAMES};
 use std::alloc::{AllocError, Global};
 
 // Writes the rows that are drawn, each behind its pages.
@@ -85,7 +85,7 @@ pub(crate) fn drawing_of(alloc: Global, rows: Rows, judged: &Judged) -> Result<V
         judged.now.grid.idles judged.now.placed.items) }
 {
     let letters = judged.grid.letters.len();
-    let batches = letters / CODEWORDS;
+    let batches = letters / BATCH_CODEWORDS;
     let counts = Counts {
         batches: batches as u64,
         codewords: letters as u64 - judged.grid.idles,

@@ -3,10 +3,11 @@ ghost use Rattle.std.specs.List.{flat_map, range_with_len};
 ghost use Rattle.pocsag_show.specs.Drawing.{axis_number, counted, heading, seen_before, text_before};
 
 use crate::counts::Counts;
-use crate::picture::{CODEWORDS, FRAMES, put_counts, put_totals};
+use crate::picture::{put_counts, put_totals};
 use crate::pieces::{put, put_printed};
 use crate::style::put_style;
 use crate::window::Window;
+use pocsag_words::{BATCH_CODEWORDS, FRAMES};
 use std::alloc::AllocError;
 
 // Writes what is reported before the rows: which batches are drawn, the totals and what the drawing is.
@@ -109,7 +110,7 @@ fn put_seen_before(
         <text class='e' x='50' y='74'>batch</text>",
     )?;
     put_axis(text, FRAMES, 108, 56, 60)?;
-    put_axis(text, CODEWORDS, 94, 28, 74)?;
+    put_axis(text, BATCH_CODEWORDS, 94, 28, 74)?;
     put(text, b"\n")
 }
 

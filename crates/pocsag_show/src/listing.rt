@@ -5,11 +5,11 @@ ghost use Rattle.pocsag_decode.specs.Lines.{IsReady, PutsRow, text_in};
 ghost use Rattle.pocsag_show.specs.Places.{place_header, place_record, place_rows};
 
 use crate::judged::Judged;
-use crate::picture::CODEWORDS;
 use crate::placed::Placed;
 use csv::Writer;
 use itoa::Buffer;
 use pocsag_decode::{kind_of_page, message_of};
+use pocsag_words::BATCH_CODEWORDS;
 use std::alloc::{AllocError, Global};
 
 // Writes one record.
@@ -37,9 +37,9 @@ fn put_place(alloc: Global, writer: &mut Writer<Vec<u8>>, placed: &Placed) -> Re
     let (mut batch, mut frame, mut slot) = (Buffer::new(), Buffer::new(), Buffer::new());
     let (mut codewords, mut address) = (Buffer::new(), Buffer::new());
     let fields = [
-        batch.format(placed.start / CODEWORDS + 1).as_bytes(),
-        frame.format(placed.start % CODEWORDS / 2).as_bytes(),
-        slot.format(placed.start % CODEWORDS).as_bytes(),
+        batch.format(placed.start / BATCH_CODEWORDS + 1).as_bytes(),
+        frame.format(placed.start % BATCH_CODEWORDS / 2).as_bytes(),
+        slot.format(placed.start % BATCH_CODEWORDS).as_bytes(),
         codewords.format(1 + items.len()).as_bytes(),
         address.format(page.address).as_bytes(),
         kind_of_page(page.function, items),

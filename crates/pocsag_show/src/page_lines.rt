@@ -7,11 +7,11 @@ ghost use Rattle.pocsag_show.specs.Rows.{rows_between};
 
 use crate::marks::{put_head, put_opened, put_rectangle, put_tail};
 use crate::page_text::put_told;
-use crate::picture::CODEWORDS;
 use crate::pieces::put;
 use crate::placed::Placed;
 use crate::places::row_top;
 use crate::window::Window;
+use pocsag_words::BATCH_CODEWORDS;
 use std::alloc::{AllocError, Global};
 
 // Writes what is drawn of a page in a row.
@@ -22,7 +22,7 @@ fn put_piece(text: &mut Vec<u8>, low: usize, placed: &Placed, row: usize) -> Res
 {
     let from = placed.start.max(16 * row);
     let behind = placed.index_behind().min(16 * row as u128 + 16);
-    let x = 80 + 28 * (from % CODEWORDS) as u128;
+    let x = 80 + 28 * (from % BATCH_CODEWORDS) as u128;
     let y = row_top(low, row);
     put_rectangle(text, x, y, 28 * behind.saturating_sub(from as u128))?;
     if 16 * row <= placed.start {

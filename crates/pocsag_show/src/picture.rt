@@ -10,14 +10,8 @@ use crate::pieces::{put, put_printed};
 use crate::rows::Rows;
 use crate::window::Window;
 use itoa::Buffer;
-use pocsag_words::{airtime, transmission_bits};
+use pocsag_words::{BATCH_CODEWORDS, FRAMES, airtime, transmission_bits};
 use std::alloc::{AllocError, Global};
-
-/// The codewords of a batch, without its synchronisation codeword.
-pub(crate) const CODEWORDS: usize = 16;
-
-/// The frames of a batch, of two codewords each.
-pub(crate) const FRAMES: usize = 8;
 
 fn put_spaces(text: &mut Vec<u8>, count: usize) -> Result<(), AllocError>
     requires { count < 4 }
@@ -85,7 +79,7 @@ fn put_frames(text: &mut Vec<u8>, letters: &[u8], batch: usize) -> Result<(), Al
         ++ flat_map (frame_cells (slice_index letters.now) batch) (range_with_len 0 8)) }
 {
     for frame in 0..FRAMES {
-        let index = CODEWORDS * batch + 2 * frame;
+        let index = BATCH_CODEWORDS * batch + 2 * frame;
         put(text, &[b' ', letters[index], letters[index + 1]])?;
     }
     Ok(())
@@ -116,7 +110,7 @@ pub(crate) fn picture_of(alloc: Global, rows: Rows, grid: &Grid) -> Result<Vec<u
         IfOk result (λ v. v.items ≡ picture rows numbers ks) }
 {
     let letters = grid.letters.as_slice();
-    let batches = letters.len() / CODEWORDS;
+    let batches = letters.len() / BATCH_CODEWORDS;
     let window = Window::new(rows, batches);
     let counts = Counts {
         batches: batches as u64,

@@ -3,9 +3,9 @@ ghost use Rattle.pocsag_show.specs.Legend.{end_row_of, first_row_of, is_drawn};
 ghost use Rattle.pocsag_show.specs.Measures.{row_top};
 ghost use Rattle.pocsag_show.specs.Placed.{index_behind};
 
-use crate::picture::CODEWORDS;
 use crate::placed::Placed;
 use crate::window::Window;
+use pocsag_words::BATCH_CODEWORDS;
 
 /// The upper side of a row, where this row is drawn first.
 pub(crate) fn row_top(low: usize, row: usize) -> u128
@@ -28,7 +28,7 @@ impl Placed {
     pub(crate) fn first_row(&self, window: Window) -> usize
         ensures { result ≡ first_row_of window.low self.now }
     {
-        window.low.max(self.start / CODEWORDS)
+        window.low.max(self.start / BATCH_CODEWORDS)
     }
 
     /// The row behind the last.

@@ -76,7 +76,7 @@ fn key(context: Context<'_>, keying: Keying, mut tx: Loaded, names: Names<'_>) -
     let mut err = ErrorStream::new(context.err());
     let status = run_wav(context.alloc, keying, &mut tx, &mut context.out(), &mut err);
     if err.fault().is_none() {
-        context.forget_trouble();
+        context.forget_refused_call();
     }
     context.print_more(names);
     status

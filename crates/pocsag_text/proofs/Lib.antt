@@ -1,10 +1,10 @@
 pub mod Below
 pub mod BitLists
-pub mod Cuts
-pub mod Trims
-pub mod Mirrors
 pub mod Codes
+pub mod Cuts
+pub mod Mirrors
 pub mod Packs
 pub mod Payloads
-pub mod Unpacks
 pub mod RoundTrips
+pub mod Trims
+pub mod Unpacks

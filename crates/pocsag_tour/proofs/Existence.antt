@@ -1,9 +1,9 @@
--- That there is a way, without walking it: the floods and the walk over plain numbers.
-use Rattle.pocsag_tour.proofs.Prelude.{◌≡◌, ◌≢◌, ℕ, zero, suc, ◌+◌, ◌-◌, ◌^◌, ◌<◌, ◌≤◌, ◌==◌, ◌&&◌, nat_lt, Bool, true, false, not, cond, List, [], ◌∷◌, ◌++◌, ◌⊎◌, refl, arith, eq-eqb, inl, inr, cases_eq, eqb-true, ne_eqb, nat_tests, End, Step, SetsTakeMembers, holds, sum_below, LastAs, AllLeadTo, arc_from, arc_to, IsBalanced, IsClosing, IsDeparture, IsEntering, IsSpent, IsWalk, IsWay, LeadHome, NoneEnters, step_of}
+-- That there is a way, without walking it: the sets of exits and the walk over plain numbers.
+use Rattle.pocsag_tour.proofs.Prelude.{◌≡◌, ◌≢◌, ℕ, zero, suc, ◌+◌, ◌-◌, ◌^◌, ◌<◌, ◌≤◌, ◌==◌, ◌&&◌, nat_lt, Bool, true, false, not, cond, List, [], ◌∷◌, ◌++◌, ◌⊎◌, refl, arith, eq-eqb, inl, inr, cases_eq, eqb-true, ne_eqb, nat_tests, End, Step, SetsTakeMembers, holds, sum_below, LastAs, AllLeadTo, arc_from, arc_to, IsBalanced, IsClosing, IsDeparture, IsEntering, IsSpent, IsWalk, IsWay, ExitsLeadToRoot, NoneEnters, step_of}
 use Rattle.std.proofs.lemmas.Bool.{and_parts, not-false, not-true}
 use Rattle.pocsag_words.specs.declared.ending.End.TheVariants as ends
 use Rattle.pocsag_slots.specs.Sums.{AddsMember}
-use Rattle.pocsag_tour.proofs.Floods.{grown_keeps, homes_more, homes_start}
+use Rattle.pocsag_tour.proofs.ExitSets.{grown_keeps, led_more, led_start}
 use Rattle.pocsag_tour.proofs.Geometry.{from_below}
 use Rattle.pocsag_tour.proofs.Joined.{balanced_without, closed_way, joined_closed}
 use Rattle.pocsag_tour.proofs.Walks.{IsLess, sum_less, walk_end, walk_on, walk_start}
@@ -58,15 +58,15 @@ pub record IsTree (counts : ℕ → ℕ) (root : ℕ) : Type 0 where
   pub exits : ℕ → ℕ
   pub root_in : holds set root ≡ true
   pub closed : NoneEnters counts set
-  pub homes : LeadHome counts exits root set
+  pub leads_to_root : ExitsLeadToRoot counts exits root set
 
 abbrev written : (ℕ → ℕ) → ℕ → ℕ → ℕ → ℕ
 written exits at a q = cond (q == at) a (exits q)
 
-flood : SetsTakeMembers → (counts : ℕ → ℕ) (root fuel set : ℕ) (exits : ℕ → ℕ) → set < 2 ^ 16 → 2 ^ 16 ≤ set + fuel →
-    holds set root ≡ true → LeadHome counts exits root set → IsTree counts root
-flood law counts root zero set exits low enough held homes = absurd (omega arith)
-flood law counts root (suc fuel) set exits low enough held homes =
+tree_within : SetsTakeMembers → (counts : ℕ → ℕ) (root fuel set : ℕ) (exits : ℕ → ℕ) → set < 2 ^ 16 → 2 ^ 16 ≤ set + fuel →
+    holds set root ≡ true → ExitsLeadToRoot counts exits root set → IsTree counts root
+tree_within law counts root zero set exits low enough held leads_to_root = absurd (omega arith)
+tree_within law counts root (suc fuel) set exits low enough held leads_to_root =
     elim (seek 288 (enters counts set)) [
       | inl found ↦
           let e : IsEntering counts set found.0 = found_entering counts set found.0 found.1 found.2 in
@@ -74,21 +74,21 @@ flood law counts root (suc fuel) set exits low enough held homes =
           let more : (larger : ℕ) × AddsMember set from larger = law set from (from_below found.0 e.known) in
           let adds : AddsMember set from more.0 = more.1 in
           let grown : set < more.0 = adds.grows e.from in
-          flood law counts root fuel more.0 (written exits from found.0) (adds.small low) (omega arith)
+          tree_within law counts root fuel more.0 (written exits from found.0) (adds.small low) (omega arith)
           (grown_keeps set more.0 from root adds.held adds.others held)
-          (homes_more counts exits (written exits from found.0) root set more.0 found.0 homes e
+          (led_more counts exits (written exits from found.0) root set more.0 found.0 leads_to_root e
           (let t : (from == from) ≡ true = eq-eqb from from refl in rw t refl)
           (λ q ne. (let t : (q == from) ≡ false = ne_eqb q from ne in rw t refl))
           adds.held adds.others)
-      | inr none ↦ record { set = set; exits = exits; root_in = held; closed = none_entering counts set none; homes = homes }
+      | inr none ↦ record { set = set; exits = exits; root_in = held; closed = none_entering counts set none; leads_to_root = leads_to_root }
     ]
 
 tree_exists : SetsTakeMembers → (counts : ℕ → ℕ) (root : ℕ) → root < 16 → IsTree counts root
 tree_exists law counts root h =
     let only : (set : ℕ) × AddsMember 0 root set = law 0 root h in
     let adds : AddsMember 0 root only.0 = only.1 in
-    flood law counts root (2 ^ 16) only.0 (λ q. 0) (adds.small (omega arith)) (omega arith) adds.held
-    (homes_start counts (λ q. 0) root only.0 (adds.alone refl))
+    tree_within law counts root (2 ^ 16) only.0 (λ q. 0) (adds.small (omega arith)) (omega arith) adds.held
+    (led_start counts (λ q. 0) root only.0 (adds.alone refl))
 
 -- an arc to take next, or none
 parts : (ℕ → ℕ) → ℕ → ℕ → ℕ → Bool
@@ -169,7 +169,7 @@ go_on counts root h all tree (suc fuel) left p ss few w =
           go_on counts root h all tree fuel (one_less left step.0) (arc_to step.0) (ss ++ (step_of step.0 ∷ []))
           (omega (arith, sum_less step.0 left (one_less left step.0) step.1.known l))
           (walk_on counts tree.exits left (one_less left step.0) step.0 p root ss w step.1 l)
-      | inr spent ↦ (ss, walk_end counts tree.exits left p root tree.set ss w spent all tree.root_in tree.closed tree.homes)
+      | inr spent ↦ (ss, walk_end counts tree.exits left p root tree.set ss w spent all tree.root_in tree.closed tree.leads_to_root)
     ]
 
 pub way_exists : SetsTakeMembers → (counts : ℕ → ℕ) (root : ℕ) → root < 16 → IsBalanced counts 0 root → AllLeadTo counts root →

@@ -1,12 +1,12 @@
 pub mod Balances
 pub mod CoverLemmas
 pub mod Existence
-pub mod Floods
+pub mod ExitSets
 pub mod Geometry
 pub mod Joined
-pub mod Laps
 pub mod LinkLemmas
 pub mod Prelude
+pub mod Segments
 pub mod Spares
 pub mod Tours
 pub mod Walks

@@ -9,7 +9,7 @@ pub use Rattle.pocsag_slots.specs.declared.class.Classes.{Classes}
 pub use Rattle.pocsag_slots.specs.declared.step.Step.{Step}
 pub use Rattle.pocsag_tour.specs.Links.{IsLed}
 unfoldable pub use Rattle.pocsag_tour.specs.Moves.{arc_at, arc_count, arc_from, arc_to, ins, outs, step_of, taken}
-pub use Rattle.pocsag_tour.specs.Moves.{AllLeadTo, AreCounts, Home, IsBalanced, IsClosing, IsDeparture, IsEntering, IsExit, IsSpent, IsWalk, IsWay, LeadHome, NoneEnters, NoneLeaves, RunsStart, Visited, at_root, by_arc, by_exit}
+pub use Rattle.pocsag_tour.specs.Moves.{AllLeadTo, AreCounts, LeadsToRoot, IsBalanced, IsClosing, IsDeparture, IsEntering, IsExit, IsSpent, IsWalk, IsWay, ExitsLeadToRoot, NoneEnters, NoneLeaves, RunsStart, Visited, at_root, by_arc, by_exit}
 unfoldable pub use Rattle.pocsag_tour.specs.Reached.{runs_of}
 pub use Rattle.pocsag_tour.specs.Reached.{AreReached, IsReached, IsUnclosed}
 pub use Rattle.pocsag_words.specs.declared.ending.End.{End}

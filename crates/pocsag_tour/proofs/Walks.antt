@@ -1,5 +1,5 @@
 -- What a walk keeps, and that it ends as a way over all arcs.
-use Rattle.pocsag_tour.proofs.Prelude.{◌≡◌, ◌≢◌, ℕ, ◌+◌, ◌-◌, ◌%◌, ◌<◌, ◌≤◌, ◌==◌, ◌&&◌, Bool, true, false, not, cond, List, [], ◌∷◌, ◌++◌, length, slice_index, slice_set, refl, sym, ap, ◌∙◌, arith, eq-eqb, inl, inr, get_or-set_same, get_or-set_other, cases_eq, ne_eqb, Step, runs, finish_of, holds, sum_below, Leads, idles, AllLeadTo, arc_from, arc_to, Home, at_root, by_exit, ins, IsBalanced, IsDeparture, IsExit, IsSpent, IsWalk, IsWay, LeadHome, NoneEnters, outs, step_of, taken}
+use Rattle.pocsag_tour.proofs.Prelude.{◌≡◌, ◌≢◌, ℕ, ◌+◌, ◌-◌, ◌%◌, ◌<◌, ◌≤◌, ◌==◌, ◌&&◌, Bool, true, false, not, cond, List, [], ◌∷◌, ◌++◌, length, slice_index, slice_set, refl, sym, ap, ◌∙◌, arith, eq-eqb, inl, inr, get_or-set_same, get_or-set_other, cases_eq, ne_eqb, Step, runs, finish_of, holds, sum_below, Leads, idles, AllLeadTo, arc_from, arc_to, LeadsToRoot, at_root, by_exit, ins, IsBalanced, IsDeparture, IsExit, IsSpent, IsWalk, IsWay, ExitsLeadToRoot, NoneEnters, outs, step_of, taken}
 use Rattle.pocsag_slots.specs.declared.step.Step.TheVariants.{Idle as Stay, Run}
 use Rattle.pocsag_slots.proofs.SumLemmas.{sum_below-bump}
 use Rattle.pocsag_tour.proofs.Balances.{flipped, in_term, outs_spent}
@@ -209,7 +209,7 @@ stuck left p root h balanced spent =
     ]
 
 spent_home : (counts exits left : ℕ → ℕ) (root set : ℕ) → IsBalanced left root root → IsSpent left root →
-    ((q : ℕ) → IsExit counts exits q → left (exits q) ≡ 0 → IsSpent left q) → (q : ℕ) → Home counts exits root set q → IsSpent left q
+    ((q : ℕ) → IsExit counts exits q → left (exits q) ≡ 0 → IsSpent left q) → (q : ℕ) → LeadsToRoot counts exits root set q → IsSpent left q
 spent_home counts exits left root set balanced spent kept _ at_root = spent
 spent_home counts exits left root set balanced spent kept _ (by_exit q held e rest) =
     let next : IsSpent left (arc_to (exits q)) = spent_home counts exits left root set balanced spent kept (arc_to (exits q)) rest in
@@ -222,8 +222,8 @@ spent_home counts exits left root set balanced spent kept _ (by_exit q held e re
     ))
 
 pub walk_end : (counts exits left : ℕ → ℕ) (p root set : ℕ) (ss : List Step) → IsWalk counts exits left ss p root → IsSpent left p →
-    AllLeadTo counts root → holds set root ≡ true → NoneEnters counts set → LeadHome counts exits root set → IsWay counts root ss
-walk_end counts exits left p root set ss w spent all held none homes =
+    AllLeadTo counts root → holds set root ≡ true → NoneEnters counts set → ExitsLeadToRoot counts exits root set → IsWay counts root ss
+walk_end counts exits left p root set ss w spent all held none leads_to_root =
     let at : p ≡ root = stuck left p root w.within w.balanced spent in
     let balanced : IsBalanced left root root = rw at at w.balanced in
     let there : IsSpent left root = rw at at spent in
@@ -236,7 +236,7 @@ walk_end counts exits left p root set ss w spent all held none homes =
                 let in_set : holds set (arc_from a) ≡ true = all set held none a h (omega arith) in
                 let gone : left a ≡ 0 =
                 spent_home counts exits left root set balanced there w.kept (arc_from a)
-                (homes (arc_from a) (from_below a h) in_set) a h refl in
+                (leads_to_root (arc_from a) (from_below a h) in_set) a h refl in
                 omega (arith, w.uses a h)
           ];
       no_other = w.no_other;

@@ -1,4 +1,4 @@
-pub mod Laps
 pub mod Links
 pub mod Moves
 pub mod Reached
+pub mod Segments

@@ -109,13 +109,13 @@ pub record IsExit (counts exits : ℕ → ℕ) (q : ℕ) : Type 0 where
   pub there : 0 < counts (exits q)
 
 -- The last exits lead from the boundary to root, within the set.
-pub data Home (counts exits : ℕ → ℕ) (root set : ℕ) : ℕ → Type 0 where
-  at_root : Home counts exits root set root
+pub data LeadsToRoot (counts exits : ℕ → ℕ) (root set : ℕ) : ℕ → Type 0 where
+  at_root : LeadsToRoot counts exits root set root
   by_exit : (q : ℕ) → holds set q ≡ true → IsExit counts exits q →
-      Home counts exits root set (arc_to (exits q)) → Home counts exits root set q
+      LeadsToRoot counts exits root set (arc_to (exits q)) → LeadsToRoot counts exits root set q
 
-abbrev pub LeadHome : (ℕ → ℕ) → (ℕ → ℕ) → ℕ → ℕ → Type 0
-LeadHome counts exits root set = (q : ℕ) → q < 16 → holds set q ≡ true → Home counts exits root set q
+abbrev pub ExitsLeadToRoot : (ℕ → ℕ) → (ℕ → ℕ) → ℕ → ℕ → Type 0
+ExitsLeadToRoot counts exits root set = (q : ℕ) → q < 16 → holds set q ≡ true → LeadsToRoot counts exits root set q
 
 -- Whatever holds root and is entered by no arc holds the starts of all arcs.
 abbrev pub AllLeadTo : (ℕ → ℕ) → ℕ → Type 0

@@ -4,8 +4,8 @@
 
 mod arc;
 mod counts;
+mod exits;
 mod fault;
-mod flood;
 mod links;
 mod outside;
 mod reach;

@@ -1,11 +1,11 @@
 ghost use Rattle.std.specs.Prelude.{◌≡◌, ◌≢◌, ℕ, ◌*◌, ◌++◌, ◌<◌, ◌≤◌, length, map, slice_index, take, IfOk, IfSome, IfNone, OnOk};
 ghost use Rattle.std.specs.List.{repeat};
 ghost use Rattle.arrayvec.specs.ArrayVec.{array_vec_len};
-ghost use Rattle.pocsag_tour.specs.Laps.{ArePassed, AreTaken, IsLap, often};
+ghost use Rattle.pocsag_tour.specs.Segments.{ArePassed, AreTaken, IsSegment, often};
 ghost use Rattle.pocsag_tour.specs.Moves.{AllLeadTo, arc_from, IsBalanced, IsDeparture, IsSpent, IsWay, step_of};
 
 use crate::arc::{arc_of_kind, arc_step, begins, ends};
-use crate::flood::exits_to;
+use crate::exits::exits_to;
 use arrayvec::ArrayVec;
 use pocsag_slots::{SLOTS, Step, holds, with_member};
 use std::alloc::{AllocError, Global};
@@ -81,7 +81,7 @@ fn last_exit(left: &[u32; 288], exit: usize, boundary: u8) -> Option<usize>
 
 // Arcs that a walk takes next, each from another boundary, and how many times.
 #[derive(Drop)]
-struct Lap {
+struct Segment {
     arcs: ArrayVec<usize, 16>,
     end: u8,
     times: u32,
@@ -89,11 +89,12 @@ struct Lap {
 
 // The arcs from the boundary on, up to a boundary that they leave or that nothing leaves; as many times as they
 // are left where they lead back, and else once.
-fn lap_from(left: &[u32; 288], exits: &[usize; 16], kinds: &mut [u8; 16], start: u8) -> Lap
+fn segment_from(left: &[u32; 288], exits: &[usize; 16], kinds: &mut [u8; 16], start: u8) -> Segment
     requires start { start < 16 }
     requires exits { (q : ℕ) → q < 16 → slice_index exits.now q < 288 }
     requires passed { ArePassed (slice_index left.now) (slice_index exits.now) (slice_index kinds.old) }
-    ensures lap { IsLap (slice_index left.now) (slice_index exits.now) start result.arcs.items result.times result.end }
+    ensures segment { IsSegment (slice_index left.now) (slice_index exits.now) start result.arcs.items result.times
+        result.end }
     ensures end { result.end < 16 }
     ensures spent { length result.arcs.items ≡ 0 → IsSpent (slice_index left.now) start }
     ensures passed { ArePassed (slice_index left.now) (slice_index exits.now) (slice_index kinds.new) }
@@ -119,11 +120,11 @@ fn lap_from(left: &[u32; 288], exits: &[usize; 16], kinds: &mut [u8; 16], start:
     if end != start {
         times = 1;
     }
-    Lap { arcs, end, times }
+    Segment { arcs, end, times }
 }
 
 // Takes the arcs so many times of what is left.
-fn take_laps(left: &mut [u32; 288], arcs: &[usize], times: u32)
+fn take_segments(left: &mut [u32; 288], arcs: &[usize], times: u32)
     requires known { (k : ℕ) → k < length arcs.now → slice_index arcs.now k < 288 }
     requires enough { (a : ℕ) → times * often a arcs.now ≤ slice_index left.old a }
     ensures { AreTaken times arcs.now (slice_index left.old) (slice_index left.new) }
@@ -148,15 +149,15 @@ fn steps_of_batch(arcs: &[usize]) -> [Step; 16]
 }
 
 // Puts the steps over the arcs behind the others, so many times.
-fn write_laps(steps: &mut Vec<Step>, arcs: &[usize], times: u32) -> Result<(), AllocError>
+fn write_segments(steps: &mut Vec<Step>, arcs: &[usize], times: u32) -> Result<(), AllocError>
     requires few { length arcs.now ≤ 16 }
     requires known { (k : ℕ) → k < length arcs.now → slice_index arcs.now k < 288 }
     ensures { OnOk result (steps.new.items ≡ steps.old.items ++ repeat times (map step_of arcs.now)) }
 {
     let piece = steps_of_batch(arcs);
-    let lap = &piece[..arcs.len()];
-    'laps: for _lap in 0..times {
-        steps.extend_from_slice(lap)?;
+    let segment = &piece[..arcs.len()];
+    'segments: for _segment in 0..times {
+        steps.extend_from_slice(segment)?;
     }
     Ok(())
 }
@@ -178,14 +179,14 @@ pub fn walk(
     let mut kinds = [0; 16];
     let mut steps = Vec::with_capacity(alloc, room)?;
     let mut at = 0;
-    'laps: loop {
-        let lap = lap_from(&left, &exits.arcs, &mut kinds, at);
-        if lap.arcs.is_empty() {
+    'segments: loop {
+        let segment = segment_from(&left, &exits.arcs, &mut kinds, at);
+        if segment.arcs.is_empty() {
             break;
         }
-        write_laps(&mut steps, lap.arcs.as_slice(), lap.times)?;
-        take_laps(&mut left, lap.arcs.as_slice(), lap.times);
-        at = lap.end;
+        write_segments(&mut steps, segment.arcs.as_slice(), segment.times)?;
+        take_segments(&mut left, segment.arcs.as_slice(), segment.times);
+        at = segment.end;
     }
     Ok(steps)
 }

@@ -62,7 +62,7 @@ pub fn tour_many_tones(alloc: Global, line: &mut Line) -> Result<(), OutOfMemory
 }
 
 /// The tour of 20,000 tones of frame 0 that all start early, one to a batch: no round has a tour of more steps.
-pub fn tour_longest_laps(alloc: Global, line: &mut Line) -> Result<(), OutOfMemory> {
+pub fn tour_longest_segments(alloc: Global, line: &mut Line) -> Result<(), OutOfMemory> {
     let mut pages = Vec::new(alloc);
     for place in 0..PAGES {
         pages.push(ones(alloc, 8 * place, 0)?)?;

@@ -227,7 +227,7 @@ fn run(alloc: Global, trial: Trial, line: &mut Line) -> Result<(), OutOfMemory> 
         Trial::Planning(planning) => plans::run(alloc, planning, line),
         Trial::CopyLong => large::copy_long_page(alloc, line),
         Trial::TourMany => large::tour_many_tones(alloc, line),
-        Trial::TourLongest => large::tour_longest_laps(alloc, line),
+        Trial::TourLongest => large::tour_longest_segments(alloc, line),
         Trial::FeedGreatest => large::feed_greatest(alloc, line),
         Trial::SendLong => large::send_long_pages(alloc, line),
         Trial::ReceiveLongData => large::receive_long_data(alloc, line),

@@ -11,7 +11,7 @@ use Rattle.std.proofs.lemmas.Option.{slice_get-get_or}
 use Rattle.std.specs.Int.{bit_at, cast_signed, cast_unsigned, div_ceil, from_bool, w16}
 use Rattle.std.specs.List.{flat_map}
 use Rattle.pocsag_wav.specs.declared.keying.Keying.{Keying}
-use Rattle.pocsag_wav.specs.Levels.{IsKeyed, bits_due, high_level, keyed_bytes, level_at, level_in, low_level}
+use Rattle.pocsag_wav.specs.Levels.{IsKeyed, bits_sent, high_level, keyed_bytes, level_at, level_in, low_level}
 use Rattle.pocsag_wav.specs.Wav.{IsWav, sample_bytes, wav_header}
 use Rattle.pocsag_wav.specs.Samples.{IsCount, samples_of}
 
@@ -111,7 +111,7 @@ module _ (keying : Keying) (bytes : List ℕ) where
       ∙ (ap (λ (l : List ℕ). l ++ rest) (sym told) ∙ append_assoc now piece rest))
 
 -- so many samples are those of a transmission
-pub are_keyed : (keying : Keying) (bytes : List ℕ) (n : ℕ) → IsCount keying (bits_due keying bytes) n →
+pub are_keyed : (keying : Keying) (bytes : List ℕ) (n : ℕ) → IsCount keying (bits_sent keying bytes) n →
     IsKeyed keying bytes (samples_of keying (keyed_bytes keying.preamble bytes) n)
 are_keyed keying bytes n count =
     let B = keyed_bytes keying.preamble bytes in
@@ -127,7 +127,7 @@ pub is_wav : (keying : Keying) (bytes keyed : List ℕ) (bits n : ℕ) → keyed
     IsWav keying bytes (wav_header keying.samples n ++ flat_map sample_bytes (samples_of keying keyed n))
 is_wav keying bytes keyed bits n same due count fits =
     let long : length (samples_of keying keyed n) ≡ n = length-samples_of keying keyed n in
-    let counted : IsCount keying (bits_due keying bytes) n =
+    let counted : IsCount keying (bits_sent keying bytes) n =
     subst (λ (m : ℕ). IsCount keying m n) (due ∙ ap (λ (l : List ℕ). 8 * length l + 544) same) count in
     record {
       samples = samples_of keying keyed n;

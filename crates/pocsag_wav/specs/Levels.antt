@@ -33,12 +33,12 @@ abbrev pub level_at : (is_inverted : Bool) → (bytes : List ℕ) → (place : �
 level_at is_inverted bytes place = level_in is_inverted (slice_get bytes (place / 8)) (7 - place % 8)
 
 -- How many bits the sound of a transmission lasts: those that are keyed, and a batch's time of silence.
-abbrev pub bits_due : Keying → (bytes : List ℕ) → ℕ
-bits_due keying bytes = 8 * length (keyed_bytes keying.preamble bytes) + 544
+abbrev pub bits_sent : Keying → (bytes : List ℕ) → ℕ
+bits_sent keying bytes = 8 * length (keyed_bytes keying.preamble bytes) + 544
 
 -- The samples of a transmission: sample i has the level of bit i * rate / samples, rounded down, and a sample is there just
 -- where the sound has such a bit.
 pub record IsKeyed (keying : Keying) (bytes : List ℕ) (samples : List ℤ) : Type 0 where
   pub levels : (i : ℕ) → i < length samples →
       slice_get samples i ≡ Some (level_at keying.is_inverted (keyed_bytes keying.preamble bytes) (i * keying.rate / keying.samples))
-  pub all : (i : ℕ) → (i < length samples) ↔ (i * keying.rate / keying.samples < bits_due keying bytes)
+  pub all : (i : ℕ) → (i < length samples) ↔ (i * keying.rate / keying.samples < bits_sent keying bytes)

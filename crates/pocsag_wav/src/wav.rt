@@ -60,7 +60,7 @@ fn header(a_second: u32, count: u32) -> [[u8; 4]; 11]
 }
 
 // Writes the piece if it has no room for another sample.
-fn spill<O: Sink>(piece: &mut ArrayVec<u8, PIECE>, out: &mut O) -> Result<(), DeviceFault>
+fn write_if_full<O: Sink>(piece: &mut ArrayVec<u8, PIECE>, out: &mut O) -> Result<(), DeviceFault>
     ensures room { OnOk result (array_vec_len piece.new ≤ 8190) }
     ensures same { O.is_known → OnOk result (O.taken out.new ++ piece.new.items ≡ O.taken out.old ++ piece.old.items) }
     ensures grown { O.is_known → OnOk result (length (O.taken out.old) ≤ length (O.taken out.new)) }
@@ -87,7 +87,7 @@ fn put_samples<O: Sink>(
 {
     let mut piece = ArrayVec::new();
     for index in 0..count {
-        spill(&mut piece, out)?;
+        write_if_full(&mut piece, out)?;
         let place = u64::from(index) * u64::from(keying.rate) / u64::from(keying.samples);
         let [low, high] = keyed.level(keying.is_inverted, place).to_le_bytes();
         piece.push(low);

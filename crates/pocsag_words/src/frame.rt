@@ -12,8 +12,14 @@ pub const PREAMBLE_BYTE: u8 = 0xaa;
 /// The fewest bytes of a preamble, a rule of Annex 1.
 pub const PREAMBLE_BYTES: usize = 72;
 
-/// The words of a batch, a rule of Annex 1: a synchronisation codeword and sixteen codewords.
-pub const BATCH_WORDS: u32 = 1 + 16;
+/// The frames of a batch, a rule of Annex 1.
+pub const FRAMES: usize = 8;
+
+/// The codewords of a batch, a rule of Annex 1: two in each frame.
+pub const BATCH_CODEWORDS: usize = 2 * FRAMES;
+
+/// The words of a batch, a rule of Annex 1: a synchronisation codeword and the codewords.
+pub const BATCH_WORDS: u32 = 1 + BATCH_CODEWORDS as u32;
 
 /// The bytes of a batch, four to a word.
 pub const BATCH_BYTES: usize = 4 * BATCH_WORDS as usize;

@@ -22,8 +22,8 @@ pub use correction::repair;
 pub use device::{DeviceFault, Sink, Source, write_all};
 pub use ending::End;
 pub use frame::{
-    BATCH_BITS, BATCH_BYTES, BATCH_WORDS, INPUT_LIMIT, PREAMBLE_BITS, PREAMBLE_BYTE,
-    PREAMBLE_BYTES, SYNC_WORD, airtime, transmission_bits,
+    BATCH_BITS, BATCH_BYTES, BATCH_CODEWORDS, BATCH_WORDS, FRAMES, INPUT_LIMIT, PREAMBLE_BITS,
+    PREAMBLE_BYTE, PREAMBLE_BYTES, SYNC_WORD, airtime, transmission_bits,
 };
 pub use growing_sink::GrowingSink;
 pub use lanes::check_all;

@@ -1,5 +1,5 @@
 use Rattle.pocsag_centre.proofs.FirstPart.{front_told, front_written}
-use Rattle.pocsag_centre.proofs.Plans.{where_none}
+use Rattle.pocsag_shell.proofs.StagedFiles.{where_none}
 use Rattle.pocsag_centre.proofs.front.run_front.Goals as goal
 
 pub returns-in-Ok-print_front-clause-written : goal.returns-in-Ok-print_front-clause-written

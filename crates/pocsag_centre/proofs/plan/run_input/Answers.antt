@@ -1,4 +1,5 @@
-use Rattle.pocsag_centre.proofs.Plans.{told_plan, where_none}
+use Rattle.pocsag_centre.proofs.Plans.{told_plan}
+use Rattle.pocsag_shell.proofs.StagedFiles.{where_none}
 use Rattle.pocsag_centre.proofs.plan.run_input.Goals as goal
 
 pub returns-in-Ok-print_plan-clause-printed : goal.returns-in-Ok-print_plan-clause-printed

@@ -1,4 +1,5 @@
-use Rattle.pocsag_centre.proofs.Plans.{planned, told_planned, where_none}
+use Rattle.pocsag_centre.proofs.Plans.{planned, told_planned}
+use Rattle.pocsag_shell.proofs.StagedFiles.{where_none}
 use Rattle.pocsag_centre.proofs.plan.run_plan.Goals as goal
 
 pub returns-in-Ok-print_bounded-clause-planned : goal.returns-in-Ok-print_bounded-clause-planned

@@ -1,5 +1,5 @@
 use Rattle.pocsag_tree.specs.Views.{bound_tree_of}
-use Rattle.pocsag_centre.proofs.Plans.{where_none}
+use Rattle.pocsag_shell.proofs.StagedFiles.{where_none}
 use Rattle.pocsag_centre.proofs.Verified.{verified}
 use Rattle.pocsag_centre.proofs.readback.run_verify.Goals as goal
 

@@ -9,7 +9,7 @@ use Rattle.pocsag_centre.specs.Commands.{Reported}
 use Rattle.pocsag_centre.specs.FramesPrinted.{ReportedFrames}
 use Rattle.pocsag_centre.specs.Reports.{ExplainsReporting}
 use Rattle.pocsag_centre.specs.declared.fault.CentreFault.TheVariants as fault
-use Rattle.pocsag_centre.proofs.Plans.{where_none}
+use Rattle.pocsag_shell.proofs.StagedFiles.{where_none}
 use Rattle.pocsag_centre.proofs.report.run_report.Goals as goal
 
 pub returns-in-Ok-print_frames-clause-printed : goal.returns-in-Ok-print_frames-clause-printed

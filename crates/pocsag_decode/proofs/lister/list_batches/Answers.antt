@@ -18,14 +18,14 @@ loop-i-preserved g c =
     let bytes = c.args.bytes.now in
     let within : 68 * loop.i + 68 ≤ length bytes = omega arith in
     record {
-      can = record { ready = c.in_ok-pour_many.ensures.ready; listable = c.in_ok-take_batch.ensures.can.listable };
+      can = record { ready = c.in_ok-write_many_records.ensures.ready; listable = c.in_ok-take_batch.ensures.can.listable };
       told = λ is_known.
-          poured (g.S.Sink.taken c.args.sink.now) (g.S.Sink.taken loop.sink) (g.S.Sink.taken c.pour_many.new.sink) c.take_batch.new.self
-          (record (c.take_batch.new.self) { records = c.pour_many.new.writer }) (loop.i + 1) bytes refl (c.in_ok-pour_many.ensures.told is_known)
+          poured (g.S.Sink.taken c.args.sink.now) (g.S.Sink.taken loop.sink) (g.S.Sink.taken c.write_many_records.new.sink) c.take_batch.new.self
+          (record (c.take_batch.new.self) { records = c.write_many_records.new.writer }) (loop.i + 1) bytes refl (c.in_ok-write_many_records.ensures.told is_known)
           (more_listed (g.S.Sink.taken c.args.sink.now) (g.S.Sink.taken loop.sink) loop.lister c.take_batch.new.self loop.i bytes within
           (loop.invariant.told is_known) c.in_ok-take_batch.ensures.reads);
-      grown = λ is_known. omega (arith, loop.invariant.grown is_known, c.in_ok-pour_many.ensures.grown is_known);
-      failures = c.in_ok-pour_many.ensures.failures.0 ∙ loop.invariant.failures;
+      grown = λ is_known. omega (arith, loop.invariant.grown is_known, c.in_ok-write_many_records.ensures.grown is_known);
+      failures = c.in_ok-write_many_records.ensures.failures.0 ∙ loop.invariant.failures;
     }
 
 pub returns-clause-whole : goal.returns-clause-whole
@@ -33,10 +33,10 @@ returns-clause-whole g c = λ is_known.
     let loop = c.loop-i in
     let bytes = c.args.bytes.now in
     let long : length bytes ≡ 68 * loop.i = let whole = c.requires.long in omega arith in
-    on_ok_weaker c.pour.result
-    (λ written. all_listed (g.S.Sink.taken c.args.sink.now) (g.S.Sink.taken loop.sink) (g.S.Sink.taken c.pour.new.sink) loop.lister
+    on_ok_weaker c.write_records.result
+    (λ written. all_listed (g.S.Sink.taken c.args.sink.now) (g.S.Sink.taken loop.sink) (g.S.Sink.taken c.write_records.new.sink) loop.lister
     c.close.new.self loop.i bytes long c.in_ok-close.ensures.text written (loop.invariant.told is_known))
-    (c.pour.ensures.whole is_known)
+    (c.write_records.ensures.whole is_known)
 
 pub returns-in_err-take_batch-clause-part : goal.returns-in_err-take_batch-clause-part
 returns-in_err-take_batch-clause-part g c = λ is_known.
@@ -45,8 +45,8 @@ returns-in_err-take_batch-clause-part g c = λ is_known.
     after_fault c.from_residual.result
     (took_so_far (g.S.Sink.taken c.args.sink.now) (g.S.Sink.taken loop.sink) _ _ (loop.invariant.grown is_known) due.1)
 
-pub returns-in_err-pour_many-clause-part : goal.returns-in_err-pour_many-clause-part
-returns-in_err-pour_many-clause-part g c = λ is_known.
+pub returns-in_err-write_many_records-clause-part : goal.returns-in_err-write_many_records-clause-part
+returns-in_err-write_many_records-clause-part g c = λ is_known.
     let loop = c.loop-i in
     let bytes = c.args.bytes.now in
     let within : 68 * loop.i + 68 ≤ length bytes = omega arith in
@@ -54,9 +54,9 @@ returns-in_err-pour_many-clause-part g c = λ is_known.
     still_due (g.S.Sink.taken c.args.sink.now) (g.S.Sink.taken loop.sink) c.take_batch.new.self (loop.i + 1) bytes (omega arith)
     (more_listed (g.S.Sink.taken c.args.sink.now) (g.S.Sink.taken loop.sink) loop.lister c.take_batch.new.self loop.i bytes within
     (loop.invariant.told is_known) c.in_ok-take_batch.ensures.reads) in
-    after_fault c.from_residual-in_err-pour_many.result
-    (took_on (g.S.Sink.taken c.args.sink.now) (g.S.Sink.taken loop.sink) (g.S.Sink.taken c.pour_many.new.sink) _ _ _
-    (loop.invariant.grown is_known) due.1 (c.in_err-pour_many.ensures.part is_known))
+    after_fault c.from_residual-in_err-write_many_records.result
+    (took_on (g.S.Sink.taken c.args.sink.now) (g.S.Sink.taken loop.sink) (g.S.Sink.taken c.write_many_records.new.sink) _ _ _
+    (loop.invariant.grown is_known) due.1 (c.in_err-write_many_records.ensures.part is_known))
 
 pub returns-in_err-close-clause-part : goal.returns-in_err-close-clause-part
 returns-in_err-close-clause-part g c = λ is_known.
@@ -70,9 +70,9 @@ returns-clause-part g c = λ is_known.
     let loop = c.loop-i in
     let bytes = c.args.bytes.now in
     let long : length bytes ≡ 68 * loop.i = let whole = c.requires.long in omega arith in
-    on_err_weaker c.pour.result
-    (took_on (g.S.Sink.taken c.args.sink.now) (g.S.Sink.taken loop.sink) (g.S.Sink.taken c.pour.new.sink) _ [] _
+    on_err_weaker c.write_records.result
+    (took_on (g.S.Sink.taken c.args.sink.now) (g.S.Sink.taken loop.sink) (g.S.Sink.taken c.write_records.new.sink) _ [] _
     (loop.invariant.grown is_known)
     (all_due (g.S.Sink.taken c.args.sink.now) (g.S.Sink.taken loop.sink) loop.lister c.close.new.self loop.i bytes long
     c.in_ok-close.ensures.text (loop.invariant.told is_known)))
-    (c.pour.ensures.part is_known)
+    (c.write_records.ensures.part is_known)

@@ -21,13 +21,13 @@ pub loop-page-preserved : goal.loop-page-preserved
 loop-page-preserved g c =
     let loop = c.loop-page in
     record {
-      ready = c.in_ok-pour_many.ensures.ready;
+      ready = c.in_ok-write_many_records.ensures.ready;
       told = λ is_known.
-          row_told (g.S.Sink.taken c.args.sink.now) (g.S.Sink.taken loop.sink) (g.S.Sink.taken c.pour_many.new.sink) loop.records
-          c.put_spent.new.writer c.pour_many.new.writer loop.yielded c.in-Some.page (loop.invariant.told is_known)
-          c.in_ok-put_spent.ensures.row.1 (c.in_ok-pour_many.ensures.told is_known);
-      grown = λ is_known. omega (arith, loop.invariant.grown is_known, c.in_ok-pour_many.ensures.grown is_known);
-      failures = c.in_ok-pour_many.ensures.failures.0 ∙ loop.invariant.failures;
+          row_told (g.S.Sink.taken c.args.sink.now) (g.S.Sink.taken loop.sink) (g.S.Sink.taken c.write_many_records.new.sink) loop.records
+          c.put_spent.new.writer c.write_many_records.new.writer loop.yielded c.in-Some.page (loop.invariant.told is_known)
+          c.in_ok-put_spent.ensures.row.1 (c.in_ok-write_many_records.ensures.told is_known);
+      grown = λ is_known. omega (arith, loop.invariant.grown is_known, c.in_ok-write_many_records.ensures.grown is_known);
+      failures = c.in_ok-write_many_records.ensures.failures.0 ∙ loop.invariant.failures;
     }
 
 pub returns-clause-whole : goal.returns-clause-whole
@@ -38,12 +38,12 @@ returns-clause-whole g c = λ is_known.
     let list = YieldsList-from_vec c.args.pages.items gives.0 (cc) in
     let t = YieldsList-end list c.loop-page.yielded c.loop-page.page-iterator c.loop-page.yielded_by c.next.result c.next.new.self
     c.in-None.is c.next.ensures.steps in
-    on_ok_weaker c.pour.result
+    on_ok_weaker c.write_records.result
     (λ written. written
     ∙ (c.loop-page.invariant.told is_known
     ∙ (ap (λ (l : List ℕ). g.S.Sink.taken c.args.sink.now ++ l) (sym (listing_is c.loop-page.yielded))
     ∙ ap (λ (ps : List Page). g.S.Sink.taken c.args.sink.now ++ listing ps) (sym (map-id c.loop-page.yielded) ∙ t.0))))
-    (c.pour.ensures.whole is_known)
+    (c.write_records.ensures.whole is_known)
 
 pub returns-in_err-put_spent-clause-part : goal.returns-in_err-put_spent-clause-part
 returns-in_err-put_spent-clause-part g c = λ is_known.
@@ -57,8 +57,8 @@ returns-in_err-put_spent-clause-part g c = λ is_known.
     (rows_due first (g.S.Sink.taken loop.sink) _ loop.yielded c.args.pages.items (length loop.yielded) done
     (loop.invariant.told is_known)))
 
-pub returns-in_err-pour_many-clause-part : goal.returns-in_err-pour_many-clause-part
-returns-in_err-pour_many-clause-part g c = λ is_known.
+pub returns-in_err-write_many_records-clause-part : goal.returns-in_err-write_many_records-clause-part
+returns-in_err-write_many_records-clause-part g c = λ is_known.
     let first = g.S.Sink.taken c.args.sink.now in
     let loop = c.loop-page in
     let written = g.S.Sink.taken loop.sink in
@@ -68,13 +68,13 @@ returns-in_err-pour_many-clause-part g c = λ is_known.
     let done = sym (map-id loop.yielded) ∙ YieldsList-so_far list loop.yielded loop.page-iterator loop.yielded_by in
     let turn = YieldsList-turn list loop.yielded loop.page-iterator loop.yielded_by c.next.result c.next.new.self page c.in-Some.is
     c.next.ensures.steps in
-    after_fault c.from_residual-in_err-pour_many.result
-    (took_on first written (g.S.Sink.taken c.pour_many.new.sink) _ _ _ (loop.invariant.grown is_known)
+    after_fault c.from_residual-in_err-write_many_records.result
+    (took_on first written (g.S.Sink.taken c.write_many_records.new.sink) _ _ _ (loop.invariant.grown is_known)
     (rows_due first written _ (loop.yielded ++ page ∷ []) c.args.pages.items (length loop.yielded + 1)
     (one_page_more loop.yielded c.args.pages.items page done turn.0 turn.1)
     (row_told first written written loop.records c.put_spent.new.writer c.put_spent.new.writer loop.yielded page
     (loop.invariant.told is_known) c.in_ok-put_spent.ensures.row.1 refl))
-    (c.in_err-pour_many.ensures.part is_known))
+    (c.in_err-write_many_records.ensures.part is_known))
 
 pub returns-clause-part : goal.returns-clause-part
 returns-clause-part g c = λ is_known.
@@ -84,7 +84,7 @@ returns-clause-part g c = λ is_known.
     let gives = c.into_iter-page-iterator.ensures.into_iter_gives in
     let list = YieldsList-from_vec c.args.pages.items gives.0 (gives.1 ∙ c.args.pages.ok.0) in
     let done = sym (map-id loop.yielded) ∙ YieldsList-so_far list loop.yielded loop.page-iterator loop.yielded_by in
-    on_err_weaker c.pour.result
-    (took_on first written (g.S.Sink.taken c.pour.new.sink) _ _ _ (loop.invariant.grown is_known)
+    on_err_weaker c.write_records.result
+    (took_on first written (g.S.Sink.taken c.write_records.new.sink) _ _ _ (loop.invariant.grown is_known)
     (rows_due first written _ loop.yielded c.args.pages.items (length loop.yielded) done (loop.invariant.told is_known)))
-    (c.pour.ensures.part is_known)
+    (c.write_records.ensures.part is_known)

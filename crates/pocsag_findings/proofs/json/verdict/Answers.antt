@@ -5,9 +5,9 @@ use Rattle.pocsag_findings.proofs.json.verdict.Goals as goal
 
 pub returns : goal.returns
 returns c =
-    members_begin string_bytes c.format.result _ c.format.ensures.ok c.args.subject.now.is_shown c.args.subject.now.batches c.match-subject.end.now _
-    c.args.subject.now.refuted.end
-    (elim c.match-subject.branch [
+    members_begin string_bytes c.format.result _ c.format.ensures.ok c.args.explanation.now.is_shown c.args.explanation.now.batches c.match-explanation.end.now _
+    c.args.explanation.now.refuted.end
+    (elim c.match-explanation.branch [
       | in-Open w ↦ rw w.in-Open.is (search (rules, w.end-is))
       | in-Closed w ↦ rw w.in-Closed.is (search (rules, w.end-is))
       | in-Idle w ↦ rw w.in-Idle.is (search (rules, w.end-is))

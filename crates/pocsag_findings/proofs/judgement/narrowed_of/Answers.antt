@@ -12,9 +12,9 @@ pub loop-number-preserved : goal.loop-number-preserved
 loop-number-preserved c =
     elim c.if-is_narrower.branch [
       | then-is_narrower+in_ok-push w ↦
-          narrowed_added c.args.inquiry.now.classes.now c.args.limits.now c.loop-number.number _ c.is_narrower.result
+          narrowed_added c.args.context.now.classes.now c.args.limits.now c.loop-number.number _ c.is_narrower.result
           c.loop-number.found.items _ refl c.is_narrower.ensures w.if-is_narrower.true c.loop-number.invariant (search rules)
       | else-is_narrower w ↦
-          narrowed_missing c.args.inquiry.now.classes.now c.args.limits.now c.loop-number.number _ c.is_narrower.result
+          narrowed_missing c.args.context.now.classes.now c.args.limits.now c.loop-number.number _ c.is_narrower.result
           _ refl c.is_narrower.ensures w.if-is_narrower.false cc
     ]

@@ -5,4 +5,4 @@ use Rattle.pocsag_findings.proofs.judgement.narrowed_of.Given as goal
 
 -- the classes so far
 abbrev pub invariant-loop-number : goal.invariant-loop-number
-invariant-loop-number l = l.found.items ≡ joined_below l.number (narrowed_by l.inquiry.classes.now l.limits)
+invariant-loop-number l = l.found.items ≡ joined_below l.number (narrowed_by l.context.classes.now l.limits)

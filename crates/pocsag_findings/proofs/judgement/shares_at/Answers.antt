@@ -12,9 +12,9 @@ pub loop-class-preserved : goal.loop-class-preserved
 loop-class-preserved c =
     elim c.if-least-gt0.branch [
       | then-least-gt0+in_ok-push w ↦
-          share_added c.args.inquiry.now.classes.now c.args.limits.now c.in-Overload.set c.loop-class.class c.least_by_class-least.result
+          share_added c.args.context.now.classes.now c.args.limits.now c.in-Overload.set c.loop-class.class c.least_by_class-least.result
           c.loop-class.found.items _ c.least_by_class-least.ensures (omega arith) c.loop-class.invariant (search rules)
       | else-least-gt0 w ↦
-          share_missing c.args.inquiry.now.classes.now c.args.limits.now c.in-Overload.set c.loop-class.class c.least_by_class-least.result
+          share_missing c.args.context.now.classes.now c.args.limits.now c.in-Overload.set c.loop-class.class c.least_by_class-least.result
           _ c.least_by_class-least.ensures (omega arith) cc
     ]

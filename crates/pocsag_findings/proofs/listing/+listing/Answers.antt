@@ -11,7 +11,7 @@ use Rattle.pocsag_findings.proofs.listing.+listing.Goals as goal
 
 pub put_node-child_below-requires-clause-class : goal.put_node-child_below-requires-clause-class
 put_node-child_below-requires-clause-class t c =
-    (split_says c.args.inquiry.now.classes.now c.args.inquiry.now.end c.args.inquiry.now.batches c.args.place.now.limits _ _
+    (split_says c.args.context.now.classes.now c.args.context.now.end c.args.context.now.batches c.args.place.now.limits _ _
     (bound_tree_of c.in-Split.below.value) (bound_tree_of c.in-Split.from.value) _ _ _ c.fact_of-fact.ensures
     (bound_tree_of-split c.args.tree.now c.in-Split.class c.in-Split.m c.in-Split.below c.in-Split.from c.in-Split.is)
     c.in_ok-put_fact.ensures.holds c.if-not-branch.false).0
@@ -19,7 +19,7 @@ put_node-child_below-requires-clause-class t c =
 pub put_node-child_below-requires-clause-above : goal.put_node-child_below-requires-clause-above
 put_node-child_below-requires-clause-above t c =
     rw c.from.ensures
-    ((split_says c.args.inquiry.now.classes.now c.args.inquiry.now.end c.args.inquiry.now.batches c.args.place.now.limits _ _
+    ((split_says c.args.context.now.classes.now c.args.context.now.end c.args.context.now.batches c.args.place.now.limits _ _
     (bound_tree_of c.in-Split.below.value) (bound_tree_of c.in-Split.from.value) _ _ _ c.fact_of-fact.ensures
     (bound_tree_of-split c.args.tree.now c.in-Split.class c.in-Split.m c.in-Split.below c.in-Split.from c.in-Split.is)
     c.in_ok-put_fact.ensures.holds c.if-not-branch.false).1)
@@ -27,14 +27,14 @@ put_node-child_below-requires-clause-above t c =
 pub put_node-child_below-requires-clause-within : goal.put_node-child_below-requires-clause-within
 put_node-child_below-requires-clause-within t c =
     rw c.from.ensures
-    ((split_says c.args.inquiry.now.classes.now c.args.inquiry.now.end c.args.inquiry.now.batches c.args.place.now.limits _ _
+    ((split_says c.args.context.now.classes.now c.args.context.now.end c.args.context.now.batches c.args.place.now.limits _ _
     (bound_tree_of c.in-Split.below.value) (bound_tree_of c.in-Split.from.value) _ _ _ c.fact_of-fact.ensures
     (bound_tree_of-split c.args.tree.now c.in-Split.class c.in-Split.m c.in-Split.below c.in-Split.from c.in-Split.is)
     c.in_ok-put_fact.ensures.holds c.if-not-branch.false).2)
 
 pub put_node-child_from-requires-clause-class : goal.put_node-child_from-requires-clause-class
 put_node-child_from-requires-clause-class t c =
-    (split_says c.args.inquiry.now.classes.now c.args.inquiry.now.end c.args.inquiry.now.batches c.args.place.now.limits _ _
+    (split_says c.args.context.now.classes.now c.args.context.now.end c.args.context.now.batches c.args.place.now.limits _ _
     (bound_tree_of c.in-Split.below.value) (bound_tree_of c.in-Split.from.value) _ _ _ c.fact_of-fact.ensures
     (bound_tree_of-split c.args.tree.now c.in-Split.class c.in-Split.m c.in-Split.below c.in-Split.from c.in-Split.is)
     c.in_ok-put_fact.ensures.holds c.if-not-branch.false).0
@@ -42,7 +42,7 @@ put_node-child_from-requires-clause-class t c =
 pub put_node-child_from-requires-clause-above : goal.put_node-child_from-requires-clause-above
 put_node-child_from-requires-clause-above t c =
     rw c.from-in-Split.ensures
-    ((split_says c.args.inquiry.now.classes.now c.args.inquiry.now.end c.args.inquiry.now.batches c.args.place.now.limits _ _
+    ((split_says c.args.context.now.classes.now c.args.context.now.end c.args.context.now.batches c.args.place.now.limits _ _
     (bound_tree_of c.in-Split.below.value) (bound_tree_of c.in-Split.from.value) _ _ _ c.fact_of-fact.ensures
     (bound_tree_of-split c.args.tree.now c.in-Split.class c.in-Split.m c.in-Split.below c.in-Split.from c.in-Split.is)
     c.in_ok-put_fact.ensures.holds c.if-not-branch.false).1)
@@ -50,7 +50,7 @@ put_node-child_from-requires-clause-above t c =
 pub put_node-child_from-requires-clause-within : goal.put_node-child_from-requires-clause-within
 put_node-child_from-requires-clause-within t c =
     rw c.from-in-Split.ensures
-    ((split_says c.args.inquiry.now.classes.now c.args.inquiry.now.end c.args.inquiry.now.batches c.args.place.now.limits _ _
+    ((split_says c.args.context.now.classes.now c.args.context.now.end c.args.context.now.batches c.args.place.now.limits _ _
     (bound_tree_of c.in-Split.below.value) (bound_tree_of c.in-Split.from.value) _ _ _ c.fact_of-fact.ensures
     (bound_tree_of-split c.args.tree.now c.in-Split.class c.in-Split.m c.in-Split.below c.in-Split.from c.in-Split.is)
     c.in_ok-put_fact.ensures.holds c.if-not-branch.false).2)
@@ -58,9 +58,9 @@ put_node-child_from-requires-clause-within t c =
 pub put_node-put_each-requires : goal.put_node-put_each-requires
 put_node-put_each-requires t c =
     let is = bound_tree_of-cut c.args.tree.now c.in-Cut.set c.in-Cut.needed c.in-Cut.children c.in-Cut.is in
-    let held : fact_holds c.args.inquiry.now.end c.args.inquiry.now.batches c.fact_of-fact.result ≡ true =
+    let held : fact_holds c.args.context.now.end c.args.context.now.batches c.fact_of-fact.result ≡ true =
     sym c.in_ok-put_fact.ensures.holds ∙ c.if-not-branch.false in
-    let says = held_cut c.args.inquiry.now.classes.now c.args.inquiry.now.end c.args.inquiry.now.batches c.args.place.now.limits _ _ _
+    let says = held_cut c.args.context.now.classes.now c.args.context.now.end c.args.context.now.batches c.args.place.now.limits _ _ _
     (rw (c.fact_of-fact.ensures, is) at held) in (
       omega (arith, c.decreases),
       (
@@ -82,9 +82,9 @@ put_node-put_each-requires t c =
 pub put_node-put_each-requires-in-Close : goal.put_node-put_each-requires-in-Close
 put_node-put_each-requires-in-Close t c =
     let is = bound_tree_of-close c.args.tree.now c.in-Close.children c.in-Close.is in
-    let held : fact_holds c.args.inquiry.now.end c.args.inquiry.now.batches c.fact_of-fact.result ≡ true =
+    let held : fact_holds c.args.context.now.end c.args.context.now.batches c.fact_of-fact.result ≡ true =
     sym c.in_ok-put_fact.ensures.holds ∙ c.if-not-branch.false in
-    let says = held_close c.args.inquiry.now.classes.now c.args.inquiry.now.end c.args.inquiry.now.batches c.args.place.now.limits _
+    let says = held_close c.args.context.now.classes.now c.args.context.now.end c.args.context.now.batches c.args.place.now.limits _
     (rw (c.fact_of-fact.ensures, is) at held) in (
       omega (arith, c.decreases),
       (
@@ -106,10 +106,10 @@ put_node-put_each-requires-in-Close t c =
 pub put_node-returns-in-Cut : goal.put_node-returns-in-Cut
 put_node-returns-in-Cut t c =
     let is = bound_tree_of-cut c.args.tree.now c.in-Cut.set c.in-Cut.needed c.in-Cut.children c.in-Cut.is in
-    let held : fact_holds c.args.inquiry.now.end c.args.inquiry.now.batches c.fact_of-fact.result ≡ true =
+    let held : fact_holds c.args.context.now.end c.args.context.now.batches c.fact_of-fact.result ≡ true =
     sym c.in_ok-put_fact.ensures.holds ∙ c.if-not-branch.false in
     on_ok_weaker c.put_each.result
-    (λ all. held_node c.args.inquiry.now.classes.now c.args.inquiry.now.end c.args.inquiry.now.batches c.args.inquiry.now.depth
+    (λ all. held_node c.args.context.now.classes.now c.args.context.now.end c.args.context.now.batches c.args.context.now.depth
     c.args.place.now.limits c.args.place.now.above c.args.place.now.reached (bound_tree_of c.args.tree.now) _ _ _ _ _ _ (omega arith)
     c.fact_of-fact.ensures c.in_ok-shares.ensures held c.in_ok-put_fact.ensures.put all
     (rw (is, c.as_slice.ensures.value, c.ways-out.ensures.items, c.deref-in-Cut.ensures.value) refl))
@@ -118,10 +118,10 @@ put_node-returns-in-Cut t c =
 pub put_node-returns-in-Close : goal.put_node-returns-in-Close
 put_node-returns-in-Close t c =
     let is = bound_tree_of-close c.args.tree.now c.in-Close.children c.in-Close.is in
-    let held : fact_holds c.args.inquiry.now.end c.args.inquiry.now.batches c.fact_of-fact.result ≡ true =
+    let held : fact_holds c.args.context.now.end c.args.context.now.batches c.fact_of-fact.result ≡ true =
     sym c.in_ok-put_fact.ensures.holds ∙ c.if-not-branch.false in
     on_ok_weaker c.put_each-in-Close.result
-    (λ all. held_node c.args.inquiry.now.classes.now c.args.inquiry.now.end c.args.inquiry.now.batches c.args.inquiry.now.depth
+    (λ all. held_node c.args.context.now.classes.now c.args.context.now.end c.args.context.now.batches c.args.context.now.depth
     c.args.place.now.limits c.args.place.now.above c.args.place.now.reached (bound_tree_of c.args.tree.now) _ _ _ _ _ _ (omega arith)
     c.fact_of-fact.ensures c.in_ok-shares.ensures held c.in_ok-put_fact.ensures.put all
     (rw (is, c.as_slice-in-Close.ensures.value, c.ending_ways-out.ensures.items, c.deref-in-Close.ensures.value) refl))
@@ -129,10 +129,10 @@ put_node-returns-in-Close t c =
 
 pub put_node-returns-in_ok-high-in-Split : goal.put_node-returns-in_ok-high-in-Split
 put_node-returns-in_ok-high-in-Split t c =
-    let k : Classes = c.args.inquiry.now.classes.now in
-    let end : End = c.args.inquiry.now.end in
-    let b : ℕ = c.args.inquiry.now.batches in
-    let depth : ℕ = c.args.inquiry.now.depth in
+    let k : Classes = c.args.context.now.classes.now in
+    let end : End = c.args.context.now.end in
+    let b : ℕ = c.args.context.now.batches in
+    let depth : ℕ = c.args.context.now.depth in
     let l : Limits = c.args.place.now.limits in
     let above : ℕ = c.args.place.now.above in
     let is = bound_tree_of-split c.args.tree.now c.in-Split.class c.in-Split.m c.in-Split.below c.in-Split.from c.in-Split.is in
@@ -155,7 +155,7 @@ put_node-returns-in_ok-high-in-Split t c =
 pub put_node-returns-then-not-branch : goal.put_node-returns-then-not-branch
 put_node-returns-then-not-branch t c =
     on_ok_weaker c.put_below_unjudged.result
-    (λ all. refused_node c.args.inquiry.now.classes.now c.args.inquiry.now.end c.args.inquiry.now.batches c.args.inquiry.now.depth
+    (λ all. refused_node c.args.context.now.classes.now c.args.context.now.end c.args.context.now.batches c.args.context.now.depth
     c.args.place.now.limits c.args.place.now.above c.args.place.now.reached (bound_tree_of c.args.tree.now) _ _ _ _ _ (omega arith)
     c.fact_of-fact.ensures c.in_ok-shares.ensures (sym c.in_ok-put_fact.ensures.holds ∙ c.if-not-branch.true)
     c.in_ok-put_fact.ensures.put all)
@@ -163,7 +163,7 @@ put_node-returns-then-not-branch t c =
 
 pub put_each-loop-index-preserved : goal.put_each-loop-index-preserved
 put_each-loop-index-preserved t c =
-    found_child c.args.inquiry.now.classes.now c.args.inquiry.now.end c.args.inquiry.now.batches c.args.inquiry.now.depth
+    found_child c.args.context.now.classes.now c.args.context.now.end c.args.context.now.batches c.args.context.now.depth
     c.args.place.now.limits (c.args.place.now.above + 1) c.args.ways.now c.args.children.now c.loop-index.index _ _
     c.index-children-index.result _ _ _ (omega arith) c.loop-index-test.true refl c.index-children-index.is c.loop-index.invariant
     (rw (c.deref.ensures, c.in_ok-narrowed.ensures.child) at c.in_ok-put_node.ensures)

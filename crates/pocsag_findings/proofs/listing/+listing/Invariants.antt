@@ -8,14 +8,14 @@ use Rattle.pocsag_findings.proofs.listing.+listing.Given as goal
 abbrev pub invariant-put_each-loop-index : goal.invariant-put_each-loop-index
 invariant-put_each-loop-index l =
     all_stated l.found.items
-    ++ findings_by l.inquiry.classes.now l.inquiry.end l.inquiry.batches l.inquiry.depth l.place.limits (l.place.above + 1)
+    ++ findings_by l.context.classes.now l.context.end l.context.batches l.context.depth l.place.limits (l.place.above + 1)
     (drop l.index l.ways) (bounds_of (drop l.index l.children))
     ≡ all_stated l.fn.found.items
-    ++ findings_by l.inquiry.classes.now l.inquiry.end l.inquiry.batches l.inquiry.depth l.place.limits (l.place.above + 1)
+    ++ findings_by l.context.classes.now l.context.end l.context.batches l.context.depth l.place.limits (l.place.above + 1)
     l.ways (bounds_of l.children)
 
 abbrev pub decreases-put_node : goal.decreases-put_node
-decreases-put_node l = 2 * (l.inquiry.now.depth - l.place.now.above)
+decreases-put_node l = 2 * (l.context.now.depth - l.place.now.above)
 
 abbrev pub decreases-put_each : goal.decreases-put_each
-decreases-put_each l = 2 * (l.inquiry.now.depth - l.place.now.above) - 1
+decreases-put_each l = 2 * (l.context.now.depth - l.place.now.above) - 1

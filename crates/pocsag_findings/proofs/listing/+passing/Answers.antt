@@ -25,13 +25,13 @@ put_below_unjudged-returns-in-Close t c =
 
 pub put_each_unjudged-loop-child-preserved : goal.put_each_unjudged-loop-child-preserved
 put_each_unjudged-loop-child-preserved t c =
-    unjudged_child c.args.inquiry.now.depth c.args.above c.args.children.now c.loop-child.child-index c.child-item.result _ _ _
+    unjudged_child c.args.context.now.depth c.args.above c.args.children.now c.loop-child.child-index c.child-item.result _ _ _
     c.loop-child-test.true c.child-item.is c.loop-child.invariant c.in_ok-put_unjudged.ensures
 
 pub put_unjudged-returns : goal.put_unjudged-returns
 put_unjudged-returns t c =
     on_ok_weaker c.put_below_unjudged.result
-    (λ all. unjudged_node c.args.inquiry.now.depth c.args.above (bound_tree_of c.args.tree.now) _ _ _ (omega arith)
+    (λ all. unjudged_node c.args.context.now.depth c.args.above (bound_tree_of c.args.tree.now) _ _ _ (omega arith)
     (rw (c.new.ensures.items, c.new-2.ensures.items, c.new-3.ensures.items, c.new-4.ensures.items) at (stated_more _ _ _ c.in_ok-push.ensures.items))
     all)
     c.put_below_unjudged.ensures

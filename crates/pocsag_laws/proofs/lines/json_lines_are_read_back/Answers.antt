@@ -1,7 +1,7 @@
 use Rattle.std.proofs.Common.{arith}
 use Rattle.json.proofs.Printed.Decimals.{IsNumber-decimal}
 use Rattle.json.proofs.Printed.Trees.{document-print}
-use Rattle.pocsag_receiver.specs.CaughtForms.{caught_object}
+use Rattle.pocsag_receiver.specs.CapturedForms.{captured_object}
 use Rattle.pocsag_receiver.specs.Forms.{page_object}
 use Rattle.pocsag_laws.proofs.lines.json_lines_are_read_back.Goals as goal
 
@@ -11,9 +11,9 @@ returns-clause-pages c = λ texts p small few.
     (IsNumber-decimal p.address (omega (arith, small)), (IsNumber-decimal p.function (omega (arith, few)), (tt, (tt, tt))))
     (omega arith)
 
-pub returns-clause-caught : goal.returns-clause-caught
-returns-clause-caught c = λ texts m p small few numbered placed.
-    document-print (caught_object texts m p) (
+pub returns-clause-captured : goal.returns-clause-captured
+returns-clause-captured c = λ texts m p small few numbered placed.
+    document-print (captured_object texts m p) (
       IsNumber-decimal p.address (omega (arith, small)),
       (
         IsNumber-decimal p.function (omega (arith, few)),

@@ -1,14 +1,14 @@
 use Rattle.std.proofs.Common.{inl, [], ◌∷◌, ◌++◌, ◌∙◌, ap, List, refl}
-use Rattle.pocsag_open.specs.Plans.{failed_plan, Placing}
+use Rattle.pocsag_open.specs.Plans.{failed_plan, PlacementResult}
 use Rattle.pocsag_open.proofs.round_plan.put_plan.Goals as goal
 
 pub returns-in-Err-put-clause-unplaced : goal.returns-in-Err-put-clause-unplaced
 returns-in-Err-put-clause-unplaced g c =
-    let failed : List Placing = failed_plan c.args.tx.now c.args.cert.now c.in-Err-put.fault ∷ [] in
+    let failed : List PlacementResult = failed_plan c.args.tx.now c.args.cert.now c.in-Err-put.fault ∷ [] in
     record {
       placed = failed;
       refused = inl refl;
-      outputs = λ known. c.in-Err-put.ensures.failed known ∙ ap (λ (l : List Placing). l ++ failed) (c.in-Ok.ensures.same known);
+      outputs = λ known. c.in-Err-put.ensures.failed known ∙ ap (λ (l : List PlacementResult). l ++ failed) (c.in-Ok.ensures.same known);
     }
 
 pub returns-in-Err-clause-unplaced : goal.returns-in-Err-clause-unplaced

@@ -35,66 +35,66 @@ returns-then-first-batches-clause-fault c =
 
 pub attempt-requires-clause-pages : goal.attempt-requires-clause-pages
 attempt-requires-clause-pages c =
-    let bracket = c.loop-bracket.bracket in
-    first_has_page c.recount-in-loop-bracket.new.classes c.args.search.end c.args.pages.now _ c.recount-in-loop-bracket.ensures
-    (omega (arith, c.loop-bracket.invariant.bracket.some)) c.requires.round.some
+    let bounds = c.loop-bounds.bounds in
+    first_has_page c.recount-in-loop-bounds.new.classes c.args.search.end c.args.pages.now _ c.recount-in-loop-bounds.ensures
+    (omega (arith, c.loop-bounds.invariant.bounds.some)) c.requires.round.some
 
 pub returns-in_err-tried-clause-fault : goal.returns-in_err-tried-clause-fault
 returns-in_err-tried-clause-fault c =
     let p = err_from_is_err_and c.from_residual-in_err-tried.result c.from_residual-in_err-tried.ensures.1 in
     let R = c.args.pages.now in
-    let bracket = c.loop-bracket.bracket in
-    let is = c.loop-bracket.invariant.bracket in
-    let n : ℕ = bracket.fitting + (bracket.beyond - bracket.fitting) / 2 in
+    let bounds = c.loop-bounds.bounds in
+    let is = c.loop-bounds.invariant.bounds in
+    let n : ℕ = bounds.fitting + (bounds.beyond - bounds.fitting) / 2 in
     let some : 0 < n = omega (arith, is.some) in
-    let among : n ≤ length R = omega (arith, is.order, is.few, c.loop-bracket-test.true) in
+    let among : n ≤ length R = omega (arith, is.order, is.few, c.loop-bounds-test.true) in
     rw (p.1, p.2)
-    (front_explained c.args.search R c.args.batches n c.requires.round c.requires.limited some among c.recount-in-loop-bracket.new.classes
-    c.in_err-tried.field-0.0 c.recount-in-loop-bracket.ensures c.in_err-tried.ensures.fault
+    (front_explained c.args.search R c.args.batches n c.requires.round c.requires.limited some among c.recount-in-loop-bounds.new.classes
+    c.in_err-tried.field-0.0 c.recount-in-loop-bounds.ensures c.in_err-tried.ensures.fault
     (λ stop e at. inr (inl (subst (StopsAt c.args.batches) e c.in_err-tried.ensures.undecided))))
 
-pub loop-bracket-preserved : goal.loop-bracket-preserved
-loop-bracket-preserved c = record {
-  bracket = c.narrowed-bracket.ensures.bracket c.args.search c.args.pages.now c.args.batches c.recount-in-loop-bracket.ensures
-      c.in_ok-tried.ensures.attempt c.loop-bracket.invariant.bracket;
-  among = omega (arith, c.loop-bracket.invariant.bracket.order, c.loop-bracket.invariant.bracket.few, c.loop-bracket-test.true);
-  counted = c.recount-in-loop-bracket.ensures;
+pub loop-bounds-preserved : goal.loop-bounds-preserved
+loop-bounds-preserved c = record {
+  bounds = c.narrowed-bounds.ensures.bounds c.args.search c.args.pages.now c.args.batches c.recount-in-loop-bounds.ensures
+      c.in_ok-tried.ensures.attempt c.loop-bounds.invariant.bounds;
+  among = omega (arith, c.loop-bounds.invariant.bounds.order, c.loop-bounds.invariant.bounds.few, c.loop-bounds-test.true);
+  counted = c.recount-in-loop-bounds.ensures;
 }
 
 pub returns-in-Some-clause-cut : goal.returns-in-Some-clause-cut
 returns-in-Some-clause-cut c =
-    let bracket = c.loop-bracket.bracket in
-    let is = c.loop-bracket.invariant.bracket in
-    let fit = subst (IsFit bracket.classes c.args.search c.args.batches) c.in-Some.is is.fit in
-    cut_of c.args.search c.args.pages.now c.args.batches bracket c.in-Some.outcome is c.loop-bracket-test.false fit.0 fit.1
+    let bounds = c.loop-bounds.bounds in
+    let is = c.loop-bounds.invariant.bounds in
+    let fit = subst (IsFit bounds.classes c.args.search c.args.batches) c.in-Some.is is.fit in
+    cut_of c.args.search c.args.pages.now c.args.batches bounds c.in-Some.outcome is c.loop-bounds-test.false fit.0 fit.1
 
 pub outcome_of-requires-2-clause-pages : goal.outcome_of-requires-2-clause-pages
 outcome_of-requires-2-clause-pages c =
-    let bracket = c.loop-bracket.bracket in
-    let is = c.loop-bracket.invariant.bracket in
-    first_has_page bracket.classes c.args.search.end c.args.pages.now bracket.fitting is.counted is.some c.requires.round.some
+    let bounds = c.loop-bounds.bounds in
+    let is = c.loop-bounds.invariant.bounds in
+    first_has_page bounds.classes c.args.search.end c.args.pages.now bounds.fitting is.counted is.some c.requires.round.some
 
 pub returns-in_err-outcome-clause-fault : goal.returns-in_err-outcome-clause-fault
 returns-in_err-outcome-clause-fault c =
     let p = err_from_is_err_and c.from_residual-in_err-outcome.result c.from_residual-in_err-outcome.ensures.1 in
     let R = c.args.pages.now in
-    let bracket = c.loop-bracket.bracket in
-    let is = c.loop-bracket.invariant.bracket in
-    let among : bracket.fitting ≤ length R = omega (arith, is.order, is.few) in
-    let none : bracket.outcome ≡ None = c.in_default.is in
-    let spare = subst (IsFit bracket.classes c.args.search c.args.batches) none is.fit in
+    let bounds = c.loop-bounds.bounds in
+    let is = c.loop-bounds.invariant.bounds in
+    let among : bounds.fitting ≤ length R = omega (arith, is.order, is.few) in
+    let none : bounds.outcome ≡ None = c.in_default.is in
+    let spare = subst (IsFit bounds.classes c.args.search c.args.batches) none is.fit in
     rw (p.1, p.2)
-    (front_explained c.args.search R c.args.batches bracket.fitting c.requires.round c.requires.limited is.some among bracket.classes
+    (front_explained c.args.search R c.args.batches bounds.fitting c.requires.round c.requires.limited is.some among bounds.classes
     c.in_err-outcome.field-0.0 is.counted c.in_err-outcome.ensures.fault
-    (λ stop e at. inr (inr (spare_front c.args.search R c.args.batches bracket stop c.requires.round c.requires.limited is
-    c.loop-bracket-test.false spare at))))
+    (λ stop e at. inr (inr (spare_front c.args.search R c.args.batches bounds stop c.requires.round c.requires.limited is
+    c.loop-bounds-test.false spare at))))
 
 pub returns-clause-cut : goal.returns-clause-cut
 returns-clause-cut c =
-    let bracket = c.loop-bracket.bracket in
-    let is = c.loop-bracket.invariant.bracket in
+    let bounds = c.loop-bounds.bounds in
+    let is = c.loop-bounds.invariant.bounds in
     let found = c.in_ok-outcome.ensures.outcome in
-    let none : bracket.outcome ≡ None = c.in_default.is in
-    let spare = subst (IsFit bracket.classes c.args.search c.args.batches) none is.fit in
-    cut_of c.args.search c.args.pages.now c.args.batches bracket c.in_ok-outcome.outcome is c.loop-bracket-test.false found
-    (spare_fits bracket.classes c.args.search c.args.batches c.in_ok-outcome.outcome spare found)
+    let none : bounds.outcome ≡ None = c.in_default.is in
+    let spare = subst (IsFit bounds.classes c.args.search c.args.batches) none is.fit in
+    cut_of c.args.search c.args.pages.now c.args.batches bounds c.in_ok-outcome.outcome is c.loop-bounds-test.false found
+    (spare_fits bounds.classes c.args.search c.args.batches c.in_ok-outcome.outcome spare found)

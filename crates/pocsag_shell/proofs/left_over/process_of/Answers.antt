@@ -1,42 +1,34 @@
-use Rattle.std.proofs.Common.{◌≡◌, ℕ, List, ◌∷◌, ◌++◌, sym, ap, ◌∙◌, arith}
-use Rattle.std.specs.Prelude.{None, Some, codes}
-use Rattle.std.proofs.lemmas.Str.Pattern.{strip_prefix_char}
-use Rattle.pocsag_shell.proofs.StagedFiles.{made_new, made_old, none_made, without_dot, without_ending}
-use Rattle.pocsag_shell.proofs.left_over.process_of.Goals.{in-Some, in-None+in_ok-digits-in-None}
+use Rattle.std.proofs.Common.{◌≡◌, ℕ, List, ◌++◌, sym, ap, ◌∙◌}
+use Rattle.std.specs.Prelude.{None, Some}
+use Rattle.pocsag_shell.proofs.StagedFiles.{where_none, split_dot, staged, without_dot, without_ending, without_number}
 use Rattle.pocsag_shell.proofs.left_over.process_of.Goals as goal
 
-pub returns-in_err-rest : goal.returns-in_err-rest
-returns-in_err-rest c =
-    let first = c.in_ok-strip_prefix.ensures.cases in
-    let parts : c.args.file.now ≡ c.args.name.now ++ c.in_ok-strip_prefix.field-0.now =
-    first.1.1 ∙ ap (λ (v : List ℕ). c.args.name.now ++ v) (sym first.2) in
-    none_made c.args.name.now c.args.file.now _ c.from_residual-in_err-rest.ensures
-    (without_dot c.args.name.now c.args.file.now c.in_ok-strip_prefix.field-0.now parts
-    (strip_prefix_char 46 c.in_ok-strip_prefix.field-0.now None c.in_err-rest.ensures.cases (omega arith)))
+pub returns-in_err-strip_suffix-clause-none : goal.returns-in_err-strip_suffix-clause-none
+returns-in_err-strip_suffix-clause-none c =
+    where_none c.from_residual.result _ (without_ending c.args.file.now c.args.ending.now c.in_err-strip_suffix.ensures.cases)
 
-pub returns-in_err-digits-in-None : goal.returns-in_err-digits-in-None
-returns-in_err-digits-in-None c =
-    let first = c.in_ok-strip_prefix.ensures.cases in
-    let dot = strip_prefix_char 46 c.in_ok-strip_prefix.field-0.now (Some c.in_ok-rest.rest) c.in_ok-rest.ensures.cases (omega arith) in
-    let parts : c.args.file.now ≡ c.args.name.now ++ 46 ∷ c.in_ok-rest.rest.now =
-    first.1.1 ∙ ap (λ (v : List ℕ). c.args.name.now ++ v) (sym first.2 ∙ dot) in
-    none_made c.args.name.now c.args.file.now _ c.from_residual-in_err-digits-in-None.ensures
-    (without_ending c.args.name.now c.args.file.now c.in_ok-rest.rest.now parts c.in-None.ensures.cases c.in_err-digits-in-None.ensures.cases)
+pub returns-in_err-front-clause-none : goal.returns-in_err-front-clause-none
+returns-in_err-front-clause-none c =
+    let last = c.in_ok-strip_suffix.ensures.cases in
+    let text = c.in_ok-strip_suffix.field-0.now in
+    let ends : c.args.file.now ≡ text ++ c.args.ending.now = last.1.1 ∙ ap (λ (v : List ℕ). v ++ c.args.ending.now) (sym last.2) in
+    where_none c.from_residual-in_err-front.result _
+    (without_dot c.args.file.now c.args.ending.now text ends (split_dot text None c.in_err-front.ensures.cases))
 
-pub returns : goal.returns
-returns c =
-    let first = c.in_ok-strip_prefix.ensures.cases in
-    let dot = strip_prefix_char 46 c.in_ok-strip_prefix.field-0.now (Some c.in_ok-rest.rest) c.in_ok-rest.ensures.cases (omega arith) in
-    let parts : c.args.file.now ≡ c.args.name.now ++ 46 ∷ c.in_ok-rest.rest.now =
-    first.1.1 ∙ ap (λ (v : List ℕ). c.args.name.now ++ v) (sym first.2 ∙ dot) in
-    elim c.match-strip_suffix.branch [
-      | in-Some w ↦
-          let last = w.in-Some.ensures.cases in
-          let ends : c.in_ok-rest.rest.now ≡ w.in-Some.digits.now ++ codes ".new" = last.1.1 ∙ ap (λ (v : List ℕ). v ++ codes ".new") (sym last.2) in
-          made_new c.args.name.now c.args.file.now w.in-Some.digits.now _ (rw ends at parts) (rw w.digits-is at c.written_number.ensures)
-      | in-None+in_ok-digits-in-None w ↦
-          let last = w.in_ok-digits-in-None.ensures.cases in
-          let ends : c.in_ok-rest.rest.now ≡ w.in_ok-digits-in-None.digits.now ++ codes ".old" =
-          last.1.1 ∙ ap (λ (v : List ℕ). v ++ codes ".old") (sym last.2) in
-          made_old c.args.name.now c.args.file.now w.in_ok-digits-in-None.digits.now _ (rw ends at parts) (rw w.digits-is at c.written_number.ensures)
-    ]
+pub returns-in_err-written_number-clause-none : goal.returns-in_err-written_number-clause-none
+returns-in_err-written_number-clause-none c =
+    let last = c.in_ok-strip_suffix.ensures.cases in
+    let text = c.in_ok-strip_suffix.field-0.now in
+    let ends : c.args.file.now ≡ text ++ c.args.ending.now = last.1.1 ∙ ap (λ (v : List ℕ). v ++ c.args.ending.now) (sym last.2) in
+    where_none c.from_residual-in_err-written_number.result _
+    (without_number c.args.file.now c.args.ending.now text c.in_ok-front.front.now c.in_ok-front.digits.now c.written_number.result ends
+    (split_dot text (Some (c.in_ok-front.front, c.in_ok-front.digits)) c.in_ok-front.ensures.cases) c.written_number.ensures c.in_err-written_number.was)
+
+pub returns-clause-named : goal.returns-clause-named
+returns-clause-named c =
+    let last = c.in_ok-strip_suffix.ensures.cases in
+    let text = c.in_ok-strip_suffix.field-0.now in
+    let ends : c.args.file.now ≡ text ++ c.args.ending.now = last.1.1 ∙ ap (λ (v : List ℕ). v ++ c.args.ending.now) (sym last.2) in
+    staged c.args.file.now c.args.ending.now text c.in_ok-front.front.now c.in_ok-front.digits.now c.in_ok-written_number.field-0 ends
+    (split_dot text (Some (c.in_ok-front.front, c.in_ok-front.digits)) c.in_ok-front.ensures.cases).0
+    ((c.written_number.ensures c.in_ok-written_number.field-0).0 c.in_ok-written_number.was)

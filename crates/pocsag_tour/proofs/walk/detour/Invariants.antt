@@ -1,5 +1,5 @@
 use Rattle.pocsag_tour.proofs.Prelude.{slice_index}
-use Rattle.pocsag_tour.specs.Laps.{ArePassed, IsPassed}
+use Rattle.pocsag_tour.specs.Segments.{ArePassed, IsPassed}
 use Rattle.pocsag_tour.proofs.walk.detour.Given as goal
 
 abbrev pub invariant-loop-kind : goal.invariant-loop-kind

@@ -15,16 +15,16 @@ loop-index-init g c = record {
   failures = refl;
 }
 
-pub returns-in_err-spill-clause-delivers : goal.returns-in_err-spill-clause-delivers
-returns-in_err-spill-clause-delivers g c = λ is_known.
+pub returns-in_err-write_if_full-clause-delivers : goal.returns-in_err-write_if_full-clause-delivers
+returns-in_err-write_if_full-clause-delivers g c = λ is_known.
     let loop = c.loop-index in
     let before = g.O.Sink.taken c.args.out.now in
     let now = g.O.Sink.taken loop.out in (
       search rules,
       after_fault c.from_residual.result
-          (took_on before now (g.O.Sink.taken c.spill.new.out) loop.piece.items _ _ (loop.invariant.grown is_known)
+          (took_on before now (g.O.Sink.taken c.write_if_full.new.out) loop.piece.items _ _ (loop.invariant.grown is_known)
           (still_to_write c.args.keying c.args.keyed.now before now loop.piece.items loop.index c.args.count (omega arith) (loop.invariant.told is_known))
-          (c.in_err-spill.ensures.part is_known)),
+          (c.in_err-write_if_full.ensures.part is_known)),
     )
 
 pub loop-index-preserved : goal.loop-index-preserved
@@ -42,14 +42,14 @@ loop-index-preserved g c =
           ap (λ (z : ℤ). cast_signed w16 (cast_unsigned w16 z)) level_is ∙ level_fits c.args.keying.is_inverted _ _ in
           let written : c.to_le_bytes.result ≡ sample_bytes level = c.to_le_bytes.ensures ∙ ap sample_bytes same in
           let behind : c.push-in-loop-index.new.self.items
-          ≡ (c.spill.new.piece.items ++ get_or (sample_bytes level) 0 0 ∷ []) ++ get_or (sample_bytes level) 1 0 ∷ [] =
+          ≡ (c.write_if_full.new.piece.items ++ get_or (sample_bytes level) 0 0 ∷ []) ++ get_or (sample_bytes level) 1 0 ∷ [] =
           c.push-in-loop-index.ensures.items
           ∙ ap₂ (λ (l bytes : List ℕ). l ++ get_or bytes 1 0 ∷ [])
-          (c.push.ensures.items ∙ ap (λ (bytes : List ℕ). c.spill.new.piece.items ++ get_or bytes 0 0 ∷ []) written) written in
-          pushed before (g.O.Sink.taken loop.out) loop.piece.items (g.O.Sink.taken c.spill.new.out) c.spill.new.piece.items
+          (c.push.ensures.items ∙ ap (λ (bytes : List ℕ). c.write_if_full.new.piece.items ++ get_or bytes 0 0 ∷ []) written) written in
+          pushed before (g.O.Sink.taken loop.out) loop.piece.items (g.O.Sink.taken c.write_if_full.new.out) c.write_if_full.new.piece.items
           c.push-in-loop-index.new.self.items (flat_map sample_bytes (samples_of c.args.keying c.args.keyed.now loop.index)) _ _
-          (loop.invariant.told is_known) (c.in_ok-spill.ensures.same is_known) behind
+          (loop.invariant.told is_known) (c.in_ok-write_if_full.ensures.same is_known) behind
           ∙ ap (λ (l : List ℕ). before ++ l) (written_more c.args.keying c.args.keyed.now loop.index);
-      grown = λ is_known. omega (arith, loop.invariant.grown is_known, c.in_ok-spill.ensures.grown is_known);
-      failures = c.in_ok-spill.ensures.failures.0 ∙ loop.invariant.failures;
+      grown = λ is_known. omega (arith, loop.invariant.grown is_known, c.in_ok-write_if_full.ensures.grown is_known);
+      failures = c.in_ok-write_if_full.ensures.failures.0 ∙ loop.invariant.failures;
     }

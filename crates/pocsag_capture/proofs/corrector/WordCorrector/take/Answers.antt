@@ -1,7 +1,7 @@
 use Rattle.std.proofs.Common.{ℕ, ◌+◌, None, Some, bit_xor, count_ones, refl, sym, ◌∙◌, ap, arith}
 use Rattle.pocsag_words.proofs.KindLemmas.{IsCodeword-idle}
 use Rattle.pocsag_capture.specs.declared.corrector.WordCorrector.{WordCorrector}
-use Rattle.pocsag_capture.proofs.Settled.{ends_none, stays_as, without_orphans_orphan}
+use Rattle.pocsag_capture.proofs.CorrectedWords.{ends_none, stays_as, without_orphans_orphan}
 use Rattle.pocsag_capture.proofs.corrector.WordCorrector.take.Goals as goal
 
 pub returns-in_default : goal.returns-in_default

@@ -3,7 +3,7 @@ use Rattle.std.specs.Int.{from_be_bytes, w32}
 use Rattle.std.proofs.lemmas.List.{length-take-le, nil_from_length}
 use Rattle.std.proofs.lemmas.Result.{err_from_is_err_and}
 use Rattle.pocsag_pages.specs.Bytes.{words_of}
-use Rattle.pocsag_decode.specs.Carried.{carried}
+use Rattle.pocsag_decode.specs.PartialWords.{partial_bytes}
 use Rattle.pocsag_decode.proofs.Words.{first_four, first_one, front_and_tail, word_more, refused_more, taken, not_taken, taking_last}
 use Rattle.pocsag_decode.proofs.body.Body.take.Goals as goal
 
@@ -14,8 +14,8 @@ loop-rest-preserved-in-None-1 c =
     let long : 4 ≤ length rest = c.in-None-len4-up.len_at_least in
     let told = c.in_ok-take_word.ensures in
     let new = c.take_word.new.self in
-    let none : carried c.loop-rest.self.carry ≡ [] = ap carried c.in-None-len4-up.is-0 in
-    let new_none : carried new.carry ≡ [] = ap carried told.carry ∙ none in
+    let none : partial_bytes c.loop-rest.self.partial ≡ [] = ap partial_bytes c.in-None-len4-up.is-0 in
+    let new_none : partial_bytes new.partial ≡ [] = ap partial_bytes told.partial ∙ none in
     let four : length front ≡ 4 = length-take-le 4 rest long in
     let whole = ap (λ (l : List ℕ). length (l ++ front)) none ∙ four in
     let word =
@@ -32,7 +32,7 @@ returns-in_err-take_word-clause-bad c =
     let rest = c.loop-rest.rest.now in
     let front = take 4 rest in
     let long : 4 ≤ length rest = c.in-None-len4-up.len_at_least in
-    let none : carried c.loop-rest.self.carry ≡ [] = ap carried c.in-None-len4-up.is-0 in
+    let none : partial_bytes c.loop-rest.self.partial ≡ [] = ap partial_bytes c.in-None-len4-up.is-0 in
     let whole = ap (λ (l : List ℕ). length (l ++ front)) none ∙ length-take-le 4 rest long in
     let word =
     c.from_be_bytes.ensures

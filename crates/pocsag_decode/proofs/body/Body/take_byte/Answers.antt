@@ -2,8 +2,8 @@ use Rattle.std.proofs.Common.{ℕ, List, [], ◌∷◌, ◌++◌, length, refl, 
 use Rattle.std.specs.Int.{from_be_bytes, w32}
 use Rattle.std.proofs.lemmas.Result.{on_ok_weaker, IfErr-weaker}
 use Rattle.pocsag_pages.specs.Bytes.{words_of}
-use Rattle.pocsag_decode.specs.declared.carry.Carry.{Carry}
-use Rattle.pocsag_decode.specs.Carried.{carried}
+use Rattle.pocsag_decode.specs.declared.partial_word.PartialWord.{PartialWord}
+use Rattle.pocsag_decode.specs.PartialWords.{partial_bytes}
 use Rattle.pocsag_decode.proofs.Words.{byte_more, word_more, refused_more}
 use Rattle.pocsag_decode.proofs.body.Body.take_byte.Goals as goal
 
@@ -18,16 +18,16 @@ returns-in-Two-clause-stands c = λ Y s. byte_more _ _ _ Y _ c.in-Two.is refl re
 
 pub returns-in-Three-clause-stands : goal.returns-in-Three-clause-stands
 returns-in-Three-clause-stands c = λ Y s.
-    let bytes : Carry → List ℕ = λ k. carried k ++ c.args.byte ∷ [] in
-    let long = ap (λ (k : Carry). length (bytes k)) c.in-Three.is in
-    let word = c.from_be_bytes.ensures ∙ ap (λ (k : Carry). from_be_bytes w32 (bytes k)) (sym c.in-Three.is) in
-    on_ok_weaker _ (λ r. word_more _ Y (c.args.byte ∷ []) _ s long word _ r (ap carried c.take_word.ensures.carry))
+    let bytes : PartialWord → List ℕ = λ k. partial_bytes k ++ c.args.byte ∷ [] in
+    let long = ap (λ (k : PartialWord). length (bytes k)) c.in-Three.is in
+    let word = c.from_be_bytes.ensures ∙ ap (λ (k : PartialWord). from_be_bytes w32 (bytes k)) (sym c.in-Three.is) in
+    on_ok_weaker _ (λ r. word_more _ Y (c.args.byte ∷ []) _ s long word _ r (ap partial_bytes c.take_word.ensures.partial))
     (c.take_word.ensures.read (words_of Y) s.read)
 
 pub returns-in-Three-clause-bad : goal.returns-in-Three-clause-bad
 returns-in-Three-clause-bad c = λ Y s.
-    let bytes : Carry → List ℕ = λ k. carried k ++ c.args.byte ∷ [] in
-    let long = ap (λ (k : Carry). length (bytes k)) c.in-Three.is in
-    let word = c.from_be_bytes.ensures ∙ ap (λ (k : Carry). from_be_bytes w32 (bytes k)) (sym c.in-Three.is) in
+    let bytes : PartialWord → List ℕ = λ k. partial_bytes k ++ c.args.byte ∷ [] in
+    let long = ap (λ (k : PartialWord). length (bytes k)) c.in-Three.is in
+    let word = c.from_be_bytes.ensures ∙ ap (λ (k : PartialWord). from_be_bytes w32 (bytes k)) (sym c.in-Three.is) in
     IfErr-weaker _ _ _ (λ f. refused_more _ Y (c.args.byte ∷ []) _ s long word f)
     (c.take_word.ensures.bad (words_of Y) s.read)

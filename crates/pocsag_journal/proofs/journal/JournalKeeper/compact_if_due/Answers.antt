@@ -6,8 +6,8 @@ use Rattle.pocsag_journal.specs.Views.{disk_of}
 use Rattle.pocsag_journal.proofs.ByteCounts.{times_at_most}
 use Rattle.pocsag_journal.proofs.journal.JournalKeeper.compact_if_due.Goals as goal
 
-pub returns-then-len-saturating_mul-clause-settled : goal.returns-then-len-saturating_mul-clause-settled
-returns-then-len-saturating_mul-clause-settled g c = λ is_known held.
+pub returns-then-len-saturating_mul-clause-compacted : goal.returns-then-len-saturating_mul-clause-compacted
+returns-then-len-saturating_mul-clause-compacted g c = λ is_known held.
     let all = (held is_known).0.counted.all in
     small c.in-Ok.text.items
     (subst (λ (n : ℕ). IsDue c.args.self.now.sizes.counted n) all (c.is_due.ensures.0 c.if-not-is_due.false))

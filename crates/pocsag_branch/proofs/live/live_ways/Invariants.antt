@@ -1,5 +1,0 @@
-use Rattle.std.proofs.Common.{◌≡◌, length}
-use Rattle.pocsag_branch.proofs.live.live_ways.Given as goal
-
-abbrev pub invariant-loop-class : goal.invariant-loop-class
-invariant-loop-class l = (length l.early ≡ 136) × (length l.late ≡ 136)

@@ -1,0 +1,103 @@
+use Rattle.std.proofs.Common.{◌+◌, ◌-◌, ◌*◌, ◌/◌, ◌%◌, ◌++◌, Bool, Option, refl, sym, ap, subst, ◌∙◌, arith}
+use Rattle.std.specs.Prelude.{IsTrue, nat_le, option_to_list}
+use Rattle.pocsag_words.specs.Kinds.{kind_of}
+use Rattle.pocsag_words.specs.declared.codeword.Kind.{Kind}
+use Rattle.pocsag_decode.specs.Places.{is_message}
+use Rattle.pocsag_pager.specs.Shown.{said}
+use Rattle.pocsag_capture.specs.Bits.{capture_bits}
+use Rattle.pocsag_capture.specs.TakenWords.{cut_by, corrected_word}
+use Rattle.pocsag_capture.specs.declared.captured_transmission.CapturedTransmission.{CapturedTransmission}
+use Rattle.pocsag_capture.specs.declared.corrector.WordCorrector.{WordCorrector}
+use Rattle.pocsag_capture.proofs.Extracts.{first_long}
+use Rattle.pocsag_capture.proofs.PageEnds.{IsCaptured, as_many_cuts, capturing_all, capturing_none, capturing_sync, capturing_word, message_by, uncut_pages_stand}
+use Rattle.pocsag_capture.proofs.captured_transmission.capture_pages.Goals as goal
+
+pub take_sync-requires-clause-corrected : goal.take_sync-requires-clause-corrected
+take_sync-requires-clause-corrected c =
+    omega (arith, c.loop-place.invariant.correcting.few_bits, first_long (capture_bits c.args.capture.now) c.args.reception c.loop-place.place)
+
+pub take_sync-requires-clause-lost : goal.take_sync-requires-clause-lost
+take_sync-requires-clause-lost c =
+    omega (arith, c.loop-place.invariant.correcting.few_lost, first_long (capture_bits c.args.capture.now) c.args.reception c.loop-place.place)
+
+pub take-corrected_word-requires-clause-corrected : goal.take-corrected_word-requires-clause-corrected
+take-corrected_word-requires-clause-corrected c =
+    omega (arith, c.loop-place.invariant.correcting.few_bits, first_long (capture_bits c.args.capture.now) c.args.reception c.loop-place.place)
+
+pub take-corrected_word-requires-clause-lost : goal.take-corrected_word-requires-clause-lost
+take-corrected_word-requires-clause-lost c =
+    omega (arith, c.loop-place.invariant.correcting.few_lost, first_long (capture_bits c.args.capture.now) c.args.reception c.loop-place.place)
+
+pub take-corrected_word-requires-clause-cut : goal.take-corrected_word-requires-clause-cut
+take-corrected_word-requires-clause-cut c =
+    omega (arith, c.loop-place.invariant.correcting.few_cuts, first_long (capture_bits c.args.capture.now) c.args.reception c.loop-place.place)
+
+pub take-requires-clause-follows : goal.take-requires-clause-follows
+take-requires-clause-follows c message =
+    let takes = c.take-corrected_word.ensures in
+    subst (λ (b : Bool). IsTrue b) (sym c.loop-place.invariant.open_page)
+    (message_by c.loop-place.corrector.is_open (said takes.mended) (kind_of (corrected_word c.take-corrected_word.result.kept)) takes.kind
+    (subst (λ (k : Kind). IsTrue (is_message k)) c.kind.ensures.kind message))
+
+pub loop-place-init : goal.loop-place-init
+loop-place-init c =
+    capturing_none c.steady_batches-steady.result _ _ c.new-cuts.result.items refl refl refl refl c.new.ensures.items refl c.new-cuts.ensures.items
+
+pub loop-place-preserved-then-place-eq0 : goal.loop-place-preserved-then-place-eq0
+loop-place-preserved-then-place-eq0 c =
+    capturing_sync (capture_bits c.args.capture.now) c.args.reception c.loop-place.place c.received_word-word.result c.steady_batches-steady.result
+    c.loop-place.corrector c.take_sync.new.self c.loop-place.growing c.loop-place.cuts.items c.received_word-word.ensures c.loop-place.invariant
+    c.if-place-eq0.true c.take_sync.ensures.bits c.take_sync.ensures.open_page c.take_sync.ensures.lost c.take_sync.ensures.cut
+
+pub loop-place-preserved : goal.loop-place-preserved
+loop-place-preserved c =
+    capturing_word (capture_bits c.args.capture.now) c.args.reception c.loop-place.place c.received_word-word.result c.steady_batches-steady.result
+    c.loop-place.corrector c.take-corrected_word.new.self c.loop-place.growing c.loop-place.cuts.items c.received_word-word.ensures c.loop-place.invariant
+    (corrected_word c.take-corrected_word.result.kept) ((c.loop-place.place % 17 - 1) / 2) c.kind.result
+    (nat_le (17 * c.steady_batches-steady.result) c.loop-place.place) c.take-corrected_word.result.ended c.take.new.self c.note_end.new.cuts.items
+    c.if-place-eq0.false refl refl c.kind.ensures.kind c.take-corrected_word.ensures c.in_ok-note_end.ensures c.in_ok-take.ensures.reads
+    c.in_ok-take.ensures.current
+
+pub close-ended-requires : goal.close-ended-requires
+close-ended-requires c =
+    omega (arith, c.loop-place.invariant.correcting.few_cuts, first_long (capture_bits c.args.capture.now) c.args.reception c.loop-place.place)
+
+abbrev pub captured_there : goal.Joined-growing-5 → CapturedTransmission
+captured_there c = record {
+  number = c.args.number;
+  heard = record {
+    reception = c.args.reception;
+    steady = c.steady_batches-steady.result;
+    corrected = c.close-ended.new.self.corrected;
+    lost = c.close-ended.new.self.lost;
+    cut = c.close-ended.new.self.cut;
+  };
+  pages = c.in_ok-finish.field-0;
+  cuts = c.note_end-2.new.cuts;
+}
+
+pub is_captured : (c : goal.Joined-growing-5) → IsCaptured (capture_bits c.args.capture.now) (captured_there c)
+is_captured c =
+    let last = c.close-ended.ensures.cut in
+    let ended = c.close-ended.ensures.ended in
+    capturing_all (capture_bits c.args.capture.now) (captured_there c) c.loop-place.place c.loop-place.corrector c.loop-place.growing c.loop-place.cuts.items
+    (omega arith) c.steady_batches-steady.ensures (ap (λ (s : WordCorrector). s.corrected) last) (ap (λ (s : WordCorrector). s.lost) last)
+    (ap (λ (s : WordCorrector). s.cut) last ∙ ap (λ (e : Option Bool). c.loop-place.corrector.cut + cut_by e) ended)
+    (c.in_ok-note_end-2.ensures ∙ ap (λ (e : Option Bool). c.loop-place.cuts.items ++ option_to_list e) ended) c.in_ok-finish.ensures.same
+    c.loop-place.invariant
+
+pub returns-clause-captured : goal.returns-clause-captured
+returns-clause-captured c = (is_captured c).is
+
+pub returns-clause-whole : goal.returns-clause-whole
+returns-clause-whole c =
+    let is = (is_captured c).is in
+    uncut_pages_stand _ (16 * c.steady_batches-steady.result) c.in_ok-finish.field-0.items c.note_end-2.new.cuts.items is.pages is.cuts
+
+pub returns-clause-long : goal.returns-clause-long
+returns-clause-long c =
+    let is = (is_captured c).is in
+    as_many_cuts _ (16 * c.steady_batches-steady.result) c.in_ok-finish.field-0.items c.note_end-2.new.cuts.items is.pages is.cuts
+
+pub returns-clause-listable : goal.returns-clause-listable
+returns-clause-listable c = (is_captured c).listable

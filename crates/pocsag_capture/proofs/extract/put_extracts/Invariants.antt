@@ -1,0 +1,7 @@
+use Rattle.std.proofs.Common.{take}
+use Rattle.pocsag_capture.specs.Bits.{capture_bits}
+use Rattle.pocsag_capture.specs.ExtractedBytes.{PutsExtracts}
+use Rattle.pocsag_capture.proofs.extract.put_extracts.Given as goal
+
+abbrev pub invariant-loop-reception : goal.invariant-loop-reception
+invariant-loop-reception l = PutsExtracts (capture_bits l.capture) (take l.reception-index l.found) l.heard.items l.initial.bytes.items l.bytes.items

@@ -1,0 +1,116 @@
+use Rattle.std.proofs.Common.{◌≡◌, ◌⊎◌, ◌∙◌, inl, inr, ℕ, refl, rules, subst}
+use Rattle.std.specs.Prelude.{option_map}
+use Rattle.pocsag_words.specs.Devices.{HasFailed}
+use Rattle.pocsag_journal.specs.Journals.{journal_limit}
+use Rattle.pocsag_journal.specs.Views.{IsHeld, disk_of}
+use Rattle.pocsag_open.specs.Ends.{AreCountless, HasGivenUp}
+use Rattle.pocsag_open.specs.KeptRounds.{HasFileFailed, begun, not_begun}
+use Rattle.pocsag_open.specs.Plans.{HasFailedOutput}
+use Rattle.pocsag_open.proofs.Ends.{wider}
+use Rattle.pocsag_open.proofs.KeptRounds.{anew_explains, held_anew, left_anew, left_read, of_disk, only_anew, only_kept}
+use Rattle.pocsag_open.proofs.kept_streams.open_kept.Goals as goal
+
+pub returns-in_err-round-clause-survives : goal.returns-in_err-round-clause-survives
+returns-in_err-round-clause-survives g c = λ d f i o.
+    not_begun refl (λ left now. inl (left_read g.D.Disk.moment g.D.Disk.left_since g.D.Disk.may_leave (λ disk t left le now. g.D.Disk.counts_now disk t left d le now)
+    g.P.OutputStore.is_known (HasFailedOutput g.P.Output.Sink.failures) c.args.settings.now.on_limit (g.I.Source.held c.args.streams.now.input) (g.D.Disk.held (disk_of c.args.round.now.keeper))
+    (option_map g.F.Source.held c.args.streams.now.pages) (disk_of c.args.round.now.keeper) (disk_of c.read.new.self) (c.read.ensures.any_moment d) left now))
+
+pub returns-in_err-compact-clause-survives : goal.returns-in_err-compact-clause-survives
+returns-in_err-compact-clause-survives g c = λ d f i o.
+    let begins = c.in_ok-round.ensures.begins f (g.D.Disk.held (disk_of c.args.round.now.keeper)) (c.in_ok-replayed.ensures.read d) (c.in_ok-replayed.ensures.few d) in
+    not_begun refl (left_anew g.D.Disk.moment g.D.Disk.left_since g.D.Disk.may_leave (λ disk t left le now. g.D.Disk.counts_now disk t left d le now)
+    g.P.OutputStore.is_known (HasFailedOutput g.P.Output.Sink.failures) c.args.settings.now.on_limit (g.I.Source.held c.args.streams.now.input) (g.D.Disk.held (disk_of c.args.round.now.keeper))
+    (option_map g.F.Source.held c.args.streams.now.pages) (disk_of c.args.round.now.keeper) (disk_of c.read.new.self) (c.read.ensures.any_moment d)
+    (disk_of c.compact.new.self) c.in_ok-round.field-0 begins (c.compact.ensures.any_moment d))
+
+pub returns-in_err-compact-clause-any_moment : goal.returns-in_err-compact-clause-any_moment
+returns-in_err-compact-clause-any_moment g c = λ d f i o.
+    let begins = c.in_ok-round.ensures.begins f (g.D.Disk.held (disk_of c.args.round.now.keeper)) (c.in_ok-replayed.ensures.read d) (c.in_ok-replayed.ensures.few d) in
+    only_anew g.D.Disk.moment g.D.Disk.left_since g.D.Disk.may_leave (λ disk t left le now. g.D.Disk.counts_now disk t left d le now)
+    g.P.OutputStore.is_known (HasFailedOutput g.P.Output.Sink.failures) c.args.settings.now.on_limit (g.I.Source.held c.args.streams.now.input) (g.D.Disk.held (disk_of c.args.round.now.keeper))
+    (option_map g.F.Source.held c.args.streams.now.pages) (disk_of c.args.round.now.keeper) (disk_of c.read.new.self) (c.read.ensures.any_moment d)
+    (disk_of c.compact.new.self) c.in_ok-round.field-0 begins (c.compact.ensures.any_moment d)
+
+pub returns-in_err-compact-clause-explained : goal.returns-in_err-compact-clause-explained
+returns-in_err-compact-clause-explained g c = λ d f i.
+    let begins = c.in_ok-round.ensures.begins f (g.D.Disk.held (disk_of c.args.round.now.keeper)) (c.in_ok-replayed.ensures.read d) (c.in_ok-replayed.ensures.few d) in
+    let cause = anew_explains (g.D.Disk.held (disk_of c.args.round.now.keeper)) (option_map g.F.Source.held c.args.streams.now.pages)
+    (HasFileFailed (option_map g.F.Source.failures c.args.streams.now.pages) (option_map g.F.Source.failures c.first_book.new.pages))
+    (HasFailed (g.D.Disk.failures (disk_of c.args.round.now.keeper)) (g.D.Disk.failures (disk_of c.compact.new.self))
+    ⊎ HasFailed (g.I.Source.failures c.args.streams.now.input) (g.I.Source.failures c.args.streams.now.input)
+    ⊎ AreCountless (g.I.Source.held c.args.streams.now.input))
+    (HasFailed (g.O.Sink.failures c.args.streams.now.out) (g.O.Sink.failures c.args.streams.now.out))
+    (HasGivenUp journal_limit (g.D.Disk.held (disk_of c.compact.new.self))
+    (g.D.Disk.failures (disk_of c.args.round.now.keeper)) (g.D.Disk.failures (disk_of c.compact.new.self)))
+    _ _ c.in_ok-round.field-0 c.in_err-compact.field-0.0 begins
+    (λ failed. inl (subst (λ (n : ℕ). HasFailed n (g.D.Disk.failures (disk_of c.compact.new.self))) (c.in_ok-replayed.ensures.succeeded d) failed))
+    (c.in_err-compact.ensures.explained d) in
+    search (rules, cause)
+
+pub returns-in-Ok-clause-survives : goal.returns-in-Ok-clause-survives
+returns-in-Ok-clause-survives g c = λ d f i o.
+    let begins = c.in_ok-round.ensures.begins f (g.D.Disk.held (disk_of c.args.round.now.keeper)) (c.in_ok-replayed.ensures.read d) (c.in_ok-replayed.ensures.few d) in
+    let stands : g.D.Disk.is_known → IsHeld c.compact.new.self (g.D.Disk.held (disk_of c.compact.new.self))
+    (g.D.Disk.may_leave (disk_of c.compact.new.self)) c.in_ok-round.field-0 × g.D.Disk.is_sound (disk_of c.compact.new.self) = λ known. (
+      held_anew c.compact.new.self (g.D.Disk.held (disk_of c.compact.new.self)) (g.D.Disk.may_leave (disk_of c.compact.new.self)) c.in_ok-round.field-0
+          (c.in_ok-compact.ensures.adds known) (c.in_ok-compact.ensures.measured known) (c.in_ok-compact.ensures.safe known),
+      c.in_ok-compact.ensures.sound known,
+    ) in
+    begun c.in_ok-round.field-0 begins (c.run_open_kept.ensures.survives d i o stands)
+
+pub returns-in-Ok-clause-any_moment : goal.returns-in-Ok-clause-any_moment
+returns-in-Ok-clause-any_moment g c = λ d f i o.
+    let begins = c.in_ok-round.ensures.begins f (g.D.Disk.held (disk_of c.args.round.now.keeper)) (c.in_ok-replayed.ensures.read d) (c.in_ok-replayed.ensures.few d) in
+    let stands : g.D.Disk.is_known → IsHeld c.compact.new.self (g.D.Disk.held (disk_of c.compact.new.self))
+    (g.D.Disk.may_leave (disk_of c.compact.new.self)) c.in_ok-round.field-0 × g.D.Disk.is_sound (disk_of c.compact.new.self) = λ known. (
+      held_anew c.compact.new.self (g.D.Disk.held (disk_of c.compact.new.self)) (g.D.Disk.may_leave (disk_of c.compact.new.self)) c.in_ok-round.field-0
+          (c.in_ok-compact.ensures.adds known) (c.in_ok-compact.ensures.measured known) (c.in_ok-compact.ensures.safe known),
+      c.in_ok-compact.ensures.sound known,
+    ) in
+    only_kept g.D.Disk.moment g.D.Disk.left_since g.D.Disk.may_leave (λ disk t left le now. g.D.Disk.counts_now disk t left d le now)
+    g.P.OutputStore.is_known (HasFailedOutput g.P.Output.Sink.failures) c.args.settings.now.on_limit (g.I.Source.held c.args.streams.now.input) (g.D.Disk.held (disk_of c.args.round.now.keeper))
+    (option_map g.F.Source.held c.args.streams.now.pages) (disk_of c.args.round.now.keeper) (disk_of c.read.new.self) (c.read.ensures.any_moment d)
+    (disk_of c.compact.new.self) c.in_ok-round.field-0 begins (c.compact.ensures.any_moment d) (disk_of c.run_open_kept.new.round.keeper)
+    (of_disk g.D.Disk.moment g.D.Disk.left_since _ _ _ (c.run_open_kept.ensures.any_moment d i o stands))
+
+pub returns-in-Err-clause-survives : goal.returns-in-Err-clause-survives
+returns-in-Err-clause-survives g c = λ d f i o.
+    let begins = c.in_ok-round.ensures.begins f (g.D.Disk.held (disk_of c.args.round.now.keeper)) (c.in_ok-replayed.ensures.read d) (c.in_ok-replayed.ensures.few d) in
+    let stands : g.D.Disk.is_known → IsHeld c.compact.new.self (g.D.Disk.held (disk_of c.compact.new.self))
+    (g.D.Disk.may_leave (disk_of c.compact.new.self)) c.in_ok-round.field-0 × g.D.Disk.is_sound (disk_of c.compact.new.self) = λ known. (
+      held_anew c.compact.new.self (g.D.Disk.held (disk_of c.compact.new.self)) (g.D.Disk.may_leave (disk_of c.compact.new.self)) c.in_ok-round.field-0
+          (c.in_ok-compact.ensures.adds known) (c.in_ok-compact.ensures.measured known) (c.in_ok-compact.ensures.safe known),
+      c.in_ok-compact.ensures.sound known,
+    ) in
+    begun c.in_ok-round.field-0 begins (c.run_open_kept.ensures.survives d i o stands)
+
+pub returns-in-Err-clause-any_moment : goal.returns-in-Err-clause-any_moment
+returns-in-Err-clause-any_moment g c = λ d f i o.
+    let begins = c.in_ok-round.ensures.begins f (g.D.Disk.held (disk_of c.args.round.now.keeper)) (c.in_ok-replayed.ensures.read d) (c.in_ok-replayed.ensures.few d) in
+    let stands : g.D.Disk.is_known → IsHeld c.compact.new.self (g.D.Disk.held (disk_of c.compact.new.self))
+    (g.D.Disk.may_leave (disk_of c.compact.new.self)) c.in_ok-round.field-0 × g.D.Disk.is_sound (disk_of c.compact.new.self) = λ known. (
+      held_anew c.compact.new.self (g.D.Disk.held (disk_of c.compact.new.self)) (g.D.Disk.may_leave (disk_of c.compact.new.self)) c.in_ok-round.field-0
+          (c.in_ok-compact.ensures.adds known) (c.in_ok-compact.ensures.measured known) (c.in_ok-compact.ensures.safe known),
+      c.in_ok-compact.ensures.sound known,
+    ) in
+    only_kept g.D.Disk.moment g.D.Disk.left_since g.D.Disk.may_leave (λ disk t left le now. g.D.Disk.counts_now disk t left d le now)
+    g.P.OutputStore.is_known (HasFailedOutput g.P.Output.Sink.failures) c.args.settings.now.on_limit (g.I.Source.held c.args.streams.now.input) (g.D.Disk.held (disk_of c.args.round.now.keeper))
+    (option_map g.F.Source.held c.args.streams.now.pages) (disk_of c.args.round.now.keeper) (disk_of c.read.new.self) (c.read.ensures.any_moment d)
+    (disk_of c.compact.new.self) c.in_ok-round.field-0 begins (c.compact.ensures.any_moment d) (disk_of c.run_open_kept.new.round.keeper)
+    (of_disk g.D.Disk.moment g.D.Disk.left_since _ _ _ (c.run_open_kept.ensures.any_moment d i o stands))
+
+pub returns-in-Err-clause-explained : goal.returns-in-Err-clause-explained
+returns-in-Err-clause-explained g c = λ d f i.
+    let stands : g.D.Disk.is_known → IsHeld c.compact.new.self (g.D.Disk.held (disk_of c.compact.new.self))
+    (g.D.Disk.may_leave (disk_of c.compact.new.self)) c.in_ok-round.field-0 × g.D.Disk.is_sound (disk_of c.compact.new.self) = λ known. (
+      held_anew c.compact.new.self (g.D.Disk.held (disk_of c.compact.new.self)) (g.D.Disk.may_leave (disk_of c.compact.new.self)) c.in_ok-round.field-0
+          (c.in_ok-compact.ensures.adds known) (c.in_ok-compact.ensures.measured known) (c.in_ok-compact.ensures.safe known),
+      c.in_ok-compact.ensures.sound known,
+    ) in
+    let same : g.D.Disk.failures (disk_of c.compact.new.self) ≡ g.D.Disk.failures (disk_of c.args.round.now.keeper) =
+    c.in_ok-compact.ensures.succeeded d ∙ c.in_ok-replayed.ensures.succeeded d in
+    wider _ _ _ _ _ _ c.in-Err.fault (λ cause. inr cause) (λ cause. cause)
+    (λ cause. subst (λ (n : ℕ). HasGivenUp journal_limit (g.D.Disk.held (disk_of c.run_open_kept.new.round.keeper)) n
+    (g.D.Disk.failures (disk_of c.run_open_kept.new.round.keeper))) same cause)
+    (c.in-Err.ensures.explained i d stands)

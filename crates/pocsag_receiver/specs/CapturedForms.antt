@@ -1,0 +1,80 @@
+-- How the pages of captures are listed: each with its state, and in JSON also with its transmission (this project's own).
+use Rattle.std.specs.Prelude.{ℕ, ◌==◌, Bool, true, false, if◌then◌else◌, List, [], ◌∷◌, ◌++◌, Option, Some, None, codes}
+use Rattle.std.specs.List.{flat_map}
+use Rattle.std.specs.Fmt.{decimal}
+use Rattle.csv.specs.Writing.{default_writer, row_text}
+use Rattle.json.specs.Json.{Json, boolean, member, no_members, number, object, string}
+use Rattle.json.specs.Print.{print}
+use Rattle.json.specs.Tree.{json_tokens}
+use Rattle.pocsag_pages.specs.declared.page.Page.{Page}
+use Rattle.pocsag_capture.specs.Bits.{inverts}
+use Rattle.pocsag_capture.specs.declared.captured_transmission.CapturedTransmission.{CapturedTransmission}
+use Rattle.pocsag_decode.specs.Listing.{header}
+use Rattle.pocsag_receiver.specs.Forms.{kind_read, message_read, record_read}
+use Rattle.pocsag_receiver.specs.declared.captured.Mark.{Mark}
+use Rattle.pocsag_receiver.specs.declared.captured.Picking.{Picking}
+
+-- The state of a page.
+abbrev pub state_field : (is_cut : Bool) → List ℕ
+state_field is_cut = if is_cut then codes "cut" else codes "whole"
+
+-- The field of a page's state, where it has one.
+abbrev pub state_fields : (is_cut : Option Bool) → List (List ℕ)
+state_fields None = []
+state_fields (Some is_cut) = state_field is_cut ∷ []
+
+-- The record of a page, and its state.
+abbrev pub captured_row : List Bool → (is_cut : Bool) → Page → List ℕ
+captured_row texts is_cut p = row_text default_writer (record_read texts p ++ state_fields (Some is_cut))
+
+-- The JSON object of a page: what it has without a capture, its state, and of its transmission the number, whether each bit was
+-- received as the other, and the bit at which it begins.
+abbrev pub captured_object : List Bool → Mark → Page → Json
+captured_object texts m p =
+    object (member (codes "address") (number (decimal p.address))
+    (member (codes "function") (number (decimal p.function))
+    (member (codes "kind") (string (kind_read texts p.function p.payload))
+    (member (codes "message") (string (message_read texts p.function p.payload))
+    (member (codes "state") (string (state_field m.is_cut))
+    (member (codes "transmission") (number (decimal m.transmission))
+    (member (codes "inverted") (boolean m.is_inverted)
+    (member (codes "bit") (number (decimal m.bit)) no_members))))))))
+
+-- Its line: the text of the object, without spaces, and a line feed.
+abbrev pub captured_line : List Bool → Mark → Page → List ℕ
+captured_line texts m p = print (json_tokens (captured_object texts m p)) ++ 10 ∷ []
+
+-- What is reported of a page of a transmission, which is cut or not.
+abbrev pub mark_of : CapturedTransmission → (is_cut : Bool) → Mark
+mark_of c is_cut = record {
+  is_cut = is_cut;
+  transmission = c.number;
+  is_inverted = inverts c.heard.reception.polarity;
+  bit = c.heard.reception.bit;
+}
+
+-- Whether the pages of an address are asked for: those of all addresses, or those of one.
+abbrev pub is_picked : (only : Option ℕ) → (address : ℕ) → Bool
+is_picked None address = true
+is_picked (Some one) address = address == one
+
+-- The texts of those pages that are asked for, one behind the other, where the text of a page goes by its state.
+abbrev pub picked_pages : (only : Option ℕ) → (text_of : Bool → Page → List ℕ) → List Page → (cuts : List Bool) → List ℕ
+picked_pages only text_of [] cuts = []
+picked_pages only text_of (p ∷ ps) [] = []
+picked_pages only text_of (p ∷ ps) (is_cut ∷ cuts) =
+    (if is_picked only p.address then text_of is_cut p else []) ++ picked_pages only text_of ps cuts
+
+-- What is listed of a transmission: a record or a line of JSON for each page that is asked for.
+abbrev pub captured_text : Picking → CapturedTransmission → List ℕ
+captured_text k c =
+    if k.is_json then picked_pages k.only (λ is_cut p. captured_line k.texts (mark_of c is_cut) p) c.pages.items c.cuts.items
+    else picked_pages k.only (captured_row k.texts) c.pages.items c.cuts.items
+
+-- What stands before them: in CSV the record of the names.
+abbrev pub captured_header : (is_json : Bool) → List ℕ
+captured_header is_json = if is_json then [] else row_text default_writer (header ++ codes "state" ∷ [])
+
+-- The listing of a capture.
+abbrev pub captured_listing : Picking → List CapturedTransmission → List ℕ
+captured_listing k cs = captured_header k.is_json ++ flat_map (captured_text k) cs

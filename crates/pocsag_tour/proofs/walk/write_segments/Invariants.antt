@@ -1,0 +1,7 @@
+use Rattle.pocsag_tour.proofs.Prelude.{◌≡◌, ◌++◌, step_of}
+use Rattle.std.proofs.Common.{map}
+use Rattle.std.specs.List.{repeat}
+use Rattle.pocsag_tour.proofs.walk.write_segments.Given as goal
+
+abbrev pub invariant-segments : goal.invariant-segments
+invariant-segments l = l.steps.items ≡ l.initial.steps.items ++ repeat l._segment (map step_of l.arcs)
