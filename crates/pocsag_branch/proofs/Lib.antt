@@ -1,4 +1,3 @@
-pub mod FreeNodes
 pub mod LeastBounds
 pub mod NodeChildren
 pub mod NodeRows

@@ -3,9 +3,12 @@ use Rattle.std.proofs.Common.{◌≡◌, ◌≢◌, ℕ, ◌+◌, ◌-◌, ◌<�
 use Rattle.std.proofs.lemmas.Bool.Decides.{nat_tests}
 use Rattle.pocsag_slots.specs.declared.class.Classes.{Classes}
 use Rattle.pocsag_slots.specs.declared.limit.Limits.{Limits}
+use Rattle.pocsag_slots.specs.declared.way.Way.{Way}
 use Rattle.pocsag_slots.specs.declared.way.Way.TheVariants.{IdleIn, Early, Late}
 use Rattle.pocsag_slots.specs.Sums.{sum_below}
+use Rattle.pocsag_slots.specs.Ways.{MayTake}
 use Rattle.pocsag_slots.proofs.SumLemmas.{sum_below-bump}
+use Rattle.pocsag_branch.specs.FreeNode.{IsUndecidedWay}
 use Rattle.pocsag_branch.specs.Undecided.{AreNodeLimits, Falls, IsSplitPoint, class_left, slot_left, undecided}
 
 sum_below-fall : (n k : ℕ) (f g : ℕ → ℕ) → k < n → g k < f k → ((j : ℕ) → j < n → j ≢ k → g j ≡ f j) → sum_below n g < sum_below n f
@@ -122,3 +125,9 @@ module _ (k : Classes) (batches : ℕ) (l : Limits) (limits : AreNodeLimits k ba
         from_falls = lo_falls k batches l c (slice_index k.count c) h limits.lo_long
             (all_settled (slice_index l.lo c) (slice_index l.hi c) (slice_index k.count c) all some);
       }
+
+-- a way that is undecided settles a question
+pub undecided_falls : (k : Classes) (b : ℕ) (l : Limits) (w : Way) → 0 < b → AreNodeLimits k b l → MayTake k l w → IsUndecidedWay k b l w → Falls k b l w
+undecided_falls k b l (IdleIn slot) some limits may free = idle_falls k b l limits slot some may free
+undecided_falls k b l (Early c) some limits may free = early_falls k b l limits c may.0 free may.1
+undecided_falls k b l (Late c) some limits may free = late_falls k b l limits c may.0 free may.1

@@ -28,7 +28,7 @@ use Rattle.pocsag_tour.specs.Reached.{IsApart, IsReached, at_start, by_idle, IsU
 use Rattle.pocsag_slots.proofs.CoverLemmas.{start_below}
 use Rattle.pocsag_branch.proofs.OpenWays.{closing_ways_fall}
 use Rattle.pocsag_branch.specs.declared.task.Task.{Task}
-use Rattle.pocsag_branch.specs.Examined.{IsRefuted, IsTreeOf}
+use Rattle.pocsag_branch.specs.Examined.{IsExamined, IsRefuted, IsTreeOf}
 use Rattle.pocsag_branch.specs.Found.{IsBound}
 use Rattle.pocsag_branch.specs.FreeNode.{IsFreeTree}
 use Rattle.pocsag_branch.specs.Marks.{has_open, have_open, opens, opens_in}
@@ -208,12 +208,12 @@ pub tree_whole : (k : Classes) (q : Task) (t : BoundTree) → IsTreeOf k q t →
 tree_whole k q t of whole =
     refuted_accepted false k q.end q.batches t
     (record {
-      accepted = sealed t k q.end q.batches (limits_of_all k q.batches) whole of.examined.refuted.accepted;
+      accepted = sealed t k q.end q.batches (limits_of_all k q.batches) whole (rw of.fixed at of.examined.refuted.accepted);
       deep = of.examined.refuted.deep;
     })
 
 pub tree_open : (k : Classes) (q : Task) (t : BoundTree) → IsTreeOf k q t → IsAccepted true k q.end (q.batches + 1) t
-tree_open k q t of = refuted_accepted true k q.end q.batches t of.examined.refuted
+tree_open k q t of = refuted_accepted true k q.end q.batches t (rw of.fixed at of.examined.refuted)
 
 pub set_refutes : (k : Classes) (end : End) (b set : ℕ) → RefusesOneLess k b set → IsAccepted false k end b (overload set)
 set_refutes k end b set refuses =
@@ -274,6 +274,10 @@ least_tree k end b limit set some refuses =
       few = some;
       one = record { set = set; refuses = refuses; one_node = refl };
     })
+
+pub free_made : (k : Classes) (q : Task) (after : ℕ) (t : BoundTree) → q.fixed ≡ false →
+    IsExamined k q (limits_of_all k q.batches) 0 after t → IsFreeTree k q t
+free_made k q after t free h = record { refuted = rw free at h.refuted; few = omega (arith, h.few, h.within) }
 
 pub free_whole : (k : Classes) (q : Task) (t : BoundTree) → IsFreeTree k q t → IsAccepted false k q.end (q.batches + 1) t
 free_whole k q t of = refuted_accepted false k q.end q.batches t of.refuted

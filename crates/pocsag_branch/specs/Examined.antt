@@ -7,16 +7,19 @@ use Rattle.pocsag_slots.specs.declared.way.Way.{Way}
 use Rattle.pocsag_slots.specs.Loads.{IsChoice, Overloads, limits_of_all}
 use Rattle.pocsag_slots.specs.Tours.{AsksForLast, IsTour}
 use Rattle.pocsag_slots.specs.Ways.{class_certain, ways_across, ways_to_close}
-use Rattle.pocsag_tree.specs.BoundTrees.{BoundTree, BoundTrees, depth_of, deepest}
+use Rattle.pocsag_tree.specs.BoundTrees.{BoundTree, BoundTrees, closed_nodes, closed_nodes_in, depth_of, deepest}
+use Rattle.pocsag_tree.specs.Views.{bound_tree_of, bounds_of}
 use Rattle.pocsag_tree.specs.CertificateText.{IsSet}
 use Rattle.pocsag_check.specs.Acceptance.{Accepts, AcceptsEach}
 use Rattle.pocsag_tour.specs.Reached.{IsApart, IsUnclosed}
+use Rattle.pocsag_branch.specs.declared.node.Children.{Children}
+use Rattle.pocsag_branch.specs.declared.node.Children.TheVariants.{Whole, Kept}
 use Rattle.pocsag_branch.specs.declared.task.Answer.{Answer}
 use Rattle.pocsag_branch.specs.declared.task.NodeKind.{NodeKind}
 use Rattle.pocsag_branch.specs.declared.task.NodeKind.TheVariants.{Overload, Cut, Split, Close}
 use Rattle.pocsag_branch.specs.declared.task.Task.{Task}
 use Rattle.pocsag_branch.specs.declared.task.Stop.{Stop}
-use Rattle.pocsag_branch.specs.declared.task.Stop.TheVariants.{Met, OutOfMemory}
+use Rattle.pocsag_branch.specs.declared.task.Stop.TheVariants.{Met, Limit, OutOfMemory}
 use Rattle.pocsag_branch.specs.declared.task.NoTour.{NoTour}
 use Rattle.pocsag_branch.specs.declared.task.NoTour.TheVariants.{Apart, Unclosed}
 use Rattle.pocsag_branch.specs.Marks.{opens, opens_in}
@@ -32,9 +35,10 @@ pub record IsAnswer (k : Classes) (end : End) (batches : ℕ) (answer : Answer) 
   pub choice : IsChoice k (slice_index answer.choice.early)
   pub tour : IsTour k end (slice_index answer.choice.early) batches answer.steps.items
 
--- Why an examination ends before its tree is whole.
+-- Why an examination ends before its tree is whole; the fixed search does not end at its limit.
 abbrev pub IsStop : Classes → Task → Stop → Type 0
 IsStop k q (Met answer) = IsAnswer k q.end q.batches answer.value
+IsStop k q Limit = q.fixed ≡ false
 IsStop k q OutOfMemory = Unit {0}
 
 -- Why a choice that the limits admit has no tour for the end; the ways to close settle questions then.
@@ -77,19 +81,31 @@ pub record Fills (limit made after : ℕ) (marks : List Bool) : Type 0 where
   pub within : after ≤ limit
   pub whole : 0 < unseen → after ≡ limit
 
--- What is required for a node, where so many were made before it and so many after it.
+-- What is required for a node, where so many were examined before it and so many after it: the limit is not
+-- exceeded, and no node of the tree was left out of the count. The fixed search may leave nodes `Open`, and its trees
+-- have the promised shape.
 pub record IsExamined (k : Classes) (q : Task) (l : Limits) (made after : ℕ) (t : BoundTree) : Type 0 where
-  pub refuted : IsRefuted true k q.end q.batches l t
-  pub shaped : IsShaped k q.end q.batches l t
-  pub fills : Fills q.limit made after (opens t)
+  pub refuted : IsRefuted q.fixed k q.end q.batches l t
+  pub few : made + closed_nodes t ≤ after
+  pub within : after ≤ q.limit
+  pub shaped : q.fixed ≡ true → IsShaped k q.end q.batches l t
+  pub fills : q.fixed ≡ true → Fills q.limit made after (opens t)
 
 -- The same for its children.
 pub record AreExamined (k : Classes) (q : Task) (l : Limits) (made after : ℕ) (ws : List Way) (ts : BoundTrees) : Type 0 where
-  pub refuted : AreRefuted true k q.end q.batches l ws ts
-  pub shaped : AreShaped k q.end q.batches l ws ts
-  pub fills : Fills q.limit made after (opens_in ts)
+  pub refuted : AreRefuted q.fixed k q.end q.batches l ws ts
+  pub few : made + closed_nodes_in ts ≤ after
+  pub within : after ≤ q.limit
+  pub shaped : q.fixed ≡ true → AreShaped k q.end q.batches l ws ts
+  pub fills : q.fixed ≡ true → Fills q.limit made after (opens_in ts)
 
--- The whole tree of a search from the limits of all choices.
+-- The trees of all children, or, in the free search, the tree of one that stands for the node.
+abbrev pub AreChildren : Classes → Task → Limits → ℕ → ℕ → List Way → Children → Type 0
+AreChildren k q l made after ws (Whole children) = AreExamined k q l made after ws (bounds_of children.items)
+AreChildren k q l made after ws (Kept tree) = (q.fixed ≡ false) × IsExamined k q l made after (bound_tree_of tree)
+
+-- The whole tree of the fixed search from the limits of all choices.
 pub record IsTreeOf (k : Classes) (q : Task) (t : BoundTree) : Type 0 where
+  pub fixed : q.fixed ≡ true
   pub after : ℕ
   pub examined : IsExamined k q (limits_of_all k q.batches) 0 after t

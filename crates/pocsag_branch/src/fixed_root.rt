@@ -1,12 +1,12 @@
-ghost use Rattle.std.specs.Prelude.{◌<◌, IfErr, IfOk, IfSome, slice_index};
+ghost use Rattle.std.specs.Prelude.{◌≡◌, ◌<◌, true, IfErr, IfOk, IfSome, slice_index};
 ghost use Rattle.pocsag_slots.specs.Loads.{IsAdmitted, limits_of_all};
 ghost use Rattle.pocsag_tree.specs.Views.{bound_tree_of};
 ghost use Rattle.pocsag_branch.specs.Examined.{IsExamined, IsStop, IsTreeOf};
 
 use crate::fixed_kinds::kind_for;
-use crate::fixed_nodes::{fixed_node, node_of_kind};
 use crate::free_root::stop_at_tour;
 use crate::node::Node;
+use crate::nodes::{node_tree, tree_of_kind};
 use crate::task::{Stop, Task};
 use pocsag_slots::{Choice, Classes, all_limits};
 use pocsag_tree::Tree;
@@ -15,6 +15,7 @@ use std::alloc::Global;
 
 // With another end than the open one, a choice that has a tour for the open end, if the free search meets one.
 fn choice_for_open_end(alloc: Global, classes: &Classes, task: Task) -> Result<Option<Choice>, Stop>
+    requires { task.fixed ≡ true }
     ensures choice { IfOk result
         (λ found. IfSome found
         (λ choice. IsAdmitted classes.now (limits_of_all classes.now task.batches) (slice_index choice.early))) }
@@ -24,6 +25,7 @@ fn choice_for_open_end(alloc: Global, classes: &Classes, task: Task) -> Result<O
         end: End::Open,
         batches: task.batches,
         limit: task.limit,
+        fixed: task.fixed,
         second: task.second,
     };
     match task.end {
@@ -34,6 +36,7 @@ fn choice_for_open_end(alloc: Global, classes: &Classes, task: Task) -> Result<O
                 let met = Box::into_inner(answer);
                 Ok(Some(met.choice))
             }
+            Err(Stop::Limit) => unreachable!(),
             Err(Stop::OutOfMemory) => Err(Stop::OutOfMemory),
         },
     }
@@ -42,6 +45,7 @@ fn choice_for_open_end(alloc: Global, classes: &Classes, task: Task) -> Result<O
 // The tree of the search from the limits of all choices, where the free search meets no tour. Where it meets
 // one for the open end alone, the root is to be closed at once.
 pub(crate) fn fixed_tree(alloc: Global, classes: &Classes, task: Task) -> Result<Tree, Stop>
+    requires { task.fixed ≡ true }
     ensures tree { IfOk result (λ tree. IsTreeOf classes.now task (bound_tree_of tree)) }
     ensures stop { IfErr result (IsStop classes.now task) }
 {
@@ -66,8 +70,8 @@ fn root_with(alloc: Global, root: &Node<'_>, met: Option<Choice>) -> Result<(Tre
     match met {
         Some(choice) => {
             let kind = kind_for(alloc, root, &choice)?;
-            node_of_kind(alloc, root, kind, 0)
+            tree_of_kind(alloc, root, kind, 0)
         }
-        None => fixed_node(alloc, root, 0),
+        None => node_tree(alloc, root, 0),
     }
 }

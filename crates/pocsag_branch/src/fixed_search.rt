@@ -36,6 +36,7 @@ pub fn search(
         end,
         batches: least.batches,
         limit: node_limit,
+        fixed: true,
         second: false,
     };
     match fixed_tree(alloc, classes, task) {
@@ -46,6 +47,7 @@ pub fn search(
             least.set,
             Box::into_inner(answer),
         )),
+        Err(Stop::Limit) => unreachable!(),
         Err(Stop::OutOfMemory) => Err(SearchFault::OutOfMemory),
     }
 }

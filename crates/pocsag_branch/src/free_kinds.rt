@@ -2,11 +2,10 @@ ghost use Rattle.std.specs.Prelude.{◌<◌, All, IfErr, IfOk, IfSome, slice_ind
 ghost use Rattle.pocsag_slots.specs.Loads.{IsAdmitted};
 ghost use Rattle.pocsag_slots.specs.Ways.{MayTake};
 ghost use Rattle.pocsag_tour.specs.Reached.{IsApart};
-ghost use Rattle.pocsag_branch.specs.Examined.{IsNodeKind};
-ghost use Rattle.pocsag_branch.specs.FreeNode.{IsEarlyEnd, IsUndecidedWay};
+ghost use Rattle.pocsag_branch.specs.Examined.{IsNodeKind, IsStop};
+ghost use Rattle.pocsag_branch.specs.FreeNode.{IsUndecidedWay};
 
 use crate::boundaries::BoundarySet;
-use crate::early_end::EarlyEnd;
 use crate::fixed_kinds::{kind_at, why_no_tour};
 use crate::node::Node;
 use crate::smaller_cuts::{is_undecided, smaller_cut};
@@ -17,9 +16,9 @@ use std::alloc::Global;
 
 // Which node the free search makes under the limits.
 #[inline(never)]
-pub(crate) fn free_kind(alloc: Global, node: &Node<'_>) -> Result<NodeKind, EarlyEnd>
+pub(crate) fn free_kind(alloc: Global, node: &Node<'_>) -> Result<NodeKind, Stop>
     ensures kind { IfOk result (IsNodeKind node.now.classes.now node.now.task node.now.limits) }
-    ensures early_end { IfErr result (IsEarlyEnd node.now.classes.now node.now.task) }
+    ensures stop { IfErr result (IsStop node.now.classes.now node.now.task) }
 {
     match choose(node.classes, &node.limits) {
         Ok(choice) => free_kind_for(alloc, node, &choice),
@@ -27,16 +26,14 @@ pub(crate) fn free_kind(alloc: Global, node: &Node<'_>) -> Result<NodeKind, Earl
     }
 }
 
-fn free_kind_for(alloc: Global, node: &Node<'_>, choice: &Choice) -> Result<NodeKind, EarlyEnd>
+fn free_kind_for(alloc: Global, node: &Node<'_>, choice: &Choice) -> Result<NodeKind, Stop>
     requires { IsAdmitted node.now.classes.now node.now.limits (slice_index choice.now.early) }
     ensures kind { IfOk result (IsNodeKind node.now.classes.now node.now.task node.now.limits) }
-    ensures early_end { IfErr result (IsEarlyEnd node.now.classes.now node.now.task) }
+    ensures stop { IfErr result (IsStop node.now.classes.now node.now.task) }
 {
-    match why_no_tour(alloc, node, choice) {
-        Ok(NoTour::Apart(set)) => Ok(free_kind_at(node, choice, set)),
-        Ok(NoTour::Unclosed) => Ok(NodeKind::Close),
-        Err(Stop::Met(answer)) => Err(EarlyEnd::Met(answer)),
-        Err(Stop::OutOfMemory) => Err(EarlyEnd::OutOfMemory),
+    match why_no_tour(alloc, node, choice)? {
+        NoTour::Apart(set) => Ok(free_kind_at(node, choice, set)),
+        NoTour::Unclosed => Ok(NodeKind::Close),
     }
 }
 

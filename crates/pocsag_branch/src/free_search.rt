@@ -7,13 +7,12 @@ ghost use Rattle.pocsag_branch.specs.FreeNode.{IsFreeTree};
 ghost use Rattle.pocsag_branch.specs.Freely.{IsFoundFreely, IsFreeFault, IsNearlyFewest};
 
 use crate::answer::Found;
-use crate::early_end::EarlyEnd;
 use crate::fault::SearchFault;
 use crate::fixed_search::search;
 use crate::free_root::free_tree;
 use crate::least::least_of;
 use crate::outcome::{found_at_least, tour_of_one_more};
-use crate::task::Task;
+use crate::task::{Stop, Task};
 use crate::within_one::{FallbackPlan, FreeFault};
 use pocsag_slots::{Choice, Classes};
 use pocsag_tree::Tree;
@@ -41,18 +40,19 @@ pub fn search_freely(
         end,
         batches: least.batches,
         limit: node_limit,
+        fixed: false,
         second: false,
     };
     match free_tree(alloc, classes, task) {
         Ok(tree) => found_one_more(alloc, classes, task, &least.choice, tree),
-        Err(EarlyEnd::Met(answer)) => Ok(found_at_least(
+        Err(Stop::Met(answer)) => Ok(found_at_least(
             classes,
             task,
             least.set,
             Box::into_inner(answer),
         )),
-        Err(EarlyEnd::Limit) => found_or_near(alloc, classes, node_limit, end),
-        Err(EarlyEnd::OutOfMemory) => Err(FreeFault::OutOfMemory),
+        Err(Stop::Limit) => found_or_near(alloc, classes, node_limit, end),
+        Err(Stop::OutOfMemory) => Err(FreeFault::OutOfMemory),
     }
 }
 

@@ -8,13 +8,14 @@ use pocsag_words::End;
 use std::alloc::{AllocError, AllocFailed};
 
 // What is asked of a node beside its limits: the end, the batches that are to be refuted, how many nodes may
-// be made, and, of the free search alone, whether it tries a second time: then it looks across no other set and
-// takes other ways.
+// be examined, whether the tree is to have the promised shape (the fixed search), and, of the free search alone,
+// whether it tries a second time: then it looks across no other set and takes other ways.
 #[derive(Clone, Copy)]
 pub(crate) struct Task {
     pub(crate) end: End,
     pub(crate) batches: u32,
     pub(crate) limit: u32,
+    pub(crate) fixed: bool,
     pub(crate) second: bool,
     pub ghost some: { 0 < batches },
     pub ghost limited: { IsNodeLimit limit },
@@ -27,10 +28,11 @@ pub(crate) struct Answer {
     pub(crate) steps: Vec<Step>,
 }
 
-// Why an examination ends before its tree is whole.
+// Why an examination ends before its tree is whole; the fixed search does not end at its limit.
 #[derive(Drop)]
 pub(crate) enum Stop {
     Met(Box<Answer>),
+    Limit,
     OutOfMemory,
 }
 

@@ -10,7 +10,8 @@ use Rattle.pocsag_capture.specs.Lost.{lost_words}
 use Rattle.pocsag_capture.specs.Receptions.{HasFewLost, sent_at}
 use Rattle.pocsag_capture.specs.TakenWords.{is_lost}
 use Rattle.pocsag_capture.specs.declared.reception.Run.{Run}
-use Rattle.pocsag_capture.proofs.CorrectedWords.{lost_more, mended_push}
+use Rattle.std.proofs.lemmas.Slice.Zip.{all_zipped_more}
+use Rattle.pocsag_capture.proofs.CorrectedWords.{lost_more}
 
 pub not_false : (b : Bool) → not b ≡ false → IsTrue b
 not_false true e = refl
@@ -35,7 +36,7 @@ counting_more bits u n k lost w m next is mended f =
       mended = f.mended ++ m ∷ [];
       each = subst (λ (l : List ℕ). AllZip IsMended l (f.mended ++ m ∷ []))
           (sym more ∙ ap (λ (q : ℕ). map (run_word bits u) (range_with_len 1 q)) (sym next))
-          (mended_push (map (run_word bits u) (range_with_len 1 n)) f.mended (run_word bits u k) m f.each
+          (all_zipped_more IsMended (map (run_word bits u) (range_with_len 1 n)) f.mended (run_word bits u k) m f.each
           (subst (λ (v : ℕ). IsMended v m) is mended));
       count = ap (λ (q : ℕ). q + is_lost m) f.count ∙ sym (lost_more f.mended m);
     }

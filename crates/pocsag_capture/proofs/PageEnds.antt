@@ -1,16 +1,15 @@
 -- Where pages end: those that are cut, word by word, and those that are not, which stand whole.
-use Rattle.std.proofs.Common.{◌≡◌, ◌≢◌, ℕ, ◌+◌, ◌-◌, ◌*◌, ◌/◌, ◌%◌, ◌<◌, Bool, true, false, List, [], ◌∷◌, ◌++◌, length, filter, map, All, Option, Some, None, refl, sym, ap, ap₂, subst, ◌∙◌, inl, inr, arith, append_assoc}
-use Rattle.std.specs.Prelude.{IsTrue, bit_xor, count_ones, is_some, nat_le, not, option_to_list}
-use Rattle.std.specs.Int.{to_be_bytes, w32}
+use Rattle.std.proofs.Common.{◌≡◌, ◌≢◌, ℕ, ◌+◌, ◌-◌, ◌*◌, ◌/◌, ◌%◌, ◌<◌, Bool, true, false, List, [], ◌∷◌, ◌++◌, length, filter, map, All, Option, Some, None, refl, sym, ap, subst, ◌∙◌, inl, inr, arith, append_assoc}
+use Rattle.std.specs.Prelude.{IsTrue, is_some, nat_le, not, option_to_list}
 use Rattle.std.specs.List.{AllZip}
 use Rattle.std.proofs.lemmas.Bool.{cases_lt, le-leb}
-use Rattle.std.proofs.lemmas.List.{length-append, map-append}
+use Rattle.std.proofs.lemmas.List.{append-nil, length-append, map-append}
 use Rattle.std.proofs.lemmas.List.Elements.{All-head, All-tail}
 use Rattle.pocsag_words.specs.Kinds.{kind_of}
 use Rattle.pocsag_words.specs.declared.codeword.Kind.{Kind}
 use Rattle.pocsag_words.specs.declared.codeword.Kind.TheVariants.{Idle, Address, Message}
 use Rattle.pocsag_pages.specs.declared.page.Page.{Page}
-use Rattle.pocsag_pages.specs.Bytes.{sync_word, unsynced}
+use Rattle.pocsag_pages.specs.Bytes.{unsynced}
 use Rattle.pocsag_pages.specs.Listable.{IsListable}
 use Rattle.pocsag_pages.specs.Plain.{items_of, pages_from}
 use Rattle.pocsag_pages.specs.Reading.{frame_at}
@@ -19,110 +18,60 @@ use Rattle.pocsag_decode.proofs.Transmissions.{codewords_listable, pages_end}
 use Rattle.pocsag_decode.specs.OpenPages.{closed, resumed}
 use Rattle.pocsag_decode.specs.Places.{is_idle, is_message}
 use Rattle.pocsag_decode.specs.declared.open_page.Growing.{Growing}
-use Rattle.pocsag_decode.specs.declared.open_page.OpenPage.{OpenPage}
 use Rattle.pocsag_pager.specs.Shown.{IsMended, said}
 use Rattle.pocsag_pager.specs.Turns.{IsHeardAs}
 use Rattle.pocsag_pager.proofs.Mended.{all_mended_same}
 use Rattle.pocsag_capture.specs.Bits.{capture_bits}
-use Rattle.pocsag_capture.specs.CapturedPages.{AreCaptured, HasCaptured, without_orphans}
-use Rattle.pocsag_capture.specs.Extracted.{count_cut, ends_cut, far_words, near_errors, page_cuts}
+use Rattle.pocsag_capture.specs.CapturedPages.{AreCaptured, HasCaptured, without_orphan, without_orphans}
+use Rattle.pocsag_capture.specs.Extracted.{count_cut, ends_cut, page_cuts}
 use Rattle.pocsag_capture.specs.PageEnds.{AreCutsOf, HasTransmissions, IsCapturedTransmission, IsPageEnd, UncutStandWhole, pages_captured}
 use Rattle.pocsag_capture.specs.Receptions.{AreInStep, received, received_word}
-use Rattle.pocsag_capture.specs.TakenWords.{TakesWord, cut_by, stays_open}
+use Rattle.pocsag_capture.specs.TakenWords.{TakesWord, cut_by}
 use Rattle.pocsag_capture.specs.declared.captured_transmission.CapturedTransmission.{CapturedTransmission}
 use Rattle.pocsag_capture.specs.declared.corrector.WordCorrector.{WordCorrector}
 use Rattle.pocsag_capture.specs.declared.reception.Reception.{Reception}
 use Rattle.pocsag_capture.proofs.Joined.{one_captured}
-use Rattle.pocsag_capture.proofs.Extracts.{first_long, first_more, first_words, extract_all_words}
-use Rattle.pocsag_capture.proofs.CorrectedWords.{IsCorrecting, all_ended, ended_from, ended_here, last_end, positive, correcting_codeword, correcting_none, correcting_sync}
+use Rattle.pocsag_capture.proofs.Extracts.{extract_of}
+use Rattle.pocsag_capture.proofs.CorrectedWords.{IsCorrecting, correcting_codeword, first_words, last_end}
 
 -- ---- the words of a reception, of which the first were taken
 
-pub record IsCapturing (words : List ℕ) (steady : ℕ) (s : WordCorrector) (growing : Growing) (cuts : List Bool) : Type 0 where
-  pub now : List ℕ
-  pub correcting : IsCorrecting words steady s [] now
+pub record IsCapturing (bits : List ℕ) (r : Reception) (place steady : ℕ) (s : WordCorrector) (growing : Growing) (cuts : List Bool) : Type 0 where
+  pub correcting : IsCorrecting bits r place steady s
   pub open_page : is_some growing.current ≡ s.is_open
   pub pages : (more : List Kind)
       → pages_from 0 (map kind_of correcting.codewords ++ more) ≡ growing.pages.items ++ resumed (length correcting.codewords) growing.current more
-  pub ended : cuts ≡ ended_from (16 * steady) 0 false (map said correcting.mended)
+  pub ended : cuts ≡ correcting.ended
 
-pub capturing_none : (steady : ℕ) (s : WordCorrector) (growing : Growing) (cuts : List Bool) → s.is_open ≡ false → s.corrected ≡ 0 → s.lost ≡ 0 → s.cut ≡ 0
-    → growing.pages.items ≡ [] → growing.current ≡ None → cuts ≡ [] → IsCapturing [] steady s growing cuts
-capturing_none steady s growing cuts closed corrected lost cut pages current none = record {
-  now = [];
-  correcting = correcting_none steady s [] [] closed corrected lost cut refl;
-  open_page = ap (λ (o : Option OpenPage). is_some o) current ∙ sym closed;
-  pages = λ more. sym (ap₂ (λ (l : List Page) (o : Option OpenPage). l ++ resumed 0 o more) pages current);
-  ended = none;
-}
+pub message_by : (b : Bool) (m : Option Kind) → IsTrue (is_message (without_orphan b m)) → IsTrue b
+message_by true m message = refl
+message_by false None message = absurd (cc message)
+message_by false (Some Idle) message = absurd (cc message)
+message_by false (Some (Address high function)) message = absurd (cc message)
+message_by false (Some (Message bits)) message = absurd (cc message)
 
--- what a word is corrected to
-same_head : (k j : Kind) → k ∷ [] ≡ j ∷ [] → j ≡ k
-same_head k j e = cc
-
-stays_by : (b : Bool) (m : Option Kind) (k : Kind) → without_orphans b (m ∷ []) ≡ k ∷ [] → not (is_idle k) ≡ stays_open b m
-stays_by b None k e = ap (λ (j : Kind). not (is_idle j)) (same_head Idle k e)
-stays_by b (Some Idle) k e = ap (λ (j : Kind). not (is_idle j)) (same_head Idle k e)
-stays_by b (Some (Address high function)) k e = ap (λ (j : Kind). not (is_idle j)) (same_head (Address high function) k e)
-stays_by true (Some (Message bits)) k e = ap (λ (j : Kind). not (is_idle j)) (same_head (Message bits) k e)
-stays_by false (Some (Message bits)) k e = ap (λ (j : Kind). not (is_idle j)) (same_head Idle k e)
-
-pub message_by : (b : Bool) (m : Option Kind) (k : Kind) → without_orphans b (m ∷ []) ≡ k ∷ [] → IsTrue (is_message k) → IsTrue b
-message_by true m k e message = refl
-message_by false None k e message = absurd (cc (subst (λ (j : Kind). IsTrue (is_message j)) (same_head Idle k e) message))
-message_by false (Some Idle) k e message = absurd (cc (subst (λ (j : Kind). IsTrue (is_message j)) (same_head Idle k e) message))
-message_by false (Some (Address high function)) k e message =
-    absurd (cc (subst (λ (j : Kind). IsTrue (is_message j)) (same_head (Address high function) k e) message))
-message_by false (Some (Message bits)) k e message = absurd (cc (subst (λ (j : Kind). IsTrue (is_message j)) (same_head Idle k e) message))
-
-module _ (bits : List ℕ) (r : Reception) (place w : ℕ) (steady : ℕ) (s t : WordCorrector) (growing : Growing) (cuts : List Bool)
-    (is : w ≡ received_word bits r place) (f : IsCapturing (first_words bits r place) steady s growing cuts) where
-  more_words : first_words bits r place ++ w ∷ [] ≡ first_words bits r (place + 1)
-  more_words = ap (λ (v : ℕ). first_words bits r place ++ v ∷ []) is ∙ sym (first_more bits r place)
-
-  as_long : length (first_words bits r place) ≡ place
-  as_long = first_long bits r place
-
-  pub capturing_sync : place % 17 ≡ 0 → t.corrected ≡ s.corrected + near_errors (count_ones (bit_xor sync_word w)) → t.is_open ≡ s.is_open
-      → t.lost ≡ s.lost + far_words (count_ones (bit_xor sync_word w)) → t.cut ≡ s.cut
-      → IsCapturing (first_words bits r (place + 1)) steady t growing cuts
-  capturing_sync sync corrected is_open lost cut =
-      subst (λ (l : List ℕ). IsCapturing l steady t growing cuts) more_words (record {
-        now = f.now ++ to_be_bytes w32 sync_word;
-        correcting = correcting_sync (first_words bits r place) steady s t [] f.now (f.now ++ to_be_bytes w32 sync_word) w f.correcting
-            (ap (λ (n : ℕ). n % 17) as_long ∙ sync) corrected is_open lost cut refl;
-        open_page = f.open_page ∙ sym is_open;
-        pages = f.pages;
-        ended = f.ended;
-      })
-
-  pub capturing_word : (v frame : ℕ) (k : Kind) (is_out : Bool) (ended : Option Bool) (after : Growing) (cuts' : List Bool) → place % 17 ≢ 0
-      → is_out ≡ nat_le (17 * steady) place → frame ≡ (place % 17 - 1) / 2 → k ≡ kind_of v
-      → TakesWord s t is_out w v ended → cuts' ≡ cuts ++ option_to_list ended
-      → ((i : ℕ) (ks : List Kind) → frame ≡ frame_at i → growing.pages.items ++ resumed i growing.current (k ∷ ks)
-      ≡ after.pages.items ++ resumed (i + 1) after.current ks)
-      → is_some after.current ≡ not (is_idle k) → IsCapturing (first_words bits r (place + 1)) steady t after cuts'
-  capturing_word v frame k is_out ended after cuts' inside step at_frame said_so takes pushed reads current =
-      let words = first_words bits r place in
-      let codewords = f.correcting.codewords in
-      let here : length words % 17 ≢ 0 = λ e. inside (ap (λ (n : ℕ). n % 17) (sym as_long) ∙ e) in
-      let in_step : is_out ≡ nat_le (17 * steady) (length words) = step ∙ ap (λ (n : ℕ). nat_le (17 * steady) n) (sym as_long) in
-      let index : frame ≡ frame_at (length codewords) = omega (arith, f.correcting.long, as_long, at_frame, positive (place % 17) inside) in
-      let one_more : length (codewords ++ v ∷ []) ≡ length codewords + 1 = omega (arith, length-append codewords (v ∷ [])) in
-      subst (λ (l : List ℕ). IsCapturing l steady t after cuts') more_words (record {
-        now = f.now ++ to_be_bytes w32 v;
-        correcting = correcting_codeword words steady s t [] f.now (f.now ++ to_be_bytes w32 v) w f.correcting v is_out ended here in_step takes refl;
-        open_page = current ∙ ap (λ (j : Kind). not (is_idle j)) said_so ∙ stays_by s.is_open (said takes.mended) (kind_of v) takes.kind ∙ sym takes.open_after;
-        pages = λ more.
-            ap (λ (l : List Kind). pages_from 0 (l ++ more)) (map-append kind_of codewords (v ∷ []))
-            ∙ ap (pages_from 0) (append_assoc (map kind_of codewords) (kind_of v ∷ []) more)
-            ∙ f.pages (kind_of v ∷ more)
-            ∙ ap (λ (j : Kind). growing.pages.items ++ resumed (length codewords) growing.current (j ∷ more)) (sym said_so)
-            ∙ reads (length codewords) more index
-            ∙ ap (λ (n : ℕ). after.pages.items ++ resumed n after.current more) (sym one_more);
-        ended = pushed ∙ ap (λ (l : List Bool). l ++ option_to_list ended) f.ended
-            ∙ sym (ended_here words steady s t [] f.now (f.now ++ to_be_bytes w32 v) w f.correcting v is_out ended here in_step takes);
-      })
+pub capturing_word : (bits : List ℕ) (r : Reception) (place w steady : ℕ) (s t : WordCorrector) (growing : Growing) (cuts : List Bool)
+    (is : w ≡ received_word bits r place) (f : IsCapturing bits r place steady s growing cuts) (v frame : ℕ) (k : Kind) (is_out : Bool) (ended : Option Bool)
+    (after : Growing) (cuts' : List Bool) → place % 17 ≢ 0 → is_out ≡ nat_le (17 * steady) place → frame ≡ (place % 17 - 1) / 2 → k ≡ kind_of v
+    → TakesWord s t is_out w v ended → cuts' ≡ cuts ++ option_to_list ended
+    → ((i : ℕ) (ks : List Kind) → frame ≡ frame_at i → growing.pages.items ++ resumed i growing.current (k ∷ ks)
+    ≡ after.pages.items ++ resumed (i + 1) after.current ks)
+    → is_some after.current ≡ not (is_idle k) → IsCapturing bits r (place + 1) steady t after cuts'
+capturing_word bits r place w steady s t growing cuts is f v frame k is_out ended after cuts' inside step at_frame said_so takes pushed reads current =
+    let codewords = f.correcting.codewords in
+    let kinds_more : (more : List Kind) → map kind_of (codewords ++ v ∷ []) ++ more ≡ map kind_of codewords ++ kind_of v ∷ more =
+    λ more. simp (map-append, append_assoc) in
+    let one_more : length (codewords ++ v ∷ []) ≡ length codewords + 1 = omega (arith, length-append codewords (v ∷ [])) in
+    record {
+      correcting = correcting_codeword bits r place w steady s t is f.correcting v is_out ended inside step takes;
+      open_page = current ∙ ap (λ (j : Kind). not (is_idle j)) (said_so ∙ takes.kind) ∙ sym takes.open_after;
+      pages = λ more.
+          ap (pages_from 0) (kinds_more more) ∙ f.pages (kind_of v ∷ more)
+          ∙ ap (λ (j : Kind). growing.pages.items ++ resumed (length codewords) growing.current (j ∷ more)) (sym said_so)
+          ∙ reads (length codewords) more (omega (arith, f.correcting.long))
+          ∙ ap (λ (n : ℕ). after.pages.items ++ resumed n after.current more) (sym one_more);
+      ended = pushed ∙ ap (λ (l : List Bool). l ++ option_to_list ended) f.ended;
+    }
 
 -- all of them
 pub record IsCaptured (bits : List ℕ) (c : CapturedTransmission) : Type 0 where
@@ -133,23 +82,21 @@ pub capturing_all : (bits : List ℕ) (c : CapturedTransmission) (place : ℕ) (
     → AreInStep bits c.heard.reception c.heard.steady → c.heard.corrected ≡ s.corrected → c.heard.lost ≡ s.lost
     → c.heard.cut ≡ s.cut + cut_by (last_end s.is_open) → c.cuts.items ≡ cuts ++ option_to_list (last_end s.is_open)
     → c.pages.items ≡ growing.pages.items ++ closed growing.current
-    → IsCapturing (first_words bits c.heard.reception place) c.heard.steady s growing cuts → IsCaptured bits c
+    → IsCapturing bits c.heard.reception place c.heard.steady s growing cuts → IsCaptured bits c
 capturing_all bits c place s growing cuts all steady corrected lost cut ends pages f =
-    let extract = extract_all_words bits c.heard s [] f.now place all steady corrected lost cut f.correcting in
     let codewords = f.correcting.codewords in
-    let mended = f.correcting.mended in
+    let extract = extract_of bits c.heard s place f.correcting all steady corrected lost cut in
     let same : c.pages.items ≡ pages_from 0 (map kind_of codewords) =
     pages_end growing.pages.items growing.current (length codewords) (map kind_of codewords) f.pages c.pages.items pages in
     record {
       is = record {
-        pages = subst (λ (ps : List Page). AreCaptured (received bits c.heard.reception) ps) (sym same) (one_captured bits c.heard codewords extract.is);
+        pages = subst (λ (ps : List Page). AreCaptured (received bits c.heard.reception) ps) (sym same) (one_captured bits c.heard codewords extract);
         cuts = record {
-          mended = mended;
-          each = subst (λ (n : ℕ). AllZip IsMended (unsynced 0 (first_words bits c.heard.reception n)) mended) all f.correcting.each;
-          holds = ends ∙ ap₂ (λ (l : List Bool) (b : Bool). l ++ option_to_list (last_end b)) f.ended f.correcting.open_page
-              ∙ all_ended (16 * c.heard.steady) 0 false (map said mended);
+          mended = f.correcting.mended;
+          each = subst (λ (n : ℕ). AllZip IsMended (unsynced 0 (first_words bits c.heard.reception n)) f.correcting.mended) all f.correcting.each;
+          holds = ends ∙ ap (λ (l : List Bool). l ++ option_to_list (last_end s.is_open)) f.ended ∙ sym (simp append-nil at (f.correcting.ends []));
         };
-        told = record { steady = steady; codewords = codewords; extracted = extract.is.extracted };
+        told = record { steady = steady; codewords = codewords; extracted = extract.extracted };
       };
       listable = subst (All IsListable) (sym same) (codewords_listable codewords f.correcting.are);
     }

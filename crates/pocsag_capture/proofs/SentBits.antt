@@ -1,12 +1,12 @@
 -- A capture that holds a sent transmission shows its pages.
-use Rattle.std.proofs.Common.{◌≡◌, ◌≢◌, ◌⊎◌, ℕ, zero, suc, lit<, ◌+◌, ◌-◌, ◌*◌, ◌/◌, ◌%◌, ◌^◌, ◌<◌, ◌≤◌, ◌==◌, if◌then◌else◌, cond, List, [], ◌∷◌, ◌++◌, length, map, take, get_or, All, Option, Some, None, Bool, true, false, bit_xor, count_ones, refl, sym, ap, ap₂, subst, ◌∙◌, inl, inr, arith, append_assoc, eq-eqb}
+use Rattle.std.proofs.Common.{◌≡◌, ◌≢◌, ◌⊎◌, ℕ, zero, suc, lit<, ◌+◌, ◌-◌, ◌*◌, ◌/◌, ◌%◌, ◌^◌, ◌<◌, ◌≤◌, ◌==◌, if◌then◌else◌, List, [], ◌∷◌, ◌++◌, length, map, take, drop, get_or, All, Option, Some, Bool, true, false, bit_xor, count_ones, refl, sym, ap, ap₂, subst, ◌∙◌, inl, inr, arith, append_assoc, eq-eqb}
 use Rattle.std.specs.List.{AllZip, flat_map, range_with_len}
 use Rattle.std.specs.Int.Bits.{xor_self}
-use Rattle.std.proofs.Math.Seq.{drop-append-add}
+use Rattle.std.proofs.Math.Seq.{drop-append-add, get_or-append_seam}
 use Rattle.std.proofs.lemmas.Nat.{ones_le_self}
 use Rattle.std.proofs.lemmas.Bool.{cases_eq, cases_lt, ne_eqb}
-use Rattle.std.proofs.lemmas.Grind.{flat_map-append, same_number_lists}
-use Rattle.std.proofs.lemmas.List.{length-append, length-map, map-append}
+use Rattle.std.proofs.lemmas.Grind.{same_number_lists}
+use Rattle.std.proofs.lemmas.List.{drop_more, length-append, length-map, length-take-le, map-append, take-append-drop}
 use Rattle.std.proofs.lemmas.List.FromFn.{get_or-map-range_with_len, length-map-range_with_len}
 use Rattle.std.proofs.lemmas.List.Elements.{All-cons, All-get_or, All-head, All-nil, All-tail, AllZip-get_or}
 use Rattle.std.proofs.lemmas.Slice.Zip.{AllZip-long}
@@ -21,18 +21,17 @@ use Rattle.pocsag_text.specs.Bits.{high_first, high_number}
 use Rattle.pocsag_text.proofs.BitLists.{length-high_first}
 use Rattle.pocsag_text.proofs.Cuts.{length-flat_map-wide}
 use Rattle.pocsag_pages.specs.declared.page.Page.{Page}
-use Rattle.pocsag_pages.specs.Bytes.{after_preamble, body_bytes, sync_word, synced, unsynced, words_of}
+use Rattle.pocsag_pages.specs.Bytes.{after_preamble, sync_word, synced, unsynced, words_of}
 use Rattle.pocsag_pages.specs.Plain.{HasNoOrphan, pages_from}
 use Rattle.pocsag_pages.specs.Reading.{EndsIdle, Reads}
-use Rattle.pocsag_pages.proofs.Lengths.{synced_count, synced_small, unsynced_count, unsynced_more, words_again}
+use Rattle.pocsag_pages.proofs.Lengths.{synced_count, unsynced_count, unsynced_more}
 use Rattle.pocsag_pages.proofs.Readings.{reads_plainly}
 use Rattle.pocsag_decode.specs.Faults.{ReadsAs}
-use Rattle.pocsag_decode.proofs.Preambles.{after_is}
-use Rattle.pocsag_decode.proofs.SentBytes.{body_begins}
+use Rattle.pocsag_decode.proofs.SentBytes.{codewords_are}
 use Rattle.pocsag_pager.specs.Shown.{IsMended, said}
-use Rattle.pocsag_pager.proofs.Mended.{all_mended_same}
+use Rattle.pocsag_pager.proofs.Mended.{mended_back}
 use Rattle.pocsag_capture.specs.Bits.{as_sent, capture_bits, word_on}
-use Rattle.pocsag_capture.specs.CapturedPages.{AreCaptured, HasCaptured, without_orphans}
+use Rattle.pocsag_capture.specs.CapturedPages.{AreCaptured, HasCaptured, stays_open, without_orphan, without_orphans}
 use Rattle.pocsag_capture.specs.Lost.{lost_words}
 use Rattle.pocsag_capture.specs.Receptions.{AreFound, HasFewLost, IsLikeSynchronised, IsQuiet, IsReception, IsSyncRun, IsSynchronised, counted, run_end, last_sync, nothing, passed, received, received_word, sent_at}
 use Rattle.pocsag_capture.specs.Sent.{HoldsSent, NothingFollows, IsReceived, StandAmong}
@@ -41,10 +40,9 @@ use Rattle.pocsag_capture.specs.declared.polarity.Polarity.TheVariants.{Upright,
 use Rattle.pocsag_capture.specs.declared.reception.Reception.{Reception}
 use Rattle.pocsag_capture.specs.declared.reception.Run.{Run}
 use Rattle.pocsag_capture.proofs.Joined.{no_orphan_any, no_orphan_join, pages_join, pages_shift, keeps_no_orphan}
+use Rattle.pocsag_capture.proofs.CorrectedWords.{synced_two}
 use Rattle.pocsag_capture.proofs.Extracts.{word_read, word_there}
 use Rattle.pocsag_capture.proofs.Once.{WordsFit, capture_fits, no_more, same_polarity}
-use Rattle.pocsag_capture.proofs.CorrectedWords.{open_after_all}
-use Rattle.pocsag_capture.specs.TakenWords.{stays_open}
 use Rattle.pocsag_capture.proofs.Windows.{number_behind}
 
 -- ---- words behind other bits
@@ -98,75 +96,59 @@ word_in p (w ∷ ws) rest (suc j) fit below =
 
 -- ---- synchronisation codewords stand at every seventeenth place
 
-sync_begins : (i j n w : ℕ) (T : List ℕ) → j ≡ i + (i + 15) / 16 → i % 16 ≡ 0 → n < length (sync_word ∷ w ∷ synced (i + 1) T) → (j + n) % 17 ≡ 0
-    → ((m : ℕ) → m < length (synced (i + 1) T) → (j + 2 + m) % 17 ≡ 0 → get_or (synced (i + 1) T) m 0 ≡ sync_word)
-    → get_or (sync_word ∷ w ∷ synced (i + 1) T) n 0 ≡ sync_word
-sync_begins i j zero w T e first below place rest = refl
-sync_begins i j (suc zero) w T e first below place rest = absurd (omega arith)
-sync_begins i j (suc (suc n)) w T e first below place rest = rest n (omega arith) (omega arith)
-
-sync_later : (i j n w : ℕ) (T : List ℕ) → j ≡ i + (i + 15) / 16 → i % 16 ≢ 0 → n < length (w ∷ synced (i + 1) T) → (j + n) % 17 ≡ 0
-    → ((m : ℕ) → m < length (synced (i + 1) T) → (j + 1 + m) % 17 ≡ 0 → get_or (synced (i + 1) T) m 0 ≡ sync_word)
-    → get_or (w ∷ synced (i + 1) T) n 0 ≡ sync_word
-sync_later i j zero w T e other below place rest = absurd (other (omega arith))
-sync_later i j (suc n) w T e other below place rest = rest n (omega arith) (omega arith)
-
-sync_there : (i j n : ℕ) (T : List ℕ) → j ≡ i + (i + 15) / 16 → n < length (synced i T) → (j + n) % 17 ≡ 0 → get_or (synced i T) n 0 ≡ sync_word
-sync_there i j n [] e below place = absurd (omega arith)
-sync_there i j n (w ∷ T) e below place =
-    elim (cases_eq (i % 16) 0) [
-      | inl first ↦ rw (eq-eqb _ _ first) (sync_begins i j n w T e first (rw (eq-eqb _ _ first) at below) place
-          (λ m less at_place. sync_there (i + 1) (j + 2) m T (omega arith) less at_place))
-      | inr other ↦ rw (ne_eqb _ _ other) (sync_later i j n w T e other (rw (ne_eqb _ _ other) at below) place
-          (λ m less at_place. sync_there (i + 1) (j + 1) m T (omega arith) less at_place))
-    ]
+sync_there : (k : ℕ) (T : List ℕ) → 16 * k < length T → get_or (synced 0 T) (17 * k) 0 ≡ sync_word
+sync_there k T below =
+    let A = take (16 * k) T in
+    let long = length-take-le (16 * k) T (omega arith) in
+    let first : (0 + length A) % 16 ≡ 0 = omega arith in
+    let count : 17 * k ≡ length (synced 0 A) = omega (arith, synced_count 0 A) in
+    ap (λ (l : List ℕ). get_or (synced 0 l) (17 * k) 0) (sym (take-append-drop (16 * k) T) ∙ ap (λ (l : List ℕ). A ++ l) (drop_more T (16 * k) 0 below))
+    ∙ rw (synced_two 0 A, eq-eqb _ _ first, count) (get_or-append_seam (synced 0 A) sync_word _ 0)
 
 -- ---- what was sent is mended again
 
-near_mended : (t y : ℕ) → IsCodeword t → y < 2 ^ 32 → IsNear t y → IsMended y (Some t)
-near_mended t y is small near =
-    elim (numbers_are_repaired_lem y small) [
-      | inl none ↦ absurd (none t is near)
-      | inr only ↦ subst (IsOnlyNear y) (sym (only.1.only t is near)) only.1
-    ]
+zip_cons : {B : Type 0} (R : ℕ → B → Type 0) (t : ℕ) (ts : List ℕ) (ys : List B) → AllZip R (t ∷ ts) ys
+    → (y : B) × (zs : List B) × (ys ≡ y ∷ zs) × R t y × AllZip R ts zs
+zip_cons R t ts [] near = absurd near
+zip_cons R t ts (y ∷ zs) near = (y, zs, refl, near.0, near.1)
 
-mended_first : (i j w : ℕ) (T ys : List ℕ) → j ≡ i + (i + 15) / 16 → i % 16 ≡ 0 → IsCodeword w → All (λ y. y < 2 ^ 32) ys
-    → AllZip IsNear (sync_word ∷ w ∷ synced (i + 1) T) ys
-    → ((zs : List ℕ) → All (λ y. y < 2 ^ 32) zs → AllZip IsNear (synced (i + 1) T) zs → AllZip IsMended (unsynced (j + 2) zs) (map Some T))
-    → AllZip IsMended (unsynced j ys) (map Some (w ∷ T))
-mended_first i j w T [] e first is fit near rest = absurd near
-mended_first i j w T (y ∷ []) e first is fit near rest = absurd (near.1)
-mended_first i j w T (y ∷ z ∷ zs) e first is fit near rest =
-    let here : j % 17 ≡ 0 = omega arith in
-    let next : (j + 1) % 17 ≢ 0 = λ wrong. absurd (omega arith) in
-    let two : j + 1 + 1 ≡ j + 2 = omega arith in
-    let fit_tail = All-tail (λ y. y < 2 ^ 32) y (z ∷ zs) fit in
-    rw (eq-eqb _ _ here, ne_eqb _ _ next, two)
-    (near_mended w z is (All-head (λ y. y < 2 ^ 32) z zs fit_tail) near.1.0, rest zs (All-tail (λ y. y < 2 ^ 32) z zs fit_tail) near.1.1)
-
-mended_next : (i j w : ℕ) (T ys : List ℕ) → j ≡ i + (i + 15) / 16 → i % 16 ≢ 0 → IsCodeword w → All (λ y. y < 2 ^ 32) ys
-    → AllZip IsNear (w ∷ synced (i + 1) T) ys
-    → ((zs : List ℕ) → All (λ y. y < 2 ^ 32) zs → AllZip IsNear (synced (i + 1) T) zs → AllZip IsMended (unsynced (j + 1) zs) (map Some T))
-    → AllZip IsMended (unsynced j ys) (map Some (w ∷ T))
-mended_next i j w T [] e other is fit near rest = absurd near
-mended_next i j w T (y ∷ ys) e other is fit near rest =
-    let here : j % 17 ≢ 0 = λ wrong. absurd (omega arith) in
-    rw (ne_eqb _ _ here)
-    (near_mended w y is (All-head (λ y. y < 2 ^ 32) y ys fit) near.0, rest ys (All-tail (λ y. y < 2 ^ 32) y ys fit) near.1)
-
-all_mended : (i j : ℕ) (T ys : List ℕ) → j ≡ i + (i + 15) / 16 → All IsCodeword T → All (λ y. y < 2 ^ 32) ys → AllZip IsNear (synced i T) ys
-    → AllZip IsMended (unsynced j ys) (map Some T)
-all_mended i j [] [] e are fit near = tt
-all_mended i j [] (y ∷ ys) e are fit near = absurd near
-all_mended i j (w ∷ T) ys e are fit near =
+mended_again : (i j : ℕ) (T ys : List ℕ) (ms : List (Option ℕ)) → j ≡ i + (i + 15) / 16 → All IsCodeword T → AllZip IsNear (synced i T) ys
+    → AllZip IsMended (unsynced j ys) ms → ms ≡ map Some T
+mended_again i j [] [] [] e are near each = refl
+mended_again i j [] [] (m ∷ ms) e are near each = absurd each
+mended_again i j [] (y ∷ ys) ms e are near each = absurd near
+mended_again i j (w ∷ T) ys ms e are near each =
     let is = All-head IsCodeword w T are in
     let rest = All-tail IsCodeword w T are in
     elim (cases_eq (i % 16) 0) [
-      | inl first ↦ mended_first i j w T ys e first is fit (rw (eq-eqb _ _ first) at near)
-          (λ zs small. all_mended (i + 1) (j + 2) T zs (omega arith) rest small)
-      | inr other ↦ mended_next i j w T ys e other is fit (rw (ne_eqb _ _ other) at near)
-          (λ zs small. all_mended (i + 1) (j + 1) T zs (omega arith) rest small)
+      | inl first ↦
+          let here : j % 17 ≡ 0 = omega arith in
+          let next : (j + 1) % 17 ≢ 0 = omega arith in
+          let sync = zip_cons IsNear sync_word (w ∷ synced (i + 1) T) ys (rw (eq-eqb _ _ first) at near) in
+          let word = zip_cons IsNear w (synced (i + 1) T) sync.1 sync.4 in
+          let m = zip_cons IsMended word.0 (unsynced (j + 1 + 1) word.1) ms (rw (sync.2, word.2, eq-eqb _ _ here, ne_eqb _ _ next) at each) in
+          m.2 ∙ ap₂ (λ (v : Option ℕ) (l : List (Option ℕ)). v ∷ l) (mended_back w word.0 m.0 is word.3 m.3)
+          (mended_again (i + 1) (j + 1 + 1) T word.1 m.1 (omega arith) rest word.4 m.4)
+      | inr other ↦
+          let here : j % 17 ≢ 0 = omega arith in
+          let word = zip_cons IsNear w (synced (i + 1) T) ys (rw (ne_eqb _ _ other) at near) in
+          let m = zip_cons IsMended word.0 (unsynced (j + 1) word.1) ms (rw (word.2, ne_eqb _ _ here) at each) in
+          m.2 ∙ ap₂ (λ (v : Option ℕ) (l : List (Option ℕ)). v ∷ l) (mended_back w word.0 m.0 is word.3 m.3)
+          (mended_again (i + 1) (j + 1) T word.1 m.1 (omega arith) rest word.4 m.4)
     ]
+
+-- codewords are mended to themselves
+mended_itself : (T : List ℕ) → All IsCodeword T → AllZip IsMended T (map Some T)
+mended_itself [] are = tt
+mended_itself (w ∷ T) are =
+    let is = All-head IsCodeword w T are in
+    let near : IsNear w w = rw (xor_self w) (omega (arith, ones_le_self 0)) in (
+      elim (numbers_are_repaired_lem w is.fits) [
+        | inl none ↦ absurd (none w is near)
+        | inr only ↦ subst (IsOnlyNear w) (sym (only.1.only w is near)) only.1
+      ],
+      mended_itself T (All-tail IsCodeword w T are),
+    )
 
 said_some : (T : List ℕ) → map said (map Some T) ≡ map Some (map kind_of T)
 said_some [] = refl
@@ -178,20 +160,6 @@ without_orphans_same b (Idle ∷ ks) h = ap (λ (l : List Kind). Idle ∷ l) (wi
 without_orphans_same b (Address high function ∷ ks) h = ap (λ (l : List Kind). Address high function ∷ l) (without_orphans_same true ks h)
 without_orphans_same true (Message bits ∷ ks) h = ap (λ (l : List Kind). Message bits ∷ l) (without_orphans_same true ks h.1)
 without_orphans_same false (Message bits ∷ ks) h = absurd (cc h.0)
-
-without_orphans_any : (b : Bool) (ks : List Kind) → HasNoOrphan false ks → without_orphans b (map Some ks) ≡ ks
-without_orphans_any b ks h = without_orphans_same b ks (no_orphan_any b ks h)
-
-captured_of_sent : (T Y : List ℕ) (ps : List Page) → All IsCodeword T → All (λ y. y < 2 ^ 32) Y → AllZip IsNear (synced 0 T) Y
-    → Reads (map kind_of T) 0 ps → AreCaptured Y ps
-captured_of_sent T Y ps are fit near reads =
-    let same : without_orphans false (map said (map Some T)) ≡ map kind_of T =
-    ap (without_orphans false) (said_some T) ∙ without_orphans_same false (map kind_of T) (reads_plainly reads).no_orphan in
-    record {
-      mended = map Some T;
-      each = all_mended 0 0 T Y (omega arith) are fit near;
-      holds = subst (λ (ks : List Kind). Reads ks 0 ps) (sym same) reads;
-    }
 
 -- ---- a transmission among other bits
 
@@ -222,118 +190,82 @@ none_lost g a (suc n) kept =
 
 -- ---- the run that holds a synchronisation codeword before which it is quiet
 
+abbrev pages_of : List (List Page) → List Page
+pages_of pss = flat_map (λ (here : List Page). here) pss
+
 pub record IsOn (b : ℕ) (p : Polarity) (u : Run) : Type 0 where
   pub k : ℕ
   pub below : k < u.batches
   pub place : u.bit + 544 * k ≡ b
   pub polarity : u.polarity ≡ p
 
-on_step : (bits : List ℕ) (first b k : ℕ) (p : Polarity) (u : Run) → WordsFit bits → IsSyncRun bits first u → IsSynchronised bits b p
-    → IsQuiet bits (b - 544) b → k < u.batches → u.bit + 544 * k ≤ b → b < u.bit + 544 * k + 544 → IsOn b p u
-on_step bits first b k p u fits run there quiet below low high =
-    elim (cases_eq k 0) [
-      | inl start ↦
-          elim (cases_lt u.bit b) [
-            | inl less ↦ absurd (quiet u.bit (omega arith) less u.polarity run.begins)
-            | inr more ↦
-                let same : u.bit ≡ b = omega arith in
-                record {
-                  k = k;
-                  below = below;
-                  place = omega arith;
-                  polarity = same_polarity bits b u.polarity p (fits b) (subst (λ (n : ℕ). IsSynchronised bits n u.polarity) same run.begins) there;
-                }
-          ]
-      | inr later ↦
-          elim (run.each k below) [
-            | inl here ↦
-                elim (cases_lt (u.bit + 544 * k) b) [
-                  | inl less ↦ absurd (quiet (u.bit + 544 * k) (omega arith) less u.polarity here)
-                  | inr more ↦
-                      let same : u.bit + 544 * k ≡ b = omega arith in
-                      record {
-                        k = k;
-                        below = below;
-                        place = same;
-                        polarity = same_polarity bits b u.polarity p (fits b) (subst (λ (n : ℕ). IsSynchronised bits n u.polarity) same here) there;
-                      }
-                ]
-            | inr bridged ↦ absurd (bridged.quiet b (omega arith) (omega arith) p there)
-          ]
-    ]
+module _ (bits : List ℕ) (b : ℕ) (p : Polarity) (fits : WordsFit bits) (there : IsSynchronised bits b p) (quiet : IsQuiet bits (b - 544) b) where
+  on_here : (k : ℕ) (u : Run) → k < u.batches → IsSynchronised bits (u.bit + 544 * k) u.polarity → u.bit + 544 * k ≤ b → b < u.bit + 544 * k + 544
+      → IsOn b p u
+  on_here k u below here low high =
+      elim (cases_lt (u.bit + 544 * k) b) [
+        | inl less ↦ absurd (quiet (u.bit + 544 * k) (omega arith) less u.polarity here)
+        | inr more ↦
+            let same : u.bit + 544 * k ≡ b = omega arith in
+            record { k = k; below = below; place = same; polarity = same_polarity bits b u.polarity p (fits b) (rw same at here) there }
+      ]
 
-on_run : (bits : List ℕ) (first b : ℕ) (p : Polarity) (u : Run) → WordsFit bits → IsSyncRun bits first u → IsSynchronised bits b p
-    → IsQuiet bits (b - 544) b → first ≤ b → b ≤ last_sync u → IsOn b p u
-on_run bits first b p u fits run there quiet low high =
-    elim (cases_lt b u.bit) [
-      | inl less ↦ absurd (run.quiet b low less p there)
-      | inr more ↦
-          let some = run.some in
-          on_step bits first b ((b - u.bit) / 544) p u fits run there quiet (omega arith) (omega arith) (omega arith)
-    ]
+  on_step : (first k : ℕ) (u : Run) → IsSyncRun bits first u → k < u.batches → u.bit + 544 * k ≤ b → b < u.bit + 544 * k + 544 → IsOn b p u
+  on_step first k u run below low high =
+      elim (cases_eq k 0) [
+        | inl start ↦
+            let same : u.bit ≡ u.bit + 544 * k = omega arith in
+            on_here k u below (subst (λ (n : ℕ). IsSynchronised bits n u.polarity) same run.begins) low high
+        | inr later ↦
+            elim (run.each k below) [
+              | inl here ↦ on_here k u below here low high
+              | inr bridged ↦ absurd (bridged.quiet b (omega arith) (omega arith) p there)
+            ]
+      ]
 
-end_early : (bits : List ℕ) (first b : ℕ) (u : Run) → IsSyncRun bits first u → IsQuiet bits (b - 544) b → last_sync u < b → run_end u ≤ b + 31
-end_early bits first b u run quiet before =
-    let some = run.some in
-    elim (cases_lt (last_sync u) (b - 544)) [
-      | inl early ↦ omega arith
-      | inr late ↦ absurd (quiet (last_sync u) late before u.polarity run.last)
-    ]
+  on_run : (first : ℕ) (u : Run) → IsSyncRun bits first u → first ≤ b → b ≤ last_sync u → IsOn b p u
+  on_run first u run low high =
+      elim (cases_lt b u.bit) [
+        | inl less ↦ absurd (run.quiet b low less p there)
+        | inr more ↦ let some = run.some in on_step first ((b - u.bit) / 544) u run (omega arith) (omega arith) (omega arith)
+      ]
 
-record IsHolder (bits : List ℕ) (b : ℕ) (p : Polarity) (rs : List Reception) : Type 0 where
-  pub front : List Reception
-  pub reception : Reception
-  pub back : List Reception
-  pub whole : rs ≡ front ++ reception ∷ back
-  pub first : ℕ
-  pub run : Run
-  pub is_run : IsSyncRun bits first run
-  pub is : IsReception bits run reception
-  pub on : IsOn b p run
+  end_early : (first : ℕ) (u : Run) → IsSyncRun bits first u → last_sync u < b → run_end u ≤ b + 31
+  end_early first u run before =
+      let some = run.some in
+      elim (cases_lt (last_sync u) (b - 544)) [
+        | inl early ↦ omega arith
+        | inr late ↦ absurd (quiet (last_sync u) late before u.polarity run.last)
+      ]
 
-found_on : (bits : List ℕ) (first held b : ℕ) (p : Polarity) (rs : List Reception) → WordsFit bits → IsSynchronised bits b p
-    → IsQuiet bits (b - 544) b → ((u : Run) → u.bit ≡ b → u.polarity ≡ p → HasFewLost bits u) → first ≤ b → held ≤ b + 31
-    → AreFound bits first held rs → IsHolder bits b p rs
-found_on bits first held b p rs fits there quiet few low late (nothing none) = absurd (none b low (omega (arith, there.within)) p there)
-found_on bits first held b p rs fits there quiet few low late (counted u r more run counts is rest) =
-    elim (cases_lt (last_sync u) b) [
-      | inl before ↦
-          let next = found_on bits (last_sync u + 1) (run_end u) b p more fits there quiet few (omega arith) (end_early bits first b u run quiet before) rest in
-          record {
-            front = r ∷ next.front;
-            reception = next.reception;
-            back = next.back;
-            whole = ap (λ (l : List Reception). r ∷ l) next.whole;
-            first = next.first;
-            run = next.run;
-            is_run = next.is_run;
-            is = next.is;
-            on = next.on;
-          }
-      | inr after ↦ record {
-        front = [];
-        reception = r;
-        back = more;
-        whole = refl;
-        first = first;
-        run = u;
-        is_run = run;
-        is = is;
-        on = on_run bits first b p u fits run there quiet low after;
-      }
-    ]
-found_on bits first held b p rs fits there quiet few low late (passed u more run not rest) =
-    elim (cases_lt (last_sync u) b) [
-      | inl before ↦ found_on bits (last_sync u + 1) held b p more fits there quiet few (omega arith) late rest
-      | inr after ↦
-          let on = on_run bits first b p u fits run there quiet low after in
-          absurd (elim (cases_lt 1 u.batches) [
-            | inl many ↦ not (inl many)
-            | inr one ↦
-                let bit : u.bit ≡ b = omega (arith, on.place, on.below) in
-                not (inr (omega arith, few u bit on.polarity))
-          ])
-    ]
+  module _ (ps : List Page) (few : (u : Run) → u.bit ≡ b → u.polarity ≡ p → HasFewLost bits u)
+      (shows : (first : ℕ) (u : Run) (r : Reception) (here : List Page) → IsSyncRun bits first u → IsReception bits u r → IsOn b p u
+      → AreCaptured (received bits r) here → StandAmong ps here) where
+    shown_from : (first held : ℕ) (rs : List Reception) (pss : List (List Page)) → first ≤ b → held ≤ b + 31 → AreFound bits first held rs
+        → AllZip (λ (r : Reception) (here : List Page). AreCaptured (received bits r) here) rs pss → StandAmong ps (pages_of pss)
+    shown_from first held rs pss low late (nothing none) each = absurd (none b low (omega (arith, there.within)) p there)
+    shown_from first held rs [] low late (counted u r more run counts is rest) each = absurd each
+    shown_from first held rs (here ∷ pss) low late (counted u r more run counts is rest) each =
+        elim (cases_lt (last_sync u) b) [
+          | inl before ↦
+              let next = shown_from (last_sync u + 1) (run_end u) more pss (omega arith) (end_early first u run before) rest each.1 in
+              record { front = here ++ next.front; back = next.back; whole = rw next.whole (simp append_assoc) }
+          | inr after ↦
+              let mine = shows first u r here run is (on_run first u run low after) each.0 in
+              record { front = mine.front; back = mine.back ++ pages_of pss; whole = ap (λ (l : List Page). l ++ pages_of pss) mine.whole ∙ simp append_assoc }
+        ]
+    shown_from first held rs pss low late (passed u more run not rest) each =
+        elim (cases_lt (last_sync u) b) [
+          | inl before ↦ shown_from (last_sync u + 1) held more pss (omega arith) late rest each
+          | inr after ↦
+              let on = on_run first u run low after in
+              absurd (elim (cases_lt 1 u.batches) [
+                | inl many ↦ not (inl many)
+                | inr one ↦
+                    let bit : u.bit ≡ b = omega (arith, on.place, on.below) in
+                    not (inr (omega arith, few u bit on.polarity))
+              ])
+        ]
 
 -- ---- what is captured behind other words
 
@@ -342,45 +274,24 @@ unsynced_shift i j [] e = refl
 unsynced_shift i j (w ∷ ws) e =
     ap₂ (λ (n : ℕ) (l : List ℕ). if n == 0 then l else (w ∷ l)) e (unsynced_shift (i + 1) (j + 1) ws (omega arith))
 
-record IsSplit (xs ys : List ℕ) (ms : List (Option ℕ)) : Type 0 where
-  pub left : List (Option ℕ)
-  pub right : List (Option ℕ)
-  pub whole : ms ≡ left ++ right
-  pub of_left : AllZip IsMended xs left
-  pub of_right : AllZip IsMended ys right
-
-zip_split : (xs ys : List ℕ) (ms : List (Option ℕ)) → AllZip IsMended (xs ++ ys) ms → IsSplit xs ys ms
-zip_split [] ys ms each = record { left = []; right = ms; whole = refl; of_left = tt; of_right = each }
+zip_split : (xs ys : List ℕ) (ms : List (Option ℕ)) → AllZip IsMended (xs ++ ys) ms
+    → AllZip IsMended xs (take (length xs) ms) × AllZip IsMended ys (drop (length xs) ms)
+zip_split [] ys ms each = (tt, each)
 zip_split (x ∷ xs) ys [] each = absurd each
-zip_split (x ∷ xs) ys (m ∷ ms) each =
-    let rest = zip_split xs ys ms each.1 in
-    record {
-      left = m ∷ rest.left;
-      right = rest.right;
-      whole = ap (λ (l : List (Option ℕ)). m ∷ l) rest.whole;
-      of_left = (each.0, rest.of_left);
-      of_right = rest.of_right;
-    }
+zip_split (x ∷ xs) ys (m ∷ ms) each = let rest = zip_split xs ys ms each.1 in ((each.0, rest.0), rest.1)
 
-mended_long : (xs : List ℕ) (ms : List (Option ℕ)) → AllZip IsMended xs ms → length xs ≡ length ms
-mended_long [] [] each = refl
-mended_long [] (m ∷ ms) each = absurd each
-mended_long (x ∷ xs) [] each = absurd each
-mended_long (x ∷ xs) (m ∷ ms) each = let rest = mended_long xs ms each.1 in omega arith
+-- whether a page is open after words
+abbrev open_after_all : Bool → List (Option Kind) → Bool
+open_after_all b [] = b
+open_after_all b (m ∷ ms) = open_after_all (stays_open b m) ms
 
 without_orphans_long : (b : Bool) (ms : List (Option Kind)) → length (without_orphans b ms) ≡ length ms
 without_orphans_long b [] = refl
-without_orphans_long b (None ∷ ms) = let rest = without_orphans_long false ms in omega arith
-without_orphans_long b (Some Idle ∷ ms) = let rest = without_orphans_long false ms in omega arith
-without_orphans_long b (Some (Address high function) ∷ ms) = let rest = without_orphans_long true ms in omega arith
-without_orphans_long b (Some (Message bits) ∷ ms) = let rest = without_orphans_long b ms in omega arith
+without_orphans_long b (m ∷ ms) = let rest = without_orphans_long (stays_open b m) ms in omega arith
 
 without_orphans_two : (b : Bool) (ms ns : List (Option Kind)) → without_orphans b (ms ++ ns) ≡ without_orphans b ms ++ without_orphans (open_after_all b ms) ns
 without_orphans_two b [] ns = refl
-without_orphans_two b (None ∷ ms) ns = ap (λ (l : List Kind). Idle ∷ l) (without_orphans_two false ms ns)
-without_orphans_two b (Some Idle ∷ ms) ns = ap (λ (l : List Kind). Idle ∷ l) (without_orphans_two false ms ns)
-without_orphans_two b (Some (Address high function) ∷ ms) ns = ap (λ (l : List Kind). Address high function ∷ l) (without_orphans_two true ms ns)
-without_orphans_two b (Some (Message bits) ∷ ms) ns = ap (λ (l : List Kind). cond b (Message bits) Idle ∷ l) (without_orphans_two b ms ns)
+without_orphans_two b (m ∷ ms) ns = ap (λ (l : List Kind). without_orphan b m ∷ l) (without_orphans_two (stays_open b m) ms ns)
 
 ends_closed : (b : Bool) (ks : List Kind) → EndsIdle ks → open_after_all b (map Some ks) ≡ false
 ends_closed b [] e = absurd e
@@ -395,90 +306,57 @@ after_closed b [] [] each (inl none) = tt
 after_closed b [] (m ∷ ms) each (inl none) = absurd each
 after_closed b (w ∷ after) ms each (inl none) = absurd (cc)
 
-module _ (before Y after T : List ℕ) (ps : List Page) (are : All IsCodeword T) (fit : All (λ y. y < 2 ^ 32) Y) (near : AllZip IsNear (synced 0 T) Y)
+module _ (before Y after T : List ℕ) (ps : List Page) (are : All IsCodeword T) (near : AllZip IsNear (synced 0 T) Y)
     (reads : Reads (map kind_of T) 0 ps) where
-  -- the kinds of words that stand between others
-  record IsBetween (ms : List (Option ℕ)) : Type 0 where
-    pub left : List (Option ℕ)
-    pub right : List (Option ℕ)
-    pub whole : ms ≡ left ++ (map Some T ++ right)
-    pub of_left : AllZip IsMended (unsynced 0 before) left
-    pub of_right : AllZip IsMended (unsynced 0 after) right
-
-  between : (ms : List (Option ℕ)) → length before % 17 ≡ 0 → length Y % 17 ≡ 0 → AllZip IsMended (unsynced 0 (before ++ (Y ++ after))) ms
-      → IsBetween ms
-  between ms first_whole whole each =
-      let later : unsynced 0 (Y ++ after) ≡ unsynced 0 Y ++ unsynced 0 after =
-      unsynced_more 0 Y after ∙ ap (λ (l : List ℕ). unsynced 0 Y ++ l) (unsynced_shift (0 + length Y) 0 after (omega arith)) in
-      let words : unsynced 0 (before ++ (Y ++ after)) ≡ unsynced 0 before ++ (unsynced 0 Y ++ unsynced 0 after) =
-      unsynced_more 0 before (Y ++ after)
-      ∙ ap (λ (l : List ℕ). unsynced 0 before ++ l) (unsynced_shift (0 + length before) 0 (Y ++ after) (omega arith) ∙ later) in
-      let parts = zip_split (unsynced 0 before) (unsynced 0 Y ++ unsynced 0 after) ms (subst (λ (l : List ℕ). AllZip IsMended l ms) words each) in
-      let rest = zip_split (unsynced 0 Y) (unsynced 0 after) parts.right parts.of_right in
-      let same : rest.left ≡ map Some T =
-      all_mended_same (unsynced 0 Y) rest.left (map Some T) rest.of_left (all_mended 0 0 T Y (omega arith) are fit near) in
-      record {
-        left = parts.left;
-        right = rest.right;
-        whole = parts.whole ∙ ap (λ (l : List (Option ℕ)). parts.left ++ l) (rest.whole ∙ ap (λ (l : List (Option ℕ)). l ++ rest.right) same);
-        of_left = parts.of_left;
-        of_right = rest.of_right;
-      }
-
-  kinds_between : (ms : List (Option ℕ)) (f : IsBetween ms) → (b : Bool) × (without_orphans false (map said ms)
-      ≡ without_orphans false (map said f.left) ++ (map kind_of T ++ without_orphans b (map said f.right)))
-      × (EndsIdle (map kind_of T) → b ≡ false)
-  kinds_between ms f =
-      let front : List (Option Kind) = map said f.left in
-      let back : List (Option Kind) = map said f.right in
-      let middle : List (Option Kind) = map said (map Some T) in
-      let b : Bool = open_after_all false front in
-      let plain = reads_plainly reads in (
-        open_after_all b middle,
-        ap (λ (l : List (Option ℕ)). without_orphans false (map said l)) f.whole
-            ∙ ap (without_orphans false) (map-append said f.left (map Some T ++ f.right) ∙ ap (λ (l : List (Option Kind)). front ++ l) (map-append said (map Some T) f.right))
-            ∙ without_orphans_two false front (middle ++ back)
-            ∙ ap (λ (l : List Kind). without_orphans false front ++ l) (without_orphans_two b middle back
-            ∙ ap (λ (l : List Kind). l ++ without_orphans (open_after_all b middle) back) (ap (without_orphans b) (said_some T) ∙ without_orphans_any b (map kind_of T) plain.no_orphan)),
-        λ idle. ap (open_after_all b) (said_some T) ∙ ends_closed b (map kind_of T) idle,
-      )
-
   captured_between : (here : List Page) → length before % 17 ≡ 0 → length Y % 17 ≡ 0 → (after ≡ []) ⊎ EndsIdle (map kind_of T)
       → AreCaptured (before ++ (Y ++ after)) here → StandAmong ps here
   captured_between here first_whole whole ended g =
-      let f = between g.mended first_whole whole g.each in
-      let k = kinds_between g.mended f in
+      let words : unsynced 0 (before ++ (Y ++ after)) ≡ unsynced 0 before ++ (unsynced 0 Y ++ unsynced 0 after) =
+      unsynced_more 0 before (Y ++ after)
+      ∙ ap (λ (l : List ℕ). unsynced 0 before ++ l) (unsynced_shift (0 + length before) 0 (Y ++ after) (omega arith)
+      ∙ unsynced_more 0 Y after ∙ ap (λ (l : List ℕ). unsynced 0 Y ++ l) (unsynced_shift (0 + length Y) 0 after (omega arith))) in
+      let parts = zip_split (unsynced 0 before) (unsynced 0 Y ++ unsynced 0 after) g.mended (subst (λ (l : List ℕ). AllZip IsMended l g.mended) words g.each) in
+      let left = take (length (unsynced 0 before)) g.mended in
+      let later = drop (length (unsynced 0 before)) g.mended in
+      let rest = zip_split (unsynced 0 Y) (unsynced 0 after) later parts.1 in
+      let right = drop (length (unsynced 0 Y)) later in
       let K : List Kind = map kind_of T in
-      let first : List Kind = without_orphans false (map said f.left) in
-      let last : List Kind = without_orphans k.0 (map said f.right) in
+      let same : map said (take (length (unsynced 0 Y)) later) ≡ map Some K =
+      ap (map said) (mended_again 0 0 T Y (take (length (unsynced 0 Y)) later) (omega arith) are near rest.0) ∙ said_some T in
+      let all : map said g.mended ≡ map said left ++ (map Some K ++ map said right) =
+      ap (map said) (sym (take-append-drop (length (unsynced 0 before)) g.mended)
+      ∙ ap (λ (l : List (Option ℕ)). left ++ l) (sym (take-append-drop (length (unsynced 0 Y)) later))) ∙ simp (map-append, same) in
       let plain = reads_plainly reads in
-      let closed : HasNoOrphan false last = after_closed k.0 after f.right f.of_right
-      (elim ended [ inl none ↦ inl none | inr idle ↦ inr (k.2 idle) ]) in
+      let b : Bool = open_after_all (open_after_all false (map said left)) (map Some K) in
+      let first : List Kind = without_orphans false (map said left) in
+      let last : List Kind = without_orphans b (map said right) in
+      let kinds : without_orphans false (map said g.mended) ≡ first ++ (K ++ last) =
+      ap (without_orphans false) all ∙ simp without_orphans_two (ap (λ (l : List Kind). first ++ (l ++ last))
+      (without_orphans_same (open_after_all false (map said left)) K (no_orphan_any (open_after_all false (map said left)) K plain.no_orphan))) in
+      let closed : HasNoOrphan false last = after_closed b after right rest.1
+      (elim ended [ inl none ↦ inl none | inr idle ↦ inr (ends_closed (open_after_all false (map said left)) K idle) ]) in
       let joined : HasNoOrphan false (K ++ last) = no_orphan_join false K last plain.no_orphan closed in
       let long : length first ≡ length (unsynced 0 before) =
-      without_orphans_long false (map said f.left) ∙ length-map f.left said ∙ sym (mended_long (unsynced 0 before) f.left f.of_left) in
+      without_orphans_long false (map said left) ∙ length-map left said ∙ AllZip-long IsMended (unsynced 0 before) left parts.0 in
       let count = unsynced_count 0 before in
       record {
         front = pages_from 0 first;
         back = pages_from (length K) last;
-        whole = (reads_plainly g.holds).pages ∙ ap (pages_from 0) k.1
+        whole = (reads_plainly g.holds).pages ∙ ap (pages_from 0) kinds
             ∙ pages_join 0 (length first) first (K ++ last) (omega arith) joined
             ∙ ap (λ (l : List Page). pages_from 0 first ++ l) (pages_shift (length first) 0 (K ++ last) (omega (arith, long, count))
             ∙ pages_join 0 (length K) K last (omega arith) closed ∙ ap (λ (l : List Page). l ++ pages_from (length K) last) (sym plain.pages));
       }
 
 -- words at following places in two parts
-range_two : (g : ℕ → ℕ) (a m n : ℕ) → map g (range_with_len a (m + n)) ≡ map g (range_with_len a m) ++ map g (range_with_len (a + m) n)
-range_two g a zero n =
-    let same : 0 + n ≡ n = omega arith in
-    let from : a ≡ a + 0 = omega arith in
-    ap₂ (λ (b c : ℕ). map g (range_with_len b c)) from same
-range_two g a (suc m) n =
-    let more : suc m + n ≡ suc (m + n) = omega arith in
-    let from : a + 1 + m ≡ a + suc m = omega arith in
-    ap (λ (c : ℕ). map g (range_with_len a c)) more
-    ∙ ap (λ (l : List ℕ). g a ∷ l) (range_two g (a + 1) m n
-    ∙ ap (λ (b : ℕ). map g (range_with_len (a + 1) m) ++ map g (range_with_len b n)) from)
+range_two : (g : ℕ → ℕ) (a m n t j : ℕ) → t ≡ m + n → j ≡ a + m
+    → map g (range_with_len a t) ≡ map g (range_with_len a m) ++ map g (range_with_len j n)
+range_two g a zero n t j all from =
+    let long : t ≡ n = omega arith in
+    let start : j ≡ a = omega arith in
+    rw (long, start) refl
+range_two g a (suc m) n zero j all from = absurd (omega arith)
+range_two g a (suc m) n (suc t) j all from = ap (λ (l : List ℕ). g a ∷ l) (range_two g (a + 1) m n t j (omega arith) (omega arith))
 
 like_of : (bits : List ℕ) (b : ℕ) (p : Polarity) → IsSynchronised bits b p → IsLikeSynchronised bits b p
 like_of bits b p f = let near = f.near in record { within = f.within; like = omega arith }
@@ -521,7 +399,7 @@ module _ (A R : List ℕ) (p : Polarity) (ps : List Page) (X : List ℕ) (f : Is
   batch_there : (k : ℕ) → k < f.batches → IsSynchronised whole_bits (length A + 544 * k) p
   batch_there k below =
       let e : 32 * (17 * k) ≡ 544 * k = omega arith in
-      let sync = sync_there 0 0 (17 * k) f.codewords (omega arith) (omega (arith, sent_long)) (omega arith) in
+      let sync = sync_there k f.codewords (omega (arith, f.whole.1)) in
       let within : length A + 32 * (17 * k) + 32 ≤ length whole_bits = omega (arith, all_long) in
       record {
         within = omega (arith, all_long);
@@ -631,13 +509,11 @@ module _ (A R : List ℕ) (p : Polarity) (ps : List Page) (X : List ℕ) (f : Is
 
     received_are : received whole_bits r ≡ (placed_words 0 (17 * on.k)) ++ (f.words ++ (placed_words (17 * on.k + 17 * f.batches) (17 * (r.batches - (on.k + f.batches)))))
     received_are =
-        let count : 17 * r.batches ≡ 17 * on.k + (17 * f.batches + 17 * (r.batches - (on.k + f.batches))) = omega (arith, least_batches) in
-        let start : 0 + 17 * on.k ≡ 17 * on.k = omega arith in
-        ap (λ (n : ℕ). map (received_word whole_bits r) (range_with_len 0 n)) count
-        ∙ range_two (received_word whole_bits r) 0 (17 * on.k) (17 * f.batches + 17 * (r.batches - (on.k + f.batches)))
-        ∙ ap (λ (n : ℕ). (placed_words 0 (17 * on.k)) ++ map (received_word whole_bits r) (range_with_len n (17 * f.batches + 17 * (r.batches - (on.k + f.batches))))) start
-        ∙ ap (λ (l : List ℕ). (placed_words 0 (17 * on.k)) ++ l) (range_two (received_word whole_bits r) (17 * on.k) (17 * f.batches) (17 * (r.batches - (on.k + f.batches)))
-        ∙ ap (λ (l : List ℕ). l ++ placed_words (17 * on.k + 17 * f.batches) (17 * (r.batches - (on.k + f.batches)))) own_words)
+        let later = 17 * (r.batches - (on.k + f.batches)) in
+        range_two (received_word whole_bits r) 0 (17 * on.k) (17 * f.batches + later) (17 * r.batches) (17 * on.k) (omega (arith, least_batches)) (omega arith)
+        ∙ ap (λ (l : List ℕ). (placed_words 0 (17 * on.k)) ++ l)
+        (range_two (received_word whole_bits r) (17 * on.k) (17 * f.batches) later (17 * f.batches + later) (17 * on.k + 17 * f.batches) (omega arith) (omega arith)
+        ∙ ap (λ (l : List ℕ). l ++ placed_words (17 * on.k + 17 * f.batches) later) own_words)
 
     no_words_behind : NothingFollows p R → placed_words (17 * on.k + 17 * f.batches) (17 * (r.batches - (on.k + f.batches))) ≡ []
     no_words_behind over =
@@ -647,36 +523,11 @@ module _ (A R : List ℕ) (p : Polarity) (ps : List Page) (X : List ℕ) (f : Is
     captured_of : (here : List Page) → EndsIdle (map kind_of f.codewords) ⊎ NothingFollows p R → AreCaptured (received whole_bits r) here → StandAmong ps here
     captured_of here ended g =
         let long = length-map-range_with_len (received_word whole_bits r) 0 (17 * on.k) in
-        captured_between (placed_words 0 (17 * on.k)) f.words (placed_words (17 * on.k + 17 * f.batches) (17 * (r.batches - (on.k + f.batches)))) f.codewords ps f.are f.fit f.near f.reads here (omega (arith, long)) (omega (arith, words_long))
+        captured_between (placed_words 0 (17 * on.k)) f.words (placed_words (17 * on.k + 17 * f.batches) (17 * (r.batches - (on.k + f.batches)))) f.codewords ps f.are f.near f.reads here (omega (arith, long)) (omega (arith, words_long))
         (elim ended [ inl idle ↦ inr idle | inr over ↦ inl (no_words_behind over) ])
         (subst (λ (ws : List ℕ). AreCaptured ws here) received_are g)
 
 -- ---- the pages of a transmission stand among those of the capture
-
-record IsAmongLists (bits : List ℕ) (r : Reception) (pss : List (List Page)) : Type 0 where
-  pub front : List (List Page)
-  pub here : List Page
-  pub back : List (List Page)
-  pub whole : pss ≡ front ++ here ∷ back
-  pub captured : AreCaptured (received bits r) here
-
-zip_at : (bits : List ℕ) (front : List Reception) (r : Reception) (back : List Reception) (pss : List (List Page))
-    → AllZip (λ (s : Reception) (here : List Page). AreCaptured (received bits s) here) (front ++ r ∷ back) pss → IsAmongLists bits r pss
-zip_at bits [] r back [] each = absurd each
-zip_at bits [] r back (ps ∷ pss) each = record { front = []; here = ps; back = pss; whole = refl; captured = each.0 }
-zip_at bits (s ∷ front) r back [] each = absurd each
-zip_at bits (s ∷ front) r back (ps ∷ pss) each =
-    let rest = zip_at bits front r back pss each.1 in
-    record {
-      front = ps ∷ rest.front;
-      here = rest.here;
-      back = rest.back;
-      whole = ap (λ (l : List (List Page)). ps ∷ l) rest.whole;
-      captured = rest.captured;
-    }
-
-abbrev pages_of : List (List Page) → List Page
-pages_of pss = flat_map (λ (here : List Page). here) pss
 
 pub shows_what_was_sent : (capture : List ℕ) (rs : List Reception) (ps qs : List Page) → HoldsSent (capture_bits capture) ps → HasCaptured capture rs qs
     → StandAmong ps qs
@@ -689,35 +540,22 @@ shows_what_was_sent capture rs ps qs h g =
     let bits : List ℕ = A ++ (X ++ R) in
     let start : length A + 544 * 0 ≡ length A = omega arith in
     let there = subst (λ (n : ℕ). IsSynchronised bits n p) start (batch_there A R p ps X f 0 f.whole.0) in
-    let holder = found_on bits 0 0 (length A) p rs (subst WordsFit h.whole (capture_fits capture)) there
-    (subst (λ (l : List ℕ). IsQuiet l (length A - 544) (length A)) h.whole h.quiet) (few_lost A R p ps X f) (omega arith) (omega arith)
-    (subst (λ (l : List ℕ). AreFound l 0 0 rs) h.whole g.found) in
-    let each : AllZip (λ (s : Reception) (here : List Page). AreCaptured (received bits s) here) (holder.front ++ holder.reception ∷ holder.back) g.pages =
-    subst (λ (l : List Reception). AllZip (λ (s : Reception) (here : List Page). AreCaptured (received bits s) here) l g.pages) holder.whole
-    (subst (λ (l : List ℕ). AllZip (λ (s : Reception) (here : List Page). AreCaptured (received l s) here) rs g.pages) h.whole g.each) in
-    let lists = zip_at bits holder.front holder.reception holder.back g.pages each in
-    let mine = captured_of A R p ps X f holder.first holder.run holder.reception holder.is_run holder.is holder.on lists.here h.ended lists.captured in
-    record {
-      front = pages_of lists.front ++ mine.front;
-      back = mine.back ++ pages_of lists.back;
-      whole = g.all ∙ ap pages_of lists.whole ∙ flat_map-append (λ (here : List Page). here) lists.front (lists.here ∷ lists.back)
-          ∙ ap (λ (l : List Page). pages_of lists.front ++ (l ++ pages_of lists.back)) mine.whole
-          ∙ ap (λ (l : List Page). pages_of lists.front ++ l) (append_assoc mine.front (ps ++ mine.back) (pages_of lists.back)
-          ∙ ap (λ (l : List Page). mine.front ++ l) (append_assoc ps mine.back (pages_of lists.back)))
-          ∙ sym (append_assoc (pages_of lists.front) mine.front (ps ++ (mine.back ++ pages_of lists.back)));
-    }
+    subst (StandAmong ps) (sym g.all)
+    (shown_from bits (length A) p (subst WordsFit h.whole (capture_fits capture)) there
+    (subst (λ (l : List ℕ). IsQuiet l (length A - 544) (length A)) h.whole h.quiet) ps (few_lost A R p ps X f)
+    (λ first u r here run is on. captured_of A R p ps X f first u r run is on here h.ended) 0 0 rs g.pages (omega arith) (omega arith)
+    (subst (λ (l : List ℕ). AreFound l 0 0 rs) h.whole g.found)
+    (subst (λ (l : List ℕ). AllZip (λ (s : Reception) (here : List Page). AreCaptured (received l s) here) rs g.pages) h.whole g.each))
 
 -- ---- a transmission itself
-
-zip_itself : (R : ℕ → ℕ → Type 0) (ws : List ℕ) → ((w : ℕ) → R w w) → AllZip R ws ws
-zip_itself R [] same = tt
-zip_itself R (w ∷ ws) same = (same w, zip_itself R ws same)
 
 pub reading_captured : (X : List ℕ) (ps : List Page) → ReadsAs X ps → AreCaptured (words_of (after_preamble X)) ps
 reading_captured X ps f =
     let T = f.codewords in
-    let s = f.sent in
-    let after : after_preamble X ≡ body_bytes T = after_is X s.preamble (body_bytes T) (record { whole = s.bytes; other = body_begins T }) in
-    let words : words_of (after_preamble X) ≡ synced 0 T = ap words_of after ∙ words_again (synced 0 T) (synced_small 0 T s.codewords) in
-    subst (λ (ws : List ℕ). AreCaptured ws ps) (sym words)
-    (captured_of_sent T (synced 0 T) ps s.codewords (synced_small 0 T s.codewords) (zip_itself IsNear (synced 0 T) (λ w. rw (xor_self w) (omega (arith, ones_le_self 0)))) f.reads)
+    let kinds : without_orphans false (map said (map Some T)) ≡ map kind_of T =
+    ap (without_orphans false) (said_some T) ∙ without_orphans_same false (map kind_of T) (reads_plainly f.reads).no_orphan in
+    record {
+      mended = map Some T;
+      each = subst (λ (ws : List ℕ). AllZip IsMended ws (map Some T)) (sym (codewords_are X T f.sent)) (mended_itself T f.sent.codewords);
+      holds = subst (λ (ks : List Kind). Reads ks 0 ps) (sym kinds) f.reads;
+    }

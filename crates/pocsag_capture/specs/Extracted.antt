@@ -17,25 +17,31 @@ near_errors wrong = if nat_le wrong 2 then wrong else 0
 abbrev pub far_words : (wrong : ℕ) → ℕ
 far_words wrong = if nat_le wrong 2 then 0 else 1
 
--- In how many bits the words at the places of synchronisation codewords differ from it, where they are near it; the first word
--- is at this place.
+-- The sum, over the words at the places of synchronisation codewords, of a count of the bits in which each differs from it; the first
+-- word is at this place.
+abbrev pub sum_at_synchronisations : (count : ℕ → ℕ) → (place : ℕ) → List ℕ → ℕ
+sum_at_synchronisations count j [] = 0
+sum_at_synchronisations count j (w ∷ ws) =
+    (if j % batch_words == 0 then count (count_ones (bit_xor sync_word w)) else 0) + sum_at_synchronisations count (j + 1) ws
+
+-- In how many bits the words at these places differ from it, where they are near it.
 abbrev pub synchronisation_errors : (place : ℕ) → List ℕ → ℕ
-synchronisation_errors j [] = 0
-synchronisation_errors j (w ∷ ws) =
-    (if j % batch_words == 0 then near_errors (count_ones (bit_xor sync_word w)) else 0) + synchronisation_errors (j + 1) ws
+synchronisation_errors j ws = sum_at_synchronisations near_errors j ws
 
 -- How many of the words at these places are not near it.
 abbrev pub lost_synchronisations : (place : ℕ) → List ℕ → ℕ
-lost_synchronisations j [] = 0
-lost_synchronisations j (w ∷ ws) =
-    (if j % batch_words == 0 then far_words (count_ones (bit_xor sync_word w)) else 0) + lost_synchronisations (j + 1) ws
+lost_synchronisations j ws = sum_at_synchronisations far_words j ws
 
--- In how many bits words differ from what they are mended to.
+-- In how many bits a word differs from what it is mended to.
+abbrev pub wrong_bits : ℕ → Option ℕ → ℕ
+wrong_bits w None = 0
+wrong_bits w (Some v) = count_ones (bit_xor v w)
+
+-- The same of words.
 abbrev pub mended_errors : List ℕ → List (Option ℕ) → ℕ
 mended_errors [] ms = 0
 mended_errors (w ∷ ws) [] = 0
-mended_errors (w ∷ ws) (None ∷ ms) = mended_errors ws ms
-mended_errors (w ∷ ws) (Some v ∷ ms) = count_ones (bit_xor v w) + mended_errors ws ms
+mended_errors (w ∷ ws) (m ∷ ms) = wrong_bits w m + mended_errors ws ms
 
 -- Whether the page before these mended words, of which the first has this index, is cut, where so many words are in step: directly
 -- behind the message codewords that stand first a word past repair, one out of step, or the end of the reception stands.

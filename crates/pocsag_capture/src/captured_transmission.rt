@@ -13,6 +13,7 @@ use crate::reception::{Reception, ReceptionStats};
 use crate::search::steady_batches;
 use pocsag_decode::Growing;
 use pocsag_pages::Page;
+use pocsag_words::kind_of_number;
 use std::alloc::{AllocError, Global};
 
 /// A transmission in a capture, as it was read.
@@ -32,10 +33,9 @@ pub struct CapturedTransmission {
 fn note_end(cuts: &mut Vec<bool>, ended: Option<bool>) -> Result<(), AllocError>
     ensures { OnOk result (cuts.new.items ≡ cuts.old.items ++ option_to_list ended) }
 {
-    let Some(is_cut) = ended else {
-        return Ok(());
-    };
-    cuts.push(is_cut)?;
+    if let Some(is_cut) = ended {
+        cuts.push(is_cut)?;
+    }
     Ok(())
 }
 
@@ -82,7 +82,8 @@ pub fn capture_pages(
         }
         let corrected_word = corrector.take(word, BATCH * steady <= place);
         note_end(&mut cuts, corrected_word.ended)?;
-        growing.take((place % BATCH - 1) as u32 / 2, corrected_word.kind())?;
+        let kind = kind_of_number(corrected_word.codeword);
+        growing.take((place % BATCH - 1) as u32 / 2, kind)?;
     }
     let ended = corrector.close(true);
     note_end(&mut cuts, ended)?;

@@ -1,12 +1,11 @@
 //! The words of a reception, repaired one after the other.
 ghost use Rattle.std.specs.Prelude.{◌≡◌, ◌+◌, ◌^◌, ◌<◌, false, None, Some, bit_xor, count_ones, if◌then◌else◌};
-ghost use Rattle.pocsag_words.specs.Kinds.{IsInRange, kind_of};
 ghost use Rattle.pocsag_pages.specs.Bytes.{sync_word};
 ghost use Rattle.pocsag_capture.specs.Extracted.{far_words, near_errors};
-ghost use Rattle.pocsag_capture.specs.TakenWords.{TakesWord, cut_by, corrected_word};
+ghost use Rattle.pocsag_capture.specs.TakenWords.{TakesWord, cut_by};
 
 use crate::polarity::NEAR_BITS;
-use pocsag_words::{BATCH_WORDS, IDLE_WORD, Kind, SYNC_WORD, Word, kind, repair};
+use pocsag_words::{BATCH_WORDS, IDLE_WORD, Kind, SYNC_WORD, kind, repair};
 
 // The words of a batch, its synchronisation codeword among them.
 pub(crate) const BATCH: u64 = BATCH_WORDS as u64;
@@ -27,35 +26,10 @@ pub(crate) struct WordCorrector {
 // What a word is corrected to.
 #[derive(Clone, Copy)]
 pub(crate) struct CorrectedWord {
-    // The codeword that is kept; where there is none, the idle codeword stands there.
-    pub(crate) kept: Option<Word>,
+    // The codeword as a number: the idle codeword where none is kept.
+    pub(crate) codeword: u32,
     // Where a page ends at the word, whether it is cut.
     pub(crate) ended: Option<bool>,
-}
-
-impl CorrectedWord {
-    // The codeword as a number.
-    #[inline(always)]
-    pub(crate) fn number(self) -> u32
-        ensures { result ≡ corrected_word self.kept }
-    {
-        match self.kept {
-            Some(word) => word.raw(),
-            None => IDLE_WORD,
-        }
-    }
-
-    // What the codeword says.
-    #[inline(always)]
-    pub(crate) fn kind(self) -> Kind
-        ensures kind { result ≡ kind_of (corrected_word self.kept) }
-        ensures ranges { IsInRange result }
-    {
-        match self.kept {
-            Some(word) => kind(word),
-            None => Kind::Idle,
-        }
-    }
 }
 
 impl WordCorrector {
@@ -101,21 +75,22 @@ impl WordCorrector {
         requires corrected { self.old.corrected + 32 < 2 ^ 64 }
         requires lost { self.old.lost + 1 < 2 ^ 64 }
         requires cut { self.old.cut + 1 < 2 ^ 64 }
-        ensures { TakesWord self.old self.new is_out_of_step word (corrected_word result.kept) result.ended }
+        ensures { TakesWord self.old self.new is_out_of_step word result.codeword result.ended }
     {
         let Some(mended) = repair(word) else {
             self.lost += 1;
             let ended = self.close(true);
-            return CorrectedWord { kept: None, ended };
+            return CorrectedWord {
+                codeword: IDLE_WORD,
+                ended,
+            };
         };
-        self.corrected += u64::from((mended.raw() ^ word).count_ones());
+        let codeword = mended.raw();
+        self.corrected += u64::from((codeword ^ word).count_ones());
         match kind(mended) {
             Kind::Idle => {
                 let ended = self.close(is_out_of_step);
-                CorrectedWord {
-                    kept: Some(mended),
-                    ended,
-                }
+                CorrectedWord { codeword, ended }
             }
             Kind::Address {
                 high: _,
@@ -123,20 +98,17 @@ impl WordCorrector {
             } => {
                 let ended = self.close(is_out_of_step);
                 self.is_open = true;
-                CorrectedWord {
-                    kept: Some(mended),
-                    ended,
-                }
+                CorrectedWord { codeword, ended }
             }
             Kind::Message(_) => {
                 if !self.is_open {
                     return CorrectedWord {
-                        kept: None,
+                        codeword: IDLE_WORD,
                         ended: None,
                     };
                 }
                 CorrectedWord {
-                    kept: Some(mended),
+                    codeword,
                     ended: None,
                 }
             }

@@ -53,7 +53,7 @@ pub(crate) fn put_extract(
             continue;
         }
         let corrected_word = corrector.take(word, BATCH * steady <= place);
-        bytes.extend_from_slice(&corrected_word.number().to_be_bytes())?;
+        bytes.extend_from_slice(&corrected_word.codeword.to_be_bytes())?;
     }
     corrector.close(true);
     Ok(ReceptionStats {

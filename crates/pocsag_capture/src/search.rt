@@ -84,16 +84,8 @@ fn is_synchronised(capture: &[u8], bit: u64, polarity: Polarity) -> bool
     (SYNC_WORD ^ polarity.sent(word_on(capture, bit))).count_ones() <= NEAR_BITS
 }
 
-// Whether no synchronisation codeword begins from a bit on, before the last.
-fn is_quiet_to(capture: &[u8], first: u64, last: u64) -> bool
-    requires few { length capture.now ≤ input_limit }
-    requires first { first < 2 ^ 60 }
-    ensures { IsTrue result ↔ IsQuiet (capture_bits capture.now) first last }
-{
-    find(capture, first, last).is_none()
-}
-
 // How many batches behind a synchronisation codeword the next one in step begins; 0 where none does.
+#[tactic(auto, using(crate::proofs::Windows::bits_long))]
 fn steps_on(capture: &[u8], bit: u64, polarity: Polarity) -> u64
     requires few { length capture.now ≤ input_limit }
     requires there { IsSynchronised (capture_bits capture.now) bit polarity }
@@ -103,7 +95,7 @@ fn steps_on(capture: &[u8], bit: u64, polarity: Polarity) -> u64
         return 1;
     }
     let next = bit + 2 * BATCH_BITS;
-    if is_synchronised(capture, next, polarity) && is_quiet_to(capture, bit + 1, next) {
+    if is_synchronised(capture, next, polarity) && find(capture, bit + 1, next).is_none() {
         2
     } else {
         0

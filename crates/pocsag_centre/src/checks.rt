@@ -41,10 +41,7 @@ pub fn expected_file(
     ensures expected { OnOk result (HoldsPages may_wait pages.now expected) }
     ensures explained { IfErr result (ExplainsExpecting may_wait pages.now expected) }
 {
-    let queue = match held_pages(alloc, may_wait, pages) {
-        Ok(queue) => queue,
-        Err(fault) => return Err(CentreFault::Round(fault)),
-    };
+    let queue = held_pages(alloc, may_wait, pages)?;
     let found = queue.len() as u32;
     if found != expected {
         return Err(CentreFault::Unexpected(found, expected));

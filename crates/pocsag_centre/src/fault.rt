@@ -91,6 +91,14 @@ impl From<FileFault> for CentreFault {
     }
 }
 
+impl From<RoundFault> for CentreFault {
+    ghost from_gives = { λ refused e. e ≡ fault.Round refused };
+
+    fn from(refused: RoundFault) -> CentreFault {
+        CentreFault::Round(refused)
+    }
+}
+
 impl From<PlanFault> for CentreFault {
     ghost use Rattle.pocsag_centre.specs.Faults.{fault_of_plan};
 

@@ -23,7 +23,7 @@ use pocsag_pages::{Page, first_pages, held_pages, left_pages, read_pages, read_r
 use pocsag_plan::{FrontPlan, Search, longest_front, send};
 use pocsag_shell::{ErrorStream, FileFault, print_numbers};
 use pocsag_tree::{Certificate, write_text};
-use pocsag_words::{GrowingSink, OutOfMemory, Sink, Source};
+use pocsag_words::{GrowingSink, Sink, Source};
 use std::alloc::Global;
 
 /// What a front is asked for.
@@ -132,21 +132,13 @@ fn read_front<P: Source>(
 {
     page_files_are_read_back();
     pages_of_files_are_spellable();
-    if let Err(fault) = refuse_bad_limit(asked.search) {
-        return Err(fault);
-    }
+    refuse_bad_limit(asked.search)?;
     if asked.may_wait {
         return queue_front(alloc, asked, pages);
     }
-    let round = match read_round(alloc, pages) {
-        Ok(round) => round,
-        Err(fault) => return Err(CentreFault::Round(fault)),
-    };
+    let round = read_round(alloc, pages)?;
     round.keeps_rules();
-    match longest_front(alloc, round, asked.batches, asked.search) {
-        Ok(front) => Ok(front),
-        Err(fault) => Err(CentreFault::from(fault)),
-    }
+    Ok(longest_front(alloc, round, asked.batches, asked.search)?)
 }
 
 // The same of a page file whose pages are not all in the round.
@@ -170,32 +162,26 @@ fn queue_front<P: Source>(
 {
     page_files_are_read_back();
     pages_of_files_are_spellable();
-    let queue = match read_pages(alloc, asked.may_wait, pages) {
-        Ok(queue) => queue,
-        Err(fault) => return Err(CentreFault::Round(fault)),
-    };
+    let queue = read_pages(alloc, asked.may_wait, pages)?;
     let Ok(firsts) = first_pages(alloc, queue.as_slice()) else {
         return Err(CentreFault::File(FileFault::OutOfMemory));
     };
-    let front = match longest_front(alloc, firsts, asked.batches, asked.search) {
-        Ok(front) => front,
-        Err(fault) => return Err(CentreFault::from(fault)),
-    };
+    let front = longest_front(alloc, firsts, asked.batches, asked.search)?;
     let FrontPlan {
         round,
         bounded,
         rest: _,
         why,
     } = front;
-    match left_pages(alloc, queue, round.pages()) {
-        Ok(rest) => Ok(FrontPlan {
-            round,
-            bounded,
-            rest,
-            why,
-        }),
-        Err(OutOfMemory) => Err(CentreFault::File(FileFault::OutOfMemory)),
-    }
+    let Ok(rest) = left_pages(alloc, queue, round.pages()) else {
+        return Err(CentreFault::File(FileFault::OutOfMemory));
+    };
+    Ok(FrontPlan {
+        round,
+        bounded,
+        rest,
+        why,
+    })
 }
 
 // Writes the page file of the pages that are left, and then the certificate of one page more.
@@ -237,10 +223,7 @@ fn put_why<S: Sink>(why: &Option<Certificate>, sink: &mut S) -> Result<(), FileF
         return Ok(());
     };
     let Certificate { end, batches, tree } = certificate;
-    match write_text(*end, *batches, tree, sink) {
-        Ok(()) => Ok(()),
-        Err(_) => Err(FileFault::Write),
-    }
+    write_text(*end, *batches, tree, sink).map_err(|_| FileFault::Write)
 }
 
 /// A page file of the first pages of the round of the bytes of a page file, so many, or all where it has fewer.
@@ -256,10 +239,7 @@ pub fn first_file(
 {
     page_files_are_read_back();
     pages_of_files_are_spellable();
-    let queue = match held_pages(alloc, may_wait, pages) {
-        Ok(queue) => queue,
-        Err(fault) => return Err(CentreFault::Round(fault)),
-    };
+    let queue = held_pages(alloc, may_wait, pages)?;
     let Ok(round) = first_pages(alloc, queue.as_slice()) else {
         return Err(CentreFault::File(FileFault::OutOfMemory));
     };
@@ -275,10 +255,10 @@ pub(crate) fn written_pages(alloc: Global, pages: &[Page]) -> Result<Vec<u8>, Ce
     ensures memory { IfErr result (λ e. e ≡ CentreFault.File file_fault.OutOfMemory) }
 {
     let mut sink = GrowingSink::new(alloc);
-    match write_page_file(alloc, pages, &mut sink) {
-        Ok(()) => Ok(sink.into_bytes()),
-        Err(_) => Err(CentreFault::File(FileFault::OutOfMemory)),
-    }
+    write_page_file(alloc, pages, &mut sink).map_err(|_| CentreFault::File(
+        FileFault::OutOfMemory,
+    ))?;
+    Ok(sink.into_bytes())
 }
 
 // Prints the counts of a front, with its bound where that is below its batches; how many pages are left; and what is shown
@@ -292,12 +272,8 @@ fn print_front<O: Sink>(front: &FrontPlan, batches: u32, out: &mut O) -> Result<
     ensures lost { IfErr result (λ e. e ≡ FileFault.Write) }
     ensures failures { CountsFailures result (O.failures out.old) (O.failures out.new) }
 {
-    if let Err(fault) = print_bounded(&front.bounded, out) {
-        return Err(fault);
-    }
-    if let Err(fault) = print_numbers(out, &[("left ", front.rest.len() as u64)], "\n") {
-        return Err(fault);
-    }
+    print_bounded(&front.bounded, out)?;
+    print_numbers(out, &[("left ", front.rest.len() as u64)], "\n")?;
     let Some(why) = &front.why else {
         return Ok(());
     };

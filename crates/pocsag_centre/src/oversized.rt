@@ -38,26 +38,18 @@ pub fn part_file(alloc: Global, asked: FrontAsked, pages: &[u8]) -> Result<Parte
 {
     page_files_are_read_back();
     pages_of_files_are_spellable();
-    let queue = match held_pages(alloc, asked.may_wait, pages) {
-        Ok(queue) => queue,
-        Err(fault) => return Err(CentreFault::Round(fault)),
-    };
+    let queue = held_pages(alloc, asked.may_wait, pages)?;
     let Ok(Parted { planned, aside }) = part_pages(alloc, asked, queue) else {
         return Err(CentreFault::File(FileFault::OutOfMemory));
     };
     let count = aside.len();
-    let planned = match written_pages(alloc, planned.as_slice()) {
-        Ok(planned) => planned,
-        Err(fault) => return Err(fault),
-    };
-    match written_pages(alloc, aside.as_slice()) {
-        Ok(aside) => Ok(PartedFile {
-            planned,
-            aside,
-            count,
-        }),
-        Err(fault) => Err(fault),
-    }
+    let planned = written_pages(alloc, planned.as_slice())?;
+    let aside = written_pages(alloc, aside.as_slice())?;
+    Ok(PartedFile {
+        planned,
+        aside,
+        count,
+    })
 }
 
 fn part_pages(alloc: Global, asked: FrontAsked, queue: Vec<Page>) -> Result<Parted, OutOfMemory>

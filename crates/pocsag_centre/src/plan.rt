@@ -65,14 +65,9 @@ pub(crate) fn read_plan<P: Source>(
         HasFailed (P.failures pages.old) (P.failures pages.new) }
     ensures unwritten { ¬ IsErrOf result (CentreFault.File file_fault.Write) }
 {
-    let round = match read_round(alloc, pages) {
-        Ok(round) => round,
-        Err(fault) => return Err(CentreFault::Round(fault)),
-    };
-    match bounded_plan(alloc, &round, search) {
-        Ok(bounded) => Ok(RoundPlan { round, bounded }),
-        Err(fault) => Err(CentreFault::from(fault)),
-    }
+    let round = read_round(alloc, pages)?;
+    let bounded = bounded_plan(alloc, &round, search)?;
+    Ok(RoundPlan { round, bounded })
 }
 
 /// With no words: plans a page file with the default limit and the open end, and reports its pages and batches. Returns the exit
@@ -189,14 +184,14 @@ fn stream_asked<P: Source, T: Sink, C: Sink>(
         on_limit,
     } = search;
     match on_limit {
-        OnLimit::Fewest => match plan_stream(alloc, pages, tx, cert, limit, end) {
-            Ok(plan) => Ok(Bounded {
+        OnLimit::Fewest => {
+            let plan = plan_stream(alloc, pages, tx, cert, limit, end)?;
+            Ok(Bounded {
                 bound: plan.batches,
                 plan,
                 stopped: None,
-            }),
-            Err(fault) => Err(fault),
-        },
+            })
+        }
         OnLimit::Always => plan_stream_always(alloc, pages, tx, cert, limit, end),
     }
 }
@@ -209,8 +204,6 @@ pub(crate) fn print_bounded<O: Sink>(bounded: &Bounded, out: &mut O) -> Result<(
     ensures lost { IfErr result (λ e. e ≡ FileFault.Write) }
     ensures failures { CountsFailures result (O.failures out.old) (O.failures out.new) }
 {
-    match print_plan(bounded.plan.pages, bounded.plan.batches, out) {
-        Ok(()) => print_below(bounded.plan.batches, bounded.bound, out),
-        Err(fault) => Err(fault),
-    }
+    print_plan(bounded.plan.pages, bounded.plan.batches, out)?;
+    print_below(bounded.plan.batches, bounded.bound, out)
 }

@@ -228,14 +228,9 @@ fn write_front<O: Sink>(
         &mut lines,
         &mut streams.err,
     );
-    note_file(
-        context,
-        args.pages,
-        &files.pages,
-        quote,
-        streams.err.fault(),
-    );
-    note_first(context, args, asked, aside.begins, streams.err.fault());
+    let fault = streams.err.fault();
+    note_file(context, args.pages, &files.pages, quote, fault);
+    note_first(context, args, asked, aside.begins, fault);
     let first = files.count;
     if status == 0 {
         if args.oversized.is_some() {
@@ -252,10 +247,9 @@ fn front_asked(args: PlanArgs<'_>, limit: FrontLimit) -> Result<FrontAsked, Cent
     let batches = match limit {
         FrontLimit::All => u32::MAX,
         FrontLimit::Batches(batches) => batches,
-        FrontLimit::Airtime { ms, rate } => match most_batches(ms, rate) {
-            Ok(batches) => batches,
-            Err(_) => return Err(CentreFault::BadRate),
-        },
+        FrontLimit::Airtime { ms, rate } => {
+            most_batches(ms, rate).map_err(|_| CentreFault::BadRate)?
+        }
     };
     Ok(FrontAsked {
         batches,
@@ -311,19 +305,10 @@ fn open_others(
     context: Context<'_>,
     args: PlanArgs<'_>,
 ) -> Result<Vec<(Role, Output<File>)>, FileFault> {
-    let words = [
-        (Role::Rest, args.rest),
-        (Role::Oversized, args.oversized),
-        (Role::Why, args.why),
-    ];
     let mut others = Vec::new(context.alloc);
-    for (role, word) in words {
-        let Some(word) = word else {
-            continue;
-        };
-        let output = open_output(context, role, word)?;
-        if others.push((role, output)).is_err() {
-            return Err(FileFault::OutOfMemory);
+    for (role, word) in &places(args)[..3] {
+        if let Some(word) = *word {
+            others.push((*role, open_output(context, *role, word)?))?;
         }
     }
     // A new file may have a second spelling among the words.
@@ -335,19 +320,11 @@ fn open_others(
 fn put_front_files<S: Sink + Drop>(
     context: Context<'_>,
     others: Vec<(Role, Output<File>)>,
-    outputs: Outputs<S>,
+    mut outputs: Outputs<S>,
     aside: Vec<u8>,
     files: FrontFiles<Loaded, GrowingSink>,
 ) -> Result<(), FileFault> {
-    let FrontFiles {
-        tx,
-        cert,
-        rest,
-        why,
-        ..
-    } = files;
-    let rest = rest.into_bytes();
-    let why = why.into_bytes();
+    let (rest, why) = (files.rest.into_bytes(), files.why.into_bytes());
     for (role, output) in others {
         let bytes = match role {
             Role::Rest => rest.as_slice(),
@@ -356,9 +333,8 @@ fn put_front_files<S: Sink + Drop>(
         };
         write_over(context, role, output, bytes)?;
     }
-    let mut outputs = outputs;
-    put_whole(&mut outputs.tx, tx.into_bytes().as_slice())?;
-    put_whole(&mut outputs.cert, cert.into_bytes().as_slice())
+    put_whole(&mut outputs.tx, files.tx.into_bytes().as_slice())?;
+    put_whole(&mut outputs.cert, files.cert.into_bytes().as_slice())
 }
 
 // Refuses a word for the rest, for the pages that are set aside, or for the certificate of one page more, that names another
@@ -472,9 +448,9 @@ fn plan_among<O: Sink>(
             continue;
         };
         let made = StagedFile::make(context, role, place)?;
-        if files.push(made).is_err() {
-            return Err(CentreFault::File(FileFault::OutOfMemory));
-        }
+        files
+            .push(made)
+            .map_err(|_| CentreFault::File(FileFault::OutOfMemory))?;
     }
     let status = plan_files(context, staged(args, files.as_slice()), streams, lines)?;
     if status == 0 {

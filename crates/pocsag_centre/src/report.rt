@@ -114,10 +114,8 @@ fn print_report<O: Sink>(report: Report, bound: u32, out: &mut O) -> Result<(), 
         ("\nbits ", report.bits),
         ("\nairtime_ms ", report.airtime_ms),
     ];
-    match print_numbers(out, &numbers, "\n") {
-        Ok(()) => print_below(report.batches, bound, out),
-        Err(fault) => Err(fault),
-    }
+    print_numbers(out, &numbers, "\n")?;
+    print_below(report.batches, bound, out)
 }
 
 // The same, and a line for each frame.
@@ -132,13 +130,9 @@ fn print_frames<O: Sink>(
     ensures lost { IfErr result (λ e. e ≡ FileFault.Write) }
     ensures failures { CountsFailures result (O.failures out.old) (O.failures out.new) }
 {
-    if let Err(fault) = print_report(report, bound, out) {
-        return Err(fault);
-    }
+    print_report(report, bound, out)?;
     for room in rooms {
-        if let Err(fault) = print_frame(room, out) {
-            return Err(fault);
-        }
+        print_frame(room, out)?;
     }
     Ok(())
 }

@@ -9,18 +9,43 @@ use pocsag_shell::ErrorStream;
 use pocsag_show::{Rows, View};
 use pocsag_words::{MemorySink, SliceSource};
 use std::alloc::Global;
+use std::process::Abort;
 
-// What is asked of a capture.
-fn capture_listing(alloc: Global, only: Option<u32>, is_json: bool) -> CaptureListing {
-    CaptureListing {
-        picking: Picking {
-            only,
-            texts: [false; 3],
-            is_json,
-        },
-        heard: Vec::new(alloc),
-    }
+type Errors = ErrorStream<ReceiverFault, MemorySink<100>>;
+
+fn errors() -> Errors {
+    ErrorStream::new(MemorySink::new(1, 1000))
 }
+
+// Lists all pages of a capture or those for one address, as JSON or not, and compares what is written. What was heard is answered.
+fn expect_listing(
+    rt: &impl Abort,
+    alloc: Global,
+    capture: &[u8],
+    listing: (Option<u32>, bool),
+    due: &str,
+) -> Vec<ReceptionStats> {
+    let (only, is_json) = listing;
+    let picking = Picking {
+        only,
+        texts: [false; 3],
+        is_json,
+    };
+    let mut asked = CaptureListing {
+        picking,
+        heard: Vec::new(alloc),
+    };
+    let mut out = MemorySink::<4000>::new(1000, 4000);
+    let tx = &mut SliceSource::new(capture);
+    let status = run_list_capture(alloc, &mut asked, tx, &mut out, &mut errors());
+    assert_eq!(rt; status, 0);
+    assert_eq!(rt; out.bytes(), due.as_bytes());
+    asked.heard
+}
+
+const LISTED: (Option<u32>, bool) = (None, false);
+
+const WHOLE_TONE: &str = "address,kind,message,state\n8,tone0,,whole\n";
 
 // A one, and then a batch with a tone of address 8 in its first codeword, each bit as the other.
 fn late_tone() -> [u8; 69] {
@@ -53,37 +78,14 @@ fn a_late_tone_is_captured(rt: HostRuntime) {
         cut: 0,
     };
     let alloc = rt.alloc();
-    let mut err = ErrorStream::new(MemorySink::<100>::new(1, 1000));
-    let mut listing = MemorySink::<4000>::new(1000, 4000);
-    let mut told = capture_listing(alloc, None, false);
-    let tx = &mut SliceSource::new(&capture);
-    assert_eq!(rt;
-        run_list_capture(alloc, &mut told, tx, &mut listing, &mut err),
-        0
-    );
-    assert_eq!(rt; told.heard.as_slice(), [due].as_slice());
-    assert_eq!(rt;
-        listing.bytes(),
-        b"address,kind,message,state\n8,tone0,,whole\n".as_slice()
-    );
-    let mut other = MemorySink::<4000>::new(1000, 4000);
-    let mut listening = capture_listing(alloc, Some(16), false);
-    let tx = &mut SliceSource::new(&capture);
-    assert_eq!(rt;
-        run_list_capture(alloc, &mut listening, tx, &mut other, &mut err),
-        0
-    );
-    assert_eq!(rt; other.bytes(), b"address,kind,message,state\n".as_slice());
-    let mut lines = MemorySink::<4000>::new(1000, 4000);
-    let mut asked = capture_listing(alloc, Some(8), true);
-    let tx = &mut SliceSource::new(&capture);
-    assert_eq!(rt;
-        run_list_capture(alloc, &mut asked, tx, &mut lines, &mut err),
-        0
-    );
-    let due =
-        b"{\"address\":8,\"function\":0,\"kind\":\"tone0\",\"message\":\"\",\"state\":\"whole\",\"transmission\":1,\"inverted\":true,\"bit\":1}\n";
-    assert_eq!(rt; lines.bytes(), due.as_slice());
+    let heard = expect_listing(&rt, alloc, &capture, LISTED, WHOLE_TONE);
+    assert_eq!(rt; heard.as_slice(), [due].as_slice());
+    let none = "address,kind,message,state\n";
+    expect_listing(&rt, alloc, &capture, (Some(16), false), none);
+    let line =
+        "{\"address\":8,\"function\":0,\"kind\":\"tone0\",\"message\":\"\",\"state\":\"whole\",\"transmission\":1,\"inverted\":true,\"bit\":1}\n";
+    expect_listing(&rt, alloc, &capture, (Some(8), true), line);
+    let mut err = errors();
     for (nth, status) in [(1, 0), (2, 1)] {
         let mut grid = MemorySink::<4000>::new(1000, 4000);
         let mut viewing = Viewing {
@@ -92,10 +94,8 @@ fn a_late_tone_is_captured(rt: HostRuntime) {
             heard: Vec::new(alloc),
         };
         let tx = &mut SliceSource::new(&capture);
-        assert_eq!(rt;
-            run_show_capture(alloc, &mut viewing, tx, &mut grid, &mut err),
-            status
-        );
+        let told = run_show_capture(alloc, &mut viewing, tx, &mut grid, &mut err);
+        assert_eq!(rt; told, status);
     }
     let is_none = matches!(
         err.fault(),
@@ -133,20 +133,8 @@ fn a_bridged_tone_is_captured(rt: HostRuntime) {
         lost: 1,
         cut: 0,
     };
-    let alloc = rt.alloc();
-    let mut err = ErrorStream::new(MemorySink::<100>::new(1, 1000));
-    let mut listing = MemorySink::<4000>::new(1000, 4000);
-    let mut told = capture_listing(alloc, None, false);
-    let tx = &mut SliceSource::new(&capture);
-    assert_eq!(rt;
-        run_list_capture(alloc, &mut told, tx, &mut listing, &mut err),
-        0
-    );
-    assert_eq!(rt; told.heard.as_slice(), [due].as_slice());
-    assert_eq!(rt;
-        listing.bytes(),
-        b"address,kind,message,state\n8,tone0,,whole\n".as_slice()
-    );
+    let heard = expect_listing(&rt, rt.alloc(), &capture, LISTED, WHOLE_TONE);
+    assert_eq!(rt; heard.as_slice(), [due].as_slice());
 }
 
 // A batch with a tone of address 8, directly before a word past repair, one of address 9, and one of address 15 in its last
@@ -166,18 +154,6 @@ fn cut_tones() -> [u8; 68] {
 
 #[test]
 fn tones_are_cut(rt: HostRuntime) {
-    let capture = cut_tones();
-    let alloc = rt.alloc();
-    let mut err = ErrorStream::new(MemorySink::<100>::new(1, 1000));
-    let mut listing = MemorySink::<4000>::new(1000, 4000);
-    let mut told = capture_listing(alloc, None, false);
-    let tx = &mut SliceSource::new(&capture);
-    assert_eq!(rt;
-        run_list_capture(alloc, &mut told, tx, &mut listing, &mut err),
-        0
-    );
-    assert_eq!(rt;
-        listing.bytes(),
-        b"address,kind,message,state\n8,tone0,,cut\n9,tone0,,whole\n15,tone0,,cut\n".as_slice()
-    );
+    let due = "address,kind,message,state\n8,tone0,,cut\n9,tone0,,whole\n15,tone0,,cut\n";
+    expect_listing(&rt, rt.alloc(), &cut_tones(), LISTED, due);
 }

@@ -9,6 +9,7 @@ use pocsag_plan::{DEFAULT_LIMIT, OnLimit, Search};
 use pocsag_shell::{ErrorStream, Loaded};
 use pocsag_words::{End, GrowingSink, MemorySink, MemorySource, SliceSource, Source};
 use std::alloc::Global;
+use std::process::Abort;
 use std::test::Fail;
 
 const LONE_TONE: &[u8] = b"address,kind,message\n8,tone0,\n";
@@ -38,15 +39,13 @@ const OPEN: Search = Search {
 };
 
 const CLOSED: Search = Search {
-    limit: DEFAULT_LIMIT,
     end: End::Closed,
-    on_limit: OnLimit::Fewest,
+    ..OPEN
 };
 
 const IDLE_LAST: Search = Search {
-    limit: DEFAULT_LIMIT,
     end: End::Idle,
-    on_limit: OnLimit::Fewest,
+    ..OPEN
 };
 
 const OPEN_ALWAYS: Search = Search {
@@ -59,13 +58,16 @@ const CLOSED_ALWAYS: Search = Search {
     ..CLOSED
 };
 
-const fn open_to(limit: u32, on_limit: OnLimit) -> Search {
-    Search {
-        limit,
-        end: End::Open,
-        on_limit,
-    }
-}
+// What is found within one node, and within three, in any case.
+const TO_ONE: Search = Search {
+    limit: 1,
+    ..OPEN_ALWAYS
+};
+
+const TO_THREE: Search = Search {
+    limit: 3,
+    ..OPEN_ALWAYS
+};
 
 // What a command answered and reported.
 #[derive(Drop)]
@@ -148,7 +150,10 @@ const LONE_PLAN: PlanCase = PlanCase {
 const fn apart_plan(limit: u32, out: &'static str, bound: u8) -> PlanCase {
     PlanCase {
         file: LOOPS_APART,
-        search: open_to(limit, OnLimit::Always),
+        search: Search {
+            limit,
+            ..OPEN_ALWAYS
+        },
         faults: SOUND,
         status: 0,
         out,
@@ -182,6 +187,8 @@ fn plans_are_told(rt: HostRuntime) -> Result<(), Fail> {
     let no_page = Faults { pages: 10, ..SOUND };
     let cut_sending = Faults { tx: 100, ..SOUND };
     let cut_certificate = Faults { cert: 5, ..SOUND };
+    let to_none = Search { limit: 0, ..OPEN };
+    let to_nine = Search { limit: 9, ..OPEN };
     let bad_limit = "pocsag: the limit must be 1 to 1000000\n";
     let no_read = "pocsag: cannot read or open a file\n";
     let no_write = "pocsag: cannot write\n";
@@ -193,16 +200,10 @@ fn plans_are_told(rt: HostRuntime) -> Result<(), Fail> {
         },
         apart_plan(1, "pages 2\nbatches 3\nat least 2 batches\n", 2),
         apart_plan(3, "pages 2\nbatches 3\n", 3),
-        refused_plan(open_to(0, OnLimit::Fewest), SOUND, 1, bad_limit, 0),
-        refused_plan(open_to(9, OnLimit::Fewest), no_page, 3, no_read, 0),
-        refused_plan(open_to(9, OnLimit::Fewest), cut_sending, 3, no_write, 100),
-        refused_plan(
-            open_to(9, OnLimit::Fewest),
-            cut_certificate,
-            3,
-            no_write,
-            140,
-        ),
+        refused_plan(to_none, SOUND, 1, bad_limit, 0),
+        refused_plan(to_nine, no_page, 3, no_read, 0),
+        refused_plan(to_nine, cut_sending, 3, no_write, 100),
+        refused_plan(to_nine, cut_certificate, 3, no_write, 140),
     ];
     for case in cases {
         let planned = plan(rt.alloc(), case.search, case.file, case.faults);
@@ -224,19 +225,12 @@ enum Command {
     Report(ReportAsked),
 }
 
-const fn report(rate: u32, search: Search) -> Command {
+// A report, with the frames or without.
+const fn report(rate: u32, search: Search, frames: bool) -> Command {
     Command::Report(ReportAsked {
         rate,
         search,
-        frames: false,
-    })
-}
-
-const fn frames(rate: u32, search: Search) -> Command {
-    Command::Report(ReportAsked {
-        rate,
-        search,
-        frames: true,
+        frames,
     })
 }
 
@@ -291,261 +285,93 @@ const BAD_CHARACTER: &str = "pocsag: record 1: bad character at 2\n";
 
 const BAD_RATE: &str = "pocsag: the rate must be 512, 1200 or 2400\n";
 
-// A round is planned, and a command reads what was written: the plan's page file and search, the page file of
-// the command, the command, its status, and what it reports.
-type ReadCase = (
-    &'static [u8],
-    Search,
-    &'static [u8],
-    Command,
-    u8,
-    &'static str,
-    &'static str,
-);
+const VERIFIED: &str = "verified\n";
 
-#[test]
-fn what_was_planned_is_read(rt: HostRuntime) -> Result<(), Fail> {
-    let alloc = rt.alloc();
-    let (to_one, to_three) = (open_to(1, OnLimit::Always), open_to(3, OnLimit::Always));
-    let cases: [ReadCase; 25] = [
-        (
-            ONE_FULL_BATCH,
-            OPEN,
-            ONE_FULL_BATCH,
-            Command::Verify(CLOSED),
-            1,
-            "",
-            NOT_THE_END,
-        ),
-        (
-            LONE_TONE,
-            OPEN,
-            LONE_TONE,
-            Command::Input,
-            0,
-            "pages 1\nbatches 1\n",
-            "",
-        ),
-        (
-            LONE_TONE,
-            OPEN,
-            BAD_FILE,
-            Command::Input,
-            1,
-            "",
-            BAD_CHARACTER,
-        ),
-        (
-            LONE_TONE,
-            OPEN,
-            LONE_TONE,
-            Command::Check,
-            0,
-            "at least 1 batches\n",
-            "",
-        ),
-        (
-            LONE_TONE,
-            CLOSED,
-            LONE_TONE,
-            Command::Check,
-            0,
-            "at least 1 batches with a closed end\n",
-            "",
-        ),
-        (
-            LONE_TONE,
-            IDLE_LAST,
-            LONE_TONE,
-            Command::Check,
-            0,
-            "at least 1 batches with an idle last\n",
-            "",
-        ),
-        (
-            SIXTEEN_TONES,
-            IDLE_LAST,
-            SIXTEEN_TONES,
-            Command::Verify(IDLE_LAST),
-            0,
-            "verified\n",
-            "",
-        ),
-        (
-            SIXTEEN_TONES,
-            CLOSED,
-            SIXTEEN_TONES,
-            Command::Verify(IDLE_LAST),
-            1,
-            "",
-            NOT_THE_END,
-        ),
-        (
-            LONE_TONE,
-            CLOSED,
-            LONE_TONE,
-            Command::Verify(IDLE_LAST),
-            1,
-            "",
-            NOT_THE_BOUND,
-        ),
-        (
-            LONE_TONE,
-            OPEN,
-            LONE_TONE,
-            report(1200, CLOSED),
-            0,
-            LONE_REPORT,
-            "",
-        ),
-        (
-            LONE_TONE,
-            OPEN,
-            LONE_TONE,
-            report(1201, OPEN),
-            1,
-            "",
-            BAD_RATE,
-        ),
-        (
-            LONE_TONE,
-            OPEN,
-            LONE_TONE,
-            frames(1200, OPEN),
-            0,
-            LONE_FRAMES,
-            "",
-        ),
-        (
-            LONE_TONE,
-            OPEN,
-            LONE_TONE,
-            frames(1201, OPEN),
-            1,
-            "",
-            BAD_RATE,
-        ),
-        // A lone tone stands in one batch, so three are not shown.
-        (
-            LOOPS_APART,
-            to_three,
-            LONE_TONE,
-            Command::Check,
-            1,
-            "not shown\n",
-            "",
-        ),
-        (
-            LOOPS_APART,
-            to_one,
-            LOOPS_APART,
-            report(1200, to_one),
-            0,
-            APART_REPORT_BELOW,
-            "",
-        ),
-        (
-            LOOPS_APART,
-            to_three,
-            LOOPS_APART,
-            report(1200, to_three),
-            0,
-            APART_REPORT,
-            "",
-        ),
-        (
-            LONE_TONE,
-            OPEN,
-            LONE_TONE,
-            Command::Verify(OPEN),
-            0,
-            "verified\n",
-            "",
-        ),
-        (
-            LONE_TONE,
-            OPEN,
-            OTHER_TONE,
-            Command::Verify(OPEN),
-            1,
-            "",
-            NOT_THE_PAGES,
-        ),
-        // A certificate for one end is none for the other.
-        (
-            LONE_TONE,
-            CLOSED,
-            LONE_TONE,
-            Command::Verify(CLOSED),
-            0,
-            "verified\n",
-            "",
-        ),
-        (
-            LONE_TONE,
-            CLOSED,
-            LONE_TONE,
-            Command::Verify(OPEN),
-            1,
-            "",
-            NOT_THE_BOUND,
-        ),
-        (
-            LONE_TONE,
-            OPEN,
-            LONE_TONE,
-            Command::Verify(CLOSED_ALWAYS),
-            1,
-            "",
-            NOT_THE_BOUND,
-        ),
-        // With `--always` alone may the certificate be for one batch less than those that were sent.
-        (
-            LOOPS_APART,
-            to_one,
-            LOOPS_APART,
-            Command::Verify(OPEN),
-            1,
-            "",
-            NOT_THE_BOUND,
-        ),
-        (
-            LOOPS_APART,
-            to_one,
-            LOOPS_APART,
-            Command::Verify(OPEN_ALWAYS),
-            0,
-            "verified\n",
-            "",
-        ),
-        (
-            LOOPS_APART,
-            to_three,
-            LOOPS_APART,
-            Command::Verify(OPEN),
-            0,
-            "verified\n",
-            "",
-        ),
-        (
-            LOOPS_APART,
-            to_three,
-            LOOPS_APART,
-            Command::Verify(OPEN_ALWAYS),
-            0,
-            "verified\n",
-            "",
-        ),
-    ];
-    for (file, search, read, command, status, out, err) in cases {
-        let planned = plan(alloc, search, file, SOUND);
-        assert_eq!(rt; planned.told.status, 0);
-        let told = run(alloc, command, read, &planned);
-        assert_eq!(rt; told.status, status);
+const CLOSED_BATCH: &str = "at least 1 batches with a closed end\n";
+
+const IDLE_BATCH: &str = "at least 1 batches with an idle last\n";
+
+// A command, and its status with what it reports.
+type ReadCase = (Command, (u8, &'static str, &'static str));
+
+// Plans a round and runs commands that read what was written beside a page file.
+fn expect_read(
+    rt: &impl Abort,
+    alloc: Global,
+    planned: (&[u8], Search),
+    file: &[u8],
+    cases: &[ReadCase],
+) {
+    let (planned_file, search) = planned;
+    let planned = plan(alloc, search, planned_file, SOUND);
+    assert_eq!(rt; planned.told.status, 0);
+    for (command, (status, out, err)) in cases {
+        let told = run(alloc, *command, file, &planned);
+        assert_eq!(rt; told.status, *status);
         assert_eq!(rt; told.out.bytes(), out.as_bytes());
         assert_eq!(rt; told.err.stream().bytes(), err.as_bytes());
     }
-    Ok(())
+}
+
+#[test]
+fn a_planned_tone_is_read(rt: HostRuntime) {
+    let of_open = [
+        (Command::Input, (0, "pages 1\nbatches 1\n", "")),
+        (Command::Check, (0, "at least 1 batches\n", "")),
+        (report(1200, CLOSED, false), (0, LONE_REPORT, "")),
+        (report(1201, OPEN, false), (1, "", BAD_RATE)),
+        (report(1200, OPEN, true), (0, LONE_FRAMES, "")),
+        (report(1201, OPEN, true), (1, "", BAD_RATE)),
+        (Command::Verify(OPEN), (0, VERIFIED, "")),
+        (Command::Verify(CLOSED_ALWAYS), (1, "", NOT_THE_BOUND)),
+    ];
+    // A certificate for one end is none for the other.
+    let of_closed = [
+        (Command::Check, (0, CLOSED_BATCH, "")),
+        (Command::Verify(CLOSED), (0, VERIFIED, "")),
+        (Command::Verify(OPEN), (1, "", NOT_THE_BOUND)),
+        (Command::Verify(IDLE_LAST), (1, "", NOT_THE_BOUND)),
+    ];
+    let of_idle = [(Command::Check, (0, IDLE_BATCH, ""))];
+    let of_bad_file = [(Command::Input, (1, "", BAD_CHARACTER))];
+    let of_other_tone = [(Command::Verify(OPEN), (1, "", NOT_THE_PAGES))];
+    let alloc = rt.alloc();
+    expect_read(&rt, alloc, (LONE_TONE, OPEN), LONE_TONE, &of_open);
+    expect_read(&rt, alloc, (LONE_TONE, CLOSED), LONE_TONE, &of_closed);
+    expect_read(&rt, alloc, (LONE_TONE, IDLE_LAST), LONE_TONE, &of_idle);
+    expect_read(&rt, alloc, (LONE_TONE, OPEN), BAD_FILE, &of_bad_file);
+    expect_read(&rt, alloc, (LONE_TONE, OPEN), OTHER_TONE, &of_other_tone);
+}
+
+#[test]
+fn what_was_planned_is_read(rt: HostRuntime) {
+    let not_the_end = [(Command::Verify(CLOSED), (1, "", NOT_THE_END))];
+    let of_idle = [(Command::Verify(IDLE_LAST), (0, VERIFIED, ""))];
+    let of_closed = [(Command::Verify(IDLE_LAST), (1, "", NOT_THE_END))];
+    // With `--always` alone may the certificate be for one batch less than those that were sent.
+    let to_one = [
+        (report(1200, TO_ONE, false), (0, APART_REPORT_BELOW, "")),
+        (Command::Verify(OPEN), (1, "", NOT_THE_BOUND)),
+        (Command::Verify(OPEN_ALWAYS), (0, VERIFIED, "")),
+    ];
+    let to_three = [
+        (report(1200, TO_THREE, false), (0, APART_REPORT, "")),
+        (Command::Verify(OPEN), (0, VERIFIED, "")),
+        (Command::Verify(OPEN_ALWAYS), (0, VERIFIED, "")),
+    ];
+    // A lone tone stands in one batch, so three are not shown.
+    let of_lone_tone = [(Command::Check, (1, "not shown\n", ""))];
+    let alloc = rt.alloc();
+    for (file, search, read, cases) in [
+        (ONE_FULL_BATCH, OPEN, ONE_FULL_BATCH, not_the_end.as_slice()),
+        (SIXTEEN_TONES, IDLE_LAST, SIXTEEN_TONES, &of_idle),
+        (SIXTEEN_TONES, CLOSED, SIXTEEN_TONES, &of_closed),
+        (LOOPS_APART, TO_ONE, LOOPS_APART, &to_one),
+        (LOOPS_APART, TO_THREE, LOOPS_APART, &to_three),
+        (LOOPS_APART, TO_THREE, LONE_TONE, &of_lone_tone),
+    ] {
+        expect_read(&rt, alloc, (file, search), read, cases);
+    }
 }
 
 // A round, how it is planned, how many bytes its transmission has, and what is reported.
@@ -567,7 +393,7 @@ fn lent_files_are_planned(rt: HostRuntime) -> Result<(), Fail> {
         ),
         (
             LOOPS_APART,
-            open_to(1, OnLimit::Always),
+            TO_ONE,
             72 + 3 * 68,
             "pages 2\nbatches 3\nat least 2 batches\n",
         ),
@@ -603,20 +429,14 @@ fn lent_files_are_planned(rt: HostRuntime) -> Result<(), Fail> {
 fn cut_files_are_refused(rt: HostRuntime) -> Result<(), Fail> {
     let alloc = rt.alloc();
     for is_cut in [true, false] {
-        let mut bytes = Vec::new(alloc);
-        bytes.extend_from_slice(LONE_TONE).expect(&rt, "memory");
-        let mut pages = Loaded::new(alloc, bytes, is_cut);
+        let mut pages = Loaded::new(alloc, LONE_TONE.to_vec(alloc)?, is_cut);
         let (mut out, mut err) = (MemorySink::<500>::new(1, 1000), errors());
         let status = run_input(alloc, &mut pages, &mut out, &mut err);
         assert_eq!(rt; status, if is_cut { 3 } else { 0 });
-        assert_eq!(rt;
-            err.fault(),
-            is_cut.then_some(CentreFault::Round(RoundFault::ReadFault))
-        );
+        let due = is_cut.then_some(CentreFault::Round(RoundFault::ReadFault));
+        assert_eq!(rt; err.fault(), due);
     }
-    let mut bytes = Vec::new(alloc);
-    bytes.extend_from_slice(LONE_TONE).expect(&rt, "memory");
-    let mut pages = Loaded::new(alloc, bytes, true);
+    let mut pages = Loaded::new(alloc, LONE_TONE.to_vec(alloc)?, true);
     let mut piece = [0u8; 40];
     assert_eq!(rt; pages.read(&mut piece).ok(), Some(30));
     assert_eq!(rt; &piece[..30], LONE_TONE);
@@ -628,9 +448,9 @@ fn cut_files_are_refused(rt: HostRuntime) -> Result<(), Fail> {
 // status and the output of a plan of the pages that are left.
 type FrontCase = (u32, &'static str, usize, bool, u8, &'static str);
 
-fn front_files(alloc: Global) -> FrontFiles<SliceSource<'static>, GrowingSink> {
+fn front_files<P: Drop>(alloc: Global, pages: P) -> FrontFiles<P, GrowingSink> {
     FrontFiles {
-        pages: SliceSource::new(LOOPS_APART),
+        pages,
         tx: GrowingSink::new(alloc),
         cert: GrowingSink::new(alloc),
         rest: GrowingSink::new(alloc),
@@ -664,7 +484,7 @@ fn fronts_are_written(rt: HostRuntime) -> Result<(), Fail> {
         (3, "pages 2\nbatches 3\nleft 0\n", 72 + 3 * 68, true, 1, ""),
     ];
     for (batches, lines, sent, is_all, status, second) in cases {
-        let mut files = front_files(alloc);
+        let mut files = front_files(alloc, SliceSource::new(LOOPS_APART));
         let (mut out, mut err) = (MemorySink::<500>::new(1, 1000), errors());
         let done = run_front(alloc, front_of(batches), &mut files, &mut out, &mut err);
         assert_eq!(rt; done, 0);
@@ -684,14 +504,12 @@ fn fronts_are_written(rt: HostRuntime) -> Result<(), Fail> {
 #[test]
 fn a_front_without_room_is_refused(rt: HostRuntime) -> Result<(), Fail> {
     let alloc = rt.alloc();
-    let mut files = front_files(alloc);
+    let mut files = front_files(alloc, SliceSource::new(LOOPS_APART));
     let (mut out, mut err) = (MemorySink::<500>::new(1, 1000), errors());
     let done = run_front(alloc, front_of(0), &mut files, &mut out, &mut err);
     assert_eq!(rt; done, 1);
-    assert_eq!(rt;
-        err.stream().bytes(),
-        b"pocsag: page 1 needs 1 batches\n".as_slice()
-    );
+    let due = b"pocsag: page 1 needs 1 batches\n".as_slice();
+    assert_eq!(rt; err.stream().bytes(), due);
     assert_eq!(rt; files.tx.into_bytes().len(), 0);
     assert_eq!(rt; files.rest.into_bytes().len(), 0);
     Ok(())
@@ -703,14 +521,8 @@ const QUEUE: &[u8] = b"address,kind,message\n8,tone0,\n8,tone1,\n16,tone2,\n";
 #[test]
 fn later_pages_wait(rt: HostRuntime) -> Result<(), Fail> {
     let alloc = rt.alloc();
-    let mut files = FrontFiles {
-        pages: Loaded::new(alloc, QUEUE.to_vec(alloc)?, false),
-        tx: GrowingSink::new(alloc),
-        cert: GrowingSink::new(alloc),
-        rest: GrowingSink::new(alloc),
-        why: GrowingSink::new(alloc),
-        count: 0,
-    };
+    let queue = Loaded::new(alloc, QUEUE.to_vec(alloc)?, false);
+    let mut files = front_files(alloc, queue);
     let asked = FrontAsked {
         may_wait: true,
         ..front_of(9)
@@ -719,10 +531,8 @@ fn later_pages_wait(rt: HostRuntime) -> Result<(), Fail> {
     let done = run_front(alloc, asked, &mut files, &mut out, &mut err);
     assert_eq!(rt; done, 0);
     assert_eq!(rt; out.bytes(), b"pages 2\nbatches 1\nleft 1\n".as_slice());
-    assert_eq!(rt;
-        files.rest.into_bytes().as_slice(),
-        b"address,kind,message\n8,tone1,\n".as_slice()
-    );
+    let rest = b"address,kind,message\n8,tone1,\n".as_slice();
+    assert_eq!(rt; files.rest.into_bytes().as_slice(), rest);
     let again = CentreFault::Round(RoundFault::Record(2, RecordFault::DuplicateAddress));
     assert_eq!(rt; expected_file(alloc, true, QUEUE, 3), Ok(()));
     assert_eq!(rt; expected_file(alloc, false, QUEUE, 3), Err(again));
@@ -739,10 +549,8 @@ fn oversized_pages_are_set_aside(rt: HostRuntime) -> Result<(), Fail> {
     let parted = part_file(alloc, front_of(1), file).expect(&rt, "a page that fits");
     assert_eq!(rt; parted.count, 1);
     assert_eq!(rt; parted.planned.as_slice(), LONE_TONE);
-    assert_eq!(rt;
-        parted.aside.as_slice(),
-        b"address,kind,message\n15,numeric,1234567890\n".as_slice()
-    );
+    let aside = b"address,kind,message\n15,numeric,1234567890\n".as_slice();
+    assert_eq!(rt; parted.aside.as_slice(), aside);
     for (batches, asked) in [(0, front_of(0)), (2, front_of(2))] {
         let parted = part_file(alloc, asked, file).expect(&rt, "no page is set aside");
         assert_eq!(rt; parted.count, 0, "{batches} batches");
@@ -757,10 +565,8 @@ fn page_files_are_refused(rt: HostRuntime) -> Result<(), Fail> {
     let alloc = rt.alloc();
     let unclosed = b"address,kind,message\n8,alpha,\"one\n9,tone0,\n".as_slice();
     let unclosed_quote = CentreFault::Quotes(QuoteFault::Unclosed { number: 1, line: 2 });
-    let bad_character = CentreFault::Round(RoundFault::Record(
-        1,
-        RecordFault::Field(FieldFault::BadCharacter(2)),
-    ));
+    let bad_field = RecordFault::Field(FieldFault::BadCharacter(2));
+    let bad_character = CentreFault::Round(RoundFault::Record(1, bad_field));
     assert_eq!(rt; strict_file(LONE_TONE), Ok(()));
     assert_eq!(rt; strict_file(unclosed), Err(unclosed_quote));
     let cases = [

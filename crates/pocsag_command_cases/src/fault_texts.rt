@@ -35,12 +35,18 @@ fn expect_lines(rt: &impl Abort, alloc: Global, rows: &[(Refusal, &str)]) {
     }
 }
 
-// The same, and the status of each.
-fn expect_failures<F: Failure>(rt: &impl Abort, alloc: Global, rows: &[(u8, F, &str)]) {
-    for (status, fault, text) in rows {
-        let told = format!(in alloc; "{fault}").expect(rt, "memory");
-        assert_eq!(rt; told.as_str(), *text);
-        assert_eq!(rt; fault.status(), *status);
+// The texts of what was refused, of status 1, and of what failed, of status 3.
+fn expect_failures<F: Failure>(
+    rt: &impl Abort,
+    alloc: Global,
+    refused: &[(F, &str)],
+    failed: &[(F, &str)],
+) {
+    for (status, rows) in [(1, refused), (3, failed)] {
+        expect_texts(rt, alloc, rows);
+        for (fault, _) in rows {
+            assert_eq!(rt; fault.status(), status);
+        }
     }
 }
 
@@ -62,6 +68,18 @@ const BAD_RATE: &str = "the rate must be 512, 1200 or 2400";
 
 const LIMIT_REACHED: &str = "search limit reached: at least 2 batches, 3 would do";
 
+// The faults of the fields of a record, each with its text.
+const FIELD_FAULTS: [(FieldFault, &str); 8] = [
+    (FieldFault::BadAddress, "bad address"),
+    (FieldFault::ReservedAddress, "reserved address"),
+    (FieldFault::BadKind, "unknown kind"),
+    (FieldFault::MessageForTone, "a tone page has no message"),
+    (FieldFault::EmptyMessage, "the message is empty"),
+    (FieldFault::BadCharacter(7), "bad character at 7"),
+    (FieldFault::TooLong, "the message is too long"),
+    (FieldFault::OutOfMemory, NO_MEMORY),
+];
+
 // The fault of a record of a page file.
 fn bad_kind() -> RoundFault {
     RoundFault::Record(9, RecordFault::Field(FieldFault::BadKind))
@@ -70,41 +88,37 @@ fn bad_kind() -> RoundFault {
 #[test]
 fn files(rt: HostRuntime) {
     let owner = "the new file cannot be given the owner, group and mode of the old one";
-    expect_failures(
-        &rt,
-        rt.alloc(),
-        &[
-            (1, FileFault::EqualPaths, TWICE),
-            (3, FileFault::Device, NO_READ),
-            (3, FileFault::Write, NO_WRITE),
-            (3, FileFault::Owner, owner),
-            (1, FileFault::TooLarge, TOO_LARGE),
-            (3, FileFault::OutOfMemory, NO_MEMORY),
-        ],
-    );
+    let refused = [
+        (FileFault::EqualPaths, TWICE),
+        (FileFault::TooLarge, TOO_LARGE),
+    ];
+    let failed = [
+        (FileFault::Device, NO_READ),
+        (FileFault::Write, NO_WRITE),
+        (FileFault::Owner, owner),
+        (FileFault::OutOfMemory, NO_MEMORY),
+    ];
+    expect_failures(&rt, rt.alloc(), &refused, &failed);
 }
 
 #[test]
 fn quotes(rt: HostRuntime) {
     let (number, line) = (9, 11);
-    expect_texts(
-        &rt,
-        rt.alloc(),
-        &[
-            (
-                QuoteFault::Unclosed { number, line },
-                "record 9: the quote in line 11 is not closed",
-            ),
-            (
-                QuoteFault::Inside { number, line },
-                "record 9: the quote in line 11 stands inside a field that begins without one",
-            ),
-            (
-                QuoteFault::Followed { number, line },
-                "record 9: text follows the closing quote in line 11",
-            ),
-        ],
-    );
+    let faults = [
+        (
+            QuoteFault::Unclosed { number, line },
+            "record 9: the quote in line 11 is not closed",
+        ),
+        (
+            QuoteFault::Inside { number, line },
+            "record 9: the quote in line 11 stands inside a field that begins without one",
+        ),
+        (
+            QuoteFault::Followed { number, line },
+            "record 9: text follows the closing quote in line 11",
+        ),
+    ];
+    expect_texts(&rt, rt.alloc(), &faults);
 }
 
 #[test]
@@ -113,99 +127,74 @@ fn centre(rt: HostRuntime) {
         number: 9,
         line: 11,
     };
-    expect_failures(
-        &rt,
-        rt.alloc(),
-        &[
-            (1, CentreFault::File(FileFault::EqualPaths), TWICE),
-            (3, CentreFault::File(FileFault::Write), NO_WRITE),
-            (1, CentreFault::Round(bad_kind()), "record 9: unknown kind"),
-            (1, CentreFault::Round(RoundFault::TooLarge), TOO_LARGE),
-            (3, CentreFault::Round(RoundFault::ReadFault), NO_READ),
-            (3, CentreFault::Round(RoundFault::OutOfMemory), NO_MEMORY),
-            (
-                1,
-                CentreFault::Quotes(quote),
-                "record 9: the quote in line 11 is not closed",
-            ),
-            (
-                1,
-                CentreFault::Unexpected(2, 3),
-                "pages 2, where 3 were expected",
-            ),
-            (1, CentreFault::BadLimit, "the limit must be 1 to 1000000"),
-            (1, CentreFault::SearchLimit(2, 3), LIMIT_REACHED),
-            (1, CentreFault::FirstPage(2), "page 1 needs 2 batches"),
-            (1, CentreFault::BadRate, BAD_RATE),
-            (
-                1,
-                CentreFault::Certificate(CertificateFault::NotCertificate),
-                "not a certificate",
-            ),
-            (
-                3,
-                CentreFault::Certificate(CertificateFault::ReadFault),
-                NO_READ,
-            ),
-            (
-                3,
-                CentreFault::Certificate(CertificateFault::OutOfMemory),
-                NO_MEMORY,
-            ),
-            (
-                1,
-                CentreFault::Transmission(DecodeFault::Truncated),
-                CUT_SHORT,
-            ),
-            (
-                3,
-                CentreFault::Transmission(DecodeFault::OutOfMemory),
-                NO_MEMORY,
-            ),
-            (
-                1,
-                CentreFault::NotThePages,
-                "the transmission does not hold the pages of the page file",
-            ),
-            (
-                1,
-                CentreFault::NotTheEnd,
-                "the transmission does not end as was asked for",
-            ),
-            (
-                1,
-                CentreFault::NotTheBound,
-                "the certificate does not show the batches of the transmission",
-            ),
-        ],
-    );
+    let refused = [
+        (CentreFault::File(FileFault::EqualPaths), TWICE),
+        (CentreFault::Round(bad_kind()), "record 9: unknown kind"),
+        (CentreFault::Round(RoundFault::TooLarge), TOO_LARGE),
+        (
+            CentreFault::Quotes(quote),
+            "record 9: the quote in line 11 is not closed",
+        ),
+        (
+            CentreFault::Unexpected(2, 3),
+            "pages 2, where 3 were expected",
+        ),
+        (CentreFault::BadLimit, "the limit must be 1 to 1000000"),
+        (CentreFault::SearchLimit(2, 3), LIMIT_REACHED),
+        (CentreFault::FirstPage(2), "page 1 needs 2 batches"),
+        (CentreFault::BadRate, BAD_RATE),
+        (
+            CentreFault::Certificate(CertificateFault::NotCertificate),
+            "not a certificate",
+        ),
+        (CentreFault::Transmission(DecodeFault::Truncated), CUT_SHORT),
+        (
+            CentreFault::NotThePages,
+            "the transmission does not hold the pages of the page file",
+        ),
+        (
+            CentreFault::NotTheEnd,
+            "the transmission does not end as was asked for",
+        ),
+        (
+            CentreFault::NotTheBound,
+            "the certificate does not show the batches of the transmission",
+        ),
+    ];
+    let failed = [
+        (CentreFault::File(FileFault::Write), NO_WRITE),
+        (CentreFault::Round(RoundFault::ReadFault), NO_READ),
+        (CentreFault::Round(RoundFault::OutOfMemory), NO_MEMORY),
+        (
+            CentreFault::Certificate(CertificateFault::ReadFault),
+            NO_READ,
+        ),
+        (
+            CentreFault::Certificate(CertificateFault::OutOfMemory),
+            NO_MEMORY,
+        ),
+        (
+            CentreFault::Transmission(DecodeFault::OutOfMemory),
+            NO_MEMORY,
+        ),
+    ];
+    expect_failures(&rt, rt.alloc(), &refused, &failed);
 }
 
 #[test]
 fn sound(rt: HostRuntime) {
     let preamble = "the preamble must have 576 bits or more, a multiple of 8";
     let samples = "the samples a second must be from the rate to 192000";
-    expect_failures(
-        &rt,
-        rt.alloc(),
-        &[
-            (1, SoundFault::BadRate, BAD_RATE),
-            (1, SoundFault::BadSamples, samples),
-            (1, SoundFault::BadPreamble, preamble),
-            (1, SoundFault::File(FileFault::TooLarge), TOO_LARGE),
-            (3, SoundFault::File(FileFault::Write), NO_WRITE),
-            (
-                1,
-                SoundFault::Transmission(DecodeFault::Truncated),
-                CUT_SHORT,
-            ),
-            (
-                1,
-                SoundFault::TooLong,
-                "the sound is too long for a WAV file",
-            ),
-        ],
-    );
+    let refused = [
+        (SoundFault::BadRate, BAD_RATE),
+        (SoundFault::BadSamples, samples),
+        (SoundFault::BadPreamble, preamble),
+        (SoundFault::File(FileFault::TooLarge), TOO_LARGE),
+        (SoundFault::Transmission(DecodeFault::Truncated), CUT_SHORT),
+        (SoundFault::TooLong, "the sound is too long for a WAV file"),
+    ];
+    let failed = [(SoundFault::File(FileFault::Write), NO_WRITE)];
+    expect_failures(&rt, rt.alloc(), &refused, &failed);
 }
 
 // The fault where a transmission of so many batches has none of these rows.
@@ -218,140 +207,112 @@ fn no_such_rows(rt: &impl Abort, first: u64, last: u64, batches: u64) -> Receive
 
 #[test]
 fn receiver(rt: HostRuntime) {
-    expect_failures(
-        &rt,
-        rt.alloc(),
-        &[
-            (1, ReceiverFault::File(FileFault::TooLarge), TOO_LARGE),
-            (3, ReceiverFault::File(FileFault::Device), NO_READ),
-            (
-                1,
-                ReceiverFault::Transmission(DecodeFault::Truncated),
-                CUT_SHORT,
-            ),
-            (
-                3,
-                ReceiverFault::Transmission(DecodeFault::OutOfMemory),
-                NO_MEMORY,
-            ),
-            (
-                1,
-                ReceiverFault::Pager(PagerFault::BadAddress),
-                "bad address",
-            ),
-            (3, ReceiverFault::Pager(PagerFault::OutOfMemory), NO_MEMORY),
-            (
-                1,
-                ReceiverFault::Capture(CaptureFault::TooLarge),
-                "the capture is too large",
-            ),
-            (
-                1,
-                ReceiverFault::Capture(CaptureFault::NoSuchTransmission { nth: 3, found: 2 }),
-                "transmission 3 of 2: the capture has no such transmission",
-            ),
-            (
-                3,
-                ReceiverFault::Capture(CaptureFault::OutOfMemory),
-                NO_MEMORY,
-            ),
-            (
-                1,
-                no_such_rows(&rt, 2, 2, 1),
-                "rows 2: the transmission has 1 batch",
-            ),
-            (
-                1,
-                no_such_rows(&rt, 3, 7, 2),
-                "rows 3-7: the transmission has 2 batches",
-            ),
-            (
-                1,
-                no_such_rows(&rt, 12, u64::MAX, 11),
-                "rows 12-: the transmission has 11 batches",
-            ),
-        ],
-    );
+    let refused = [
+        (ReceiverFault::File(FileFault::TooLarge), TOO_LARGE),
+        (
+            ReceiverFault::Transmission(DecodeFault::Truncated),
+            CUT_SHORT,
+        ),
+        (ReceiverFault::Pager(PagerFault::BadAddress), "bad address"),
+        (
+            ReceiverFault::Capture(CaptureFault::TooLarge),
+            "the capture is too large",
+        ),
+        (
+            ReceiverFault::Capture(CaptureFault::NoSuchTransmission { nth: 3, found: 2 }),
+            "transmission 3 of 2: the capture has no such transmission",
+        ),
+        (
+            no_such_rows(&rt, 2, 2, 1),
+            "rows 2: the transmission has 1 batch",
+        ),
+        (
+            no_such_rows(&rt, 3, 7, 2),
+            "rows 3-7: the transmission has 2 batches",
+        ),
+        (
+            no_such_rows(&rt, 12, u64::MAX, 11),
+            "rows 12-: the transmission has 11 batches",
+        ),
+    ];
+    let failed = [
+        (ReceiverFault::File(FileFault::Device), NO_READ),
+        (
+            ReceiverFault::Transmission(DecodeFault::OutOfMemory),
+            NO_MEMORY,
+        ),
+        (ReceiverFault::Pager(PagerFault::OutOfMemory), NO_MEMORY),
+        (ReceiverFault::Capture(CaptureFault::OutOfMemory), NO_MEMORY),
+    ];
+    expect_failures(&rt, rt.alloc(), &refused, &failed);
 }
 
 #[test]
 fn journals(rt: HostRuntime) {
-    expect_texts(
-        &rt,
-        rt.alloc(),
-        &[
-            (JournalFault::ReadFault, "cannot read the journal"),
-            (JournalFault::WriteFault, "cannot write the journal"),
-            (JournalFault::TooLarge, "the journal is too large"),
-            (JournalFault::NotJournal, "not a journal"),
-            (JournalFault::OtherVersion, "a journal of another version"),
-            (
-                JournalFault::BadLine(3),
-                "journal line 3: no edit that the pages before it accept",
-            ),
-            (
-                JournalFault::NoLine(2),
-                "page 2: no line of a journal holds its message",
-            ),
-            (JournalFault::OutOfMemory, NO_MEMORY),
-        ],
-    );
+    let faults = [
+        (JournalFault::ReadFault, "cannot read the journal"),
+        (JournalFault::WriteFault, "cannot write the journal"),
+        (JournalFault::TooLarge, "the journal is too large"),
+        (JournalFault::NotJournal, "not a journal"),
+        (JournalFault::OtherVersion, "a journal of another version"),
+        (
+            JournalFault::BadLine(3),
+            "journal line 3: no edit that the pages before it accept",
+        ),
+        (
+            JournalFault::NoLine(2),
+            "page 2: no line of a journal holds its message",
+        ),
+        (JournalFault::OutOfMemory, NO_MEMORY),
+    ];
+    expect_texts(&rt, rt.alloc(), &faults);
 }
 
 #[test]
 fn open_rounds(rt: HostRuntime) {
-    expect_failures(
-        &rt,
-        rt.alloc(),
-        &[
-            (1, OpenFault::File(FileFault::EqualPaths), TWICE),
-            (3, OpenFault::File(FileFault::Device), NO_READ),
-            (
-                3,
-                OpenFault::NotHeld,
-                "the journal was moved, deleted or changed by another program",
-            ),
-            (1, OpenFault::Round(bad_kind()), "record 9: unknown kind"),
-            (3, OpenFault::Round(RoundFault::ReadFault), NO_READ),
-            (3, OpenFault::Round(RoundFault::OutOfMemory), NO_MEMORY),
-            (
-                1,
-                OpenFault::Quotes(QuoteFault::Unclosed { number: 1, line: 2 }),
-                "record 1: the quote in line 2 is not closed",
-            ),
-            (
-                1,
-                OpenFault::Unexpected(2, 3),
-                "pages 2, where 3 were expected",
-            ),
-            (
-                1,
-                OpenFault::HeldByAnother,
-                "another program holds the journal",
-            ),
-            (
-                1,
-                OpenFault::HoldsEdits,
-                "the journal holds edits, so the round cannot begin with PAGES",
-            ),
-            (
-                1,
-                OpenFault::Journal(JournalFault::NotJournal),
-                "not a journal",
-            ),
-            (
-                3,
-                OpenFault::Journal(JournalFault::ReadFault),
-                "cannot read the journal",
-            ),
-            (
-                3,
-                OpenFault::Journal(JournalFault::WriteFault),
-                "cannot write the journal",
-            ),
-            (3, OpenFault::Journal(JournalFault::OutOfMemory), NO_MEMORY),
-        ],
-    );
+    let refused = [
+        (OpenFault::File(FileFault::EqualPaths), TWICE),
+        (OpenFault::Round(bad_kind()), "record 9: unknown kind"),
+        (
+            OpenFault::Quotes(QuoteFault::Unclosed { number: 1, line: 2 }),
+            "record 1: the quote in line 2 is not closed",
+        ),
+        (
+            OpenFault::Unexpected(2, 3),
+            "pages 2, where 3 were expected",
+        ),
+        (
+            OpenFault::HeldByAnother,
+            "another program holds the journal",
+        ),
+        (
+            OpenFault::HoldsEdits,
+            "the journal holds edits, so the round cannot begin with PAGES",
+        ),
+        (
+            OpenFault::Journal(JournalFault::NotJournal),
+            "not a journal",
+        ),
+    ];
+    let failed = [
+        (OpenFault::File(FileFault::Device), NO_READ),
+        (
+            OpenFault::NotHeld,
+            "the journal was moved, deleted or changed by another program",
+        ),
+        (OpenFault::Round(RoundFault::ReadFault), NO_READ),
+        (OpenFault::Round(RoundFault::OutOfMemory), NO_MEMORY),
+        (
+            OpenFault::Journal(JournalFault::ReadFault),
+            "cannot read the journal",
+        ),
+        (
+            OpenFault::Journal(JournalFault::WriteFault),
+            "cannot write the journal",
+        ),
+        (OpenFault::Journal(JournalFault::OutOfMemory), NO_MEMORY),
+    ];
+    expect_failures(&rt, rt.alloc(), &refused, &failed);
 }
 
 #[test]
@@ -379,47 +340,24 @@ fn refusals(rt: HostRuntime) {
     for (fault, text) in undone {
         expect_lines(&rt, alloc, &[(Refusal::Undone(fault), text)]);
     }
-    expect_lines(
-        &rt,
-        alloc,
-        &[
-            (Refusal::Unknown, "unknown edit"),
-            (Refusal::InQuotes, "the line ends inside quotes"),
-            (Refusal::StrayQuote, "a quote is out of place"),
-            (Refusal::Field(FieldFault::BadAddress), "bad address"),
-            (
-                Refusal::Field(FieldFault::ReservedAddress),
-                "reserved address",
-            ),
-            (Refusal::Field(FieldFault::BadKind), "unknown kind"),
-            (
-                Refusal::Field(FieldFault::MessageForTone),
-                "a tone page has no message",
-            ),
-            (
-                Refusal::Field(FieldFault::EmptyMessage),
-                "the message is empty",
-            ),
-            (
-                Refusal::Field(FieldFault::BadCharacter(7)),
-                "bad character at 7",
-            ),
-            (
-                Refusal::Field(FieldFault::TooLong),
-                "the message is too long",
-            ),
-            (Refusal::Field(FieldFault::OutOfMemory), NO_MEMORY),
-            (
-                Refusal::Add(AddFault::Page(PageFault::BadPayload)),
-                "bad payload",
-            ),
-            (
-                Refusal::Add(AddFault::DuplicateAddress),
-                "the address is already there",
-            ),
-            (Refusal::Add(AddFault::Full), "too many pages"),
-            (Refusal::Add(AddFault::OutOfMemory), NO_MEMORY),
-            (Refusal::Cancel(NotThere), "no such page"),
-        ],
-    );
+    for (fault, text) in FIELD_FAULTS {
+        expect_lines(&rt, alloc, &[(Refusal::Field(fault), text)]);
+    }
+    let others = [
+        (Refusal::Unknown, "unknown edit"),
+        (Refusal::InQuotes, "the line ends inside quotes"),
+        (Refusal::StrayQuote, "a quote is out of place"),
+        (
+            Refusal::Add(AddFault::Page(PageFault::BadPayload)),
+            "bad payload",
+        ),
+        (
+            Refusal::Add(AddFault::DuplicateAddress),
+            "the address is already there",
+        ),
+        (Refusal::Add(AddFault::Full), "too many pages"),
+        (Refusal::Add(AddFault::OutOfMemory), NO_MEMORY),
+        (Refusal::Cancel(NotThere), "no such page"),
+    ];
+    expect_lines(&rt, alloc, &others);
 }

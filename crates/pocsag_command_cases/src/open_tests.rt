@@ -170,6 +170,10 @@ const SPACES: Lines = &[
     ),
 ];
 
+const IN_QUOTES: &str = "refused: the line ends inside quotes";
+
+const STRAY_QUOTE: &str = "refused: a quote is out of place";
+
 const REFUSALS: Lines = &[
     ("add,8,tone0,", "ok 1"),
     ("add,8,tone1,", "refused: the address is already there"),
@@ -195,27 +199,15 @@ const REFUSALS: Lines = &[
     ("list\rlist", "refused: unknown edit"),
     ("clear\r\r", "refused: unknown edit"),
     // Calls that were cut at the line feeds of their messages: each line is refused.
-    (
-        "add,9,alpha,\"Fire, hall B",
-        "refused: the line ends inside quotes",
-    ),
-    ("evacuate ward 3\"", "refused: a quote is out of place"),
-    (
-        "add,9,alpha,\"Pump 4\r",
-        "refused: the line ends inside quotes",
-    ),
-    ("\"clear", "refused: the line ends inside quotes"),
-    (
-        "add,9,alpha,\"Say \"\"no\"\"",
-        "refused: the line ends inside quotes",
-    ),
-    ("add,9,alpha,5\" pipe", "refused: a quote is out of place"),
-    ("add,9,alpha,\"Ward\" 3", "refused: a quote is out of place"),
-    (
-        "add,9,alpha,\"Ward\"\r3",
-        "refused: a quote is out of place",
-    ),
-    ("add,9,alpha,a\"b,\"c", "refused: a quote is out of place"),
+    ("add,9,alpha,\"Fire, hall B", IN_QUOTES),
+    ("evacuate ward 3\"", STRAY_QUOTE),
+    ("add,9,alpha,\"Pump 4\r", IN_QUOTES),
+    ("\"clear", IN_QUOTES),
+    ("add,9,alpha,\"Say \"\"no\"\"", IN_QUOTES),
+    ("add,9,alpha,5\" pipe", STRAY_QUOTE),
+    ("add,9,alpha,\"Ward\" 3", STRAY_QUOTE),
+    ("add,9,alpha,\"Ward\"\r3", STRAY_QUOTE),
+    ("add,9,alpha,a\"b,\"c", STRAY_QUOTE),
     ("plan,tx.bin", "refused: unknown edit"),
     ("plan,tx.bin,cert.bin,soon", "refused: unknown edit"),
     ("list", "address,kind,message\n8,tone0,\nok 1"),
@@ -339,14 +331,10 @@ fn faults_end_the_round(rt: HostRuntime) -> Result<(), Fail> {
         answered: 7,
         ..TWO_PAGES
     };
+    let is_there = "pocsag: record 2: the address is already there\n";
     let no_read = "pocsag: cannot read or open a file\n";
     let cases = [
-        (
-            twice,
-            1,
-            "",
-            "pocsag: record 2: the address is already there\n",
-        ),
+        (twice, 1, "", is_there),
         (cut_file, 3, "", no_read),
         (cut_input, 3, "ok 1\n", no_read),
         (cut_output, 3, "ok 1\nok", "pocsag: cannot write\n"),

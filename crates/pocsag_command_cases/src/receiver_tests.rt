@@ -200,71 +200,33 @@ fn transmissions_are_read(rt: HostRuntime) -> Result<(), Fail> {
     let cut = Faults { len: 139, ..SOUND };
     let unread = Faults { tx: 20, ..SOUND };
     let unwritten = Faults { out: 5, ..SOUND };
+    let cut_short = "pocsag: the transmission is cut short\n";
+    let no_read = "pocsag: cannot read or open a file\n";
+    let no_write = "pocsag: cannot write\n";
+    let no_rows = "pocsag: rows 3-7: the transmission has 1 batch\n";
     let no_sync = "pocsag: batch 0: no synchronisation codeword\n";
     let cases: [Case; 21] = [
         (DECODE, SOUND, 0, LISTED, ""),
         (DECODE, flipped, 1, "", no_sync),
-        (
-            DECODE,
-            cut,
-            1,
-            "",
-            "pocsag: the transmission is cut short\n",
-        ),
-        (
-            DECODE,
-            unread,
-            3,
-            "",
-            "pocsag: cannot read or open a file\n",
-        ),
-        (DECODE, unwritten, 3, "addre", "pocsag: cannot write\n"),
+        (DECODE, cut, 1, "", cut_short),
+        (DECODE, unread, 3, "", no_read),
+        (DECODE, unwritten, 3, "addre", no_write),
         (DECODE_REPAIRED, flipped, 0, LISTED, ""),
         (heard_of(8), flipped, 0, LISTED, ""),
         (heard_of(9), SOUND, 0, NONE_HEARD, ""),
         (heard_of(2_097_152), SOUND, 1, "", "pocsag: bad address\n"),
         (DECODE_JSON, flipped, 0, LINE, ""),
-        (
-            DECODE_JSON,
-            cut,
-            1,
-            "",
-            "pocsag: the transmission is cut short\n",
-        ),
-        (
-            DECODE_JSON,
-            unwritten,
-            3,
-            "{\"add",
-            "pocsag: cannot write\n",
-        ),
+        (DECODE_JSON, cut, 1, "", cut_short),
+        (DECODE_JSON, unwritten, 3, "{\"add", no_write),
         (DECODE_TEXTS, SOUND, 0, LISTED, ""),
-        (
-            DECODE_TEXTS,
-            unwritten,
-            3,
-            "addre",
-            "pocsag: cannot write\n",
-        ),
+        (DECODE_TEXTS, unwritten, 3, "addre", no_write),
         (heard_json, flipped, 0, LINE, ""),
         (grid, SOUND, 0, GRID, ""),
         (grid, flipped, 1, "", no_sync),
         (SHOW_REPAIRED, flipped, 0, PLACES, ""),
-        (
-            behind,
-            SOUND,
-            1,
-            "",
-            "pocsag: rows 3-7: the transmission has 1 batch\n",
-        ),
+        (behind, SOUND, 1, "", no_rows),
         (Command::Explain, SOUND, 0, EXPLAINED, ""),
-        (
-            Command::Explain,
-            unwritten,
-            3,
-            "at le",
-            "pocsag: cannot write\n",
-        ),
+        (Command::Explain, unwritten, 3, "at le", no_write),
     ];
     for (command, faults, status, out, err) in cases {
         let told = run(&rt, rt.alloc(), command, faults)?;

@@ -53,13 +53,9 @@ fn long_texts_are_refused(rt: HostRuntime) -> Result<(), Fail> {
 // Where standard error fails the line is lost behind what was taken, and the status stays.
 #[test]
 fn faults_are_told(rt: HostRuntime) -> Result<(), Fail> {
+    let whole = "pocsag: the file is too large\n";
     let cases = [
-        (
-            FileFault::TooLarge,
-            1000,
-            1,
-            "pocsag: the file is too large\n",
-        ),
+        (FileFault::TooLarge, 1000, 1, whole),
         (FileFault::TooLarge, 5, 1, "pocsa"),
         (FileFault::Device, 0, 3, ""),
     ];

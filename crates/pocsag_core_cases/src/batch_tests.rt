@@ -12,6 +12,7 @@ use pocsag_decode::decode;
 use pocsag_pages::{Round, RoundFault};
 use pocsag_words::{End, GrowingSink, MemorySink, MemorySource, OutOfMemory, Word, WriteFault};
 use std::alloc::Global;
+use std::test::Fail;
 
 fn raws(alloc: Global, words: &[Word]) -> Result<Vec<u32>, OutOfMemory> {
     let mut numbers = Vec::new(alloc);
@@ -79,105 +80,111 @@ const TIGHT_PAGES: &[PageRow] = &[
 const TONE_FILE: &[u8] = b"address,kind,message\n8,tone0,\n";
 
 #[test]
-fn layouts_in_file_order(rt: HostRuntime) {
+fn layouts_in_file_order(rt: HostRuntime) -> Result<(), Fail> {
     let alloc = rt.alloc();
     for (pages, sent) in IN_ORDER {
-        let round = round_of(alloc, pages).expect(&rt, "an answer");
-        let batches = lay_in_order(alloc, &round).expect(&rt, "an answer");
-        let due = words(alloc, sent).expect(&rt, "an answer");
-        let told = raws(alloc, batches.words()).expect(&rt, "an answer");
+        let round = round_of(alloc, pages)?;
+        let batches = lay_in_order(alloc, &round)?;
+        let due = words(alloc, sent)?;
+        let told = raws(alloc, batches.words())?;
         same!(rt; told.as_slice(), due.as_slice(), pages);
         same!(rt; 16 * in_order_batches(&round) as usize, due.len(), pages);
     }
+    Ok(())
 }
 
 #[test]
-fn many_tones_in_file_order(rt: HostRuntime) {
+fn many_tones_in_file_order(rt: HostRuntime) -> Result<(), Fail> {
     let alloc = rt.alloc();
-    let list = tones(alloc, 2_000).expect(&rt, "memory");
-    let round = Round::from_pages(alloc, list).expect(&rt, "a round");
+    let list = tones(alloc, 2_000)?;
+    let round = Round::from_pages(alloc, list)?;
     same!(rt; in_order_batches(&round), 250);
-    let batches = lay_in_order(alloc, &round).expect(&rt, "an answer");
+    let batches = lay_in_order(alloc, &round)?;
     same!(rt; batches.count(), 250);
     let mut sink = GrowingSink::new(alloc);
     same!(rt; write(&batches, &mut sink), Ok(()));
     same!(rt; sink.into_bytes().len(), 17_072);
+    Ok(())
 }
 
 #[test]
-fn layouts_of_tours(rt: HostRuntime) {
+fn layouts_of_tours(rt: HostRuntime) -> Result<(), Fail> {
     let alloc = rt.alloc();
     for (pages, late, batches, end, sent) in LAID {
-        let round = round_of(alloc, pages).expect(&rt, "an answer");
+        let round = round_of(alloc, pages)?;
         assert!(rt; 0 < *batches);
-        let steps = tour_of(alloc, &round, *late, *batches, *end).expect(&rt, "an answer");
-        let laid = lay_out(alloc, &round, steps.as_slice(), *end).expect(&rt, "an answer");
-        let due = words(alloc, *sent).expect(&rt, "an answer");
-        let told = raws(alloc, laid.words()).expect(&rt, "an answer");
+        let steps = tour_of(alloc, &round, *late, *batches, *end)?;
+        let laid = lay_out(alloc, &round, steps.as_slice(), *end)?;
+        let due = words(alloc, *sent)?;
+        let told = raws(alloc, laid.words())?;
         same!(rt; told.as_slice(), due.as_slice(), pages);
     }
+    Ok(())
 }
 
 #[test]
-fn orders_of_tours(rt: HostRuntime) {
+fn orders_of_tours(rt: HostRuntime) -> Result<(), Fail> {
     let alloc = rt.alloc();
     for (pages, batches, order) in ORDERS {
-        let round = round_of(alloc, pages).expect(&rt, "an answer");
+        let round = round_of(alloc, pages)?;
         assert!(rt; 0 < *batches);
-        let steps = tour_of(alloc, &round, None, *batches, End::Open).expect(&rt, "an answer");
-        let told = order_of(alloc, &round, steps.as_slice(), End::Open).expect(&rt, "an answer");
+        let steps = tour_of(alloc, &round, None, *batches, End::Open)?;
+        let told = order_of(alloc, &round, steps.as_slice(), End::Open)?;
         same!(rt; told.as_slice(), *order, pages);
     }
+    Ok(())
 }
 
 // The order, the codewords and the bytes of a tour, which are decoded to its pages, and each failing write.
 #[test]
-fn bytes_of_a_tour(rt: HostRuntime) {
+fn bytes_of_a_tour(rt: HostRuntime) -> Result<(), Fail> {
     let alloc = rt.alloc();
-    let round = round_of(alloc, &THREE_PAGES_TIGHT).expect(&rt, "an answer");
-    let steps = tour_of(alloc, &round, None, 2, End::Open).expect(&rt, "an answer");
+    let round = round_of(alloc, &THREE_PAGES_TIGHT)?;
+    let steps = tour_of(alloc, &round, None, 2, End::Open)?;
     same!(rt; steps.len(), 3);
-    let order = order_of(alloc, &round, steps.as_slice(), End::Open).expect(&rt, "an answer");
+    let order = order_of(alloc, &round, steps.as_slice(), End::Open)?;
     let mut listed = Vec::new(alloc);
     for word in Slots::new(&round, steps.as_slice(), order.as_slice()) {
-        listed.push(word.raw()).expect(&rt, "an answer");
+        listed.push(word.raw())?;
     }
-    same!(rt; listed.as_slice(), words(alloc, TIGHT).expect(&rt, "an answer").as_slice());
-    let due = transmission(alloc, TIGHT).expect(&rt, "an answer");
+    same!(rt; listed.as_slice(), words(alloc, TIGHT)?.as_slice());
+    let due = transmission(alloc, TIGHT)?;
     for step in [64, 1] {
         let mut sink = MemorySink::<208>::new(step, 1000);
         let slots = Slots::new(&round, steps.as_slice(), order.as_slice());
         same!(rt; write_slots(slots, &mut sink), Ok(()));
         same!(rt; sink.bytes(), due.as_slice());
     }
-    let told = decode(alloc, due.as_slice()).expect(&rt, "an answer");
-    let due = pages(alloc, TIGHT_PAGES).expect(&rt, "an answer");
+    let told = decode(alloc, due.as_slice())?;
+    let due = pages(alloc, TIGHT_PAGES)?;
     same!(rt; told.as_slice(), due.as_slice());
+    Ok(())
 }
 
 #[test]
-fn tours_on_failing_devices(rt: HostRuntime) {
+fn tours_on_failing_devices(rt: HostRuntime) -> Result<(), Fail> {
     let alloc = rt.alloc();
-    let round = round_of(alloc, &THREE_PAGES_TIGHT).expect(&rt, "an answer");
-    let steps = tour_of(alloc, &round, None, 2, End::Open).expect(&rt, "an answer");
-    let order = order_of(alloc, &round, steps.as_slice(), End::Open).expect(&rt, "an answer");
-    let due = transmission(alloc, TIGHT).expect(&rt, "an answer");
+    let round = round_of(alloc, &THREE_PAGES_TIGHT)?;
+    let steps = tour_of(alloc, &round, None, 2, End::Open)?;
+    let order = order_of(alloc, &round, steps.as_slice(), End::Open)?;
+    let due = transmission(alloc, TIGHT)?;
     for place in 0..208u64 {
         let mut sink = MemorySink::<208>::new(64, place);
         let slots = Slots::new(&round, steps.as_slice(), order.as_slice());
         same!(rt; write_slots(slots, &mut sink), Err(WriteFault));
         same!(rt; sink.bytes(), cut(due.as_slice(), place as usize));
     }
+    Ok(())
 }
 
 // The writer fails at each place.
 #[test]
-fn failing_writes(rt: HostRuntime) {
+fn failing_writes(rt: HostRuntime) -> Result<(), Fail> {
     let alloc = rt.alloc();
-    let round = round_of(alloc, &[(8, 0)]).expect(&rt, "an answer");
-    let batches = lay_in_order(alloc, &round).expect(&rt, "an answer");
+    let round = round_of(alloc, &[(8, 0)])?;
+    let batches = lay_in_order(alloc, &round)?;
     same!(rt; batches.count(), 1);
-    let due = transmission(alloc, LONE_TONE).expect(&rt, "an answer");
+    let due = transmission(alloc, LONE_TONE)?;
     let mut whole = MemorySink::<140>::new(7, 140);
     same!(rt; write(&batches, &mut whole), Ok(()));
     same!(rt; whole.bytes(), due.as_slice());
@@ -186,13 +193,14 @@ fn failing_writes(rt: HostRuntime) {
         same!(rt; write(&batches, &mut tx), Err(WriteFault));
         same!(rt; tx.bytes(), cut(due.as_slice(), place as usize));
     }
+    Ok(())
 }
 
 // The writer, and then the reader, fails at each place.
 #[test]
-fn streams_that_fail(rt: HostRuntime) {
+fn streams_that_fail(rt: HostRuntime) -> Result<(), Fail> {
     let alloc = rt.alloc();
-    let due = transmission(alloc, LONE_TONE).expect(&rt, "an answer");
+    let due = transmission(alloc, LONE_TONE)?;
     for place in 0..140u64 {
         let mut tx = MemorySink::<140>::new(64, place);
         let told = first_stream(alloc, &mut MemorySource::new(TONE_FILE, 7, 1000), &mut tx);
@@ -205,4 +213,5 @@ fn streams_that_fail(rt: HostRuntime) {
         same!(rt; told, Err(FirstFault::Round(RoundFault::ReadFault)));
         assert!(rt; tx.bytes().is_empty());
     }
+    Ok(())
 }

@@ -10,6 +10,7 @@ use pocsag_tree::nodes;
 use pocsag_words::End;
 use std::alloc::Global;
 use std::process::Abort;
+use std::test::Fail;
 
 const LOOPS_APART: &[(u32, usize)] = &[(0, 15), (3, 15)];
 
@@ -113,43 +114,35 @@ fn expect_fewest(rt: &impl Abort, alloc: Global, round: &Round, end: End, batche
 }
 
 #[test]
-fn fewest_batches(rt: HostRuntime) {
+fn fewest_batches(rt: HostRuntime) -> Result<(), Fail> {
     let alloc = rt.alloc();
     for (pages, end, batches) in FEWEST {
-        expect_fewest(
-            &rt,
-            alloc,
-            &round_of(alloc, pages).expect(&rt, "an answer"),
-            *end,
-            *batches,
-        );
+        expect_fewest(&rt, alloc, &round_of(alloc, pages)?, *end, *batches);
     }
     for (count, end, batches) in FEWEST_OF_TONES {
-        let round = Round::from_pages(alloc, tones(alloc, count).expect(&rt, "an answer")).expect(
-            &rt,
-            "an answer",
-        );
+        let round = Round::from_pages(alloc, tones(alloc, count)?)?;
         expect_fewest(&rt, alloc, &round, end, batches);
     }
     for (pages, limit, end, batches, most) in FREELY {
-        let round = round_of(alloc, pages).expect(&rt, "an answer");
+        let round = round_of(alloc, pages)?;
         let classes = classes_of(&round, end);
         assert!(rt; has_page(&classes) && 0 < limit && limit <= 1_000_000);
-        let found = search_freely(alloc, &classes, limit, end).expect(&rt, "an answer");
+        let found = search_freely(alloc, &classes, limit, end)?;
         same!(rt; found.batches, batches, pages);
         same!(rt; check(&round, batches, &found.tree, end), true, pages);
         same!(rt; check(&round, batches.saturating_add(1), &found.tree, end), false, pages);
         same!(rt; nodes(&found.tree) <= most, true, pages);
     }
+    Ok(())
 }
 
 #[test]
-fn node_limits(rt: HostRuntime) {
+fn node_limits(rt: HostRuntime) -> Result<(), Fail> {
     let alloc = rt.alloc();
-    let round = round_of(alloc, LOOPS_APART).expect(&rt, "an answer");
+    let round = round_of(alloc, LOOPS_APART)?;
     let classes = classes_of(&round, End::Open);
     assert!(rt; has_page(&classes));
-    let found = search(alloc, &classes, 3, End::Open).expect(&rt, "an answer");
+    let found = search(alloc, &classes, 3, End::Open)?;
     same!(rt; found.batches, 3);
     let Err(SearchFault::SearchLimit(stop)) = search(alloc, &classes, 2, End::Open) else {
         panic!(rt; "the limit is not reached");
@@ -157,12 +150,13 @@ fn node_limits(rt: HostRuntime) {
     same!(rt; (stop.least, stop.found, nodes(&stop.tree)), (2, 3, 2));
     same!(rt; check(&round, 3, &stop.tree, End::Open), false);
     same!(rt; check_open(&round, 3, &stop.tree, End::Open), true);
+    Ok(())
 }
 
 #[test]
-fn node_limits_of_the_free_search(rt: HostRuntime) {
+fn node_limits_of_the_free_search(rt: HostRuntime) -> Result<(), Fail> {
     let alloc = rt.alloc();
-    let round = round_of(alloc, LOOPS_APART).expect(&rt, "an answer");
+    let round = round_of(alloc, LOOPS_APART)?;
     let classes = classes_of(&round, End::Open);
     assert!(rt; has_page(&classes));
     let Err(
@@ -179,7 +173,8 @@ fn node_limits_of_the_free_search(rt: HostRuntime) {
     same!(rt; found.steps.len(), 2 + 16);
     same!(rt; (stop.least, stop.found, nodes(&stop.tree)), (2, 3, 1));
     same!(rt; check_open(&round, 3, &stop.tree, End::Open), true);
-    let at_once = fallback(alloc, &classes, End::Open).expect(&rt, "an answer");
+    let at_once = fallback(alloc, &classes, End::Open)?;
     same!(rt; at_once.least, 2);
     same!(rt; at_once.steps.as_slice(), found.steps.as_slice());
+    Ok(())
 }

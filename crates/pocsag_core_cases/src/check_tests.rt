@@ -5,6 +5,7 @@ use pocsag_check::{accepts, check, check_open};
 use pocsag_slots::{all_limits, classes_of};
 use pocsag_tree::{Tree, read_certificate};
 use pocsag_words::{End, MemorySource};
+use std::test::Fail;
 
 const LONE_TONE: &[(u32, usize)] = &[(8, 0)];
 
@@ -23,152 +24,112 @@ const BOTH_WAYS: &[(u32, usize)] = &[(0, 13), (7, 0), (15, 2), (1, 13)];
 
 const LONG: &[(u32, usize)] = &[(7, 49)];
 
-// Rounds with a certificate, and whether it is accepted for its own end.
-const JUDGED: &[(&[(u32, usize)], bool, &[u8])] = &[
-    (LONE_TONE, true, b"PCB1\x00\x00\x00\x01\x00\x00\x03"),
-    (LONE_TONE, true, b"PCB2\x00\x00\x00\x00\x01\x00\x00\x03"),
-    (LONE_TONE, true, b"PCB2\x01\x00\x00\x00\x01\x00\x00\x03"),
+// Rounds with a certificate that is accepted for its own end.
+const ACCEPTED: &[(&[(u32, usize)], &[u8])] = &[
+    (LONE_TONE, b"PCB1\0\0\0\x01\0\0\x03"),
+    (LONE_TONE, b"PCB2\0\0\0\0\x01\0\0\x03"),
+    (LONE_TONE, b"PCB2\x01\0\0\0\x01\0\0\x03"),
     (
         LOOP_APART,
-        true,
-        b"PCB1\x00\x00\x00\x02\x02\x00\x01\x30\x00\x02\x00\x00\x01\x00\x80\x00",
+        b"PCB1\0\0\0\x02\x02\0\x01\x30\0\x02\0\0\x01\0\x80\0",
     ),
     (
         LOOPS_APART,
-        true,
-        b"PCB1\x00\x00\x00\x03\x02\x00\x01\x30\x00\x02\x00\x00\x01\x00\x80\x00",
+        b"PCB1\0\0\0\x03\x02\0\x01\x30\0\x02\0\0\x01\0\x80\0",
     ),
     (
         LOOPS_APART,
-        true,
-        b"PCB2\x00\x00\x00\x00\x03\x02\x00\x01\x30\x00\x02\x00\x00\x01\x00\x80\x00",
+        b"PCB2\0\0\0\0\x03\x02\0\x01\x30\0\x02\0\0\x01\0\x80\0",
     ),
-    (EXACT, true, b"PCB2\x01\x00\x00\x00\x02\x04\x01\x00\xff\xff"),
-    (
-        EXACT,
-        false,
-        b"PCB2\x00\x00\x00\x00\x02\x04\x01\x00\xff\xff",
-    ),
-    (
-        EXACT,
-        false,
-        b"PCB2\x01\x00\x00\x00\x02\x04\x02\x00\xff\xff\x00\xff\xff",
-    ),
-    (
-        BOTH_WAYS,
-        true,
-        b"PCB2\x01\x00\x00\x00\x03\x04\x02\x00\xff\xff\x00\x80\x00",
-    ),
-    (
-        BOTH_WAYS,
-        false,
-        b"PCB2\x01\x00\x00\x00\x03\x04\x01\x00\xff\xff",
-    ),
-    (LONG, true, b"PCB2\x01\x00\x00\x00\x05\x04\x01\x00\x80\x00"),
+    (EXACT, b"PCB2\x01\0\0\0\x02\x04\x01\0\xff\xff"),
+    (BOTH_WAYS, b"PCB2\x01\0\0\0\x03\x04\x02\0\xff\xff\0\x80\0"),
+    (LONG, b"PCB2\x01\0\0\0\x05\x04\x01\0\x80\0"),
     // The idle end, which only an idle in slot 15 closes.
-    (LONE_TONE, true, b"PCB4\x00\x00\x00\x01\x00\x00\x03"),
-    (EXACT, true, b"PCB4\x00\x00\x00\x02\x04\x01\x00\xff\xff"),
-    (
-        EXACT,
-        false,
-        b"PCB4\x00\x00\x00\x02\x04\x02\x00\xff\xff\x00\xff\xff",
-    ),
-    (BOTH_WAYS, true, b"PCB4\x00\x00\x00\x03\x04\x01\x00\xff\xff"),
-    (
-        BOTH_WAYS,
-        false,
-        b"PCB4\x00\x00\x00\x03\x04\x02\x00\xff\xff\x00\x80\x00",
-    ),
-    (LONG, true, b"PCB4\x00\x00\x00\x05\x04\x01\x00\x80\x00"),
-    (LONG, false, b"PCB4\x00\x00\x00\x06\x04\x01\x00\x80\x00"),
-    // Bad certificates.
-    (
-        LOOPS_APART,
-        false,
-        b"PCB1\x00\x00\x00\x03\x02\x00\x01\x30\x00\x02\x00\x00\x01\x00\x40\x00",
-    ),
-    (
-        LOOPS_APART,
-        false,
-        b"PCB1\x00\x00\x00\x03\x02\x00\x02\x30\x00\x02\x00\x00\x01\x00\x00\x02",
-    ),
-    (
-        LOOPS_APART,
-        false,
-        b"PCB1\x00\x00\x00\x03\x02\x00\x01\x00\x00\x02\x00\x00\x01\x00\x80\x00",
-    ),
-    (
-        TIGHT,
-        false,
-        b"PCB1\x00\x00\x00\x03\x02\x00\x01\x30\x00\x02\x00\x00\x01\x00\x80\x00",
-    ),
-    (
-        LONE_TONE,
-        false,
-        b"PCB2\x00\x00\x00\x00\x01\x01\x00\x4e\x20\x03\x03",
-    ),
+    (LONE_TONE, b"PCB4\0\0\0\x01\0\0\x03"),
+    (EXACT, b"PCB4\0\0\0\x02\x04\x01\0\xff\xff"),
+    (BOTH_WAYS, b"PCB4\0\0\0\x03\x04\x01\0\xff\xff"),
+    (LONG, b"PCB4\0\0\0\x05\x04\x01\0\x80\0"),
     // Below the split the page of frame 0 starts late, and so outside boundary 0.
     (
         LOOPS_APART,
-        true,
-        b"PCB2\x00\x00\x00\x00\x03\x01\x00\x00\x01\x02\x00\x01\x00\x00\x02\x00\x00\x01\x00\x80\x00\x02\x00\x01\x30\x00\x02\x00\x00\x01\x00\x80\x00",
-    ),
-    // From the split on it starts early, at boundary 0.
-    (
-        LOOPS_APART,
-        false,
-        b"PCB2\x00\x00\x00\x00\x03\x01\x00\x00\x01\x02\x00\x01\x30\x00\x02\x00\x00\x01\x00\x80\x00\x02\x00\x01\x00\x00\x02\x00\x00\x01\x00\x80\x00",
+        b"PCB2\0\0\0\0\x03\x01\0\0\x01\x02\0\x01\0\0\x02\0\0\x01\0\x80\0\x02\0\x01\x30\0\x02\0\0\x01\0\x80\0",
     ),
     // From the split on the page of frame 7 starts early, outside the boundaries 0 and 15.
     (
         LAST_FRAME,
-        true,
-        b"PCB2\x00\x00\x00\x00\x02\x01\x70\x00\x01\x02\x00\x01\x70\x00\x02\x00\x00\x01\x00\x80\x00\x02\x80\x01\x70\x00\x02\x00\x00\x01\x00\x40\x00",
+        b"PCB2\0\0\0\0\x02\x01\x70\0\x01\x02\0\x01\x70\0\x02\0\0\x01\0\x80\0\x02\x80\x01\x70\0\x02\0\0\x01\0\x40\0",
     ),
-    // Below the split it starts late, at boundary 15.
+];
+
+// Rounds with a certificate that is refused.
+const REFUSED: &[(&[(u32, usize)], &[u8])] = &[
+    (EXACT, b"PCB2\0\0\0\0\x02\x04\x01\0\xff\xff"),
+    (EXACT, b"PCB2\x01\0\0\0\x02\x04\x02\0\xff\xff\0\xff\xff"),
+    (BOTH_WAYS, b"PCB2\x01\0\0\0\x03\x04\x01\0\xff\xff"),
+    (EXACT, b"PCB4\0\0\0\x02\x04\x02\0\xff\xff\0\xff\xff"),
+    (BOTH_WAYS, b"PCB4\0\0\0\x03\x04\x02\0\xff\xff\0\x80\0"),
+    (LONG, b"PCB4\0\0\0\x06\x04\x01\0\x80\0"),
+    // Bad certificates.
+    (
+        LOOPS_APART,
+        b"PCB1\0\0\0\x03\x02\0\x01\x30\0\x02\0\0\x01\0\x40\0",
+    ),
+    (
+        LOOPS_APART,
+        b"PCB1\0\0\0\x03\x02\0\x02\x30\0\x02\0\0\x01\0\0\x02",
+    ),
+    (
+        LOOPS_APART,
+        b"PCB1\0\0\0\x03\x02\0\x01\0\0\x02\0\0\x01\0\x80\0",
+    ),
+    (TIGHT, b"PCB1\0\0\0\x03\x02\0\x01\x30\0\x02\0\0\x01\0\x80\0"),
+    (LONE_TONE, b"PCB2\0\0\0\0\x01\x01\0\x4e\x20\x03\x03"),
+    // From the split on the page of frame 0 starts early, at boundary 0.
+    (
+        LOOPS_APART,
+        b"PCB2\0\0\0\0\x03\x01\0\0\x01\x02\0\x01\x30\0\x02\0\0\x01\0\x80\0\x02\0\x01\0\0\x02\0\0\x01\0\x80\0",
+    ),
+    // Below the split the page of frame 7 starts late, at boundary 15.
     (
         LAST_FRAME,
-        false,
-        b"PCB2\x00\x00\x00\x00\x02\x01\x70\x00\x01\x02\x80\x01\x70\x00\x02\x00\x00\x01\x00\x40\x00\x02\x00\x01\x70\x00\x02\x00\x00\x01\x00\x80\x00",
+        b"PCB2\0\0\0\0\x02\x01\x70\0\x01\x02\x80\x01\x70\0\x02\0\0\x01\0\x40\0\x02\0\x01\x70\0\x02\0\0\x01\0\x80\0",
     ),
     // A way that is taken twice takes away one idle of its slot, and not two.
     (
         LOOPS_APART,
-        false,
-        b"PCB1\x00\x00\x00\x04\x02\x00\x01\x30\x00\x02\x02\x00\x01\x30\x00\x02\x00\x00\x01\x00\x80\x00\x02\x00\x01\x30\x00\x02\x00\x00\x01\x00\x80\x00",
+        b"PCB1\0\0\0\x04\x02\0\x01\x30\0\x02\x02\0\x01\x30\0\x02\0\0\x01\0\x80\0\x02\0\x01\x30\0\x02\0\0\x01\0\x80\0",
     ),
 ];
 
 #[test]
-fn certificates(rt: HostRuntime) {
+fn certificates(rt: HostRuntime) -> Result<(), Fail> {
     let alloc = rt.alloc();
-    for (pages, is_accepted, bytes) in JUDGED {
-        let round = round_of(alloc, pages).expect(&rt, "an answer");
-        let mut source = MemorySource::new(bytes, 1, 100_000);
-        let read = read_certificate(alloc, &mut source).expect(&rt, "an answer");
-        let told = check(&round, read.batches, &read.tree, read.end);
-        same!(rt; told, *is_accepted, (pages, bytes));
+    for (rows, is_accepted) in [(ACCEPTED, true), (REFUSED, false)] {
+        for (pages, bytes) in rows {
+            let round = round_of(alloc, pages)?;
+            let mut source = MemorySource::new(bytes, 1, 100_000);
+            let read = read_certificate(alloc, &mut source)?;
+            let told = check(&round, read.batches, &read.tree, read.end);
+            same!(rt; told, is_accepted, (pages, bytes));
+        }
     }
-    let round = round_of(alloc, LONE_TONE).expect(&rt, "an answer");
-    let mut deep = Vec::from_slice(alloc, b"PCB1\x00\x00\x00\x01".as_slice()).expect(
-        &rt,
-        "an answer",
-    );
+    let round = round_of(alloc, LONE_TONE)?;
+    let mut deep = Vec::from_slice(alloc, b"PCB1\0\0\0\x01".as_slice())?;
     for _ in 0..299 {
-        deep.extend_from_slice(b"\x01\x00\x00\x01".as_slice())
-            .expect(&rt, "an answer");
+        deep.extend_from_slice(b"\x01\0\0\x01".as_slice())?;
     }
-    deep.resize(8 + 4 * 299 + 300, 3).expect(&rt, "an answer");
+    deep.resize(8 + 4 * 299 + 300, 3)?;
     let mut source = MemorySource::new(deep.as_slice(), 1, 100_000);
-    let read = read_certificate(alloc, &mut source).expect(&rt, "an answer");
+    let read = read_certificate(alloc, &mut source)?;
     assert!(rt; !check(&round, read.batches, &read.tree, read.end));
+    Ok(())
 }
 
 // Trees that no certificate spells, and nodes under limits.
 #[test]
-fn trees(rt: HostRuntime) {
+fn trees(rt: HostRuntime) -> Result<(), Fail> {
     let alloc = rt.alloc();
-    let round = round_of(alloc, LONE_TONE).expect(&rt, "an answer");
+    let round = round_of(alloc, LONE_TONE)?;
     let classes = classes_of(&round, End::Open);
     for (batches, tree, is_accepted) in [
         (0, Tree::Overload(3), true),
@@ -186,8 +147,9 @@ fn trees(rt: HostRuntime) {
     let split = Tree::Split {
         class: 200,
         m: 1,
-        below: Box::new(alloc, Tree::Overload(3)).expect(&rt, "an answer"),
-        from: Box::new(alloc, Tree::Overload(3)).expect(&rt, "an answer"),
+        below: Box::new(alloc, Tree::Overload(3))?,
+        from: Box::new(alloc, Tree::Overload(3))?,
     };
     assert!(rt; !check(&round, 1, &split, End::Open));
+    Ok(())
 }

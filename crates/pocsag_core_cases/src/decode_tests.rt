@@ -9,6 +9,7 @@ use pocsag_decode::{DecodeFault, Decoder, ListFault, decode, list, repair_all};
 use pocsag_text::pack_alpha;
 use pocsag_words::{MemorySink, OutOfMemory, address_word, message_word};
 use std::alloc::Global;
+use std::test::Fail;
 
 const FIRST_ORPHAN: Sent = (16, IDLE, &[(1, DIGITS)]);
 
@@ -54,19 +55,19 @@ const DECODED: &[(Sent, usize, Result<&[PageRow], DecodeFault>)] = &[
 ];
 
 #[test]
-fn transmissions(rt: HostRuntime) {
+fn transmissions(rt: HostRuntime) -> Result<(), Fail> {
     let alloc = rt.alloc();
     for (sent, len, wanted) in DECODED {
-        let bytes = transmission(alloc, *sent).expect(&rt, "an answer");
+        let bytes = transmission(alloc, *sent)?;
         match (decode(alloc, cut(bytes.as_slice(), *len)), wanted) {
             (Ok(told), Ok(rows)) => {
-                let due = pages(alloc, rows).expect(&rt, "memory");
+                let due = pages(alloc, rows)?;
                 same!(rt; told.as_slice(), due.as_slice(), sent);
             }
             (told, wanted) => same!(rt; told.err(), wanted.err(), (sent, len)),
         }
     }
-    let bytes = transmission(alloc, TIGHT).expect(&rt, "an answer");
+    let bytes = transmission(alloc, TIGHT)?;
     same!(rt; bytes.len(), 208);
     for n in 0..208 {
         let due = match n {
@@ -77,13 +78,14 @@ fn transmissions(rt: HostRuntime) {
         };
         same!(rt; decode(alloc, cut(bytes.as_slice(), n)).err(), due, n);
     }
+    Ok(())
 }
 
 // One wrong bit in each byte of a transmission.
 #[test]
-fn wrong_bits(rt: HostRuntime) {
+fn wrong_bits(rt: HostRuntime) -> Result<(), Fail> {
     let alloc = rt.alloc();
-    let mut bytes = transmission(alloc, LONE_TONE).expect(&rt, "an answer");
+    let mut bytes = transmission(alloc, LONE_TONE)?;
     assert!(rt; bytes.len() == 140);
     for place in 0..140usize {
         let due = match place {
@@ -99,6 +101,7 @@ fn wrong_bits(rt: HostRuntime) {
             bytes[place] = right;
         }
     }
+    Ok(())
 }
 
 // What is wrong in each of the first words behind the preamble, what is repaired of it, and the fault that is left.
@@ -117,13 +120,13 @@ const REPAIRED: [([u32; 5], u64, u64, Option<DecodeFault>); 5] = [
 ];
 
 #[test]
-fn repairs(rt: HostRuntime) {
+fn repairs(rt: HostRuntime) -> Result<(), Fail> {
     let alloc = rt.alloc();
     for (wrong, words, bits, fault) in REPAIRED {
-        let right = transmission(alloc, LONE_TONE).expect(&rt, "an answer");
-        let mut bytes = transmission(alloc, LONE_TONE).expect(&rt, "an answer");
+        let right = transmission(alloc, LONE_TONE)?;
+        let mut bytes = transmission(alloc, LONE_TONE)?;
         // Bytes that are no whole word stay.
-        bytes.extend_from_slice(b"end").expect(&rt, "memory");
+        bytes.extend_from_slice(b"end")?;
         for (place, flipped) in wrong.iter().enumerate() {
             for (byte, bits) in flipped.to_be_bytes().iter().enumerate() {
                 if let Some(sent) = bytes.get_mut(72 + 4 * place + byte) {
@@ -139,26 +142,28 @@ fn repairs(rt: HostRuntime) {
         }
         same!(rt; bytes.as_slice().ends_with(b"end"), true, wrong);
     }
+    Ok(())
 }
 
 #[test]
-fn bytes_one_by_one(rt: HostRuntime) {
+fn bytes_one_by_one(rt: HostRuntime) -> Result<(), Fail> {
     let alloc = rt.alloc();
-    let bytes = transmission(alloc, ACROSS).expect(&rt, "an answer");
+    let bytes = transmission(alloc, ACROSS)?;
     let mut decoder = Decoder::new(alloc);
     for byte in bytes.as_slice() {
-        decoder.feed(&[*byte]).expect(&rt, "an answer");
-        decoder.feed(&[]).expect(&rt, "an answer");
+        decoder.feed(&[*byte])?;
+        decoder.feed(&[])?;
     }
-    let told = decoder.finish().expect(&rt, "an answer");
-    let due = pages(alloc, &[(7, 0, &[0x84C2A])]).expect(&rt, "an answer");
+    let told = decoder.finish()?;
+    let due = pages(alloc, &[(7, 0, &[0x84C2A])])?;
     same!(rt; told.as_slice(), due.as_slice());
+    Ok(())
 }
 
 #[test]
-fn an_orphan_in_pieces(rt: HostRuntime) {
+fn an_orphan_in_pieces(rt: HostRuntime) -> Result<(), Fail> {
     let alloc = rt.alloc();
-    let bytes = transmission(alloc, FIRST_ORPHAN).expect(&rt, "an answer");
+    let bytes = transmission(alloc, FIRST_ORPHAN)?;
     let mut decoder = Decoder::new(alloc);
     for (index, byte) in bytes.as_slice().iter().enumerate() {
         let due = match index {
@@ -169,20 +174,22 @@ fn an_orphan_in_pieces(rt: HostRuntime) {
         same!(rt; decoder.feed(&[*byte]).err(), due, index);
     }
     same!(rt; decoder.finish().err(), Some(DecodeFault::Failed));
+    Ok(())
 }
 
 #[test]
-fn a_short_transmission_in_pieces(rt: HostRuntime) {
+fn a_short_transmission_in_pieces(rt: HostRuntime) -> Result<(), Fail> {
     let alloc = rt.alloc();
-    let bytes = transmission(alloc, LONE_TONE).expect(&rt, "an answer");
+    let bytes = transmission(alloc, LONE_TONE)?;
     let short = cut(bytes.as_slice(), 139);
     let (first, second) = short.split_at(short.len().min(79));
     let mut decoder = Decoder::new(alloc);
-    decoder.feed(first).expect(&rt, "an answer");
-    decoder.feed(second).expect(&rt, "an answer");
+    decoder.feed(first)?;
+    decoder.feed(second)?;
     same!(rt; decoder.finish().err(), Some(DecodeFault::Truncated));
     same!(rt; decoder.finish().err(), Some(DecodeFault::Failed));
     same!(rt; decoder.feed(&[]).err(), Some(DecodeFault::Failed));
+    Ok(())
 }
 
 // Pages of functions 1 to 3: the message of the second goes across a batch, the third is `a,b`.
@@ -207,37 +214,25 @@ const KINDS_LISTED: &[u8] =
 const ACROSS_LISTED: &[u8] = b"address,kind,message\n7,numeric,12345\n";
 
 #[test]
-fn listings(rt: HostRuntime) {
+fn listings(rt: HostRuntime) -> Result<(), Fail> {
     let alloc = rt.alloc();
-    let letters = pack_alpha(alloc, b"a,b").expect(&rt, "an answer");
+    let letters = pack_alpha(alloc, b"a,b")?;
     for (bytes, listing) in [
         (
-            transmission(alloc, TWO_DIGITS).expect(&rt, "an answer"),
+            transmission(alloc, TWO_DIGITS)?,
             b"address,kind,message\n0,numeric,12\n".as_slice(),
         ),
-        (
-            transmission(alloc, ACROSS).expect(&rt, "an answer"),
-            ACROSS_LISTED,
-        ),
-        (
-            kinds(alloc, letters.as_slice()).expect(&rt, "an answer"),
-            KINDS_LISTED,
-        ),
+        (transmission(alloc, ACROSS)?, ACROSS_LISTED),
+        (kinds(alloc, letters.as_slice())?, KINDS_LISTED),
     ] {
-        let pages = decode(alloc, bytes.as_slice()).expect(&rt, "an answer");
+        let pages = decode(alloc, bytes.as_slice())?;
         for step in [1, 64] {
             let mut sink = MemorySink::<128>::new(step, listing.len() as u64);
-            list(alloc, pages.as_slice(), &mut sink).expect(&rt, "an answer");
+            list(alloc, pages.as_slice(), &mut sink)?;
             same!(rt; sink.bytes(), listing);
         }
     }
-    let pages = decode(
-        alloc,
-        transmission(alloc, ACROSS)
-            .expect(&rt, "an answer")
-            .as_slice(),
-    )
-    .expect(&rt, "an answer");
+    let pages = decode(alloc, transmission(alloc, ACROSS)?.as_slice())?;
     for k in 0..37 {
         for step in [3, 64] {
             let mut sink = MemorySink::<64>::new(step, k as u64);
@@ -246,4 +241,5 @@ fn listings(rt: HostRuntime) {
             same!(rt; sink.bytes(), cut(ACROSS_LISTED, k));
         }
     }
+    Ok(())
 }

@@ -7,6 +7,7 @@ use pocsag_pages::Round;
 use pocsag_slots::{Choice, all_limits, classes_of, loads};
 use pocsag_words::End;
 use std::process::Abort;
+use std::test::Fail;
 
 // Rounds by address and number of items, each with the least number of batches for which there is a choice,
 // for both ends.
@@ -40,53 +41,37 @@ fn expect_least(rt: &impl Abort, name: &str, round: &Round, least: u32) {
 }
 
 #[test]
-fn least_numbers(rt: HostRuntime) {
+fn least_numbers(rt: HostRuntime) -> Result<(), Fail> {
     for (name, pages, least) in LEAST {
-        expect_least(
-            &rt,
-            name,
-            &round_of(rt.alloc(), pages).expect(&rt, "an answer"),
-            *least,
-        );
+        expect_least(&rt, name, &round_of(rt.alloc(), pages)?, *least);
     }
     for (count, least) in LEAST_OF_TONES {
-        let round = Round::from_pages(
-            rt.alloc(),
-            tones(rt.alloc(), count).expect(&rt, "an answer"),
-        )
-        .expect(&rt, "an answer");
+        let round = Round::from_pages(rt.alloc(), tones(rt.alloc(), count)?)?;
         expect_least(&rt, "tones", &round, least);
     }
+    Ok(())
 }
 
 #[test]
-fn choices(rt: HostRuntime) {
+fn choices(rt: HostRuntime) -> Result<(), Fail> {
     let late = Choice { early: [0; 136] };
     let three_tones: &[(u32, usize)] = &[(5, 0), (13, 0), (21, 0)];
     let last_frame: &[(u32, usize)] = &[(7, 1), (15, 1)];
     for (pages, set) in [(three_tones, 0x0C00), (last_frame, 0x8000)] {
-        let classes = classes_of(
-            &round_of(rt.alloc(), pages).expect(&rt, "an answer"),
-            End::Open,
-        );
+        let classes = classes_of(&round_of(rt.alloc(), pages)?, End::Open);
         let answer = choose(&classes, &all_limits(&classes, 1));
         same!(rt; answer, Err(ChooseFault::Overload(set)));
     }
     let full_batch: &[(u32, usize)] = &[(0, 15)];
     for (pages, batches) in [(full_batch, 1), (last_frame, 2)] {
-        let classes = classes_of(
-            &round_of(rt.alloc(), pages).expect(&rt, "an answer"),
-            End::Open,
-        );
+        let classes = classes_of(&round_of(rt.alloc(), pages)?, End::Open);
         let limits = all_limits(&classes, batches);
         same!(rt; choose_from(&classes, &limits, &late).is_ok(), true, pages);
     }
-    let classes = classes_of(
-        &round_of(rt.alloc(), full_batch).expect(&rt, "an answer"),
-        End::Open,
-    );
+    let classes = classes_of(&round_of(rt.alloc(), full_batch)?, End::Open);
     match choose(&classes, &all_limits(&classes, 1)) {
         Ok(choice) => same!(rt; loads(&classes, &choice), [1; 16]),
         Err(fault) => assert!(rt; false, "{fault:?}"),
     }
+    Ok(())
 }

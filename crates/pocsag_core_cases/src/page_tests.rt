@@ -2,116 +2,96 @@
 
 use crate::given::{PageRow, page, page_file, pages, tones};
 use crate::{THREE_PAGES_TIGHT, ones, same};
-use pocsag_batch::{FirstFault, first_stream};
 use pocsag_pages::{
     FieldFault, PageFault, Payload, RecordFault, Round, RoundFault, WholeFault,
     is_reserved_address, only_row, page_fault, page_of_fields, preamble_len, read_round,
     read_whole,
 };
-use pocsag_words::{DeviceFault, MemorySink, MemorySource, Source};
+use pocsag_words::{MemorySource, OutOfMemory};
 use std::alloc::Global;
+use std::test::Fail;
 
-// What stands behind the header, how many digits 1 follow, and the pages or the first fault.
-const FILES: &[(&[u8], usize, Result<&[PageRow], RoundFault>)] = &[
+// What stands behind the header, and the pages.
+const READ: &[(&[u8], &[PageRow])] = &[
     (
         b"8,tone0,\n0000000,numeric,12345\r\n\n2097151,alpha,\"ABC\"\n9,tone3,\n",
-        0,
-        Ok(&[
+        &[
             (8, 0, &[]),
             (0, 0, &[0x84C2A]),
             (2_097_151, 3, &[0x82870, 0x80000]),
             (9, 3, &[]),
-        ]),
+        ],
     ),
-    (b"0,numeric,12  \n", 0, Ok(&[(0, 0, &[0x84333])])),
-    (b"0,numeric,12\n", 0, Ok(&[(0, 0, &[0x84333])])),
-    (b"2007663,tone0,\n", 0, Ok(&[(2_007_663, 0, &[])])),
-    (
-        b"2007664,tone0,\n",
-        0,
-        Err(RoundFault::Record(1, RecordFault::Field(FieldFault::ReservedAddress))),
-    ),
+    (b"0,numeric,12  \n", &[(0, 0, &[0x84333])]),
+    (b"0,numeric,12\n", &[(0, 0, &[0x84333])]),
+    (b"2007663,tone0,\n", &[(2_007_663, 0, &[])]),
+];
+
+// What stands behind the header, and the record with a fault in a field.
+const BAD_FIELDS: &[(&[u8], u32, FieldFault)] = &[
+    (b"2007664,tone0,\n", 1, FieldFault::ReservedAddress),
+    (b"2097152,tone0,\n", 1, FieldFault::BadAddress),
+    (b"7,Tone0,\n", 1, FieldFault::BadKind),
+    (b"7,tone1,x\n", 1, FieldFault::MessageForTone),
+    (b"7,alpha,\n", 1, FieldFault::EmptyMessage),
+    (b"7,numeric,12a\n", 1, FieldFault::BadCharacter(2)),
+    (b"\n8,tone0,\n\r\n\n9,tone9,\n", 2, FieldFault::BadKind),
+];
+
+// The same of other faults.
+const REFUSED: &[(&[u8], u32, RecordFault)] = &[
     (
         b"8,tone0,\n0000008,tone1,\n",
-        0,
-        Err(RoundFault::Record(2, RecordFault::DuplicateAddress)),
+        2,
+        RecordFault::DuplicateAddress,
     ),
     (
         b"8,tone0,\n16,tone0,\n8,tone1,\n",
-        0,
-        Err(RoundFault::Record(3, RecordFault::DuplicateAddress)),
+        3,
+        RecordFault::DuplicateAddress,
     ),
-    (b"", 0, Err(RoundFault::NoPages)),
-    (
-        b"7,tone0\n",
-        0,
-        Err(RoundFault::Record(1, RecordFault::FieldCount)),
-    ),
-    (
-        b"2097152,tone0,\n",
-        0,
-        Err(RoundFault::Record(1, RecordFault::Field(FieldFault::BadAddress))),
-    ),
-    (
-        b"7,Tone0,\n",
-        0,
-        Err(RoundFault::Record(1, RecordFault::Field(FieldFault::BadKind))),
-    ),
-    (
-        b"7,tone1,x\n",
-        0,
-        Err(RoundFault::Record(1, RecordFault::Field(FieldFault::MessageForTone))),
-    ),
-    (
-        b"7,alpha,\n",
-        0,
-        Err(RoundFault::Record(1, RecordFault::Field(FieldFault::EmptyMessage))),
-    ),
-    (
-        b"7,numeric,12a\n",
-        0,
-        Err(RoundFault::Record(1, RecordFault::Field(FieldFault::BadCharacter(2)))),
-    ),
-    (
-        b"7,numeric,",
-        4_001,
-        Err(RoundFault::Record(1, RecordFault::Field(FieldFault::TooLong))),
-    ),
-    (
-        b"\n8,tone0,\n\r\n\n9,tone9,\n",
-        0,
-        Err(RoundFault::Record(2, RecordFault::Field(FieldFault::BadKind))),
-    ),
+    (b"7,tone0\n", 1, RecordFault::FieldCount),
 ];
 
 // Without the header.
 const UNHEADED: [&[u8]; 2] = [b"", b"8,tone0,\n"];
 
-#[test]
-fn page_files(rt: HostRuntime) {
-    let alloc = rt.alloc();
-    for (records, ones, wanted) in FILES {
-        let mut bytes = Vec::from_slice(alloc, b"address,kind,message\n".as_slice()).expect(
-            &rt,
-            "an answer",
-        );
-        bytes.extend_from_slice(records).expect(&rt, "an answer");
-        bytes
-            .resize(21 + records.len() + ones, b'1')
-            .expect(&rt, "an answer");
-        let read = read_round(alloc, &mut MemorySource::new(bytes.as_slice(), 7, u64::MAX));
-        match (read, wanted) {
-            (Ok(round), Ok(rows)) => {
-                let due = pages(alloc, rows).expect(&rt, "memory");
-                same!(rt; round.pages(), due.as_slice(), records);
-            }
-            (read, wanted) => same!(rt; read.err(), wanted.err(), records),
-        }
-    }
+// The header with these bytes and so many digits 1 behind it.
+fn file_of(alloc: Global, records: &[u8], ones: usize) -> Result<Vec<u8>, OutOfMemory> {
+    let mut bytes = Vec::from_slice(alloc, b"address,kind,message\n".as_slice())?;
+    bytes.extend_from_slice(records)?;
+    bytes.extend_from_slice(vec![in alloc; b'1'; ones]?.as_slice())?;
+    Ok(bytes)
+}
+
+fn read_records(alloc: Global, records: &[u8], ones: usize) -> Result<Round, RoundFault> {
+    let bytes = file_of(alloc, records, ones)?;
+    read_round(alloc, &mut MemorySource::new(bytes.as_slice(), 7, u64::MAX))
 }
 
 #[test]
-fn page_files_that_cannot_be_read(rt: HostRuntime) {
+fn page_files(rt: HostRuntime) -> Result<(), Fail> {
+    let alloc = rt.alloc();
+    for (records, rows) in READ {
+        let due = pages(alloc, rows)?;
+        same!(rt; read_records(alloc, records, 0)?.pages(), due.as_slice(), records);
+    }
+    for (records, number, fault) in BAD_FIELDS {
+        let due = RoundFault::Record(*number, RecordFault::Field(*fault));
+        same!(rt; read_records(alloc, records, 0).err(), Some(due), records);
+    }
+    for (records, number, fault) in REFUSED {
+        let due = RoundFault::Record(*number, *fault);
+        same!(rt; read_records(alloc, records, 0).err(), Some(due), records);
+    }
+    same!(rt; read_records(alloc, b"", 0).err(), Some(RoundFault::NoPages));
+    let too_long = RoundFault::Record(1, RecordFault::Field(FieldFault::TooLong));
+    same!(rt; read_records(alloc, b"7,numeric,", 4_001).err(), Some(too_long));
+    Ok(())
+}
+
+#[test]
+fn page_files_that_cannot_be_read(rt: HostRuntime) -> Result<(), Fail> {
     let alloc = rt.alloc();
     for bytes in UNHEADED {
         let read = read_round(alloc, &mut MemorySource::new(bytes, 7, u64::MAX));
@@ -124,9 +104,10 @@ fn page_files_that_cannot_be_read(rt: HostRuntime) {
         same!(rt; all.err(), Some(WholeFault::ReadFault));
         same!(rt; round.err(), Some(RoundFault::ReadFault));
     }
-    let read = read_round(alloc, &mut MemorySource::new(bytes, 1, 30)).expect(&rt, "an answer");
-    let due = pages(alloc, &[(8, 0, &[])]).expect(&rt, "an answer");
+    let read = read_round(alloc, &mut MemorySource::new(bytes, 1, 30))?;
+    let due = pages(alloc, &[(8, 0, &[])])?;
     same!(rt; read.pages(), due.as_slice());
+    Ok(())
 }
 
 // What stands before more commas than are few, and the fault of the file.
@@ -164,113 +145,49 @@ const BEFORE_COMMAS: &[(&[u8], RoundFault)] = &[
 ];
 
 #[test]
-fn records_too_wide(rt: HostRuntime) {
+fn records_too_wide(rt: HostRuntime) -> Result<(), Fail> {
     let alloc = rt.alloc();
     for (before, fault) in BEFORE_COMMAS {
-        let mut bytes = Vec::from_slice(alloc, before).expect(&rt, "memory");
-        bytes
-            .resize(before.len() + 100_001, b',')
-            .expect(&rt, "memory");
+        let mut bytes = Vec::from_slice(alloc, before)?;
+        bytes.resize(before.len() + 100_001, b',')?;
         let read = read_round(
             alloc,
             &mut MemorySource::new(bytes.as_slice(), 8192, u64::MAX),
         );
         same!(rt; read.err(), Some(*fault), before);
     }
-}
-
-// A page file of one page and empty lines, so long.
-#[derive(Drop)]
-struct LongFile {
-    text: &'static [u8],
-    left: usize,
-    calls: u64,
-}
-
-impl Source for LongFile {
-    ghost use Rattle.std.specs.Prelude.{[]};
-
-    ghost is_known = { ⊥ };
-
-    ghost held = { λ _. [] };
-
-    ghost calls = { λ s. s.calls };
-
-    ghost failures = { λ _. 0 };
-
-    fn read(&mut self, buffer: &mut [u8]) -> Result<usize, DeviceFault> {
-        self.calls = self.calls.saturating_add(1);
-        let mut count = self.left.min(buffer.len());
-        if self.text.is_empty() {
-            buffer[..count].fill(b'\n');
-        } else {
-            count = count.min(self.text.len());
-            let (front, rest) = self.text.split_at(count);
-            buffer[..count].copy_from_slice(front);
-            self.text = rest;
-        }
-        self.left -= count;
-        Ok(count)
-    }
-}
-
-fn long_file(length: usize) -> LongFile {
-    LongFile {
-        text: b"address,kind,message\n8,tone0,\n",
-        left: length,
-        calls: 0,
-    }
+    Ok(())
 }
 
 #[test]
-fn sizes(rt: HostRuntime) {
+fn sizes(rt: HostRuntime) -> Result<(), Fail> {
     let alloc = rt.alloc();
-    let mut bytes = page_file(alloc, &[]).expect(&rt, "an answer");
+    let mut bytes = page_file(alloc, &[])?;
     for address in 0..20_000u32 {
-        bytes
-            .extend_from_slice(
-                format!(in alloc; "{address},tone0,\n")
-                    .expect(&rt, "an answer")
-                    .as_bytes(),
-            )
-            .expect(&rt, "an answer");
+        bytes.extend_from_slice(format!(in alloc; "{address},tone0,\n")?.as_bytes())?;
     }
-    let read = read_round(alloc, &mut MemorySource::new(bytes.as_slice(), 7, u64::MAX)).expect(
-        &rt,
-        "an answer",
-    );
+    let read = read_round(alloc, &mut MemorySource::new(bytes.as_slice(), 7, u64::MAX))?;
     same!(rt; read.pages().len(), 20_000);
-    bytes
-        .extend_from_slice(b"20000,tone0,\n".as_slice())
-        .expect(&rt, "an answer");
+    bytes.extend_from_slice(b"20000,tone0,\n".as_slice())?;
     let read = read_round(alloc, &mut MemorySource::new(bytes.as_slice(), 7, u64::MAX));
     same!(rt; read.err(), Some(RoundFault::Record(20_001, RecordFault::TooManyPages)));
-    let round = Round::from_pages(alloc, tones(alloc, 20_000).expect(&rt, "an answer")).expect(
-        &rt,
-        "an answer",
-    );
-    same!(rt; round.pages(), tones(alloc, 20_000).expect(&rt, "an answer").as_slice());
-    let fault = Round::from_pages(alloc, tones(alloc, 20_001).expect(&rt, "an answer")).err();
+    let round = Round::from_pages(alloc, tones(alloc, 20_000)?)?;
+    same!(rt; round.pages(), tones(alloc, 20_000)?.as_slice());
+    let fault = Round::from_pages(alloc, tones(alloc, 20_001)?).err();
     same!(rt; fault, Some(RoundFault::Record(20_001, RecordFault::TooManyPages)));
-    // A file of 268,435,456 bytes is read by the built program (tests/program/edges.py): with checks it takes minutes.
+    // Files of 268,435,456 bytes and of one more are read by built programs: with checks it takes minutes.
+    Ok(())
 }
 
 #[test]
-fn files_too_large(rt: HostRuntime) {
+fn bytes_at_the_most(rt: HostRuntime) -> Result<(), Fail> {
     let alloc = rt.alloc();
-    let fault = read_round(alloc, &mut long_file(268_435_457)).err();
-    same!(rt; fault, Some(RoundFault::TooLarge));
-    let mut tx = MemorySink::<140>::new(64, 1000);
-    let told = first_stream(alloc, &mut long_file(268_435_457), &mut tx);
-    same!(rt; told, Err(FirstFault::Round(RoundFault::TooLarge)));
     let bytes = [0xAAu8; 140];
     let refused = read_whole(alloc, &mut MemorySource::new(&bytes, 9, u64::MAX), 139);
     same!(rt; refused.err(), Some(WholeFault::TooLarge));
-    let all = read_whole(alloc, &mut MemorySource::new(&bytes, 9, u64::MAX), 140).expect(
-        &rt,
-        "an answer",
-    );
+    let all = read_whole(alloc, &mut MemorySource::new(&bytes, 9, u64::MAX), 140)?;
     same!(rt; all.as_slice(), bytes.as_slice());
+    Ok(())
 }
 
 // The three fields of a record, and its page or its fault.
@@ -311,23 +228,24 @@ const JUDGED: &[(PageRow, Option<PageFault>)] = &[
 ];
 
 #[test]
-fn records_and_pages(rt: HostRuntime) {
+fn records_and_pages(rt: HostRuntime) -> Result<(), Fail> {
     let alloc = rt.alloc();
     for (address, kind, message, wanted) in FIELDS {
         match (page_of_fields(alloc, address, kind, message), wanted) {
             (Ok(spelled), Ok((address, function, items))) => {
-                same!(rt; spelled, page(alloc, *address, *function, items).expect(&rt, "an answer"));
+                same!(rt; spelled, page(alloc, *address, *function, items)?);
             }
             (told, wanted) => same!(rt; told.err(), wanted.err(), (address, kind)),
         }
     }
+    Ok(())
 }
 
 #[test]
-fn pages_and_addresses(rt: HostRuntime) {
+fn pages_and_addresses(rt: HostRuntime) -> Result<(), Fail> {
     let alloc = rt.alloc();
     for ((address, function, items), fault) in JUDGED {
-        let judged = page(alloc, *address, *function, items).expect(&rt, "an answer");
+        let judged = page(alloc, *address, *function, items)?;
         same!(rt; page_fault(&judged), *fault, (address, function));
     }
     for (address, is_reserved) in [
@@ -342,62 +260,60 @@ fn pages_and_addresses(rt: HostRuntime) {
     ] {
         same!(rt; is_reserved_address(address), is_reserved, address);
     }
+    Ok(())
 }
 
 #[test]
-fn leading_bytes(rt: HostRuntime) {
+fn leading_bytes(rt: HostRuntime) -> Result<(), Fail> {
     let alloc = rt.alloc();
     for count in 71..74 {
-        let mut bytes = vec![in alloc; 0xAA; count].expect(&rt, "an answer");
+        let mut bytes = vec![in alloc; 0xAA; count]?;
         same!(rt; preamble_len(bytes.as_slice()), count);
-        bytes.push(0x2A).expect(&rt, "an answer");
+        bytes.push(0x2A)?;
         same!(rt; preamble_len(bytes.as_slice()), count);
     }
+    Ok(())
 }
 
 // Rounds of pages, copies and payloads.
 #[test]
-fn rounds_of_pages(rt: HostRuntime) {
+fn rounds_of_pages(rt: HostRuntime) -> Result<(), Fail> {
     let alloc = rt.alloc();
     let items: &[u32] = &[0x88888; 15];
     let tight = [
-        page(alloc, 0, 0, &items[..5]).expect(&rt, "an answer"),
-        page(alloc, 3, 0, &items[..9]).expect(&rt, "an answer"),
-        page(alloc, 11, 0, items).expect(&rt, "an answer"),
+        page(alloc, 0, 0, &items[..5])?,
+        page(alloc, 3, 0, &items[..9])?,
+        page(alloc, 11, 0, items)?,
     ];
     let mut given = Vec::new(alloc);
     for (address, count) in THREE_PAGES_TIGHT {
-        given
-            .push(ones(alloc, address, count).expect(&rt, "an answer"))
-            .expect(&rt, "an answer");
+        given.push(ones(alloc, address, count)?)?;
     }
-    let round = Round::from_pages(alloc, given).expect(&rt, "an answer");
+    let round = Round::from_pages(alloc, given)?;
     same!(rt; round.pages(), tight.as_slice());
     let mut twice = Vec::new(alloc);
     for page in round.pages() {
-        twice
-            .push(page.copy(alloc).expect(&rt, "an answer"))
-            .expect(&rt, "an answer");
+        twice.push(page.copy(alloc)?)?;
     }
-    twice
-        .push(page(alloc, 0, 1, &[]).expect(&rt, "an answer"))
-        .expect(&rt, "an answer");
+    twice.push(page(alloc, 0, 1, &[])?)?;
     let fault = Round::from_pages(alloc, twice).err();
     same!(rt; fault, Some(RoundFault::Record(4, RecordFault::DuplicateAddress)));
     let fault = Round::from_pages(alloc, Vec::new(alloc)).err();
     same!(rt; fault, Some(RoundFault::NoPages));
+    Ok(())
 }
 
 #[test]
-fn copies_and_payloads(rt: HostRuntime) {
+fn copies_and_payloads(rt: HostRuntime) -> Result<(), Fail> {
     let alloc = rt.alloc();
-    let tone = page(alloc, 8, 0, &[]).expect(&rt, "an answer");
-    same!(rt; tone.copy(alloc).expect(&rt, "an answer"), tone);
-    let digits = page(alloc, 0, 0, &[0x84C2A]).expect(&rt, "an answer");
-    same!(rt; digits.copy(alloc).expect(&rt, "an answer"), digits);
+    let tone = page(alloc, 8, 0, &[])?;
+    same!(rt; tone.copy(alloc)?, tone);
+    let digits = page(alloc, 0, 0, &[0x84C2A])?;
+    same!(rt; digits.copy(alloc)?, digits);
     same!(rt; Payload::empty(alloc), tone.payload);
     same!(rt; digits.payload.as_slice(), [0x84C2A].as_slice());
     same!(rt; digits.payload.into_vec().len(), 1);
+    Ok(())
 }
 
 // What stands behind the header, before and behind so many commas. Each first record has more than three fields, some of them
@@ -409,38 +325,41 @@ const LONG_FILES: &[(&[u8], usize, &[u8])] = &[
 ];
 
 #[test]
-fn records_of_a_long_file(rt: HostRuntime) {
+fn records_of_a_long_file(rt: HostRuntime) -> Result<(), Fail> {
     let alloc = rt.alloc();
     for (before, count, behind) in LONG_FILES {
-        let mut file = Vec::from_slice(alloc, b"address,kind,message\n").expect(&rt, "memory");
-        file.extend_from_slice(before).expect(&rt, "memory");
+        let mut file = Vec::from_slice(alloc, b"address,kind,message\n")?;
+        file.extend_from_slice(before)?;
         let len = file.len() + count;
-        file.resize(len, b',').expect(&rt, "memory");
-        file.extend_from_slice(behind).expect(&rt, "memory");
+        file.resize(len, b',')?;
+        file.extend_from_slice(behind)?;
         let mut source = MemorySource::new(file.as_slice(), 65_536, u64::MAX);
-        let fault = read_round(alloc, &mut source).err().expect(&rt, "a fault");
-        let text = format!(in alloc; "{fault}").expect(&rt, "memory");
+        let fault = read_round(alloc, &mut source)
+            .err()
+            .expect(&rt, "an answer");
+        let text = format!(in alloc; "{fault}")?;
         same!(rt; text.as_str(), "record 1: three fields are wanted");
     }
+    Ok(())
 }
 
 #[test]
-fn pages_beyond_a_front(rt: HostRuntime) {
+fn pages_beyond_a_front(rt: HostRuntime) -> Result<(), Fail> {
     let alloc = rt.alloc();
-    let mut file = Vec::from_slice(alloc, b"address,kind,message\n").expect(&rt, "memory");
+    let mut file = Vec::from_slice(alloc, b"address,kind,message\n")?;
     for number in 0..1_100u32 {
         let address = number.saturating_mul(8);
-        let begins = format!(in alloc; "{address},alpha,\"").expect(&rt, "memory");
-        file.extend_from_slice(begins.as_bytes())
-            .expect(&rt, "memory");
+        let begins = format!(in alloc; "{address},alpha,\"")?;
+        file.extend_from_slice(begins.as_bytes())?;
         let len = file.len() + 4_000;
-        file.resize(len, b',').expect(&rt, "memory");
-        file.extend_from_slice(b"\"\n").expect(&rt, "memory");
+        file.resize(len, b',')?;
+        file.extend_from_slice(b"\"\n")?;
     }
     let mut source = MemorySource::new(file.as_slice(), 65_536, u64::MAX);
-    let round = read_round(alloc, &mut source).expect(&rt, "a round");
+    let round = read_round(alloc, &mut source)?;
     assert!(rt; round.pages().len() == 1_100);
     same!(rt; round.pages()[1_099].address, 8_792);
+    Ok(())
 }
 
 // Bytes, and the fields of their record where they hold one and no more.
@@ -500,9 +419,9 @@ const LONE_ROWS: &[(&[u8], Option<&[&[u8]]>)] = &[
 ];
 
 #[test]
-fn lone_rows(rt: HostRuntime) {
+fn lone_rows(rt: HostRuntime) -> Result<(), Fail> {
     for (bytes, fields) in LONE_ROWS {
-        let row = only_row(rt.alloc(), bytes).expect(&rt, "memory");
+        let row = only_row(rt.alloc(), bytes)?;
         same!(rt; row.is_some(), fields.is_some(), bytes);
         if let (Some(row), Some(fields)) = (row, fields) {
             same!(rt; row.len(), fields.len(), bytes);
@@ -511,6 +430,7 @@ fn lone_rows(rt: HostRuntime) {
             }
         }
     }
+    Ok(())
 }
 
 // What stands before and behind so many times one byte, and how often the byte is in the first field.
@@ -521,20 +441,17 @@ const LONG_ROWS: &[(&[u8], u8, usize, &[u8], usize)] = &[
 ];
 
 #[test]
-fn long_rows(rt: HostRuntime) {
+fn long_rows(rt: HostRuntime) -> Result<(), Fail> {
     let alloc = rt.alloc();
     for (before, byte, count, behind, field_count) in LONG_ROWS {
-        let mut bytes = Vec::from_slice(alloc, before).expect(&rt, "memory");
-        bytes
-            .resize(before.len() + count, *byte)
-            .expect(&rt, "memory");
-        bytes.extend_from_slice(behind).expect(&rt, "memory");
-        let row = only_row(alloc, bytes.as_slice())
-            .expect(&rt, "memory")
-            .expect(&rt, "a record");
-        let field = vec![in alloc; *byte; *field_count].expect(&rt, "memory");
+        let mut bytes = Vec::from_slice(alloc, before)?;
+        bytes.resize(before.len() + count, *byte)?;
+        bytes.extend_from_slice(behind)?;
+        let row = only_row(alloc, bytes.as_slice())?.expect(&rt, "an answer");
+        let field = vec![in alloc; *byte; *field_count]?;
         same!(rt; row.len(), 2);
         same!(rt; row.get(0), Some(field.as_slice()));
         same!(rt; row.get(1), Some(b"last".as_slice()));
     }
+    Ok(())
 }

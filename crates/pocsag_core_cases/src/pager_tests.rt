@@ -5,6 +5,7 @@ use crate::given::{
 };
 use crate::same;
 use pocsag_pager::{Pager, PagerFault, hear_all};
+use std::test::Fail;
 
 // The page of `12345` for address 0.
 const ZERO: Sent = (16, IDLE, &[(0, 0), (1, DIGITS)]);
@@ -57,10 +58,10 @@ const FAULTS: [(usize, u32, Option<PagerFault>); 7] = [
 ];
 
 #[test]
-fn transmissions(rt: HostRuntime) {
+fn transmissions(rt: HostRuntime) -> Result<(), Fail> {
     let alloc = rt.alloc();
     for (sent, wrong, address, wanted) in HEARD {
-        let mut bytes = transmission(alloc, *sent).expect(&rt, "an answer");
+        let mut bytes = transmission(alloc, *sent)?;
         for (place, bits) in wrong.iter().enumerate() {
             for (byte, flipped) in bits.to_be_bytes().iter().enumerate() {
                 let at = 72 + 4 * place.min(100) + byte;
@@ -69,15 +70,16 @@ fn transmissions(rt: HostRuntime) {
                 }
             }
         }
-        let shown = hear_all(alloc, bytes.as_slice(), *address).expect(&rt, "an answer");
-        let due = pages(alloc, wanted).expect(&rt, "an answer");
+        let shown = hear_all(alloc, bytes.as_slice(), *address)?;
+        let due = pages(alloc, wanted)?;
         same!(rt; shown.as_slice(), due.as_slice(), (sent, address));
     }
-    let bytes = transmission(alloc, LONE_TONE).expect(&rt, "an answer");
+    let bytes = transmission(alloc, LONE_TONE)?;
     for (len, address, due) in FAULTS {
         let told = hear_all(alloc, cut(bytes.as_slice(), len), address);
         same!(rt; told.err(), due, (len, address));
     }
+    Ok(())
 }
 
 // Words that pagers of address 8 hear one after the other, and with how many items a page is shown.
@@ -92,27 +94,25 @@ const BY_WORD: [&[(u32, Option<usize>)]; 2] = [
 ];
 
 #[test]
-fn words_and_ends(rt: HostRuntime) {
+fn words_and_ends(rt: HostRuntime) -> Result<(), Fail> {
     let alloc = rt.alloc();
     for (words, at_end) in BY_WORD.iter().zip([None, Some(0)]) {
-        let mut pager = Pager::new(alloc, 8).expect(&rt, "an answer");
+        let mut pager = Pager::new(alloc, 8)?;
         let items: &[u32] = &[0x84C2A];
         for (word, shown) in words.iter() {
             let due = match shown {
-                Some(count) => Some(page(alloc, 8, 0, &items[..(*count).min(1)]).expect(
-                    &rt,
-                    "an answer",
-                )),
+                Some(count) => Some(page(alloc, 8, 0, &items[..(*count).min(1)])?),
                 None => None,
             };
-            same!(rt; pager.hear(*word).expect(&rt, "an answer"), due);
+            same!(rt; pager.hear(*word)?, due);
         }
         let due = match at_end {
-            Some(_) => Some(page(alloc, 8, 0, &[]).expect(&rt, "an answer")),
+            Some(_) => Some(page(alloc, 8, 0, &[])?),
             None => None,
         };
-        same!(rt; pager.end().expect(&rt, "an answer"), due);
+        same!(rt; pager.end()?, due);
         same!(rt; pager.hear(IDLE).err(), Some(PagerFault::Failed));
         same!(rt; pager.end().err(), Some(PagerFault::Failed));
     }
+    Ok(())
 }

@@ -10,8 +10,15 @@ use pocsag_plan::{
 use pocsag_tree::{nodes, read_certificate};
 use pocsag_words::{End, MemorySink, MemorySource, OutOfMemory};
 use std::alloc::Global;
+use std::test::Fail;
 
 const ONE_TONE: Records = &[("8,tone0,", 0)];
+
+const THREE_TONES: Records = &[("5,tone0,", 0), ("13,tone0,", 0), ("21,tone0,", 0)];
+
+const LAST_FRAME: Records = &[("7,numeric,12345", 0), ("15,numeric,12345", 0)];
+
+const CLOSED_MIXED: Records = &[("0,numeric,", 65), ("7,tone0,", 0), ("15,numeric,", 80)];
 
 const LOOPS_APART: Records = &[("0,numeric,", 75), ("3,numeric,", 75)];
 
@@ -43,31 +50,16 @@ const PLANNED: &[(Records, End, u32, u32)] = &[
     (ONE_TONE, End::Open, 1, 1),
     (ONE_TONE, End::Closed, 1, 1),
     (ONE_TONE, End::Idle, 1, 1),
-    (
-        &[("5,tone0,", 0), ("13,tone0,", 0), ("21,tone0,", 0)],
-        End::Open,
-        2,
-        2,
-    ),
+    (THREE_TONES, End::Open, 2, 2),
     (LOOPS_APART, End::Open, 3, 3),
     (EXACT, End::Open, 1, 1),
     (EXACT, End::Closed, 2, 1),
     (EXACT, End::Idle, 2, 1),
     (THREE_TIGHT, End::Open, 2, 3),
-    (
-        &[("7,numeric,12345", 0), ("15,numeric,12345", 0)],
-        End::Open,
-        2,
-        2,
-    ),
+    (LAST_FRAME, End::Open, 2, 2),
     (LONG_NUMERIC, End::Open, 4, 4),
     (LONG_NUMERIC, End::Closed, 5, 4),
-    (
-        &[("0,numeric,", 65), ("7,tone0,", 0), ("15,numeric,", 80)],
-        End::Closed,
-        2,
-        2,
-    ),
+    (CLOSED_MIXED, End::Closed, 2, 2),
     (BOTH_WAYS, End::Open, 2, 2),
     (BOTH_WAYS, End::Closed, 3, 2),
     (BOTH_WAYS, End::Idle, 3, 2),
@@ -95,39 +87,41 @@ fn always(limit: u32, end: End) -> Search {
 }
 
 #[test]
-fn plans(rt: HostRuntime) {
+fn plans(rt: HostRuntime) -> Result<(), Fail> {
     let alloc = rt.alloc();
     for (records, end, batches, in_order) in PLANNED {
-        let round = round_of_file(alloc, records).expect(&rt, "an answer");
-        let fewest = plan(alloc, &round, 100_000, *end).expect(&rt, "an answer");
+        let round = round_of_file(alloc, records)?;
+        let fewest = plan(alloc, &round, 100_000, *end)?;
         same!(rt; (fewest.batches, fewest.in_order), (*batches, *in_order), records);
         same!(rt; check(&round, *batches, &fewest.tree, *end), true, records);
         let search = always(100_000, *end);
-        let bounded = bounded_plan(alloc, &round, search).expect(&rt, "an answer");
+        let bounded = bounded_plan(alloc, &round, search)?;
         same!(rt; (bounded.plan.batches, bounded.bound), (*batches, *batches), records);
         same!(rt; check(&round, *batches, &bounded.plan.tree, *end), true, records);
     }
+    Ok(())
 }
 
 #[test]
-fn codewords(rt: HostRuntime) {
+fn codewords(rt: HostRuntime) -> Result<(), Fail> {
     let alloc = rt.alloc();
     for (records, count, batches) in SIZES {
-        let round = round_of_file(alloc, records).expect(&rt, "an answer");
-        let fewest = plan(alloc, &round, 100_000, End::Open).expect(&rt, "an answer");
+        let round = round_of_file(alloc, records)?;
+        let fewest = plan(alloc, &round, 100_000, End::Open)?;
         same!(rt; (fewest.codewords, fewest.batches), (count, batches), records);
     }
+    Ok(())
 }
 
 #[test]
-fn plans_within_a_limit(rt: HostRuntime) {
+fn plans_within_a_limit(rt: HostRuntime) -> Result<(), Fail> {
     let alloc = rt.alloc();
     for (records, limit, batches, bound) in LIMITED {
-        let round = round_of_file(alloc, records).expect(&rt, "an answer");
+        let round = round_of_file(alloc, records)?;
         let told = plan(alloc, &round, limit, End::Open);
         same!(rt; matches!(told, Err(PlanFault::SearchLimit(_))), true, records);
         let search = always(limit, End::Open);
-        let bounded = bounded_plan(alloc, &round, search).expect(&rt, "an answer");
+        let bounded = bounded_plan(alloc, &round, search)?;
         same!(rt; (bounded.plan.batches, bounded.bound), (batches, bound), records);
         same!(rt; check(&round, bound, &bounded.plan.tree, End::Open), true, records);
         let Some(stop) = &bounded.stopped else {
@@ -137,12 +131,13 @@ fn plans_within_a_limit(rt: HostRuntime) {
         same!(rt; (stop.least, stop.found, nodes(&stop.tree)), (bound, batches, u64::from(limit)), records);
         same!(rt; check_open(&round, batches, &stop.tree, End::Open), true, records);
     }
+    Ok(())
 }
 
 #[test]
-fn limits_and_reports(rt: HostRuntime) {
+fn limits_and_reports(rt: HostRuntime) -> Result<(), Fail> {
     let alloc = rt.alloc();
-    let round = round_of_file(alloc, LOOPS_APART).expect(&rt, "an answer");
+    let round = round_of_file(alloc, LOOPS_APART)?;
     for limit in [0, 1_000_001] {
         let told = plan(alloc, &round, limit, End::Open);
         same!(rt; matches!(told, Err(PlanFault::BadLimit)), true, limit);
@@ -153,23 +148,16 @@ fn limits_and_reports(rt: HostRuntime) {
         panic!(rt; "planned");
     };
     same!(rt; (stop.least, stop.found), (2, 3));
-    let found = plan(alloc, &round, 3, End::Open).expect(&rt, "an answer");
+    let found = plan(alloc, &round, 3, End::Open)?;
     same!(rt; found.batches, 3);
-    let fewest = plan(
-        alloc,
-        &round_of_file(alloc, THREE_TIGHT).expect(&rt, "an answer"),
-        100_000,
-        End::Open,
-    )
-    .expect(&rt, "an answer");
-    let text = format!(in alloc; "{}", report(&fewest, 1200).expect(&rt, "an answer")).expect(
-        &rt,
-        "an answer",
-    );
+    let tight = round_of_file(alloc, THREE_TIGHT)?;
+    let fewest = plan(alloc, &tight, 100_000, End::Open)?;
+    let text = format!(in alloc; "{}", report(&fewest, 1200)?)?;
     same!(rt; text.as_str(), "pages 3\ncodewords 32\nin_order 3\nbatches 2\nidles 0\nbits 1664\nairtime_ms 1387\n");
-    same!(rt; report(&fewest, 512).expect(&rt, "an answer").airtime_ms, 3250);
-    same!(rt; report(&fewest, 2400).expect(&rt, "an answer").airtime_ms, 694);
+    same!(rt; report(&fewest, 512)?.airtime_ms, 3250);
+    same!(rt; report(&fewest, 2400)?.airtime_ms, 694);
     assert!(rt; report(&fewest, 1201).is_err());
+    Ok(())
 }
 
 // How a page file is streamed: within which limit of nodes, whether always, how many bytes are read and written
@@ -208,96 +196,74 @@ fn stream(alloc: Global, records: Records, way: Way) -> Result<Streamed, OutOfMe
     let mut tx = MemorySink::<400>::new(step, way.sent);
     let mut cert = MemorySink::<100>::new(step, way.certified);
     let answer = if way.is_always {
-        match plan_stream_always(alloc, &mut source, &mut tx, &mut cert, way.limit, End::Open) {
-            Ok(bounded) => Ok((bounded.plan.batches, bounded.bound)),
-            Err(fault) => Err(fault),
-        }
+        plan_stream_always(alloc, &mut source, &mut tx, &mut cert, way.limit, End::Open).map(
+            |bounded| (bounded.plan.batches, bounded.bound),
+        )
     } else {
-        match plan_stream(alloc, &mut source, &mut tx, &mut cert, way.limit, End::Open) {
-            Ok(plan) => Ok((plan.batches, plan.batches)),
-            Err(fault) => Err(fault),
-        }
+        plan_stream(alloc, &mut source, &mut tx, &mut cert, way.limit, End::Open).map(|plan| (
+            plan.batches,
+            plan.batches,
+        ))
     };
     Ok(Streamed { answer, tx, cert })
 }
 
-// Rounds, how they are streamed, the batches and the bound, and the only transmission, where there is one.
-const STREAMED: [(Records, Way, u32, u32, Option<Sent>); 7] = [
-    (EXACT, Way { step: 1, ..AMPLE }, 1, 1, Some(EXACT_SENT)),
-    (EXACT, Way { step: 400, ..AMPLE }, 1, 1, Some(EXACT_SENT)),
-    (
-        EXACT,
-        Way {
-            step: 9,
-            is_always: true,
-            ..AMPLE
-        },
-        1,
-        1,
-        Some(EXACT_SENT),
-    ),
-    (THREE_TIGHT, Way { step: 1, ..AMPLE }, 2, 2, Some(TIGHT)),
-    (THREE_TIGHT, Way { step: 400, ..AMPLE }, 2, 2, Some(TIGHT)),
-    (
-        THREE_TIGHT,
-        Way {
-            step: 9,
-            is_always: true,
-            ..AMPLE
-        },
-        2,
-        2,
-        Some(TIGHT),
-    ),
-    (
-        LOOPS_APART,
-        Way {
-            step: 9,
-            is_always: true,
-            limit: 1,
-            ..AMPLE
-        },
-        3,
-        2,
-        None,
-    ),
-];
+const fn in_steps(step: usize) -> Way {
+    Way { step, ..AMPLE }
+}
+
+const fn always_within(limit: u32) -> Way {
+    Way {
+        limit,
+        is_always: true,
+        ..in_steps(9)
+    }
+}
+
+// A round, how it is streamed, the batches and the bound, and the only transmission, where there is one.
+type StreamCase = (Records, Way, u32, u32, Option<Sent>);
 
 const EXACT_SENT: Sent = (16, ONES, &[(0, 0), (6, 0)]);
 
 #[test]
-fn streams(rt: HostRuntime) {
+fn streams(rt: HostRuntime) -> Result<(), Fail> {
     let alloc = rt.alloc();
-    for (records, way, batches, bound, sent) in STREAMED {
-        let streamed = stream(alloc, records, way).expect(&rt, "an answer");
-        same!(rt; streamed.answer.expect(&rt, "an answer"), (batches, bound), records);
+    let cases: [StreamCase; 7] = [
+        (EXACT, in_steps(1), 1, 1, Some(EXACT_SENT)),
+        (EXACT, in_steps(400), 1, 1, Some(EXACT_SENT)),
+        (EXACT, always_within(100_000), 1, 1, Some(EXACT_SENT)),
+        (THREE_TIGHT, in_steps(1), 2, 2, Some(TIGHT)),
+        (THREE_TIGHT, in_steps(400), 2, 2, Some(TIGHT)),
+        (THREE_TIGHT, always_within(100_000), 2, 2, Some(TIGHT)),
+        (LOOPS_APART, always_within(1), 3, 2, None),
+    ];
+    for (records, way, batches, bound, sent) in cases {
+        let streamed = stream(alloc, records, way)?;
+        same!(rt; streamed.answer?, (batches, bound), records);
         same!(rt; streamed.tx.bytes().len(), 72 + 68 * batches as usize, records);
         if let Some(sent) = sent {
-            let due = transmission(alloc, sent).expect(&rt, "an answer");
+            let due = transmission(alloc, sent)?;
             same!(rt; streamed.tx.bytes(), due.as_slice(), records);
         }
         let mut source = MemorySource::new(streamed.cert.bytes(), 7, u64::MAX);
-        let read = read_certificate(alloc, &mut source).expect(&rt, "an answer");
+        let read = read_certificate(alloc, &mut source)?;
         same!(rt; read.batches, bound, records);
-        let round = round_of_file(alloc, records).expect(&rt, "an answer");
+        let round = round_of_file(alloc, records)?;
         same!(rt; check(&round, bound, &read.tree, read.end), true, records);
     }
+    Ok(())
 }
 
 #[test]
-fn streams_that_write_nothing(rt: HostRuntime) {
+fn streams_that_write_nothing(rt: HostRuntime) -> Result<(), Fail> {
     let alloc = rt.alloc();
     for (limit, read) in [(0, u64::MAX), (100_000, 0), (100_000, 20)] {
-        let told = stream(
-            alloc,
-            ONE_TONE,
-            Way {
-                limit,
-                read,
-                ..AMPLE
-            },
-        )
-        .expect(&rt, "an answer");
+        let way = Way {
+            limit,
+            read,
+            ..AMPLE
+        };
+        let told = stream(alloc, ONE_TONE, way)?;
         match told.answer {
             Err(StreamFault::Plan(PlanFault::BadLimit)) => same!(rt; limit, 0),
             Err(StreamFault::Round(RoundFault::ReadFault)) => same!(rt; limit, 100_000),
@@ -305,48 +271,41 @@ fn streams_that_write_nothing(rt: HostRuntime) {
         }
         assert!(rt; told.tx.bytes().is_empty() && told.cert.bytes().is_empty());
     }
+    Ok(())
 }
 
 #[test]
-fn streams_that_fail_in_the_transmission(rt: HostRuntime) {
+fn streams_that_fail_in_the_transmission(rt: HostRuntime) -> Result<(), Fail> {
     let alloc = rt.alloc();
-    let whole = stream(alloc, ONE_TONE, AMPLE).expect(&rt, "an answer");
+    let whole = stream(alloc, ONE_TONE, AMPLE)?;
     same!(rt; whole.tx.bytes().len(), 140);
     for k in 0..140u64 {
-        let told = stream(
-            alloc,
-            ONE_TONE,
-            Way {
-                step: 5,
-                sent: k,
-                ..AMPLE
-            },
-        )
-        .expect(&rt, "an answer");
+        let way = Way {
+            sent: k,
+            ..in_steps(5)
+        };
+        let told = stream(alloc, ONE_TONE, way)?;
         same!(rt; matches!(told.answer, Err(StreamFault::Transmission(_))), true, k);
         same!(rt; whole.tx.bytes().starts_with(told.tx.bytes()), true, k);
         same!(rt; told.tx.bytes().len() as u64 == k && told.cert.bytes().is_empty(), true, k);
     }
+    Ok(())
 }
 
 #[test]
-fn streams_that_fail_in_the_certificate(rt: HostRuntime) {
+fn streams_that_fail_in_the_certificate(rt: HostRuntime) -> Result<(), Fail> {
     let alloc = rt.alloc();
-    let whole = stream(alloc, ONE_TONE, AMPLE).expect(&rt, "an answer");
+    let whole = stream(alloc, ONE_TONE, AMPLE)?;
     for k in 0..whole.cert.bytes().len() as u64 {
-        let told = stream(
-            alloc,
-            ONE_TONE,
-            Way {
-                step: 5,
-                certified: k,
-                ..AMPLE
-            },
-        )
-        .expect(&rt, "an answer");
+        let way = Way {
+            certified: k,
+            ..in_steps(5)
+        };
+        let told = stream(alloc, ONE_TONE, way)?;
         same!(rt; matches!(told.answer, Err(StreamFault::Certificate(_))), true, k);
         same!(rt; told.tx.bytes() == whole.tx.bytes(), true, k);
         same!(rt; whole.cert.bytes().starts_with(told.cert.bytes()), true, k);
         same!(rt; told.cert.bytes().len() as u64, k);
     }
+    Ok(())
 }

@@ -6,6 +6,7 @@ use pocsag_decode::DecodeFault;
 use pocsag_show::{Rows, ShowFault, View};
 use pocsag_words::MemorySink;
 use std::alloc::Global;
+use std::test::Fail;
 
 const LONE_TEXT: &[u8] = b"\
 batches 1, codewords 1, idles 15 (94%), airtime 2188 ms at 512 bit/s, 934 ms at 1200 bit/s, 467 ms at 2400 bit/s
@@ -126,39 +127,35 @@ const REFUSED: &[(Form, Sent, usize, ShowFault)] = &[
 ];
 
 #[test]
-fn texts_and_lists(rt: HostRuntime) {
+fn texts_and_lists(rt: HostRuntime) -> Result<(), Fail> {
     let alloc = rt.alloc();
     for (form, sent, more, step, text) in SHOWN {
-        let mut bytes = vec![in alloc; 0xAA; *more].expect(&rt, "an answer");
-        bytes
-            .extend_from_slice(
-                transmission(alloc, *sent)
-                    .expect(&rt, "an answer")
-                    .as_slice(),
-            )
-            .expect(&rt, "an answer");
+        let mut bytes = vec![in alloc; 0xAA; *more]?;
+        bytes.extend_from_slice(transmission(alloc, *sent)?.as_slice())?;
         let mut sink = MemorySink::<512>::new((*step).max(1), 512);
         same!(rt; show(alloc, *form, bytes.as_slice(), &mut sink), None);
         same!(rt; sink.bytes(), *text);
     }
+    Ok(())
 }
 
 #[test]
-fn transmissions_that_are_refused(rt: HostRuntime) {
+fn transmissions_that_are_refused(rt: HostRuntime) -> Result<(), Fail> {
     let alloc = rt.alloc();
     for (form, sent, len, fault) in REFUSED {
-        let bytes = transmission(alloc, *sent).expect(&rt, "an answer");
+        let bytes = transmission(alloc, *sent)?;
         let mut sink = MemorySink::<512>::new(512, 512);
         let told = show(alloc, *form, cut(bytes.as_slice(), *len), &mut sink);
         same!(rt; told, Some(*fault), (form, len));
         same!(rt; sink.bytes().is_empty(), true, (form, len));
     }
+    Ok(())
 }
 
 #[test]
-fn failing_writes(rt: HostRuntime) {
+fn failing_writes(rt: HostRuntime) -> Result<(), Fail> {
     let alloc = rt.alloc();
-    let bytes = transmission(alloc, LONE_TONE).expect(&rt, "an answer");
+    let bytes = transmission(alloc, LONE_TONE)?;
     for (form, text) in [(Form::Text, LONE_TEXT), (Form::List, LONE_LIST)] {
         for left in 0..text.len() {
             let mut sink = MemorySink::<512>::new(3, left as u64);
@@ -167,6 +164,7 @@ fn failing_writes(rt: HostRuntime) {
             same!(rt; sink.bytes(), &text[..left]);
         }
     }
+    Ok(())
 }
 
 const TOTALS: &[u8] =
@@ -186,29 +184,30 @@ const ROWS: &[(u64, u64, &[u8])] = &[
 ];
 
 #[test]
-fn rows_that_are_wanted(rt: HostRuntime) {
+fn rows_that_are_wanted(rt: HostRuntime) -> Result<(), Fail> {
     let alloc = rt.alloc();
     assert!(rt; Rows::new(0, 4).is_none());
     assert!(rt; Rows::new(4, 3).is_none());
-    let bytes = transmission(alloc, ACROSS).expect(&rt, "an answer");
+    let bytes = transmission(alloc, ACROSS)?;
     for (first, last, text) in ROWS {
-        let rows = Rows::new(*first, *last).expect(&rt, "rows");
+        let rows = Rows::new(*first, *last).expect(&rt, "an answer");
         let mut sink = MemorySink::<512>::new(512, 512);
         same!(rt; pocsag_show::show(alloc, View::Grid(rows), bytes.as_slice(), &mut sink).err(), None);
         assert!(rt; sink.bytes().starts_with(&ACROSS_TEXT[..113]));
         assert!(rt; sink.bytes().ends_with(text));
     }
+    Ok(())
 }
 
 #[test]
-fn large_texts_and_drawings(rt: HostRuntime) {
+fn large_texts_and_drawings(rt: HostRuntime) -> Result<(), Fail> {
     let alloc = rt.alloc();
-    let bytes = transmission(alloc, (16_000, IDLE, &[])).expect(&rt, "an answer");
+    let bytes = transmission(alloc, (16_000, IDLE, &[]))?;
     let mut sink = MemorySink::<40000>::new(40_000, 40_000);
     same!(rt; show(alloc, Form::Text, bytes.as_slice(), &mut sink), None);
     assert!(rt; sink.bytes().starts_with(TOTALS));
     assert!(rt; sink.bytes().ends_with(LAST_ROWS));
-    let bytes = transmission(alloc, LONE_TONE).expect(&rt, "an answer");
+    let bytes = transmission(alloc, LONE_TONE)?;
     let mut sink = MemorySink::<40000>::new(10_000, 10_000);
     same!(rt; show(alloc, Form::Drawing, bytes.as_slice(), &mut sink), None);
     assert!(rt;
@@ -220,4 +219,5 @@ fn large_texts_and_drawings(rt: HostRuntime) {
     let told = show(alloc, Form::Drawing, bytes.as_slice(), &mut sink);
     same!(rt; told, Some(ShowFault::WriteFault));
     same!(rt; sink.bytes(), b"<svg xmlns='http".as_slice());
+    Ok(())
 }

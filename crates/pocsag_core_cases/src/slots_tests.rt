@@ -6,6 +6,7 @@ use pocsag_slots::{
     loads, narrow, overloads, size, ways, with_member,
 };
 use pocsag_words::End;
+use std::test::Fail;
 
 const THREE_TONES: &[(u32, usize)] = &[(5, 0), (13, 0), (21, 0)];
 
@@ -57,33 +58,29 @@ const CLOSING: &[(End, &[Way])] = &[
 ];
 
 #[test]
-fn classes(rt: HostRuntime) {
+fn classes(rt: HostRuntime) -> Result<(), Fail> {
     for (pages, end, class, count, turns) in COUNTS {
-        let classes = classes_of(&round_of(rt.alloc(), pages).expect(&rt, "an answer"), *end);
+        let classes = classes_of(&round_of(rt.alloc(), pages)?, *end);
         assert!(rt; *class < 136);
         let told = (classes.count[*class], classes.turns[*class]);
         same!(rt; told, (*count, *turns), (pages, class));
     }
+    Ok(())
 }
 
 #[test]
-fn ways_across(rt: HostRuntime) {
+fn ways_across(rt: HostRuntime) -> Result<(), Fail> {
     for (pages, set, wanted) in WAYS {
-        let classes = classes_of(
-            &round_of(rt.alloc(), pages).expect(&rt, "an answer"),
-            End::Open,
-        );
+        let classes = classes_of(&round_of(rt.alloc(), pages)?, End::Open);
         let out = ways(&classes, &all_limits(&classes, 2), *set, 2);
         same!(rt; out.as_slice() == *wanted, true, (pages, set));
     }
+    Ok(())
 }
 
 #[test]
-fn overloads_and_sets(rt: HostRuntime) {
-    let classes = classes_of(
-        &round_of(rt.alloc(), THREE_TONES).expect(&rt, "an answer"),
-        End::Open,
-    );
+fn overloads_and_sets(rt: HostRuntime) -> Result<(), Fail> {
+    let classes = classes_of(&round_of(rt.alloc(), THREE_TONES)?, End::Open);
     for (batches, is_over) in [(1, true), (2, false)] {
         let limits = all_limits(&classes, batches);
         same!(rt; overloads(&classes, &limits, 0x0C00), is_over);
@@ -93,14 +90,12 @@ fn overloads_and_sets(rt: HostRuntime) {
     same!(rt; with_member(two, 4), two);
     same!(rt; (holds(two, 15), holds(two, 5)), (true, false));
     same!(rt; (size(0), size(two), size(0xFFFF)), (0, 2, 16));
+    Ok(())
 }
 
 #[test]
-fn limits_and_loads(rt: HostRuntime) {
-    let classes = classes_of(
-        &round_of(rt.alloc(), LOOPS_APART).expect(&rt, "an answer"),
-        End::Open,
-    );
+fn limits_and_loads(rt: HostRuntime) -> Result<(), Fail> {
+    let classes = classes_of(&round_of(rt.alloc(), LOOPS_APART)?, End::Open);
     let limits = all_limits(&classes, 2);
     same!(rt; is_certain(&classes, &limits, 0x0001, 48), true);
     same!(rt; is_certain(&classes, &limits, 0x0001, 0), false);
@@ -111,18 +106,12 @@ fn limits_and_loads(rt: HostRuntime) {
     let last = narrow(&classes, &limits, Way::IdleIn(15), 2);
     same!(rt; overloads(&classes, &last, 0x8000), true);
     same!(rt; overloads(&classes, &last, 0x4000), false);
-    let classes = classes_of(
-        &round_of(rt.alloc(), CLOSED_MIXED).expect(&rt, "an answer"),
-        End::Closed,
-    );
+    let classes = classes_of(&round_of(rt.alloc(), CLOSED_MIXED)?, End::Closed);
     let mut early = classes.count;
     early[135] = 0;
     same!(rt; loads(&classes, &Choice { early }), [2; 16]);
     for (end, wanted) in CLOSING {
-        let classes = classes_of(
-            &round_of(rt.alloc(), CLOSED_MIXED).expect(&rt, "an answer"),
-            *end,
-        );
+        let classes = classes_of(&round_of(rt.alloc(), CLOSED_MIXED)?, *end);
         let limits = all_limits(&classes, 1);
         let out = ending_ways(&classes, *end, &limits);
         same!(rt; out.as_slice() == *wanted, true, end);
@@ -130,4 +119,5 @@ fn limits_and_loads(rt: HostRuntime) {
             same!(rt; closing_ways(&classes, &limits).as_slice() == *wanted, true);
         }
     }
+    Ok(())
 }

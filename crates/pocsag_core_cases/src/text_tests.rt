@@ -3,6 +3,7 @@
 use crate::same;
 use pocsag_text::{TextFault, pack_alpha, pack_numeric, unpack_alpha, unpack_numeric};
 use std::alloc::Global;
+use std::test::Fail;
 
 #[derive(Clone, Copy, PartialEq, Eq, Debug)]
 enum Coding {
@@ -41,14 +42,14 @@ const LONG: [(Coding, u8, usize, Result<usize, TextFault>); 5] = [
 ];
 
 #[test]
-fn texts(rt: HostRuntime) {
+fn texts(rt: HostRuntime) -> Result<(), Fail> {
     let alloc = rt.alloc();
     for (coding, text, items, back) in PACKED {
-        let packed = pack(alloc, coding, text).expect(&rt, "an answer");
+        let packed = pack(alloc, coding, text)?;
         same!(rt; packed.as_slice(), items, text);
         let unpacked = match coding {
-            Coding::Numeric => unpack_numeric(alloc, items).expect(&rt, "an answer"),
-            Coding::Alpha => unpack_alpha(alloc, items).expect(&rt, "an answer"),
+            Coding::Numeric => unpack_numeric(alloc, items)?,
+            Coding::Alpha => unpack_alpha(alloc, items)?,
         };
         same!(rt; unpacked.as_slice(), back, text);
     }
@@ -56,7 +57,7 @@ fn texts(rt: HostRuntime) {
         same!(rt; pack(alloc, coding, text).err(), Some(fault), text);
     }
     for (coding, character, count, wanted) in LONG {
-        let text = vec![in alloc; character; count].expect(&rt, "an answer");
+        let text = vec![in alloc; character; count]?;
         match pack(alloc, coding, text.as_slice()) {
             Ok(items) => {
                 same!(rt; Ok(items.len()), wanted);
@@ -65,4 +66,5 @@ fn texts(rt: HostRuntime) {
             Err(fault) => same!(rt; Err(fault), wanted),
         }
     }
+    Ok(())
 }

@@ -6,6 +6,7 @@ use pocsag_tree::{
 };
 use pocsag_words::{End, MemorySink, MemorySource, OutOfMemory};
 use std::alloc::Global;
+use std::test::Fail;
 
 // The certificate of two loops apart, in all versions.
 const APART: &[u8] = b"PCB1\0\0\0\x03\x02\0\x01\x30\0\x02\0\0\x01\0\x80\0";
@@ -142,43 +143,40 @@ fn certificates_read(rt: HostRuntime) {
 }
 
 #[test]
-fn certificates_written(rt: HostRuntime) {
+fn certificates_written(rt: HostRuntime) -> Result<(), Fail> {
     let alloc = rt.alloc();
     let kept = KEPT.iter().map(|text| (*text, *text));
     for (bytes, text) in WRITTEN.iter().copied().chain(kept) {
-        let read = read_certificate(alloc, &mut MemorySource::new(bytes, 2, u64::MAX)).expect(
-            &rt,
-            "an answer",
-        );
+        let read = read_certificate(alloc, &mut MemorySource::new(bytes, 2, u64::MAX))?;
         let mut sink = MemorySink::<64>::new(1, u64::MAX);
         let written = write_certificate(read.end, read.batches, &read.tree, &mut sink);
         same!(rt; written, Ok(()));
         same!(rt; sink.bytes(), text);
     }
+    Ok(())
 }
 
 #[test]
-fn failing_writes(rt: HostRuntime) {
+fn failing_writes(rt: HostRuntime) -> Result<(), Fail> {
     let alloc = rt.alloc();
-    let tree = read_certificate(alloc, &mut MemorySource::new(APART, 1, u64::MAX))
-        .expect(&rt, "an answer")
-        .tree;
+    let tree = read_certificate(alloc, &mut MemorySource::new(APART, 1, u64::MAX))?.tree;
     for place in 0..APART_AGAIN.len() {
         let mut sink = MemorySink::<64>::new(3, place as u64);
         let written = write_certificate(End::Open, 3, &tree, &mut sink);
         same!(rt; written, Err(TreeWriteFault::WriteFault), place);
         same!(rt; sink.bytes(), &APART_AGAIN[..place]);
     }
+    Ok(())
 }
 
 #[test]
-fn trees_that_have_no_certificate(rt: HostRuntime) {
+fn trees_that_have_no_certificate(rt: HostRuntime) -> Result<(), Fail> {
     let alloc = rt.alloc();
     let split = Tree::Split {
         class: 200,
         m: 1,
-        below: Box::new(alloc, Tree::Overload(3)).expect(&rt, "an answer"),
-        from: Box::new(alloc, Tree::Overload(3)).expect(&rt, "an answer"),
+        below: Box::new(alloc, Tree::Overload(3))?,
+        from: Box::new(alloc, Tree::Overload(3))?,
     };
     for (batches, tree) in [(1, Tree::Overload(0)), (0, Tree::Open), (1, split)] {
         let mut sink = MemorySink::<64>::new(64, u64::MAX);
@@ -186,6 +184,7 @@ fn trees_that_have_no_certificate(rt: HostRuntime) {
         same!(rt; written, Err(TreeWriteFault::BadTree));
         assert!(rt; sink.bytes().is_empty());
     }
+    Ok(())
 }
 
 // So many splits, one below the other, and so many leaves.
@@ -232,30 +231,23 @@ fn many_nodes(
 }
 
 #[test]
-fn deep_and_large_certificates(rt: HostRuntime) {
+fn deep_and_large_certificates(rt: HostRuntime) -> Result<(), Fail> {
     let alloc = rt.alloc();
     for (count, due) in [
         (300, CertificateFault::TooDeep),
         (299, CertificateFault::Truncated),
     ] {
-        let deep = splits(alloc, count, 0).expect(&rt, "an answer");
+        let deep = splits(alloc, count, 0)?;
         same!(rt; fault(alloc, deep.as_slice(), u64::MAX), Some(due));
     }
-    let bytes = splits(alloc, 299, 300).expect(&rt, "an answer");
-    let tree = read_certificate(alloc, &mut MemorySource::new(&bytes, 1, u64::MAX))
-        .expect(&rt, "an answer")
-        .tree;
+    let bytes = splits(alloc, 299, 300)?;
+    let tree = read_certificate(alloc, &mut MemorySource::new(&bytes, 1, u64::MAX))?.tree;
     same!(rt; (depth(&tree), nodes(&tree)), (300, 299));
-    let first = many_nodes(alloc, b"PCB1\0\0\0\x01", b"\x02\0\x01\0\x01\x10", 272).expect(
-        &rt,
-        "an answer",
-    );
-    let second = many_nodes(alloc, b"PCB2\0\0\0\0\x01", b"\x02\0\x01\0\x01\x20", 288).expect(
-        &rt,
-        "an answer",
-    );
+    let first = many_nodes(alloc, b"PCB1\0\0\0\x01", b"\x02\0\x01\0\x01\x10", 272)?;
+    let second = many_nodes(alloc, b"PCB2\0\0\0\0\x01", b"\x02\0\x01\0\x01\x20", 288)?;
     for bytes in [first, second] {
         let told = fault(alloc, bytes.as_slice(), u64::MAX);
         assert!(rt; told == Some(CertificateFault::TooMany));
     }
+    Ok(())
 }

@@ -1,23 +1,27 @@
 -- Words that are judged one after the other.
-use Rattle.std.proofs.Common.{◌≡◌, ◌≢◌, ℕ, zero, suc, ◌+◌, ◌-◌, ◌*◌, ◌/◌, ◌%◌, ◌<◌, ◌≤◌, Bool, false, not, List, [], ◌∷◌, ◌++◌, length, map, take, drop, get_or, replicate, IsTrue, refl, sym, ap, ◌∙◌, subst, arith, append_assoc}
-use Rattle.std.specs.Prelude.{Result, Ok, Err, MatchResult}
-use Rattle.std.specs.Int.{from_be_bytes, w32}
+use Rattle.std.proofs.Common.{◌≡◌, ◌≢◌, ℕ, zero, suc, ◌+◌, ◌-◌, ◌*◌, ◌/◌, ◌%◌, ◌<◌, ◌≤◌, Bool, false, not, List, [], ◌∷◌, ◌++◌, length, map, take, drop, get_or, replicate, is_some, IsTrue, refl, sym, ap, ◌∙◌, subst, arith, append_assoc}
+use Rattle.std.specs.Prelude.{Result, Ok, Err}
 use Rattle.std.proofs.lemmas.Bool.{true≢false}
-use Rattle.std.proofs.lemmas.List.{append-nil, length-append, length-drop, length-map, length-take, length-take-le, length_push, map-append, take-append-drop, take_more}
+use Rattle.std.proofs.lemmas.List.{append-nil, length-append, length-drop, length-take, length_push, map-append, drop-drop, drop_all, drop_more}
 use Rattle.pocsag_words.specs.Codeword.{IsCodeword}
 use Rattle.pocsag_words.specs.Kinds.{idle_word, kind_of}
 use Rattle.pocsag_words.proofs.KindLemmas.{IsCodeword-idle}
 use Rattle.pocsag_words.specs.declared.codeword.Kind.{Kind}
 use Rattle.pocsag_words.specs.declared.codeword.Kind.TheVariants.{Idle}
-use Rattle.pocsag_pages.specs.Bytes.{sync_word, words_of}
-use Rattle.pocsag_pages.proofs.Lengths.{words_long}
-use Rattle.pocsag_pager.proofs.WholeWords.{next_batch, one_more_word, words_split}
+use Rattle.pocsag_pages.specs.Bytes.{sync_word, unsynced, words_of}
+use Rattle.pocsag_pages.specs.Plain.{pages_from}
+use Rattle.pocsag_pages.specs.Reading.{frame_at}
+use Rattle.pocsag_pages.proofs.Lengths.{unsynced_codeword, unsynced_count, unsynced_more, unsynced_sync, words_long}
+use Rattle.pocsag_pager.proofs.WholeWords.{words_split}
 use Rattle.pocsag_decode.specs.declared.fault.DecodeFault.{DecodeFault}
 use Rattle.pocsag_decode.specs.declared.fault.DecodeFault.TheVariants as fault
+use Rattle.pocsag_decode.specs.declared.open_page.Growing.{Growing}
+use Rattle.pocsag_decode.specs.OpenPages.{resumed}
+use Rattle.pocsag_decode.specs.States.{HasRead}
 use Rattle.pocsag_decode.specs.Judgements.{AreFine, JudgesMore}
-use Rattle.pocsag_decode.specs.Places.{AllMayStand, HasBadWord, index_at, is_idle, is_message, may_follow}
+use Rattle.pocsag_decode.specs.Places.{AllMayStand, HasBadWord, KeepsFrom, index_at, is_idle, is_message, may_follow}
 use Rattle.pocsag_decode.proofs.Judgements.{none_good}
-use Rattle.pocsag_decode.proofs.WordByWord.{bad_codeword, bad_orphan, bad_stays, bad_sync, good_codeword, good_sync, may_codeword, may_sync}
+use Rattle.pocsag_decode.proofs.WordByWord.{bad_codeword, bad_orphan, bad_stays, bad_sync, good_codeword, good_sync, may_codeword, may_last, may_sync}
 
 pub none_fine : AreFine 0 false []
 none_fine = record { count = refl; good = none_good; follows = refl }
@@ -81,41 +85,29 @@ pub bad_then : (place : ℕ) (in_page : Bool) (xs ys : List ℕ) (e : DecodeFaul
 bad_then place in_page xs ys e f ws h =
     subst (λ (l : List ℕ). HasBadWord l e) (append_assoc ws xs ys) (bad_stays (ws ++ xs) ys e (f ws h))
 
--- no words more
-pub fine_none : (place : ℕ) (in_page : Bool) → JudgesMore (Ok in_page) place in_page []
+-- ---- the words from an index on
+
+fine_none : (place : ℕ) (in_page : Bool) → JudgesMore (Ok in_page) place in_page []
 fine_none place in_page ws h = record {
   count = let c = h.count in let l = ap length (append-nil ws) in omega arith;
   good = subst AllMayStand (sym (append-nil ws)) h.good;
   follows = subst (λ (l : List ℕ). in_page ≡ may_follow l (length l)) (sym (append-nil ws)) h.follows;
 }
 
--- ---- the words of bytes
+pub none_behind : (place i : ℕ) (in_page : Bool) (ws : List ℕ) → length ws ≤ i → JudgesMore (Ok in_page) place in_page (drop i ws)
+none_behind place i in_page ws past = subst (JudgesMore (Ok in_page) place in_page) (sym (drop_all i ws past)) (fine_none place in_page)
 
-abbrev number : List ℕ → ℕ
-number = from_be_bytes w32
+module _ (place i : ℕ) (in_page : Bool) (ws : List ℕ) (w : ℕ) (within : i < length ws) (is : w ≡ get_or ws i 0) where
+  word_first : w ∷ drop (i + 1) ws ≡ drop i ws
+  word_first = ap (λ (v : ℕ). v ∷ drop (i + 1) ws) is ∙ sym (drop_more ws i 0 within)
 
-module _ (place at i : ℕ) (in_page now : Bool) (chunks : List (List ℕ)) (w : ℕ) (next : Result Bool DecodeFault) (here : at ≡ place + i)
-    (within : i < length chunks) (is : w ≡ number (get_or chunks i [])) (so_far : JudgesMore (Ok now) place in_page (map number (take i chunks)))
-    (step : JudgesMore next at now (w ∷ [])) where
-  pub word_judged : JudgesMore next place in_page (map number (take (i + 1) chunks))
-  word_judged =
-      subst (JudgesMore next place in_page) (sym (one_more_word chunks i w within is))
-      (fine_then place at in_page now (map number (take i chunks)) (w ∷ []) next
-      (let l = length-map (take i chunks) number in let t = length-take-le i chunks (omega arith) in omega arith) so_far step)
+  pub word_then : (now : Bool) (r : Result Bool DecodeFault) → JudgesMore (Ok now) place in_page (w ∷ [])
+      → JudgesMore r (place + 1) now (drop (i + 1) ws) → JudgesMore r place in_page (drop i ws)
+  word_then now r step rest =
+      subst (JudgesMore r place in_page) word_first (fine_then place (place + 1) in_page now (w ∷ []) (drop (i + 1) ws) r refl step rest)
 
--- the same of words that stand in a list
-module _ (place at i : ℕ) (in_page now : Bool) (ws : List ℕ) (w : ℕ) (next : Result Bool DecodeFault) (here : at ≡ place + i)
-    (within : i < length ws) (is : w ≡ get_or ws i 0) (so_far : JudgesMore (Ok now) place in_page (take i ws))
-    (step : JudgesMore next at now (w ∷ [])) where
-  pub one_judged : JudgesMore next place in_page (take (i + 1) ws)
-  one_judged =
-      subst (JudgesMore next place in_page) (ap (λ (v : ℕ). take i ws ++ v ∷ []) is ∙ sym (take_more ws i 0 within))
-      (fine_then place at in_page now (take i ws) (w ∷ []) next (let t = length-take-le i ws (omega arith) in omega arith) so_far step)
-
-pub bad_within : (place i : ℕ) (in_page : Bool) (ws : List ℕ) (e : DecodeFault) → JudgesMore (Err e) place in_page (take i ws)
-    → JudgesMore (Err e) place in_page ws
-bad_within place i in_page ws e f =
-    subst (JudgesMore (Err e) place in_page) (take-append-drop i ws) (bad_then place in_page (take i ws) (drop i ws) e f)
+  pub word_bad : (e : DecodeFault) → JudgesMore (Err e) place in_page (w ∷ []) → JudgesMore (Err e) place in_page (drop i ws)
+  word_bad e step = subst (JudgesMore (Err e) place in_page) word_first (bad_then place in_page (w ∷ []) (drop (i + 1) ws) e step)
 
 -- a synchronisation codeword and what follows it
 pub fine_after_sync : (place : ℕ) (in_page : Bool) (w : ℕ) (ws all : List ℕ) (next : Result Bool DecodeFault) → place % 17 ≡ 0
@@ -123,12 +115,6 @@ pub fine_after_sync : (place : ℕ) (in_page : Bool) (w : ℕ) (ws all : List �
 fine_after_sync place in_page w ws all next s e is f =
     subst (JudgesMore next place in_page) (sym is)
     (fine_then place (place + 1) in_page in_page (w ∷ []) ws next refl (fine_sync place in_page w s e) f)
-
-pub bad_among : (place i : ℕ) (in_page : Bool) (chunks : List (List ℕ)) (e : DecodeFault) → JudgesMore (Err e) place in_page (map number (take i chunks))
-    → JudgesMore (Err e) place in_page (map number chunks)
-bad_among place i in_page chunks e f =
-    subst (JudgesMore (Err e) place in_page) (sym (map-append number (take i chunks) (drop i chunks)) ∙ ap (map number) (take-append-drop i chunks))
-    (bad_then place in_page (map number (take i chunks)) (map number (drop i chunks)) e f)
 
 -- ---- a batch of idle codewords
 
@@ -144,35 +130,97 @@ fine_idles place in_page s =
     fine_then place (place + 1) in_page in_page (sync_word ∷ []) (replicate 16 idle_word) (Ok false) refl (fine_sync place in_page sync_word s refl)
     (idles 15 (place + 1) in_page (omega arith) (omega arith))
 
--- ---- all the words
+-- ---- the words from a batch on
 
-pub next_judged : (i : ℕ) (now : Bool) (bytes : List ℕ) (next : Result Bool DecodeFault) → 68 * i + 68 ≤ length bytes
-    → AreFine (17 * i) now (words_of (take (68 * i) bytes))
-    → JudgesMore next (17 * i) now (words_of (take (68 * i + 68 - 68 * i) (drop (68 * i) bytes)))
-    → MatchResult next (λ n. AreFine (17 * (i + 1)) n (words_of (take (68 * (i + 1)) bytes)))
-    (λ f. HasBadWord (words_of bytes) f)
-next_judged i now bytes (Ok n) within fine step =
-    let r = step (words_of (take (68 * i) bytes)) fine in
-    let long = words_long (take (68 * i + 68 - 68 * i) (drop (68 * i) bytes)) in
-    let t = length-take (68 * i + 68 - 68 * i) (drop (68 * i) bytes) in
-    let d = length-drop (68 * i) bytes in
-    let next = next_batch i bytes within in
-    subst (λ (l : List ℕ). AreFine (17 * (i + 1)) n l) (sym next)
-    (subst (λ (k : ℕ). AreFine k n (words_of (take (68 * i) bytes) ++ words_of (take (68 * i + 68 - 68 * i) (drop (68 * i) bytes))))
-    (omega arith) r)
-next_judged i now bytes (Err e) within fine step =
-    let r = step (words_of (take (68 * i) bytes)) fine in
-    let next = next_batch i bytes within in
-    let rest = words_split (17 * (i + 1)) (68 * (i + 1)) bytes (omega arith) (omega arith) in
-    subst (λ (l : List ℕ). HasBadWord l e) (sym rest)
-    (bad_stays (words_of (take (68 * (i + 1)) bytes)) (words_of (drop (68 * (i + 1)) bytes)) e
-    (subst (λ (l : List ℕ). HasBadWord l e) (sym next) r))
+-- the words of a batch
+abbrev pub batch_at : ℕ → List ℕ → List ℕ
+batch_at i bytes = words_of (take (68 * i + 68 - 68 * i) (drop (68 * i) bytes))
 
-pub last_judged : (i : ℕ) (now : Bool) (bytes : List ℕ) (next : Result Bool DecodeFault) → 68 * i ≤ length bytes
-    → AreFine (17 * i) now (words_of (take (68 * i) bytes)) → JudgesMore next (17 * i) now (words_of (drop (68 * i) bytes))
-    → MatchResult next (λ n. AllMayStand (words_of bytes)) (λ f. HasBadWord (words_of bytes) f)
-last_judged i now bytes (Ok n) within fine step =
-    subst AllMayStand (sym (words_split (17 * i) (68 * i) bytes (omega arith) within)) (step (words_of (take (68 * i) bytes)) fine).good
-last_judged i now bytes (Err e) within fine step =
-    subst (λ (l : List ℕ). HasBadWord l e) (sym (words_split (17 * i) (68 * i) bytes (omega arith) within))
-    (step (words_of (take (68 * i) bytes)) fine)
+module _ (i : ℕ) (bytes : List ℕ) (within : 68 * i + 68 ≤ length bytes) where
+  pub batch_long : length (batch_at i bytes) ≡ 17
+  batch_long =
+      let long = words_long (take (68 * i + 68 - 68 * i) (drop (68 * i) bytes)) in
+      omega (arith, long, length-take (68 * i + 68 - 68 * i) (drop (68 * i) bytes), length-drop (68 * i) bytes)
+
+  pub batch_first : words_of (drop (68 * i) bytes) ≡ batch_at i bytes ++ words_of (drop (68 * (i + 1)) bytes)
+  batch_first =
+      let next : 68 * i + (68 * i + 68 - 68 * i) ≡ 68 * (i + 1) = omega arith in
+      words_split 17 (68 * i + 68 - 68 * i) (drop (68 * i) bytes) (omega arith) (omega (arith, length-drop (68 * i) bytes))
+      ∙ ap (λ (l : List ℕ). batch_at i bytes ++ words_of l)
+      (drop-drop (68 * i + 68 - 68 * i) (68 * i) bytes ∙ ap (λ (n : ℕ). drop n bytes) next)
+
+  module _ (in_page : Bool) where
+    pub batch_then : (now : Bool) (r : Result Bool DecodeFault) → JudgesMore (Ok now) (17 * i) in_page (batch_at i bytes)
+        → JudgesMore r (17 * (i + 1)) now (words_of (drop (68 * (i + 1)) bytes)) → JudgesMore r (17 * i) in_page (words_of (drop (68 * i) bytes))
+    batch_then now r step rest =
+        subst (JudgesMore r (17 * i) in_page) (sym batch_first)
+        (fine_then (17 * i) (17 * (i + 1)) in_page now (batch_at i bytes) _ r (let l = batch_long in omega arith) step rest)
+
+    pub batch_bad : (e : DecodeFault) → JudgesMore (Err e) (17 * i) in_page (batch_at i bytes)
+        → JudgesMore (Err e) (17 * i) in_page (words_of (drop (68 * i) bytes))
+    batch_bad e step = subst (JudgesMore (Err e) (17 * i) in_page) (sym batch_first) (bad_then (17 * i) in_page (batch_at i bytes) _ e step)
+
+-- ---- a word that is judged and read
+
+-- what one codeword more does to growing pages
+abbrev Grows : (before after : Growing) (frame : ℕ) (kind : Kind) → Type 0
+Grows before after frame kind =
+    (i : ℕ) (ks : List Kind) → frame ≡ frame_at i
+    → before.pages.items ++ resumed i before.current (kind ∷ ks) ≡ after.pages.items ++ resumed (i + 1) after.current ks
+
+module _ (place : ℕ) (growing : Growing) (ws : List ℕ) (w : ℕ) (in_page now : Bool) (is_open : in_page ≡ is_some growing.current)
+    (judged : JudgesMore (Ok now) place in_page (w ∷ [])) (r : HasRead place growing ws) where
+  good : AllMayStand (ws ++ w ∷ [])
+  good = (judged ws (record { count = r.count; good = r.good; follows = is_open ∙ r.in_page })).good
+
+  pub kept_word : 0 < place % 17 → IsTrue (is_some growing.current) → KeepsFrom (ws ++ w ∷ []) (length ws)
+  kept_word s opened =
+      let n = r.count in
+      let l = length_push ws w in
+      record {
+        place = length ws;
+        later = omega arith;
+        there = omega arith;
+        codeword = omega arith;
+        follows = may_last ws w ∙ (sym r.in_page ∙ opened);
+        good = λ j h. good j (omega arith);
+      }
+
+  pub read_sync : place % 17 ≡ 0 → HasRead (place + 1) growing (ws ++ w ∷ [])
+  read_sync s =
+      let n : place ≡ length ws = r.count in
+      let s' : length ws % 17 ≡ 0 = omega arith in
+      let same : unsynced 0 (ws ++ w ∷ []) ≡ unsynced 0 ws =
+      unsynced_more 0 ws (w ∷ [])
+      ∙ (ap (λ (l : List ℕ). unsynced 0 ws ++ l) (unsynced_sync (0 + length ws) w (omega arith)) ∙ append-nil (unsynced 0 ws)) in
+      record {
+        count = let l = length_push ws w in omega arith;
+        good = good;
+        in_page = r.in_page ∙ sym (may_sync ws w s');
+        pages = λ ks. rw same (r.pages ks);
+      }
+
+  pub read_codeword : (frame : ℕ) (after : Growing) → 0 < place % 17 → frame ≡ (place % 17 - 1) / 2 → (kind : Kind) → kind ≡ kind_of w
+      → is_some after.current ≡ not (is_idle kind) → Grows growing after frame kind → HasRead (place + 1) after (ws ++ w ∷ [])
+  read_codeword frame after s at kind is current grows =
+      let n : place ≡ length ws = r.count in
+      let s' : length ws % 17 ≢ 0 = omega arith in
+      let more : unsynced 0 (ws ++ w ∷ []) ≡ unsynced 0 ws ++ w ∷ [] =
+      unsynced_more 0 ws (w ∷ []) ∙ ap (λ (l : List ℕ). unsynced 0 ws ++ l) (unsynced_codeword (0 + length ws) w (λ z. s' (omega arith))) in
+      let counted = unsynced_count 0 ws in
+      let frame_is : frame ≡ frame_at (length (unsynced 0 ws)) = omega arith in
+      record {
+        count = let l = length_push ws w in omega arith;
+        good = good;
+        in_page = current ∙ (ap (λ (k : Kind). not (is_idle k)) is ∙ sym (may_codeword ws w s'));
+        pages = λ ks.
+            rw (
+              more,
+              map-append kind_of (unsynced 0 ws) (w ∷ []),
+              append_assoc (map kind_of (unsynced 0 ws)) (kind_of w ∷ []) ks,
+              length-append (unsynced 0 ws) (w ∷ []),
+            )
+            (subst (λ (k : Kind). pages_from 0 (map kind_of (unsynced 0 ws) ++ k ∷ ks)
+            ≡ after.pages.items ++ resumed (length (unsynced 0 ws) + 1) after.current ks) is
+            (r.pages (kind ∷ ks) ∙ grows (length (unsynced 0 ws)) ks frame_is));
+      }

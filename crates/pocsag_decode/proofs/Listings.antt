@@ -1,11 +1,8 @@
 -- Listings that are written as the codewords are read.
-use Rattle.std.proofs.Common.{◌≡◌, ◌≢◌, ℕ, ◌+◌, ◌-◌, ◌*◌, ◌/◌, ◌%◌, ◌<◌, ◌≤◌, List, [], ◌∷◌, ◌++◌, All, length, get_or, map, take, drop, replicate, Option, Some, None, refl, sym, ap, ap₂, ◌∙◌, arith, append_assoc}
+use Rattle.std.proofs.Common.{◌≡◌, ◌≢◌, ℕ, ◌+◌, ◌*◌, ◌/◌, ◌%◌, ◌<◌, ◌≤◌, List, [], ◌∷◌, ◌++◌, All, length, get_or, map, take, drop, replicate, Option, Some, None, refl, sym, ap, ap₂, ◌∙◌, arith, append_assoc}
 use Rattle.std.proofs.lemmas.Bool.{eq-eqb, ne_eqb}
-use Rattle.std.proofs.lemmas.List.{append-nil, length-take, map-append, take-append-drop, take_all, take_more}
-use Rattle.std.specs.Prelude.{Vec}
-use Rattle.std.specs.Global.{Global}
+use Rattle.std.proofs.lemmas.List.{append-nil, drop_all, drop_more, length-append, map-append, take_all}
 use Rattle.csv.specs.Writing.{default_writer, row_text}
-use Rattle.csv.specs.declared.writer.Writer.{Writer}
 use Rattle.pocsag_words.specs.Kinds.{idle_word, kind_of}
 use Rattle.pocsag_words.specs.declared.codeword.Kind.{Kind}
 use Rattle.pocsag_words.specs.declared.codeword.Kind.TheVariants.{Idle}
@@ -13,7 +10,6 @@ use Rattle.pocsag_pages.specs.declared.page.Page.{Page}
 use Rattle.pocsag_pages.specs.Bytes.{after_preamble, codewords_in, sync_word, unsynced, words_of}
 use Rattle.pocsag_pages.specs.Plain.{pages_from}
 use Rattle.pocsag_pages.proofs.Lengths.{unsynced_more, words_long}
-use Rattle.pocsag_pager.proofs.WholeWords.{next_batch, words_split}
 use Rattle.pocsag_decode.specs.declared.open_page.OpenPage.{OpenPage}
 use Rattle.pocsag_decode.specs.declared.lister.Lister.{Lister}
 use Rattle.pocsag_decode.specs.Faults.{ReadsAs}
@@ -21,6 +17,7 @@ use Rattle.pocsag_decode.specs.OpenPages.{closed, resumed}
 use Rattle.pocsag_decode.specs.Lines.{text_in}
 use Rattle.pocsag_decode.specs.Listers.{rows_of_pages, still_listed}
 use Rattle.pocsag_decode.specs.Listing.{header, listing, record_of}
+use Rattle.pocsag_decode.proofs.Fine.{batch_at, batch_first, batch_long}
 use Rattle.pocsag_decode.proofs.SentBytes.{one_reading, reads_whole}
 use Rattle.pocsag_decode.proofs.Transmissions.{IsWhole, resumed_end, whole_reads}
 
@@ -77,90 +74,54 @@ idles_listed before after i j batch ks words s none text =
 
 -- ---- all batches
 
--- what was written, what waits and what still comes are the listing of the codewords of so many batches and of these
-abbrev pub AreListed : (written_first written : List ℕ) → Lister → (i : ℕ) → (bytes : List ℕ) → Type 0
-AreListed written_first written l i bytes =
-    (ks : List Kind)
-    → written_first ++ listing (pages_from 0 (map kind_of (unsynced 0 (words_of (take (68 * i) bytes))) ++ ks))
-    ≡ written ++ still_listed l (16 * i) ks
+-- what is due is what was written, what waits and what comes of the codewords from a batch on
+abbrev pub AreListed : (due written : List ℕ) → Lister → (i : ℕ) → (bytes : List ℕ) → Type 0
+AreListed due written l i bytes =
+    due ≡ written ++ still_listed l (16 * i) (map kind_of (unsynced (17 * i) (words_of (drop (68 * i) bytes))))
 
 pub none_listed : (written : List ℕ) (l : Lister) (bytes : List ℕ) → l.current ≡ None → text_in l.records ≡ row_text default_writer header
-    → AreListed written written l 0 bytes
+    → AreListed (written ++ listing (pages_from 0 (map kind_of (unsynced 0 (words_of bytes))))) written l 0 bytes
 unfolding listing
-none_listed written l bytes none text ks =
+none_listed written l bytes none text =
+    let ks : List Kind = map kind_of (unsynced 0 (words_of bytes)) in
     ap (λ (t : List ℕ). written ++ (t ++ rows_of_pages (pages_from 0 ks))) (sym text)
     ∙ ap (λ (o : Option OpenPage). written ++ (text_in l.records ++ rows_of_pages (resumed 0 o ks))) (sym none)
 
-module _ (first written : List ℕ) (before after : Lister) (i : ℕ) (bytes : List ℕ) (within : 68 * i + 68 ≤ length bytes)
-    (so_far : AreListed first written before i bytes)
-    (step : (j k : ℕ) (ks : List Kind) → j % 16 ≡ 0 → k % 17 ≡ 0
-    → still_listed before j (map kind_of (unsynced k (words_of (take (68 * i + 68 - 68 * i) (drop (68 * i) bytes)))) ++ ks)
-    ≡ still_listed after (j + 16) ks) where
-  pub more_listed : AreListed first written after (i + 1) bytes
-  more_listed ks =
-      let batch : List ℕ = words_of (take (68 * i + 68 - 68 * i) (drop (68 * i) bytes)) in
-      let done : List ℕ = words_of (take (68 * i) bytes) in
-      let count = words_long (take (68 * i) bytes) in
-      let long = length-take (68 * i) bytes in
-      let place : (0 + length done) % 17 ≡ 0 = omega arith in
-      let codes : map kind_of (unsynced 0 (words_of (take (68 * (i + 1)) bytes))) ++ ks
-      ≡ map kind_of (unsynced 0 done) ++ (map kind_of (unsynced (0 + length done) batch) ++ ks) =
-      ap (λ (ws : List ℕ). map kind_of (unsynced 0 ws) ++ ks) (next_batch i bytes within)
-      ∙ (ap (λ (ws : List ℕ). map kind_of ws ++ ks) (unsynced_more 0 done batch)
-      ∙ (ap (λ (l : List Kind). l ++ ks) (map-append kind_of (unsynced 0 done) (unsynced (0 + length done) batch))
-      ∙ append_assoc (map kind_of (unsynced 0 done)) (map kind_of (unsynced (0 + length done) batch)) ks)) in
-      let next : 16 * i + 16 ≡ 16 * (i + 1) = omega arith in
-      ap (λ (l : List Kind). first ++ listing (pages_from 0 l)) codes
-      ∙ (so_far (map kind_of (unsynced (0 + length done) batch) ++ ks)
-      ∙ (ap (λ (l : List ℕ). written ++ l) (step (16 * i) (0 + length done) ks (omega arith) place)
-      ∙ ap (λ (n : ℕ). written ++ still_listed after n ks) next))
-
--- some of what waits is written
-pub poured : (first written now : List ℕ) (before after : Lister) (i : ℕ) (bytes : List ℕ) → after.current ≡ before.current
-    → now ++ text_in after.records ≡ written ++ text_in before.records → AreListed first written before i bytes
-    → AreListed first now after i bytes
-poured first written now before after i bytes same moved so_far ks =
-    let rows = λ (o : Option OpenPage). rows_of_pages (resumed (16 * i) o ks) in
-    so_far ks
-    ∙ (sym (append_assoc written (text_in before.records) (rows before.current))
-    ∙ (ap (λ (l : List ℕ). l ++ rows before.current) (sym moved)
-    ∙ (ap (λ (o : Option OpenPage). (now ++ text_in after.records) ++ rows o) (sym same)
-    ∙ append_assoc now (text_in after.records) (rows after.current))))
-
--- what is due is what was written, what waits and what still comes
-pub still_due : (first written : List ℕ) (l : Lister) (i : ℕ) (bytes : List ℕ) → 68 * i ≤ length bytes → AreListed first written l i bytes
-    → (rest : List ℕ)
-    × (first ++ listing (pages_from 0 (map kind_of (unsynced 0 (words_of bytes)))) ≡ written ++ (text_in l.records ++ rest))
-still_due first written l i bytes within so_far =
-    let done : List ℕ = words_of (take (68 * i) bytes) in
-    let left : List ℕ = words_of (drop (68 * i) bytes) in
-    let ks : List Kind = map kind_of (unsynced (0 + length done) left) in
-    let codes : map kind_of (unsynced 0 (words_of bytes)) ≡ map kind_of (unsynced 0 done) ++ ks =
-    ap (λ (ws : List ℕ). map kind_of (unsynced 0 ws)) (words_split (17 * i) (68 * i) bytes (omega arith) within)
-    ∙ (ap (map kind_of) (unsynced_more 0 done left)
-    ∙ map-append kind_of (unsynced 0 done) (unsynced (0 + length done) left)) in
-    (rows_of_pages (resumed (16 * i) l.current ks), ap (λ (l : List Kind). first ++ listing (pages_from 0 l)) codes ∙ so_far ks)
+pub more_listed : (due written : List ℕ) (before after : Lister) (i : ℕ) (bytes : List ℕ) → 68 * i + 68 ≤ length bytes
+    → ((j k : ℕ) (ks : List Kind) → j % 16 ≡ 0 → k % 17 ≡ 0
+    → still_listed before j (map kind_of (unsynced k (batch_at i bytes)) ++ ks) ≡ still_listed after (j + 16) ks)
+    → AreListed due written before i bytes → AreListed due written after (i + 1) bytes
+more_listed due written before after i bytes within step so_far =
+    let batch : List ℕ = batch_at i bytes in
+    let behind : List ℕ = words_of (drop (68 * (i + 1)) bytes) in
+    let ks : List Kind = map kind_of (unsynced (17 * (i + 1)) behind) in
+    let place : 17 * i + length batch ≡ 17 * (i + 1) = omega (arith, batch_long i bytes within) in
+    let next : 16 * i + 16 ≡ 16 * (i + 1) = omega arith in
+    let codes : map kind_of (unsynced (17 * i) (words_of (drop (68 * i) bytes))) ≡ map kind_of (unsynced (17 * i) batch) ++ ks =
+    ap (λ (ws : List ℕ). map kind_of (unsynced (17 * i) ws)) (batch_first i bytes within)
+    ∙ ap (map kind_of) (unsynced_more (17 * i) batch behind)
+    ∙ map-append kind_of (unsynced (17 * i) batch) (unsynced (17 * i + length batch) behind)
+    ∙ ap (λ (n : ℕ). map kind_of (unsynced (17 * i) batch) ++ map kind_of (unsynced n behind)) place in
+    so_far
+    ∙ ap (λ (l : List Kind). written ++ still_listed before (16 * i) l) codes
+    ∙ ap (λ (l : List ℕ). written ++ l) (step (16 * i) (17 * i) ks (omega arith) (omega arith))
+    ∙ ap (λ (n : ℕ). written ++ still_listed after n ks) next
 
 -- the last page is put behind, and what waits is all that is due
-pub all_due : (first written : List ℕ) (before closed_one : Lister) (i : ℕ) (bytes : List ℕ) → length bytes ≡ 68 * i
-    → text_in closed_one.records ≡ text_in before.records ++ rows_of_pages (closed before.current) → AreListed first written before i bytes
-    → first ++ listing (pages_from 0 (map kind_of (unsynced 0 (words_of bytes)))) ≡ written ++ (text_in closed_one.records ++ [])
-all_due first written before closed_one i bytes long text so_far =
-    sym (ap (λ (l : List Kind). first ++ listing (pages_from 0 l)) (append-nil (map kind_of (unsynced 0 (words_of (take (68 * i) bytes)))))
-    ∙ ap (λ (l : List ℕ). first ++ listing (pages_from 0 (map kind_of (unsynced 0 (words_of l))))) (take_all (68 * i) bytes (omega arith)))
-    ∙ (so_far []
-    ∙ (ap (λ (ps : List Page). written ++ (text_in before.records ++ rows_of_pages ps)) (resumed_end (16 * i) before.current)
-    ∙ ap (λ (l : List ℕ). written ++ l) (sym text ∙ sym (append-nil (text_in closed_one.records)))))
+pub all_listed : (due written : List ℕ) (before after : Lister) (i : ℕ) (bytes : List ℕ) → length bytes ≡ 68 * i
+    → text_in after.records ≡ text_in before.records ++ rows_of_pages (closed before.current) → AreListed due written before i bytes
+    → due ≡ written ++ text_in after.records
+all_listed due written before after i bytes long text so_far =
+    so_far
+    ∙ ap (λ (l : List ℕ). written ++ still_listed before (16 * i) (map kind_of (unsynced (17 * i) (words_of l)))) (drop_all (68 * i) bytes (omega arith))
+    ∙ ap (λ (ps : List Page). written ++ (text_in before.records ++ rows_of_pages ps)) (resumed_end (16 * i) before.current)
+    ∙ ap (λ (l : List ℕ). written ++ l) (sym text)
 
--- and then all is written
-pub all_listed : (first written now : List ℕ) (before closed_one : Lister) (i : ℕ) (bytes : List ℕ) → length bytes ≡ 68 * i
-    → text_in closed_one.records ≡ text_in before.records ++ rows_of_pages (closed before.current)
-    → now ≡ written ++ text_in closed_one.records → AreListed first written before i bytes
-    → now ≡ first ++ listing (pages_from 0 (map kind_of (unsynced 0 (words_of bytes))))
-all_listed first written now before closed_one i bytes long text moved so_far =
-    moved
-    ∙ (ap (λ (l : List ℕ). written ++ l) (sym (append-nil (text_in closed_one.records)))
-    ∙ sym (all_due first written before closed_one i bytes long text so_far))
+-- some of what waits is written
+pub poured : (due written now waited waits rest : List ℕ) → now ++ waits ≡ written ++ waited → due ≡ written ++ (waited ++ rest)
+    → due ≡ now ++ (waits ++ rest)
+poured due written now waited waits rest moved so_far =
+    so_far ∙ sym (append_assoc written waited rest) ∙ ap (λ (l : List ℕ). l ++ rest) (sym moved) ∙ append_assoc now waits rest
 
 -- what the bytes read as is what is listed
 pub listed_reading : (X rest part first now : List ℕ) (ps : List Page) → All (λ b. b < 256) X → rest ≡ after_preamble X
@@ -182,38 +143,24 @@ pub listing_is : (ps : List Page) → listing ps ≡ row_text default_writer hea
 unfolding listing
 listing_is ps = refl
 
-pub row_told : (first written now : List ℕ) (before next after : Writer (Vec ℕ Global)) (ps : List Page) (p : Page)
-    → written ++ text_in before ≡ first ++ (row_text default_writer header ++ rows_of_pages ps)
-    → text_in next ≡ text_in before ++ row_text default_writer (record_of p) → now ++ text_in after ≡ written ++ text_in next
-    → now ++ text_in after ≡ first ++ (row_text default_writer header ++ rows_of_pages (ps ++ p ∷ []))
-row_told first written now before next after ps p so_far put poured_now =
-    let head = row_text default_writer header in
-    let row = row_text default_writer (record_of p) in
-    poured_now
-    ∙ (ap (λ (l : List ℕ). written ++ l) put
-    ∙ (sym (append_assoc written (text_in before) row)
-    ∙ (ap (λ (l : List ℕ). l ++ row) so_far
-    ∙ (append_assoc first (head ++ rows_of_pages ps) row
-    ∙ (ap (λ (l : List ℕ). first ++ l) (append_assoc head (rows_of_pages ps) row)
-    ∙ ap (λ (l : List ℕ). first ++ (head ++ l)) (sym (rows_more ps (p ∷ []) ∙ ap (λ (l : List ℕ). rows_of_pages ps ++ l) (append-nil row))))))))
+module _ (due written text : List ℕ) (ps done : List Page)
+    (so_far : due ≡ written ++ (text ++ rows_of_pages (drop (length done) ps))) where
+  pub row_more : (next : List ℕ) (p : Page) → length done < length ps → p ≡ get_or ps (length done) p
+      → next ≡ text ++ row_text default_writer (record_of p)
+      → due ≡ written ++ (next ++ rows_of_pages (drop (length (done ++ p ∷ [])) ps))
+  row_more next p within here put =
+      let behind : List Page = drop (length done + 1) ps in
+      let first : drop (length done) ps ≡ p ∷ behind =
+      drop_more ps (length done) p within ∙ ap (λ (q : Page). q ∷ behind) (sym here) in
+      so_far
+      ∙ ap (λ (qs : List Page). written ++ (text ++ rows_of_pages qs)) first
+      ∙ ap (λ (l : List ℕ). written ++ l)
+      (sym (append_assoc text (row_text default_writer (record_of p)) (rows_of_pages behind))
+      ∙ ap (λ (l : List ℕ). l ++ rows_of_pages behind) (sym put))
+      ∙ ap (λ (n : ℕ). written ++ (next ++ rows_of_pages (drop n ps))) (sym (length-append done (p ∷ [])))
 
--- what is due of these pages, so many of whose records were written or wait
-pub rows_due : (first now waiting : List ℕ) (done ps : List Page) (k : ℕ) → done ≡ take k ps
-    → now ++ waiting ≡ first ++ (row_text default_writer header ++ rows_of_pages done)
-    → first ++ listing ps ≡ now ++ (waiting ++ rows_of_pages (drop k ps))
-rows_due first now waiting done ps k is so_far =
-    let head = row_text default_writer header in
-    let rest = rows_of_pages (drop k ps) in
-    let rows : rows_of_pages ps ≡ rows_of_pages done ++ rest =
-    ap (λ (qs : List Page). rows_of_pages qs) (sym (take-append-drop k ps))
-    ∙ (rows_more (take k ps) (drop k ps) ∙ ap (λ (qs : List Page). rows_of_pages qs ++ rest) (sym is)) in
-    ap (λ (l : List ℕ). first ++ l)
-    (listing_is ps ∙ (ap (λ (l : List ℕ). head ++ l) rows ∙ sym (append_assoc head (rows_of_pages done) rest)))
-    ∙ (sym (append_assoc first (head ++ rows_of_pages done) rest)
-    ∙ (ap (λ (l : List ℕ). l ++ rest) (sym so_far) ∙ append_assoc now waiting rest))
-
-pub one_page_more : (done ps : List Page) (p : Page) → done ≡ take (length done) ps → length done < length ps
-    → p ≡ get_or ps (length done) p → done ++ p ∷ [] ≡ take (length done + 1) ps
-one_page_more done ps p is within here =
-    ap (λ (qs : List Page). qs ++ p ∷ []) is
-    ∙ (ap (λ (q : Page). take (length done) ps ++ q ∷ []) here ∙ sym (take_more ps (length done) p within))
+  pub rows_end : done ≡ ps → due ≡ written ++ text
+  rows_end all =
+      so_far
+      ∙ ap (λ (qs : List Page). written ++ (text ++ rows_of_pages qs)) (drop_all (length done) ps (omega (arith, ap length all)))
+      ∙ ap (λ (l : List ℕ). written ++ l) (append-nil text)

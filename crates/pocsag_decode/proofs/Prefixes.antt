@@ -1,7 +1,7 @@
 -- What a writer took of a listing that is written in pieces.
-use Rattle.std.proofs.Common.{◌≡◌, ℕ, ◌≤◌, List, ◌++◌, length, take, Result, Ok, Err, sym, ap, ◌∙◌, append_assoc, arith}
+use Rattle.std.proofs.Common.{◌≡◌, ℕ, ◌≤◌, List, [], ◌++◌, length, take, Result, Ok, Err, sym, ap, ◌∙◌, append_assoc, arith}
 use Rattle.std.proofs.Common.{length-take}
-use Rattle.std.proofs.lemmas.List.{take-append-le}
+use Rattle.std.proofs.lemmas.List.{append-nil, take-append-le}
 use Rattle.std.proofs.Math.Seq.{take-length}
 use Rattle.std.specs.Prelude.{OnErr}
 use Rattle.pocsag_words.specs.Devices.{TookPrefix}
@@ -20,6 +20,11 @@ took_on before now after piece rest due grown same took =
       ap (take (length after)) (same ∙ sym (append_assoc now piece rest)) ∙ take-append-le (length after) (now ++ piece) rest short
           ∙ took.1,
     )
+
+pub took_last : (before now after piece due : List ℕ) → length before ≤ length now → before ++ due ≡ now ++ piece
+    → TookPrefix now after piece → TookPrefix before after due
+took_last before now after piece due grown same =
+    took_on before now after piece [] due grown (same ∙ ap (λ (l : List ℕ). now ++ l) (sym (append-nil piece)))
 
 -- what holds after each outcome holds after a fault
 pub after_fault : {T E P : Type 0} (r : Result T E) → P → OnErr r P

@@ -1,10 +1,10 @@
 -- A transmission on its way to be repaired, and what the repaired bytes are.
-use Rattle.std.proofs.Common.{◌≡◌, ℕ, suc, lit<, ◌+◌, ◌*◌, ◌^◌, ◌<◌, ◌≤◌, ◌==◌, Bool, true, false, cond, List, [], ◌∷◌, ◌++◌, length, take, drop, replicate, get_or, All, bit_xor, count_ones, refl, sym, ap, ap₂, ◌∙◌, subst, inl, inr, arith, append_assoc}
+use Rattle.std.proofs.Common.{◌≡◌, ℕ, suc, lit<, ◌+◌, ◌*◌, ◌^◌, ◌<◌, ◌≤◌, ◌==◌, Bool, true, false, cond, List, [], ◌∷◌, ◌++◌, length, take, drop, replicate, All, bit_xor, count_ones, refl, sym, ap, ap₂, ◌∙◌, subst, arith, append_assoc}
 use Rattle.std.specs.Int.{to_be_bytes, w32}
 use Rattle.std.specs.Int.Bits.{xor_self}
 use Rattle.std.specs.List.{flat_map}
-use Rattle.std.proofs.lemmas.Bool.{cases_lt, eq-eqb}
-use Rattle.std.proofs.lemmas.List.{drop-drop, drop_at, get_or_past, length-append, length-drop, length-replicate, length_push, take-append-drop, take_at}
+use Rattle.std.proofs.lemmas.Bool.{eq-eqb}
+use Rattle.std.proofs.lemmas.List.{drop-drop, drop_at, length-append, length-drop, length-replicate, length_push, take-append-drop, take_at}
 use Rattle.std.proofs.lemmas.List.Elements.{All-append, All-cons, All-drop, All-head, All-nil, All-tail}
 use Rattle.std.proofs.lemmas.Nat.{from_be_bytes-to_be_bytes_4, ones_le_self}
 use Rattle.pocsag_pages.specs.Bytes.{after_preamble, leading, words_of}
@@ -14,7 +14,7 @@ use Rattle.pocsag_decode.specs.PartialWords.{unfinished}
 use Rattle.pocsag_decode.specs.Faults.{words}
 use Rattle.pocsag_decode.specs.Repairs.{AreRepaired, IsRepairOf, IsRepaired, differing_bits, differing_words, sync, no_sync, codeword, beyond}
 use Rattle.pocsag_decode.proofs.Preambles.{BeginsOther, Parts, after_is, parts}
-use Rattle.pocsag_decode.proofs.Transmissions.{four_bytes}
+use Rattle.pocsag_decode.proofs.Words.{bytes_split, each_small, none_in_few, unfinished_short}
 
 -- the bytes of words
 abbrev pub bytes_of_words : List ℕ → List ℕ
@@ -43,43 +43,9 @@ left_with : (ws rest : List ℕ) → words_of rest ≡ [] → unfinished (bytes_
 left_with [] rest none = left_alone rest none
 left_with (w ∷ ws) rest none = left_with ws rest none
 
-none_in_left : (Y : List ℕ) → words_of (unfinished Y) ≡ []
-none_in_left [] = refl
-none_in_left (a ∷ []) = refl
-none_in_left (a ∷ b ∷ []) = refl
-none_in_left (a ∷ b ∷ c ∷ []) = refl
-none_in_left (a ∷ b ∷ c ∷ d ∷ Y) = none_in_left Y
-
-none_in_few : (Y : List ℕ) → length Y < 4 → words_of Y ≡ []
-none_in_few [] h = refl
-none_in_few (a ∷ []) h = refl
-none_in_few (a ∷ b ∷ []) h = refl
-none_in_few (a ∷ b ∷ c ∷ []) h = refl
-none_in_few (a ∷ b ∷ c ∷ d ∷ Y) h = absurd (omega arith)
-
 bytes_push : (ws : List ℕ) (w : ℕ) (rest : List ℕ) → bytes_of_words ws ++ (to_be_bytes w32 w ++ rest) ≡ bytes_of_words (ws ++ w ∷ []) ++ rest
 bytes_push [] w rest = refl
 bytes_push (x ∷ ws) w rest = ap (λ (l : List ℕ). to_be_bytes w32 x ++ l) (bytes_push ws w rest)
-
-pub each_small : (Y : List ℕ) → All (λ b. b < 256) Y → (i : ℕ) → get_or Y i 0 < 256
-each_small Y h i =
-    elim (cases_lt i (length Y)) [
-      | inl there ↦ h i 0 there
-      | inr past ↦ subst (λ (n : ℕ). n < 256) (sym (get_or_past Y i 0 past)) (lit< tt)
-    ]
-
-bytes_split : (Y : List ℕ) → All (λ b. b < 256) Y → bytes_of_words (words_of Y) ++ unfinished Y ≡ Y
-bytes_split [] h = refl
-bytes_split (a ∷ []) h = refl
-bytes_split (a ∷ b ∷ []) h = refl
-bytes_split (a ∷ b ∷ c ∷ []) h = refl
-bytes_split (a ∷ b ∷ c ∷ d ∷ Y) h =
-    let s₁ = All-tail (λ x. x < 256) a (b ∷ c ∷ d ∷ Y) h in
-    let s₂ = All-tail (λ x. x < 256) b (c ∷ d ∷ Y) s₁ in
-    let s₃ = All-tail (λ x. x < 256) c (d ∷ Y) s₂ in
-    let four = four_bytes a b c d (All-head (λ x. x < 256) a (b ∷ c ∷ d ∷ Y) h) (All-head (λ x. x < 256) b (c ∷ d ∷ Y) s₁)
-    (All-head (λ x. x < 256) c (d ∷ Y) s₂) (All-head (λ x. x < 256) d Y s₃) in
-    ap₂ (λ (x y : List ℕ). x ++ y) four (bytes_split Y (All-tail (λ x. x < 256) d Y s₃))
 
 -- ---- repaired words
 
@@ -127,11 +93,14 @@ repaired_begins (w ∷ ws) (v ∷ vs) rest r o = first_begins w v ws vs rest r.0
 
 -- ---- how many words and bits differ
 
+pub none_wrong : (w : ℕ) → count_ones (bit_xor w w) ≡ 0
+none_wrong w = ap count_ones (xor_self w) ∙ omega (arith, ones_le_self 0)
+
 pub near_bits : (j w v : ℕ) → IsRepaired j w v → count_ones (bit_xor v w) ≤ 2
 near_bits j w v (sync e near) = near
-near_bits j w v (no_sync e far) = subst (λ (n : ℕ). count_ones n ≤ 2) (sym (xor_self w)) (omega (arith, ones_le_self 0))
+near_bits j w v (no_sync e far) = omega (arith, none_wrong w)
 near_bits j w v (codeword n only) = only.near
-near_bits j w v (beyond n none) = subst (λ (n : ℕ). count_ones n ≤ 2) (sym (xor_self w)) (omega (arith, ones_le_self 0))
+near_bits j w v (beyond n none) = omega (arith, none_wrong w)
 
 words_push : (ws vs : List ℕ) (w v : ℕ) → length vs ≡ length ws
     → differing_words (ws ++ w ∷ []) (vs ++ v ∷ []) ≡ differing_words ws vs + cond (v == w) 0 1
@@ -165,8 +134,7 @@ none_differ : (ws : List ℕ) → (differing_words ws ws ≡ 0) × (differing_bi
 none_differ [] = (refl, refl)
 none_differ (w ∷ ws) =
     let more = none_differ ws in
-    let none : count_ones (bit_xor w w) ≡ 0 = ap count_ones (xor_self w) ∙ omega (arith, ones_le_self 0) in
-    (rw (eq-eqb w w refl) (omega arith), omega arith)
+    (rw (eq-eqb w w refl) (omega arith), omega (arith, none_wrong w))
 
 -- bytes that stay have no word and no bit that differs
 pub nothing_differs : (X Y : List ℕ) → Y ≡ X → (differing_words (words X) (words Y) ≡ 0) × (differing_bits (words X) (words Y) ≡ 0)
@@ -188,7 +156,7 @@ module _ (X Y : List ℕ) (small : AreSmall (words X))
   words_of_repair =
       ap words_of (after_is Y (leading X) _ repaired_parts)
       ∙ words_with f.repaired (unfinished (after_preamble X)) (all_repaired_small 0 (words X) f.repaired small f.each)
-      (none_in_left (after_preamble X))
+      (none_in_few (unfinished (after_preamble X)) (unfinished_short (after_preamble X)))
 
 pub repaired_words : (X Y : List ℕ) → All (λ b. b < 256) X → (f : IsRepairOf X Y) → words Y ≡ f.repaired
 repaired_words X Y bytes f =
@@ -303,9 +271,9 @@ module _ (X now : List ℕ) (at place in_words in_bits : ℕ) (t : IsRepairing X
         }
 
   -- no whole word more
-  module _ (short : length X < at + 4) where
+  module _ (short : length now < at + 4) where
     none_over : words_of (drop at X) ≡ []
-    none_over = none_in_few (drop at X) (let d = length-drop at X in let w = t.within in omega arith)
+    none_over = none_in_few (drop at X) (let d = length-drop at X in let w = t.within in let l = long_now in omega arith)
 
     words_before : words X ≡ t.before
     words_before = ap words_of t.was ∙ words_with t.before (drop at X) t.small none_over

@@ -1,12 +1,10 @@
 -- The repair of damaged bytes is what was sent, and holds what each pager shows of them.
-use Rattle.std.proofs.Common.{◌≡◌, ◌≢◌, ℕ, ◌+◌, ◌*◌, ◌/◌, ◌%◌, ◌<◌, ◌≤◌, List, [], ◌∷◌, ◌++◌, length, map, filter, replicate, Option, Some, All, count_ones, refl, sym, ap, ap₂, ◌∙◌, subst, inl, inr, arith, lit<}
+use Rattle.std.proofs.Common.{◌≡◌, ◌≢◌, ℕ, ◌+◌, ◌*◌, ◌/◌, ◌%◌, ◌<◌, List, [], ◌∷◌, ◌++◌, length, map, filter, replicate, Option, Some, All, refl, sym, ap, ap₂, ◌∙◌, subst, inl, inr, arith, lit<}
 use Rattle.std.specs.Int.{to_be_bytes, w32}
-use Rattle.std.specs.Int.Bits.{xor_self}
 use Rattle.std.specs.List.{AllZip, flat_map}
 use Rattle.std.proofs.lemmas.Bool.{cases_eq, eq-eqb, ne_eqb}
 use Rattle.std.proofs.lemmas.List.{append-nil, nil_from_length}
-use Rattle.std.proofs.lemmas.List.Elements.{All-append, All-cons, All-head, All-nil, All-replicate, All-tail}
-use Rattle.std.proofs.lemmas.Nat.{ones_le_self}
+use Rattle.std.proofs.lemmas.List.Elements.{All-append, All-from_recursion, All-head, All-nil, All-replicate, All-tail}
 use Rattle.std.proofs.lemmas.Slice.Zip.{AllZip-long}
 use Rattle.pocsag_words.specs.Codeword.{IsCodeword, IsNear}
 use Rattle.pocsag_words.specs.Kinds.{kind_of}
@@ -23,7 +21,7 @@ use Rattle.pocsag_decode.specs.PartialWords.{unfinished}
 use Rattle.pocsag_decode.specs.Faults.{IsFaultless, ReadsAs, words}
 use Rattle.pocsag_decode.specs.Repairs.{AreRepaired, IsRepairOf, IsRepaired, sync, no_sync, codeword, beyond}
 use Rattle.pocsag_decode.proofs.Preambles.{Parts, after_is, count_is, leading_is}
-use Rattle.pocsag_decode.proofs.Repairs.{repaired_words}
+use Rattle.pocsag_decode.proofs.Repairs.{none_wrong, repaired_words}
 use Rattle.pocsag_decode.proofs.Judgements.{whole_no_fault}
 use Rattle.pocsag_decode.proofs.SentBytes.{body_begins, codewords_are, reads_whole}
 use Rattle.pocsag_decode.proofs.Words.{bytes_count}
@@ -76,7 +74,7 @@ restored_words j (t ∷ ts) (w ∷ ws) (v ∷ vs) due near r =
     ap₂ ◌∷◌ (restored_word j t w v due.0 near.0 r.0) (restored_words (j + 1) ts ws vs due.1 near.1 r.1)
 
 near_self : (w : ℕ) → IsNear w w
-near_self w = subst (λ (n : ℕ). count_ones n ≤ 2) (sym (xor_self w)) (omega (arith, ones_le_self 0))
+near_self w = omega (arith, none_wrong w)
 
 all_near : (ws : List ℕ) → AllZip IsNear ws ws
 all_near [] = tt
@@ -119,17 +117,11 @@ module _ (X T : List ℕ) (s : Sent X T) where
 
 -- ---- what reads as pages has no fault
 
-small_four : (a b c d : ℕ) (rest : List ℕ) → a < 256 → b < 256 → c < 256 → d < 256 → All (λ x. x < 256) rest →
-    All (λ x. x < 256) (a ∷ b ∷ c ∷ d ∷ rest)
-small_four a b c d rest h i j k small =
-    All-cons (λ x. x < 256) a (b ∷ c ∷ d ∷ rest) h (All-cons (λ x. x < 256) b (c ∷ d ∷ rest) i (All-cons (λ x. x < 256) c (d ∷ rest) j
-    (All-cons (λ x. x < 256) d rest k small)))
-
 small_bytes : (ws : List ℕ) → All (λ b. b < 256) (flat_map (to_be_bytes w32) ws)
 small_bytes [] = All-nil _
 small_bytes (w ∷ ws) =
-    small_four (w / 16777216 % 256) (w / 65536 % 256) (w / 256 % 256) (w % 256) (flat_map (to_be_bytes w32) ws)
-    (omega arith) (omega arith) (omega arith) (omega arith) (small_bytes ws)
+    All-append (λ b. b < 256) (to_be_bytes w32 w) (flat_map (to_be_bytes w32) ws)
+    (All-from_recursion (λ b. b < 256) (to_be_bytes w32 w) (omega arith, (omega arith, (omega arith, (omega arith, tt))))) (small_bytes ws)
 
 pub no_fault_of_reading : (X : List ℕ) (ps : List Page) → ReadsAs X ps → IsFaultless X
 no_fault_of_reading X ps r =

@@ -1,18 +1,17 @@
 -- Bytes with no fault are sent from codewords that read as their pages.
-use Rattle.std.proofs.Common.{◌≡◌, ◌≢◌, ℕ, zero, suc, lit<, ◌+◌, ◌*◌, ◌/◌, ◌%◌, ◌^◌, ◌<◌, ◌≤◌, Bool, not, List, [], ◌∷◌, ◌++◌, length, map, replicate, slice_index, get_or, Option, Some, None, IsTrue, All, refl, sym, ap, ap₂, ◌∙◌, subst, inl, inr, arith, append_assoc}
-use Rattle.std.specs.Int.{to_be_bytes, from_be_bytes, w32}
+use Rattle.std.proofs.Common.{◌≡◌, ◌≢◌, ℕ, ◌+◌, ◌*◌, ◌/◌, ◌%◌, ◌^◌, ◌<◌, ◌≤◌, Bool, not, List, [], ◌∷◌, ◌++◌, length, map, replicate, slice_index, Option, Some, None, IsTrue, All, refl, sym, ap, ap₂, ◌∙◌, subst, inl, inr, arith, append_assoc}
+use Rattle.std.specs.Int.{to_be_bytes, w32}
 use Rattle.std.specs.List.{flat_map}
 use Rattle.std.proofs.Math.Seq.{get_or-append_seam}
 use Rattle.std.proofs.lemmas.Bool.{cases_eq, cases_lt, lt-ltb, le-ltb, eq-eqb, ne_eqb}
 use Rattle.std.proofs.lemmas.List.{append-nil, length-append, length_push, nil_from_length}
 use Rattle.std.proofs.lemmas.List.Elements.{All-nil, All-cons, All-head, All-tail, All-map, All-weaker, All-drop}
-use Rattle.std.proofs.lemmas.Nat.{be_bytes_4}
 use Rattle.pocsag_words.specs.Codeword.{IsCodeword}
 use Rattle.pocsag_words.specs.Kinds.{kind_of, IsInRange}
 use Rattle.pocsag_words.specs.declared.codeword.Kind.{Kind}
 use Rattle.pocsag_words.specs.declared.codeword.Kind.TheVariants.{Idle, Address, Message}
 use Rattle.pocsag_pages.specs.declared.page.Page.{Page}
-use Rattle.pocsag_pages.specs.Bytes.{codewords_in, sync_word, synced, unsynced, words_of, leading, after_preamble, Sent}
+use Rattle.pocsag_pages.specs.Bytes.{codewords_in, sync_word, synced, unsynced, leading, after_preamble, Sent}
 use Rattle.pocsag_pages.specs.Plain.{HasNoOrphan, items_of, pages_from}
 use Rattle.pocsag_pages.proofs.Readings.{plain_reads}
 use Rattle.pocsag_decode.specs.declared.open_page.OpenPage.{OpenPage}
@@ -23,8 +22,8 @@ use Rattle.pocsag_pages.specs.Listable.{IsListable}
 use Rattle.pocsag_decode.specs.Places.{is_message, is_idle, may_follow, MayStandAt, AllMayStand}
 use Rattle.pocsag_decode.proofs.Preambles.{parts}
 use Rattle.pocsag_decode.proofs.WordByWord.{may_sync, may_codeword, may_kept}
-use Rattle.pocsag_decode.proofs.Words.{bytes_count}
-use Rattle.pocsag_pages.proofs.Lengths.{unsynced_count, words_long}
+use Rattle.pocsag_decode.proofs.Words.{bytes_count, bytes_split, unfinished_short}
+use Rattle.pocsag_pages.proofs.Lengths.{unsynced_count}
 
 -- the words so far, of which the next is w
 module _ (before : List ℕ) (w : ℕ) (ws : List ℕ) (good : AllMayStand (before ++ w ∷ ws)) where
@@ -109,35 +108,6 @@ resynced before (w ∷ v ∷ ws) good r whole i at =
           rw (ne_eqb _ _ n, ne_eqb _ _ j) (ap (λ (l : List ℕ). w ∷ l) rest)
     ]
 
--- four bytes are those of their word
-pub four_bytes : (a b c d : ℕ) → a < 256 → b < 256 → c < 256 → d < 256
-    → to_be_bytes w32 (from_be_bytes w32 (a ∷ b ∷ c ∷ d ∷ [])) ≡ a ∷ b ∷ c ∷ d ∷ []
-four_bytes a b c d p q r s = be_bytes_4 (a ∷ b ∷ c ∷ d ∷ []) (from_be_bytes w32 (a ∷ b ∷ c ∷ d ∷ [])) refl (each) refl where
-  each : (i : ℕ) → get_or (a ∷ b ∷ c ∷ d ∷ []) i 0 < 256
-  each zero = p
-  each (suc zero) = q
-  each (suc (suc zero)) = r
-  each (suc (suc (suc zero))) = s
-  each (suc (suc (suc (suc i)))) = lit< tt
-
--- whole words are their bytes
-pub bytes_are : (Y : List ℕ) → All (λ b. b < 256) Y → unfinished Y ≡ [] → flat_map (to_be_bytes w32) (words_of Y) ≡ Y
-bytes_are [] small e = refl
-bytes_are (a ∷ []) small e = absurd (cc)
-bytes_are (a ∷ b ∷ []) small e = absurd (cc)
-bytes_are (a ∷ b ∷ c ∷ []) small e = absurd (cc)
-bytes_are (a ∷ b ∷ c ∷ d ∷ Y) small e =
-    let s₁ = All-tail (λ x. x < 256) a (b ∷ c ∷ d ∷ Y) small in
-    let s₂ = All-tail (λ x. x < 256) b (c ∷ d ∷ Y) s₁ in
-    let s₃ = All-tail (λ x. x < 256) c (d ∷ Y) s₂ in
-    let s₄ = All-tail (λ x. x < 256) d Y s₃ in
-    let four = four_bytes a b c d (All-head (λ x. x < 256) a (b ∷ c ∷ d ∷ Y) small) (All-head (λ x. x < 256) b (c ∷ d ∷ Y) s₁)
-    (All-head (λ x. x < 256) c (d ∷ Y) s₂) (All-head (λ x. x < 256) d Y s₃) in
-    ap₂ (λ (x y : List ℕ). x ++ y) four (bytes_are Y s₄ e)
-
-unfinished_short : (Y : List ℕ) → length (unfinished Y) < 4
-unfinished_short Y = let n = bytes_count Y in let m = words_long Y in omega arith
-
 -- what bytes with no fault are
 pub record IsWhole (X : List ℕ) : Type 0 where
   pub small : All (λ b. b < 256) X
@@ -177,7 +147,9 @@ module _ (X : List ℕ) (h : IsWhole X) where
     bytes =
         let m = whole_words in
         let after : flat_map (to_be_bytes w32) (words X) ≡ after_preamble X =
-        bytes_are (after_preamble X) (All-drop (λ b. b < 256) (leading X) X h.small) none_left in
+        sym (append-nil (flat_map (to_be_bytes w32) (words X)))
+        ∙ ap (λ (l : List ℕ). flat_map (to_be_bytes w32) (words X) ++ l) (sym none_left)
+        ∙ bytes_split (after_preamble X) (All-drop (λ b. b < 256) (leading X) X h.small) in
         let again : synced 0 (codewords_in X) ≡ words X = resynced [] (words X) h.good (omega arith) (omega arith) 0 (omega arith) in
         (parts X).whole
         ∙ ap (λ (l : List ℕ). replicate (leading X) 0xaa ++ l) (sym (ap (flat_map (to_be_bytes w32)) again ∙ after));

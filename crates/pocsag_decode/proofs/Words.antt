@@ -1,8 +1,11 @@
 -- Bytes that go on: their whole words, and what follows these.
-use Rattle.std.proofs.Common.{◌≡◌, ◌≢◌, ℕ, ◌+◌, ◌-◌, ◌*◌, ◌≤◌, List, [], ◌∷◌, ◌++◌, length, get_or, take, drop, refl, sym, ap, ap₂, ◌∙◌, subst, inl, inr, arith, append_assoc, true, false, ◌==◌}
-use Rattle.std.proofs.lemmas.Bool.{eqb-true, false≢true}
-use Rattle.std.specs.Int.{from_be_bytes, w32}
-use Rattle.std.proofs.lemmas.List.{append-nil, length-append, length-drop, nil_from_length, take-append-drop, take_all}
+use Rattle.std.proofs.Common.{◌≡◌, ◌≢◌, ℕ, lit<, ◌+◌, ◌-◌, ◌*◌, ◌<◌, ◌≤◌, List, [], ◌∷◌, ◌++◌, length, get_or, take, drop, refl, sym, ap, ap₂, ◌∙◌, subst, inl, inr, arith, append_assoc, true, false, ◌==◌, All}
+use Rattle.std.proofs.lemmas.Bool.{cases_lt, eqb-true, false≢true}
+use Rattle.std.specs.Int.{from_be_bytes, to_be_bytes, w32}
+use Rattle.std.specs.List.{flat_map}
+use Rattle.std.proofs.lemmas.List.{append-nil, get_or_past, length-append, length-drop, nil_from_length, take-append-drop, take_all}
+use Rattle.std.proofs.lemmas.List.Elements.{All-drop, All-take}
+use Rattle.std.proofs.lemmas.Nat.{be_bytes_4}
 use Rattle.pocsag_pages.specs.Bytes.{words_of}
 use Rattle.pocsag_pages.proofs.Lengths.{first_word, words_long}
 use Rattle.pocsag_decode.specs.declared.fault.DecodeFault.{DecodeFault}
@@ -34,6 +37,31 @@ bytes_count (a ∷ []) = refl
 bytes_count (a ∷ b ∷ []) = refl
 bytes_count (a ∷ b ∷ c ∷ []) = refl
 bytes_count (a ∷ b ∷ c ∷ d ∷ Y) = let e = bytes_count Y in omega arith
+
+-- bytes are those of their words, and then what follows these
+pub each_small : (Y : List ℕ) → All (λ b. b < 256) Y → (i : ℕ) → get_or Y i 0 < 256
+each_small Y h i =
+    elim (cases_lt i (length Y)) [
+      | inl there ↦ h i 0 there
+      | inr past ↦ subst (λ (n : ℕ). n < 256) (sym (get_or_past Y i 0 past)) (lit< tt)
+    ]
+
+pub bytes_split : (Y : List ℕ) → All (λ b. b < 256) Y → flat_map (to_be_bytes w32) (words_of Y) ++ unfinished Y ≡ Y
+bytes_split [] h = refl
+bytes_split (a ∷ []) h = refl
+bytes_split (a ∷ b ∷ []) h = refl
+bytes_split (a ∷ b ∷ c ∷ []) h = refl
+bytes_split (a ∷ b ∷ c ∷ d ∷ Y) h =
+    let four = a ∷ b ∷ c ∷ d ∷ [] in
+    ap₂ (λ (x y : List ℕ). x ++ y)
+    (be_bytes_4 four (from_be_bytes w32 four) refl (each_small four (All-take (λ x. x < 256) 4 (four ++ Y) h)) refl)
+    (bytes_split Y (All-drop (λ x. x < 256) 4 (four ++ Y) h))
+
+pub none_in_few : (Y : List ℕ) → length Y < 4 → words_of Y ≡ []
+none_in_few Y h = nil_from_length (words_of Y) (let l = words_long Y in omega arith)
+
+pub unfinished_short : (Y : List ℕ) → length (unfinished Y) < 4
+unfinished_short Y = let n = bytes_count Y in let m = words_long Y in omega arith
 
 -- as many bytes as the decoder's count
 pub size_is : (b : Body) (Y : List ℕ) → HoldsOf b Y → size_of b.place b.partial ≡ length Y

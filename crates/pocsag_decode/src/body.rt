@@ -1,20 +1,16 @@
 ghost use Rattle.std.specs.Prelude.{◌≡◌, ◌≢◌, ◌↔◌, ℕ, ◌+◌, ◌*◌, ◌%◌, ◌^◌, ◌<◌, ◌≤◌, ◌∷◌, ◌++◌, [], length, is_some, IsTrue, IfOk, OnErr};
 ghost use Rattle.std.specs.Int.{from_be_bytes, w32};
 ghost use Rattle.pocsag_decode.specs.PartialWords.{partial_bytes, size_of};
-ghost use Rattle.pocsag_decode.specs.OpenPages.{closed};
-ghost use Rattle.pocsag_decode.specs.Places.{is_message};
 ghost use Rattle.pocsag_decode.specs.States.{HoldsOf};
 ghost use Rattle.pocsag_decode.specs.Intake.{CountsBytes, CountsWord, ReadsWord, RefusesBytes, RefusesWord, TakesIn};
 
 use crate::fault::DecodeFault;
+use crate::judge::{BATCH, judge_word};
 use crate::open_page::Growing;
 use crate::partial_word::PartialWord;
 use pocsag_pages::Page;
-use pocsag_words::{BATCH_WORDS, Kind, SYNC_WORD, from_raw, kind};
+use pocsag_words::kind_of_number;
 use std::alloc::{AllocError, Global};
-
-// The words of a batch, its synchronisation codeword among them.
-const BATCH: u64 = BATCH_WORDS as u64;
 
 // What was read after the preamble.
 #[derive(Drop)]
@@ -40,27 +36,7 @@ impl Body {
         4 * self.place + partial_bytes
     }
 
-    fn take_codeword(&mut self, number: u32) -> Result<(), DecodeFault>
-        requires small { self.old.place < 2 ^ 62 }
-        requires other { 0 < self.old.place % 17 }
-        ensures partial { self.new.partial ≡ self.old.partial }
-        ensures count { CountsWord result self.old self.new }
-        ensures read { ReadsWord result self.old self.new number }
-        ensures bad { RefusesWord result self.old number }
-    {
-        let Some(word) = from_raw(number) else {
-            return Err(DecodeFault::BadWord(self.place - self.place / BATCH - 1));
-        };
-        let kind = kind(word);
-        if matches!(kind, Kind::Message(_)) && self.growing.current.is_none() {
-            return Err(DecodeFault::Orphan(self.place - self.place / BATCH - 1));
-        }
-        let frame = (self.place % BATCH - 1) as u32 / 2;
-        self.growing.take(frame, kind)?;
-        self.place += 1;
-        Ok(())
-    }
-
+    // Takes the next whole word.
     #[inline(always)]
     fn take_word(&mut self, word: u32) -> Result<(), DecodeFault>
         requires { self.old.place < 2 ^ 62 }
@@ -69,11 +45,10 @@ impl Body {
         ensures read { ReadsWord result self.old self.new word }
         ensures bad { RefusesWord result self.old word }
     {
+        judge_word(self.place, self.growing.current.is_some(), word)?;
         if self.place % BATCH > 0 {
-            return self.take_codeword(word);
-        }
-        if word != SYNC_WORD {
-            return Err(DecodeFault::NoSync(self.place / BATCH));
+            let frame = (self.place % BATCH - 1) as u32 / 2;
+            self.growing.take(frame, kind_of_number(word))?;
         }
         self.place += 1;
         Ok(())

@@ -1,11 +1,12 @@
 //! The first fault of a transmission.
 ghost use Rattle.std.specs.Prelude.{◌≡◌, List, ◌∷◌, [], ◌+◌, ◌-◌, ◌*◌, ◌/◌, ◌%◌, ◌^◌, ◌<◌, ◌≤◌, ◌↔◌, All, IsTrue, false, length, IfErr, MatchResult, OnOk};
 ghost use Rattle.pocsag_words.specs.Codeword.{IsCodeword};
+ghost use Rattle.pocsag_words.specs.Kinds.{kind_of};
 ghost use Rattle.pocsag_pages.specs.declared.page.Page.{Page};
 ghost use Rattle.pocsag_pages.specs.Bytes.{words_of};
 ghost use Rattle.pocsag_decode.specs.Faults.{HasFault, ReadsAs};
 ghost use Rattle.pocsag_decode.specs.Judgements.{JudgesMore};
-ghost use Rattle.pocsag_decode.specs.Places.{AllMayStand, HasBadWord, index_at};
+ghost use Rattle.pocsag_decode.specs.Places.{AllMayStand, HasBadWord, index_at, is_message};
 
 use crate::fault::DecodeFault;
 use pocsag_pages::preamble_len;
@@ -15,7 +16,7 @@ use pocsag_words::{
 };
 
 // The words of a batch, its synchronisation codeword among them.
-const BATCH: u64 = BATCH_WORDS as u64;
+pub(crate) const BATCH: u64 = BATCH_WORDS as u64;
 
 const WORDS: usize = BATCH_WORDS as usize;
 
@@ -41,7 +42,8 @@ fn index_at(place: u64) -> u64
 fn judge_kind(place: u64, in_page: bool, codeword: u32) -> Result<bool, DecodeFault>
     requires other { 0 < place % 17 }
     requires codeword { IsCodeword codeword }
-    ensures { JudgesMore result place in_page (codeword ∷ []) }
+    ensures judged { JudgesMore result place in_page (codeword ∷ []) }
+    ensures follows { OnOk result (IsTrue (is_message (kind_of codeword)) → IsTrue in_page) }
 {
     match kind_of_number(codeword) {
         Kind::Idle => Ok(false),
@@ -56,8 +58,9 @@ fn judge_kind(place: u64, in_page: bool, codeword: u32) -> Result<bool, DecodeFa
 
 // Judges the word at a place, where a message codeword may follow or not.
 #[inline(always)]
-fn judge_word(place: u64, in_page: bool, word: u32) -> Result<bool, DecodeFault>
-    ensures { JudgesMore result place in_page (word ∷ []) }
+pub(crate) fn judge_word(place: u64, in_page: bool, word: u32) -> Result<bool, DecodeFault>
+    ensures judged { JudgesMore result place in_page (word ∷ []) }
+    ensures follows { OnOk result (0 < place % 17 → IsTrue (is_message (kind_of word)) → IsTrue in_page) }
 {
     if place % BATCH > 0 {
         return match from_raw(word) {

@@ -50,9 +50,7 @@ fn hex_text(alloc: Global, items: &[u32]) -> Result<Vec<u8>, OutOfMemory>
             hex_digit(item / 16 % 16),
             hex_digit(item % 16),
         ];
-        let Ok(()) = text.extend_from_slice(&digits) else {
-            return Err(OutOfMemory);
-        };
+        text.extend_from_slice(&digits)?;
     }
     Ok(text)
 }

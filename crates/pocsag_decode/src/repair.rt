@@ -5,13 +5,11 @@ ghost use Rattle.pocsag_pages.specs.Bytes.{Sent};
 ghost use Rattle.pocsag_pager.specs.Damage.{IsDamaged};
 ghost use Rattle.pocsag_decode.specs.Repairs.{Counts, IsRepaired, IsRepairOf};
 
+use crate::judge::BATCH;
 use crate::laws::repair_restores;
 use crate::repaired::Repaired;
 use pocsag_pages::preamble_len;
-use pocsag_words::{BATCH_WORDS, SYNC_WORD, repair};
-
-// The words of a batch, its synchronisation codeword among them.
-const BATCH: u64 = BATCH_WORDS as u64;
+use pocsag_words::{SYNC_WORD, repair};
 
 // The bits that may be wrong in a synchronisation codeword.
 const WRONG_BITS: u32 = 2;

@@ -1,5 +1,5 @@
 -- The findings of a node, put behind those before it.
-use Rattle.pocsag_findings.proofs.Prelude.{◌≡◌, ℕ, ◌+◌, ◌<◌, ◌≤◌, ◌++◌, ◌∷◌, [], List, Bool, sym, ◌∙◌, arith, nat_lt, true, length, slice_index, Classes, End, Limits, Reached, Stated, Fact, Share, BoundTree, BoundTrees, split, cut, close, children_count, Way, ap, refl, false}
+use Rattle.pocsag_findings.proofs.Prelude.{◌≡◌, ℕ, ◌+◌, ◌<◌, ◌≤◌, ◌++◌, ◌∷◌, [], List, Bool, sym, ◌∙◌, arith, nat_lt, true, length, slice_index, Classes, End, Limits, Reached, Stated, Fact, Share, BoundTree, BoundTrees, split, cut, close, children_count, Way, ap, refl, cond}
 use Rattle.std.proofs.Common.{append_assoc}
 use Rattle.std.specs.Prelude.{drop}
 use Rattle.std.proofs.Math.ListN.{get_or}
@@ -12,10 +12,10 @@ use Rattle.pocsag_slots.specs.Ways.{narrowed_limits, ways_across, ways_to_close}
 use Rattle.pocsag_findings.specs.Rules.{columns_at, fact_holds, fact_of, narrowed_of, shares_at}
 use Rattle.pocsag_findings.specs.Findings.{findings_below, findings_by, findings_within, unjudged_below}
 
--- a node whose rule holds, where those below it are found behind it
-pub held_node : (k : Classes) (end : End) (b depth : ℕ) (l : Limits) (above : ℕ) (how : Reached) (t : BoundTree) (fact : Fact)
-    (shares : List Share) (below old mid new : List Stated) → above < depth → fact ≡ fact_of k end l t → shares ≡ shares_at k l t →
-    fact_holds end b fact ≡ true →
+-- a node, where what is found below it stands behind it, or, where its rule does not hold, that this is not judged
+pub listed_node : (k : Classes) (end : End) (b depth : ℕ) (l : Limits) (above : ℕ) (how : Reached) (t : BoundTree) (fact : Fact)
+    (shares : List Share) (holds : Bool) (below old mid new : List Stated) → above < depth → fact ≡ fact_of k end l t →
+    shares ≡ shares_at k l t → fact_holds end b fact ≡ holds →
     mid ≡ old ++ record {
       depth = above + 1;
       reached = how;
@@ -26,32 +26,12 @@ pub held_node : (k : Classes) (end : End) (b depth : ℕ) (l : Limits) (above : 
       caps = l.cap;
       holds = fact_holds end b fact;
     } ∷ [] →
-    new ≡ mid ++ below → below ≡ findings_below k end b depth l (above + 1) t →
+    new ≡ mid ++ below → below ≡ cond holds (findings_below k end b depth l (above + 1) t) (unjudged_below depth (above + 1) t) →
     new ≡ old ++ findings_within k end b depth l above how t
-held_node k end b depth l above how t fact shares below old mid new h is stated held first all rest =
+listed_node k end b depth l above how t fact shares holds below old mid new h is stated judged first all rest =
     let listed : nat_lt above depth ≡ true = grind (arith, nat_tests) in
-    let holds : fact_holds end b (fact_of k end l t) ≡ true = rw is at held in
-    rw (all, first, is, stated, rest, listed, holds) (simp append_assoc)
-
--- a node whose rule does not hold, where those below it are found behind it
-pub refused_node : (k : Classes) (end : End) (b depth : ℕ) (l : Limits) (above : ℕ) (how : Reached) (t : BoundTree) (fact : Fact)
-    (shares : List Share) (old mid new : List Stated) → above < depth → fact ≡ fact_of k end l t → shares ≡ shares_at k l t →
-    fact_holds end b fact ≡ false →
-    mid ≡ old ++ record {
-      depth = above + 1;
-      reached = how;
-      fact = fact;
-      shares = shares;
-      columns = columns_at k l above;
-      narrowed = narrowed_of k l;
-      caps = l.cap;
-      holds = fact_holds end b fact;
-    } ∷ [] →
-    new ≡ mid ++ unjudged_below depth (above + 1) t → new ≡ old ++ findings_within k end b depth l above how t
-refused_node k end b depth l above how t fact shares old mid new h is stated refused first all =
-    let listed : nat_lt above depth ≡ true = grind (arith, nat_tests) in
-    let fails : fact_holds end b (fact_of k end l t) ≡ false = rw is at refused in
-    rw (all, first, is, stated, listed, fails) (simp append_assoc)
+    let rule : fact_holds end b (fact_of k end l t) ≡ holds = rw is at judged in
+    rw (all, first, is, stated, rest, listed, rule) (simp append_assoc)
 
 -- one child more of a node whose rule holds, where those of the children that are left follow
 pub found_child : (k : Classes) (end : End) (b depth : ℕ) (l : Limits) (above : ℕ) (ways : List Way) (children : List Tree) (i : ℕ)

@@ -149,9 +149,9 @@ fn put_node(
             below,
             from,
         } => {
-            let low = place.child_below(context, *class, u32::from(*m))?;
+            let low = place.child_of_split(context, *class, u32::from(*m), true)?;
             put_node(context, &low, below, found)?;
-            let high = place.child_from(context, *class, u32::from(*m))?;
+            let high = place.child_of_split(context, *class, u32::from(*m), false)?;
             put_node(context, &high, from, found)
         }
         Tree::Cut { set, children, .. } => {

@@ -1,4 +1,4 @@
-ghost use Rattle.std.specs.Prelude.{◌≡◌, ◌+◌, ◌^◌, ◌<◌, ◌≤◌, IfOk, slice_index};
+ghost use Rattle.std.specs.Prelude.{◌≡◌, ◌+◌, ◌^◌, ◌<◌, ◌≤◌, IfOk, cond, slice_index};
 ghost use Rattle.pocsag_slots.specs.declared.limit.Limits.{Limits};
 ghost use Rattle.pocsag_slots.specs.Loads.{AreInOrder};
 ghost use Rattle.pocsag_slots.specs.Ways.{limits_below, limits_from, MayTake, narrowed_limits};
@@ -30,52 +30,36 @@ pub(crate) struct Position {
 // Where the children of a node stand. Each position is made on the heap by a call of its own, so that a level of a
 // deep certificate takes little of the stack.
 impl Position {
-    // Below a split, where fewer than m pages of the class start early.
+    // Below a split, where fewer than m pages of the class start early, or at least m do.
     #[inline(never)]
-    pub(crate) fn child_below(
+    pub(crate) fn child_of_split(
         &self,
         context: &NodeContext,
         class: u8,
         m: u32,
+        is_below: bool,
     ) -> Result<Box<Position>, OutOfMemory>
         requires deep { self.now.above + 1 < 2 ^ 32 }
         requires ordered { AreInOrder context.now.classes.now self.now.limits }
         requires class { class < 136 }
         requires above { slice_index self.now.limits.lo class < m }
         requires within { m ≤ slice_index self.now.limits.hi class }
-        ensures child { IfOk result (λ child. child.value ≡
-            record { limits = limits_below self.now.limits class m; above = self.now.above + 1; reached = Below }) }
+        ensures child { IfOk result (λ child. child.value ≡ record {
+          limits = cond is_below (limits_below self.now.limits class m) (limits_from self.now.limits class m);
+          above = self.now.above + 1;
+          reached = cond is_below Below From;
+        }) }
         ensures ordered { IfOk result (λ child. AreInOrder context.now.classes.now child.value.limits) }
     {
-        let position = Position {
-            limits: below_split(&self.limits, class, m),
-            above: self.above + 1,
-            reached: Reached::Below,
+        let (limits, reached) = if is_below {
+            (below_split(&self.limits, class, m), Reached::Below)
+        } else {
+            (from_split(&self.limits, class, m), Reached::From)
         };
-        Ok(Box::new(context.alloc, position)?)
-    }
-
-    // Below a split, where at least m pages of the class start early.
-    #[inline(never)]
-    pub(crate) fn child_from(
-        &self,
-        context: &NodeContext,
-        class: u8,
-        m: u32,
-    ) -> Result<Box<Position>, OutOfMemory>
-        requires deep { self.now.above + 1 < 2 ^ 32 }
-        requires ordered { AreInOrder context.now.classes.now self.now.limits }
-        requires class { class < 136 }
-        requires above { slice_index self.now.limits.lo class < m }
-        requires within { m ≤ slice_index self.now.limits.hi class }
-        ensures child { IfOk result (λ child. child.value ≡
-            record { limits = limits_from self.now.limits class m; above = self.now.above + 1; reached = From }) }
-        ensures ordered { IfOk result (λ child. AreInOrder context.now.classes.now child.value.limits) }
-    {
         let position = Position {
-            limits: from_split(&self.limits, class, m),
+            limits,
             above: self.above + 1,
-            reached: Reached::From,
+            reached,
         };
         Ok(Box::new(context.alloc, position)?)
     }

@@ -16,8 +16,3 @@ pub sum_is : (before line after : List ℕ) (len count sum : ℕ) → len ≡ le
 sum_is before line after len count sum have counted cut few e =
     let all : length after ≡ length before + length line = ap length e ∙ length-append before line in
     omega (arith, have, counted, cut, few, all)
-
--- nor was it where the sum is within the limit
-pub fits_behind : (before line : List ℕ) (len count sum : ℕ) → len ≡ length before → count ≡ length line →
-    sum ≡ min (len + count) 18446744073709551615 → sum ≤ journal_limit → length before + length line ≤ journal_limit
-fits_behind before line len count sum have counted cut few = omega (arith, have, counted, cut, few)

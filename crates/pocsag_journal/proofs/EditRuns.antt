@@ -1,25 +1,44 @@
 -- Runs of edits.
-use Rattle.std.proofs.Common.{◌≡◌, ℕ, List, [], ◌∷◌, ◌++◌, arith, drop, refl, sym, ap, ◌∙◌, subst}
-use Rattle.std.specs.Prelude.{Option, Some, None, Result, Ok}
+use Rattle.std.proofs.Common.{◌≡◌, inl, inr, ℕ, cond, List, [], ◌∷◌, ◌++◌, arith, drop, refl, sym, ap, ◌∙◌, subst}
+use Rattle.std.specs.Prelude.{Option, Some, None, codes}
+use Rattle.std.specs.Str.{bytes_eq}
+use Rattle.std.proofs.lemmas.Bool.{cases_Bool}
 use Rattle.std.proofs.lemmas.Fmt.{decimal_injective}
 use Rattle.pocsag_pages.specs.PageFile.{Row}
 use Rattle.pocsag_pages.specs.declared.page.Page.{Page}
 use Rattle.pocsag_plan.specs.OpenRound.{without}
 use Rattle.pocsag_journal.specs.Runs.{Asked, IsDone, IsEdit, IsRun, add, asked_of, cancel, clear, sent}
+use Rattle.pocsag_journal.proofs.Fields.{edit_record, is_word}
 
-ok_is : {A E : Type 0} (r : Result A E) (a b : A) → r ≡ Ok a → r ≡ Ok b → a ≡ b
-ok_is r a b d e = cc (sym d ∙ e)
+-- an edit is that of a record of one of four kinds
+pub record Edit (row : Row) (before after : List Page) : Type 0 where
+  pub asked : Asked
+  pub is : row ≡ edit_record asked
+  pub done : IsDone (Some asked) before after
 
-some_is : {A : Type 0} (o : Option A) (a b : A) → o ≡ Some a → o ≡ Some b → a ≡ b
-some_is o a b d e = cc (sym d ∙ e)
+by_word : (row : Row) (word name : List ℕ) (asked : Asked) (others : Option Asked) (before after : List Page) → (word ≡ name → row ≡ edit_record asked) →
+    (IsDone others before after → Edit row before after) → IsDone (cond (bytes_eq word name) (Some asked) others) before after → Edit row before after
+by_word row word name asked others before after same more d = elim (cases_Bool (bytes_eq word name)) [
+  | inl t ↦ record { asked = asked; is = same (is_word word name t); done = rw t at d }
+  | inr f ↦ more (rw f at d)
+]
+
+pub edit_of : (row : Row) (before after : List Page) → IsEdit row before after → Edit row before after
+unfolding asked_of
+edit_of (w ∷ []) before after d = by_word _ w (codes "clear") clear None before after (λ e. rw e refl) (λ n. absurd n) d
+edit_of (w ∷ a ∷ []) before after d =
+    by_word _ w (codes "cancel") (cancel a) _ before after (λ e. rw e refl)
+    (by_word _ w (codes "sent") (sent a) None before after (λ e. rw e refl) (λ n. absurd n)) d
+edit_of (w ∷ a ∷ k ∷ m ∷ []) before after d = by_word _ w (codes "add") (add a k m) None before after (λ e. rw e refl) (λ n. absurd n) d
+edit_of row before after d = absurd d
 
 done_once : (asked : Option Asked) (before after other : List Page) → IsDone asked before after → IsDone asked before other → after ≡ other
 done_once None before after other p q = absurd p
 done_once (Some (add a k m)) before after other p q =
-    let same = ok_is _ p.page q.page p.spelled q.spelled in
+    let same : p.page ≡ q.page = cc (p.spelled, q.spelled) in
     p.behind ∙ ap (λ (page : Page). before ++ page ∷ []) same ∙ sym q.behind
 done_once (Some (cancel a)) before after other p q =
-    let same = some_is _ p.page.address q.page.address p.spelled q.spelled in
+    let same : p.page.address ≡ q.page.address = cc (p.spelled, q.spelled) in
     p.rest ∙ ap (λ (address : ℕ). without before address) same ∙ sym q.rest
 done_once (Some (sent n)) before after other p q =
     let same = decimal_injective p.count q.count (omega (arith, p.spelled.small)) (omega (arith, q.spelled.small)) (sym p.spelled.spelled ∙ q.spelled.spelled) in
@@ -38,14 +57,7 @@ run_once (row ∷ rows) before after other p q =
     let same = edit_once row before p.0 q.0 p.1 q.1 in
     run_once rows p.0 after other p.2 (subst (λ (mid : List Page). IsRun rows mid other) (sym same) q.2)
 
--- a run goes on by one edit
-pub run_on : (rows : List Row) (row : Row) (before between after : List Page) → IsRun rows before between → IsEdit row between after →
-    IsRun (rows ++ row ∷ []) before after
-unfolding IsRun
-run_on [] row before between after p q = (after, subst (λ (mid : List Page). IsEdit row mid after) p q, refl)
-run_on (r ∷ rows) row before between after p q = (p.0, p.1, run_on rows row p.0 between after p.2 q)
-
--- and is cut in two
+-- a run is cut in two
 pub run_parts : (rows more : List Row) (before after : List Page) → IsRun (rows ++ more) before after →
     (between : List Page) × IsRun rows before between × IsRun more between after
 unfolding IsRun
@@ -60,3 +72,9 @@ pub runs_join : (rows more : List Row) (before between after : List Page) → Is
 unfolding IsRun
 runs_join [] more before between after p q = subst (λ (mid : List Page). IsRun more mid after) p q
 runs_join (r ∷ rows) more before between after p q = (p.0, p.1, runs_join rows more p.0 between after p.2 q)
+
+-- a run goes on by one edit
+pub run_on : (rows : List Row) (row : Row) (before between after : List Page) → IsRun rows before between → IsEdit row between after →
+    IsRun (rows ++ row ∷ []) before after
+unfolding IsRun
+run_on rows row before between after p q = runs_join rows (row ∷ []) before between after p (after, q, refl)

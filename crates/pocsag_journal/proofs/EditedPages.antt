@@ -1,5 +1,5 @@
 -- What an edit keeps of all pages: that they may stand in one round, and what is so of each.
-use Rattle.std.proofs.Common.{◌≡◌, ℕ, ◌≤◌, Bool, true, false, cond, not, List, [], ◌∷◌, ◌++◌, drop, length, nat_eq, All, sym, subst, arith, length-append}
+use Rattle.std.proofs.Common.{◌≡◌, ℕ, ◌≤◌, Bool, true, false, cond, not, List, [], ◌∷◌, length, nat_eq, All, sym, subst, arith, length-append}
 use Rattle.std.specs.Prelude.{None, Ok, filter}
 use Rattle.std.specs.List.{AllByRecursion, IsDistinct}
 use Rattle.std.proofs.lemmas.List.{length-drop}
@@ -58,52 +58,43 @@ pub record Keeps (P : Page → Type 0) (before after : List Page) : Type 0 where
   pub each : All P before → All P after
 
 pub same_keeps : (P : Page → Type 0) (before after : List Page) → after ≡ before → Keeps P before after
-same_keeps P before after e = record { stand = λ was. subst MayStand (sym e) was; each = λ all. subst (All P) (sym e) all }
+same_keeps P before after e = rw e (record { stand = λ was. was; each = λ all. all })
 
 -- where it is so of the page that is added
 pub added_keeps : (P : Page → Type 0) (address kind message : List ℕ) (before after : List Page) → IsAdded address kind message before after →
     ((page : Page) → page_of_fields address kind message ≡ Ok page → page_fault_of page ≡ None → P page) → Keeps P before after
 added_keeps P address kind message before after d new =
     let may = may_follow before d.page d.free in
-    record {
-      stand = λ was.
-          let more : MayStand (before ++ d.page ∷ []) = record {
-            few = omega (arith, may.room, length-append before (d.page ∷ []));
-            good = good_push before d.page was.good may.good may.another;
-          } in
-          subst MayStand (sym d.behind) more;
-      each = λ all. subst (All P) (sym d.behind) (All-push P before d.page all (new d.page d.spelled may.good));
-    }
+    rw d.behind (record {
+      stand = λ was. record {
+        few = omega (arith, may.room, length-append before (d.page ∷ []));
+        good = good_push before d.page was.good may.good may.another;
+      };
+      each = λ all. All-push P before d.page all (new d.page d.spelled may.good);
+    })
 
 pub cancelled_keeps : (P : Page → Type 0) (spelling : List ℕ) (before after : List Page) → IsCancelled spelling before after → Keeps P before after
 cancelled_keeps P spelling before after d =
     let stays : Page → Bool = λ (p : Page). not (nat_eq d.page.address p.address) in
-    record {
-      stand = λ was.
-          let left : MayStand (without before d.page.address) = record {
-            few = omega (arith, few_kept stays before, was.few);
-            good = record {
-              each = All-filter stays (λ p. page_fault_of p ≡ None) before was.good.each;
-              apart = distinct_kept stays before was.good.apart;
-            };
-          } in
-          subst MayStand (sym d.rest) left;
-      each = λ all. subst (All P) (sym d.rest) (All-filter stays P before all);
-    }
+    let left : Keeps P before (without before d.page.address) = record {
+      stand = λ was. record {
+        few = omega (arith, few_kept stays before, was.few);
+        good = record {
+          each = All-filter stays (λ p. page_fault_of p ≡ None) before was.good.each;
+          apart = distinct_kept stays before was.good.apart;
+        };
+      };
+      each = λ all. All-filter stays P before all;
+    } in
+    subst (Keeps P before) (sym d.rest) left
 
 pub sent_keeps : (P : Page → Type 0) (count : List ℕ) (before after : List Page) → IsSent count before after → Keeps P before after
 sent_keeps P count before after d =
-    record {
-      stand = λ was.
-          let few = was.few in
-          let left : MayStand (drop d.count before) =
-          record { few = omega (arith, length-drop d.count before, few); good = good_last d.count before was.good } in
-          subst MayStand (sym d.rest) left;
-      each = λ all. subst (All P) (sym d.rest) (All-drop P d.count before all);
-    }
+    rw d.rest (record {
+      stand = λ was. let few = was.few in
+          record { few = omega (arith, length-drop d.count before, few); good = good_last d.count before was.good };
+      each = λ all. All-drop P d.count before all;
+    })
 
 pub cleared_keeps : (P : Page → Type 0) (before after : List Page) → after ≡ [] → Keeps P before after
-cleared_keeps P before after e = record {
-  stand = λ was. subst MayStand (sym e) none_stand;
-  each = λ all. subst (All P) (sym e) (All-nil P);
-}
+cleared_keeps P before after e = rw e (record { stand = λ was. none_stand; each = λ all. All-nil P })

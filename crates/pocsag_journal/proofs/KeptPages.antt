@@ -2,7 +2,6 @@
 use Rattle.std.proofs.Common.{◌≡◌, ◌≢◌, inl, inr, false, true≢false, ℕ, ◌-◌, arith, List, [], ◌∷◌, ◌++◌, length, refl, sym, ap, ◌∙◌, subst}
 use Rattle.std.proofs.lemmas.List.{append-nil, length-append}
 use Rattle.std.specs.Prelude.{Some, slice_get}
-use Rattle.std.specs.List.{AllByRecursion}
 use Rattle.std.proofs.lemmas.Option.{same_Some}
 use Rattle.std.specs.Fmt.{decimal}
 use Rattle.csv.specs.Writing.{default_writer, row_text}
@@ -15,7 +14,7 @@ use Rattle.pocsag_journal.specs.Runs.{IsEdit, IsRefusedFor, IsRun, asked_of, wan
 use Rattle.pocsag_journal.specs.declared.refusal.Refusal.{Refusal}
 use Rattle.pocsag_journal.specs.Runs.{first_record}
 use Rattle.pocsag_journal.specs.LineTexts.{IsWholeLine}
-use Rattle.pocsag_journal.specs.Journals.{AddsLine, IsAdd, ListsPages, Represents, add_record, rows_text}
+use Rattle.pocsag_journal.specs.Journals.{AddsLine, IsAdd, IsLine, ListsPages, Represents, add_record, rows_text}
 use Rattle.pocsag_journal.specs.Faults.{IsUnspelled}
 use Rattle.pocsag_journal.proofs.EditRuns.{edit_once, run_on}
 use Rattle.pocsag_journal.proofs.TextLines.{same_row}
@@ -27,13 +26,18 @@ pub stands_on : (text later : List ℕ) (row : Row) (before after : List Page) �
 stands_on text later row before after stands line edit e = record {
   rows = stands.rows ++ row ∷ [];
   text = e ∙ ap (λ (t : List ℕ). t ++ row_text default_writer row) stands.text ∙ sym (journal_more stands.rows row);
-  each = all_more stands.rows row stands.each (record { some = edit_some row before after edit; line = line });
+  each = all_more IsLine stands.rows row stands.each (record { some = edit_some row before after edit; line = line });
   run = run_on stands.rows row [] before after stands.run edit;
 }
 
 at_end : (before : List Page) (page : Page) → slice_get (before ++ page ∷ []) (length before) ≡ Some page
 at_end [] page = refl
 at_end (b ∷ before) page = at_end before page
+
+last_of : (before : List Page) (page : Page) → slice_get (before ++ page ∷ []) (length (before ++ page ∷ []) - 1) ≡ Some page
+last_of before page =
+    let place : length (before ++ page ∷ []) - 1 ≡ length before = rw (length-append before (page ∷ [])) (omega arith) in
+    rw place (at_end before page)
 
 -- the record of a page adds one
 pub added_row : (row : Row) (page : Page) → row ≡ add_record page → IsAdd row
@@ -70,9 +74,7 @@ pub no_last : (row : Row) (before after : List Page) (page : Page) → row ≡ a
     (slice_get after (length after - 1) ≢ Some page) → IsUnspelled before page
 no_last row before after page e edit other adds =
     let same = edit_once row before after (before ++ page ∷ []) edit (same_add row before page (before ++ page ∷ []) e adds) in
-    let place : length (before ++ page ∷ []) - 1 ≡ length before = rw (length-append before (page ∷ [])) (omega arith) in
-    other
-    (ap (λ (ps : List Page). slice_get ps (length ps - 1)) same ∙ ap (λ (n : ℕ). slice_get (before ++ page ∷ []) n) place ∙ at_end before page)
+    other (ap (λ (ps : List Page). slice_get ps (length ps - 1)) same ∙ last_of before page)
 
 -- an edit that adds puts a page behind the others
 abbrev pub Behind : (before after : List Page) → Type 0
@@ -87,9 +89,8 @@ added_behind row before after adds edit =
 last_is : (before after : List Page) (page other : Page) → after ≡ before ++ page ∷ [] → slice_get after (length after - 1) ≡ Some other →
     after ≡ before ++ other ∷ []
 last_is before after page other e last =
-    let place : length (before ++ page ∷ []) - 1 ≡ length before = rw (length-append before (page ∷ [])) (omega arith) in
     let here = subst (λ (ps : List Page). slice_get ps (length ps - 1) ≡ Some other) e last in
-    let same = same_Some page other (sym (at_end before page) ∙ ap (λ (n : ℕ). slice_get (before ++ page ∷ []) n) (sym place) ∙ here) in
+    let same = same_Some page other (sym (last_of before page) ∙ here) in
     e ∙ ap (λ (p : Page). before ++ p ∷ []) same
 
 pub adds_line : (line : List ℕ) (row : Row) (before after : List Page) (page : Page) → IsAdd row → IsWholeLine line →
@@ -119,10 +120,6 @@ listed_first text pages e none = record {
   adds = tt;
 }
 
-adds_more : (rows : List Row) (row : Row) → AllByRecursion IsAdd rows → IsAdd row → AllByRecursion IsAdd (rows ++ row ∷ [])
-adds_more [] row each add = (add, tt)
-adds_more (r ∷ rows) row each add = (each.0, adds_more rows row each.1 add)
-
 -- and one line more for one page more
 pub listed_on : (text line later : List ℕ) (before after : List Page) (page : Page) → ListsPages text before → AddsLine line before page after →
     later ≡ text ++ line → ListsPages later after
@@ -130,5 +127,5 @@ unfolding stands_on
 listed_on text line later before after page listed adds e = record {
   stands = stands_on text later adds.row before after listed.stands adds.one.line adds.edit
       (e ∙ ap (λ (t : List ℕ). text ++ t) (sym adds.text));
-  adds = adds_more listed.stands.rows adds.row listed.adds adds.adds;
+  adds = all_more IsAdd listed.stands.rows adds.row listed.adds adds.adds;
 }

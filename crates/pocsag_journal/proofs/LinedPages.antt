@@ -1,6 +1,6 @@
 -- Pages that lines add have lines.
 use Rattle.std.proofs.Common.{◌≡◌, ◌≢◌, ℕ, zero, suc, ◌+◌, ◌^◌, ◌<◌, ◌==◌, Bool, true, false, cond, inl, inr, List, [], ◌∷◌, ◌++◌, length, replicate, All, refl, sym, subst, arith, codes, length-append}
-use Rattle.std.specs.Prelude.{None, Result, Ok, Err, IfOk}
+use Rattle.std.specs.Prelude.{None, Some, Result, Ok, Err, IfOk}
 use Rattle.std.specs.List.{AllByRecursion}
 use Rattle.std.specs.Fmt.{decimal}
 use Rattle.std.specs.Str.{bytes_eq}
@@ -28,12 +28,14 @@ use Rattle.pocsag_journal.specs.Faults.{HasNoLine}
 use Rattle.pocsag_journal.specs.Journals.{AddsLine, IsLine, IsRead, add_record}
 use Rattle.pocsag_journal.specs.LineTexts.{HasNoLineFeed}
 use Rattle.pocsag_journal.specs.PageLines.{HasLine, HaveLines}
-use Rattle.pocsag_journal.specs.Runs.{IsEdit, IsRun, add, asked_of, cancel, clear, sent}
+use Rattle.pocsag_journal.specs.Runs.{Asked, IsDone, IsEdit, IsRun, add, asked_of, cancel, clear, sent}
+use Rattle.pocsag_journal.proofs.EditRuns.{edit_of}
+use Rattle.pocsag_journal.proofs.Fields.{edit_record}
 use Rattle.pocsag_journal.proofs.EditedPages.{Keeps, added_keeps, cancelled_keeps, cleared_keeps, none_stand, sent_keeps}
 use Rattle.pocsag_journal.proofs.FieldLines.{feedless_both, line_fields, row_line}
 use Rattle.pocsag_journal.proofs.KeptPages.{added_row}
 use Rattle.pocsag_journal.proofs.LineFeeds.{none_found}
-use Rattle.pocsag_journal.proofs.LineLengths.{done, one_done, then_ok}
+use Rattle.pocsag_journal.proofs.LineLengths.{then_ok}
 
 -- the fields of a page's record
 pub decimal_feedless : (n : ℕ) → n < 2 ^ 64 → HasNoLineFeed (decimal n)
@@ -135,22 +137,17 @@ kept_lined before after keeps lined =
     let stand = keeps.stand (record { few = lined.few; good = lined.good }) in
     record { each = keeps.each lined.each; good = stand.good; few = stand.few }
 
-edit_keeps : (row : Row) (before after : List Page) → AllByRecursion HasNoLineFeed row → IsEdit row before after → Keeps HasLine before after
-unfolding asked_of
-edit_keeps [] before after none d = absurd d
-edit_keeps (w ∷ []) before after none d =
-    done (bytes_eq w (codes "clear")) clear before after (λ t made. cleared_keeps HasLine before after made) d
-edit_keeps (w ∷ a ∷ []) before after none d =
-    one_done (bytes_eq w (codes "cancel")) (cancel a) _ before after (λ t made. cancelled_keeps HasLine a before after made)
-    (done (bytes_eq w (codes "sent")) (sent a) before after (λ t made. sent_keeps HasLine a before after made)) d
-edit_keeps (w ∷ a ∷ k ∷ []) before after none d = absurd d
-edit_keeps (w ∷ a ∷ k ∷ m ∷ []) before after none d =
-    done (bytes_eq w (codes "add")) (add a k m) before after
-    (λ t made. added_keeps HasLine a k m before after made (page_lined a k m none.1.1.1.0)) d
-edit_keeps (w ∷ a ∷ k ∷ m ∷ n ∷ row) before after none d = absurd d
+asked_keeps : (asked : Asked) (before after : List Page) → AllByRecursion HasNoLineFeed (edit_record asked) → IsDone (Some asked) before after →
+    Keeps HasLine before after
+asked_keeps clear before after none d = cleared_keeps HasLine before after d
+asked_keeps (cancel a) before after none d = cancelled_keeps HasLine a before after d
+asked_keeps (sent a) before after none d = sent_keeps HasLine a before after d
+asked_keeps (add a k m) before after none d = added_keeps HasLine a k m before after d (page_lined a k m none.1.1.1.0)
 
 pub edit_lined : (row : Row) (before after : List Page) → IsLine row → IsEdit row before after → HaveLines before → HaveLines after
-edit_lined row before after line edit = kept_lined before after (edit_keeps row before after (line_fields row line) edit)
+edit_lined row before after line edit =
+    let its = edit_of row before after edit in
+    kept_lined before after (asked_keeps its.asked before after (subst (AllByRecursion HasNoLineFeed) its.is (line_fields row line)) its.done)
 
 pub run_lined : (rows : List Row) (before after : List Page) → AllByRecursion IsLine rows → IsRun rows before after →
     HaveLines before → HaveLines after

@@ -121,9 +121,9 @@ acknowledged_read acknowledged rows part torn each read =
     let left = read_on _ acknowledged rows part torn each refl read in
     (left.left, left.parts)
 
-pub all_more : (rows : List Row) (row : Row) → AllByRecursion IsLine rows → IsLine row → AllByRecursion IsLine (rows ++ row ∷ [])
-all_more [] row each line = (line, tt)
-all_more (r ∷ rows) row each line = (each.0, all_more rows row each.1 line)
+pub all_more : {X : Type 0} (P : X → Type 0) (xs : List X) (x : X) → AllByRecursion P xs → P x → AllByRecursion P (xs ++ x ∷ [])
+all_more P [] x each last = (last, tt)
+all_more P (first ∷ xs) x each last = (each.0, all_more P xs x each.1 last)
 
 text_more : (rows : List Row) (row : Row) → rows_text (rows ++ row ∷ []) ≡ rows_text rows ++ row_text default_writer row
 unfolding rows_text
@@ -145,7 +145,7 @@ one_more_read acknowledged rows row part [] torn each line e read =
     let whole : journal_text acknowledged ++ part ≡ journal_text (acknowledged ++ row ∷ []) ++ [] =
     ap (λ (t : List ℕ). journal_text acknowledged ++ t) (sym (append-nil part) ∙ e) ∙ sym (journal_more acknowledged row) ∙ sym (append-nil _) in
     let now : IsRead (journal_text acknowledged ++ part) (acknowledged ++ row ∷ []) [] =
-    record { parts = inl whole; each = all_more acknowledged row each line; end = tt } in
+    record { parts = inl whole; each = all_more IsLine acknowledged row each line; end = tt } in
     inr (one_reading _ _ rows _ torn now read).0
 one_more_read acknowledged rows row part (b ∷ rest) torn each line e read =
     let now : IsRead (journal_text acknowledged ++ part) acknowledged part =

@@ -8,13 +8,8 @@ use Rattle.pocsag_journal.specs.declared.replay.Replayed.{Replayed}
 
 told_replay : (bytes : List ℕ) (before after : ℕ) (f : JournalFault) → IsPrinted bytes f → ExplainsReplay bytes before after f
 told_replay bytes before after fault.ReadFault h = absurd h
-told_replay bytes before after fault.WriteFault h = h
 told_replay bytes before after fault.TooLarge h = absurd h
-told_replay bytes before after fault.NotJournal h = h
-told_replay bytes before after fault.OtherVersion h = h
-told_replay bytes before after (fault.BadLine n) h = h
-told_replay bytes before after (fault.NoLine n) h = h
-told_replay bytes before after fault.OutOfMemory h = h
+told_replay bytes before after f h = h
 
 -- what is reported of the bytes that were read is reported of those that were held
 pub told_of : (bytes held : List ℕ) (before after : ℕ) → bytes ≡ held → (r : Result Replayed JournalFault) → IfErr r (IsPrinted bytes) →

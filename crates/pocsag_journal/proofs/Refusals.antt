@@ -1,6 +1,6 @@
 -- What is refused is no edit of these pages, or memory was wanting.
-use Rattle.std.proofs.Common.{◌≡◌, ◌⊎◌, inl, inr, ℕ, zero, suc, ◌<◌, true, false, List, [], ◌∷◌, length, refl, sym, ap, ◌∙◌, subst, arith, slice_index_or}
-use Rattle.std.specs.Prelude.{Option, Some, None, Result, Ok, Err, Contains, nat_eq}
+use Rattle.std.proofs.Common.{◌≡◌, ◌⊎◌, inl, inr, ℕ, zero, suc, ◌<◌, true, List, [], ◌∷◌, length, refl, sym, ap, ◌∙◌, subst, arith, slice_index_or}
+use Rattle.std.specs.Prelude.{Option, Some, None, Ok, Contains, nat_eq}
 use Rattle.std.proofs.lemmas.Bool.{or_right}
 use Rattle.pocsag_pages.specs.Pages.{has_address}
 use Rattle.pocsag_pages.specs.PageFile.{page_of_fields}
@@ -26,62 +26,30 @@ at_place (p ∷ pages) (suc k) d h = or_right _ _ (at_place pages k d (omega ari
 there : (pages : List Page) (p : Page) → Contains pages p → has_address pages p.address ≡ true
 there pages p h = subst (λ (q : Page). has_address pages q.address ≡ true) h.2 (at_place pages h.0 p h.1)
 
-never : true ≡ false → ⊥
-never e = cc e
-
-no_page : (a k m : List ℕ) (f : FieldFault) (pages after : List Page) → page_of_fields a k m ≡ Err f → IsAdded a k m pages after → ⊥
-no_page a k m f pages after e d = cc (sym e ∙ d.spelled)
-
-same_page : (r : Result Page FieldFault) (p q : Page) → r ≡ Ok p → r ≡ Ok q → p ≡ q
-same_page r p q d e = cc (sym d ∙ e)
-
 by_fault : (a k m : List ℕ) (pages : List Page) (page : Page) (f : AddFault) (o : Option AddFault) → page_of_fields a k m ≡ Ok page →
     add_fault pages page ≡ o → f ≡ fault_or_memory o →
     (wants_memory (refusal.Add f) ≡ true) ⊎ ((after : List Page) → IsAdded a k m pages after → ⊥)
 by_fault a k m pages page f None e t h = inl (ap (λ (g : AddFault). wants_memory (refusal.Add g)) h)
 by_fault a k m pages page f (Some g) e t h = inr (λ after d.
-    let same = same_page (page_of_fields a k m) page d.page e d.spelled in
+    let same : page ≡ d.page = cc (e, d.spelled) in
     cc (sym t ∙ ap (λ (q : Page). add_fault pages q) same ∙ d.free))
 
 pub refused_asking : (asking : Line) (pages : List Page) (why : Refusal) → IsEditRefused asking pages why →
     (wants_memory why ≡ true) ⊎ ((after : List Page) → IsDone (asked_by_line asking) pages after → ⊥)
-refused_asking (line.Add a k m) pages refusal.Unknown h = absurd h
 refused_asking (line.Add a k m) pages (refusal.Field f) (inl h) = inl (ap (λ (g : FieldFault). wants_memory (refusal.Field g)) h.0)
-refused_asking (line.Add a k m) pages (refusal.Field f) (inr e) = inr (λ after d. no_page a.now k.now m.now f pages after e d)
+refused_asking (line.Add a k m) pages (refusal.Field f) (inr e) = inr (λ after d. cc (e, d.spelled))
 refused_asking (line.Add a k m) pages (refusal.Add f) h = by_fault a.now k.now m.now pages h.0 f (add_fault pages h.0) h.1 refl h.2
-refused_asking (line.Add a k m) pages (refusal.Cancel f) h = absurd h
-refused_asking (line.Add a k m) pages (refusal.Undone f) h = absurd h
-refused_asking (line.Add a k m) pages refusal.InQuotes h = absurd h
-refused_asking (line.Add a k m) pages refusal.StrayQuote h = absurd h
-refused_asking (line.Cancel a) pages refusal.Unknown h = absurd h
-refused_asking (line.Cancel a) pages (refusal.Field f) h = absurd h
-refused_asking (line.Cancel a) pages (refusal.Add f) h = absurd h
+refused_asking (line.Add a k m) pages why h = absurd h
 refused_asking (line.Cancel a) pages (refusal.Cancel f) h = inr (λ after d.
-    never (sym (there pages d.page d.there) ∙ h d.page.address d.spelled))
-refused_asking (line.Cancel a) pages (refusal.Undone f) h = absurd h
-refused_asking (line.Cancel a) pages refusal.InQuotes h = absurd h
-refused_asking (line.Cancel a) pages refusal.StrayQuote h = absurd h
-refused_asking (line.Sent n) pages refusal.Unknown h = absurd h
-refused_asking (line.Sent n) pages (refusal.Field f) h = absurd h
-refused_asking (line.Sent n) pages (refusal.Add f) h = absurd h
+    cc (there pages d.page d.there, h d.page.address d.spelled))
+refused_asking (line.Cancel a) pages why h = absurd h
 refused_asking (line.Sent n) pages (refusal.Cancel f) h = inr (λ after d. let few = h d.count d.spelled in omega (arith, few, d.there))
-refused_asking (line.Sent n) pages (refusal.Undone f) h = absurd h
-refused_asking (line.Sent n) pages refusal.InQuotes h = absurd h
-refused_asking (line.Sent n) pages refusal.StrayQuote h = absurd h
+refused_asking (line.Sent n) pages why h = absurd h
 refused_asking line.Clear pages why h = absurd h
-refused_asking line.List pages why h = inr (λ after d. d)
-refused_asking (line.Plan tx cert end most) pages why h = inr (λ after d. d)
-refused_asking line.Unknown pages why h = inr (λ after d. d)
-refused_asking line.Journal pages why h = inr (λ after d. d)
+refused_asking asking pages why h = inr (λ after d. d)
 
 -- why a line is refused is why the edit is that it asks for
 pub reason_asking : (asking : Line) (pages : List Page) (why : Refusal) → IsEditRefused asking pages why →
     IsReason (asked_by_line asking) pages why
-reason_asking (line.Add a k m) pages why h = h
-reason_asking (line.Cancel a) pages why h = h
-reason_asking (line.Sent n) pages why h = h
 reason_asking line.Clear pages why h = h
-reason_asking line.List pages why h = h
-reason_asking (line.Plan tx cert end most) pages why h = h
-reason_asking line.Journal pages why h = h
-reason_asking line.Unknown pages why h = h
+reason_asking asking pages why h = h

@@ -13,14 +13,14 @@ use Rattle.csv.specs.declared.parser.State.TheVariants as st
 use Rattle.csv.proofs.RoundTrip.{read-write}
 use Rattle.pocsag_pages.specs.PageFile.{Row, only_row, rows_of}
 use Rattle.pocsag_pages.specs.declared.page.Page.{Page}
-use Rattle.pocsag_journal.specs.Runs.{Asked, IsDone, IsEdit, IsRefusedFor, IsRun, asked_of, cancel, sent, wants_memory}
+use Rattle.pocsag_journal.specs.Runs.{Asked, IsDone, IsEdit, IsRefusedFor, IsRun, asked_of, cancel, clear, sent, wants_memory}
 use Rattle.pocsag_journal.specs.declared.refusal.Refusal.{Refusal}
 use Rattle.pocsag_journal.specs.LineTexts.{HasNoLineFeed, IsWholeLine}
 use Rattle.pocsag_journal.specs.Runs.{first_record}
-use Rattle.pocsag_journal.proofs.Fields.{is_word}
+use Rattle.pocsag_journal.proofs.Fields.{edit_record, is_word}
 use Rattle.pocsag_pages.proofs.RowTexts.{none_left}
 use Rattle.pocsag_journal.specs.Journals.{IsBadLine, IsFirstCut, IsLine, MakesLine, Replays, journal_text, rows_text}
-use Rattle.pocsag_journal.proofs.EditRuns.{run_on}
+use Rattle.pocsag_journal.proofs.EditRuns.{edit_of, run_on}
 use Rattle.pocsag_journal.proofs.Prefixes.{all_more, journal_more, short}
 use Rattle.pocsag_journal.proofs.TextLines.{back_is, first_line}
 
@@ -55,25 +55,16 @@ pair_word w a before after d = of_two (bytes_eq w (codes "cancel")) (bytes_eq w 
     of_two false false e f d = absurd d
 
 -- the text of an edit begins with no byte order mark
-starts_plain : (row : Row) (before after : List Page) → IsEdit row before after → strip_bom (row_text default_writer row) ≡ row_text default_writer row
-unfolding asked_of strip_bom
-starts_plain [] before after d = absurd d
-starts_plain (w ∷ []) before after d =
-    subst (λ (x : List ℕ). strip_bom (row_text default_writer (x ∷ [])) ≡ row_text default_writer (x ∷ []))
-    (sym (is_word w (codes "clear") (is_true _ _ before after d))) refl
-starts_plain (w ∷ a ∷ []) before after d =
-    let plain = λ (x : List ℕ). strip_bom (row_text default_writer (x ∷ a ∷ [])) ≡ row_text default_writer (x ∷ a ∷ []) in
-    elim (pair_word w a before after d) [ inl e ↦ subst plain (sym e) refl | inr e ↦ subst plain (sym e) refl ]
-starts_plain (w ∷ a ∷ k ∷ []) before after d = absurd d
-starts_plain (w ∷ a ∷ k ∷ m ∷ []) before after d =
-    subst (λ (x : List ℕ). strip_bom (row_text default_writer (x ∷ a ∷ k ∷ m ∷ [])) ≡ row_text default_writer (x ∷ a ∷ k ∷ m ∷ []))
-    (sym (is_word w (codes "add") (is_true _ _ before after d))) refl
-starts_plain (w ∷ a ∷ k ∷ m ∷ n ∷ row) before after d = absurd d
+starts_plain : (asked : Asked) → strip_bom (row_text default_writer (edit_record asked)) ≡ row_text default_writer (edit_record asked)
+unfolding strip_bom
+starts_plain clear = refl
+starts_plain asked = refl
 
 -- the first record of an edit's text is that of the edit
 pub edit_is_read : (row : Row) (before after : List Page) → IsEdit row before after → first_of (row_text default_writer row) ≡ Some row
 edit_is_read row before after d =
-    let plain = starts_plain row before after d in
+    let edit = edit_of row before after d in
+    let plain : strip_bom (row_text default_writer row) ≡ row_text default_writer row = rw edit.is (starts_plain edit.asked) in
     let back = back_is row (edit_some row before after d) in
     let read = rw (append-nil (row_text default_writer row), back) at (read-write row []) in
     rw plain (only_read (row_text default_writer row) row read)
@@ -162,7 +153,7 @@ made_on bytes rest line behind edits before after made e whole m =
       text = made.text ∙ ap (λ (t : List ℕ). journal_text made.rows ++ t) (e ∙ ap (λ (l : List ℕ). l ++ behind) (sym m.2))
           ∙ sym (append_assoc (journal_text made.rows) (row_text default_writer m.0) behind)
           ∙ ap (λ (t : List ℕ). t ++ behind) (sym (journal_more made.rows m.0));
-      each = all_more made.rows m.0 made.each here;
+      each = all_more IsLine made.rows m.0 made.each here;
       run = run_on made.rows m.0 [] before after made.run m.3;
       as_many = rw (length-append made.rows (m.0 ∷ []), made.as_many) refl;
       few = omega (arith, most, least, so_far);

@@ -9,7 +9,7 @@ use Rattle.pocsag_journal.specs.Moments.{Elapses, LeavesOnly}
 use Rattle.pocsag_journal.specs.Runs.{IsEdit, IsRun, first_record}
 use Rattle.pocsag_journal.specs.LineTexts.{HasNoLineFeed, IsWholeLine}
 use Rattle.pocsag_journal.proofs.Moments.{goes_on, started}
-use Rattle.pocsag_journal.specs.Crashes.{IsTorn, LeavesAfter, LeavesOr, RestartsAs}
+use Rattle.pocsag_journal.specs.Crashes.{IsTorn, LeavesOr, RestartsAs}
 use Rattle.pocsag_journal.specs.Growth.{kept_line_limit}
 use Rattle.pocsag_journal.specs.Journals.{IsAdd, ListsPages, Represents, journal_limit, rows_text}
 use Rattle.pocsag_journal.specs.Views.{IsHeld, disk_of}
@@ -108,29 +108,6 @@ module _ {D : Type 0} (moment : D → ℕ) (left_since : D → ℕ → List ℕ 
   unwritten journal pages Holds only held_is f =
       started moment left_since (disk_of journal) Holds
       (λ left since. f left (held_restarts journal (held (disk_of journal)) (may_leave (disk_of journal)) pages left held_is (only left since)))
-
-  -- while a line is written
-  pub torn_left : (journal : Journal D) (line : List ℕ) (row : Row) (before after : List Page) (new : D) →
-      IsHeld journal (held (disk_of journal)) (may_leave (disk_of journal)) before → line ≡ row_text default_writer row → IsWholeLine line →
-      IsEdit row before after → length (held (disk_of journal)) + length line ≤ journal_limit →
-      LeavesAfter (IsTorn line) (may_leave (disk_of journal)) (may_leave new) → (left : List ℕ) → may_leave new left →
-      ReadsAsEither RestartsAs before after left
-  torn_left journal line row before after new held_is text whole edit fits leaves left now =
-      let from = leaves left now in
-      torn_reads (held (disk_of journal)) line left row before after held_is.stands text whole edit fits
-      (subst (λ (was : List ℕ). IsTorn line was left) (held_is.safe from.0 from.1) from.2)
-
-  pub written : (journal : Journal D) (line : List ℕ) (row : Row) (before after : List Page) (new : D) →
-      ((left : List ℕ) → left_since (disk_of journal) (moment (disk_of journal)) left → may_leave (disk_of journal) left) →
-      IsHeld journal (held (disk_of journal)) (may_leave (disk_of journal)) before → line ≡ row_text default_writer row → IsWholeLine line →
-      IsEdit row before after → length (held (disk_of journal)) + length line ≤ journal_limit →
-      LeavesAfter (IsTorn line) (may_leave (disk_of journal)) (may_leave new) →
-      Elapses (moment (disk_of journal)) (moment new) (left_since (disk_of journal)) (left_since new) (may_leave new) →
-      LeavesOnly moment left_since (disk_of journal) new (ReadsAsEither RestartsAs before after)
-  written journal line row before after new only held_is text whole edit fits leaves time =
-      goes_on moment left_since (disk_of journal) (disk_of journal) new (ReadsAsEither RestartsAs before after) (may_leave new)
-      (unwritten journal before (ReadsAsEither RestartsAs before after) only held_is (λ left is. inl is)) time
-      (torn_left journal line row before after new held_is text whole edit fits leaves)
 
   -- from what a crash may have left before on
   pub put_anew : (disk new : D) (text : List ℕ) (pages : List Page) →

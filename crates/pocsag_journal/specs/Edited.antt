@@ -1,5 +1,5 @@
 -- What an edit of an open round does to its pages, and why it is refused (this project's own).
-use Rattle.std.specs.Prelude.{◌≡◌, ◌⊎◌, ℕ, ◌^◌, ◌<◌, ◌≤◌, false, List, [], ◌∷◌, ◌++◌, Contains, drop, length, Option, Some, None, Ok, Err, IsOk}
+use Rattle.std.specs.Prelude.{◌≡◌, ◌⊎◌, ℕ, ◌^◌, ◌<◌, ◌≤◌, false, List, [], ◌∷◌, ◌++◌, Contains, drop, length, Some, None, Ok, Err, IsOk}
 use Rattle.std.specs.Fmt.{decimal}
 use Rattle.pocsag_pages.specs.Pages.{has_address}
 use Rattle.pocsag_pages.specs.PageFile.{address_of, page_of_fields}

@@ -1,5 +1,5 @@
 -- A transmission of one page alone has at least so many codewords.
-use Rattle.std.proofs.Common.{◌≡◌, ℕ, zero, suc, ◌+◌, ◌*◌, ◌/◌, ◌%◌, ◌<◌, ◌≤◌, ◌==◌, inl, inr, Bool, true, false, List, [], ◌∷◌, ◌++◌, length, map, length-append, nat_le, refl, sym, ap, subst, ◌∙◌, arith}
+use Rattle.std.proofs.Common.{◌≡◌, ℕ, zero, suc, ◌+◌, ◌*◌, ◌/◌, ◌%◌, ◌<◌, ◌≤◌, ◌==◌, inl, inr, false, List, [], ◌∷◌, ◌++◌, length, map, length-append, ap, subst, arith}
 use Rattle.std.proofs.lemmas.Bool.Decides.{nat_tests}
 use Rattle.std.specs.Prelude.{Contains, if◌then◌else◌, slice_index_or}
 use Rattle.std.proofs.lemmas.Bool.{cases_Bool}
@@ -56,15 +56,9 @@ behind ends.Idle high function address [] [] h = absurd (cc)
 behind ends.Idle high function address (item ∷ items) [] h = absurd (never_idle item items h)
 behind ends.Idle high function address items (r ∷ rest) h = omega arith
 
-first_of : (p : Page) (ps : List Page) (q : Page) → p ∷ ps ≡ q ∷ [] → p ≡ q
-first_of p ps q e = cc
-
-no_page : (q : Page) → [] ≡ q ∷ [] → ⊥
-no_page q e = cc
-
 lone : (end : End) {ws : List Kind} {i : ℕ} {ps : List Page} (q : Page) → Reads ws i ps → ps ≡ q ∷ [] → EndsAs end ws → IsRoomFor end q i (length ws)
-lone end q at_end e h = absurd (no_page q e)
-lone end q (past_idle {ws = []} at_end) e h = absurd (no_page q e)
+lone end q at_end e h = absurd (cc e)
+lone end q (past_idle {ws = []} at_end) e h = absurd (cc e)
 lone end {i = i} q (past_idle {ws = v ∷ ws} r) e h =
     let later = lone end q r e (ends_later end Idle v ws h) in
     record { at = later.at; low = omega (arith, later.low); frame = later.frame; room = omega (arith, later.room) }
@@ -75,7 +69,8 @@ lone end {i = i} q (past_page {high = high} {function = function} {ws = ws} {ps 
     let ended = behind end high function (8 * high + frame_at i) items rest (subst (λ (v : List Kind). EndsAs end (Address high function ∷ v)) words h) in
     let room : IsRoomFor end p i (length (Address high function ∷ ws)) =
     record { at = i; low = omega arith; frame = omega arith; room = omega (arith, all, ended) } in
-    subst (λ (v : Page). IsRoomFor end v i (length (Address high function ∷ ws))) (first_of p ps q e) room
+    let same : p ≡ q = cc e in
+    subst (λ (v : Page). IsRoomFor end v i (length (Address high function ∷ ws))) same room
 
 -- a list of one page that has this one is it
 here : (p q : Page) (k : ℕ) → k < 1 → slice_index_or (p ∷ []) k q ≡ q → p ≡ q

@@ -100,13 +100,10 @@ module _ (a : ℕ) (low : a ≤ last_address) (free : is_reserved a ≡ false) w
   tone_page f true known = page_fine f [] (tone_fine f known)
   tone_page f false known = tt
 
-  numeric_page : (text : List ℕ) (r : Result (List ℕ) TextFault) → numeric_payload text ≡ r → IfOk (of_text r >>= paged a 0) IsFine
-  numeric_page text (Ok items) e = page_fine 0 items (text_fine 0 items (inl refl) (of_numeric text items e))
-  numeric_page text (Err f) e = tt
-
-  alpha_page : (text : List ℕ) (r : Result (List ℕ) TextFault) → alpha_payload text ≡ r → IfOk (of_text r >>= paged a 3) IsFine
-  alpha_page text (Ok items) e = page_fine 3 items (text_fine 3 items (inr refl) (of_alpha text items e))
-  alpha_page text (Err f) e = tt
+  text_page : (f : ℕ) (r : Result (List ℕ) TextFault) → (f ≡ 0) ⊎ (f ≡ 3) → ((items : List ℕ) → r ≡ Ok items → AreFew items) →
+      IfOk (of_text r >>= paged a f) IsFine
+  text_page f (Ok items) of few = page_fine f items (text_fine f items of (few items refl))
+  text_page f (Err e) of few = tt
 
   named_fine : (name message : List ℕ) → IfOk (page_at a name message) IsFine
   unfolding kind_of_field payload_of
@@ -116,8 +113,8 @@ module _ (a : ℕ) (low : a ≤ last_address) (free : is_reserved a ≡ false) w
       (one_name IsFine _ (bytes_eq name (codes "tone1")) _ _ (tone_page 1 t (omega arith))
       (one_name IsFine _ (bytes_eq name (codes "tone2")) _ _ (tone_page 2 t (omega arith))
       (one_name IsFine _ (bytes_eq name (codes "tone3")) _ _ (tone_page 3 t (omega arith))
-      (one_name IsFine _ (bytes_eq name (codes "numeric")) _ _ (numeric_page message (numeric_payload message) refl)
-      (one_name IsFine _ (bytes_eq name (codes "alpha")) _ None (alpha_page message (alpha_payload message) refl) tt)))))
+      (one_name IsFine _ (bytes_eq name (codes "numeric")) _ _ (text_page 0 (numeric_payload message) (inl refl) (of_numeric message))
+      (one_name IsFine _ (bytes_eq name (codes "alpha")) _ None (text_page 3 (alpha_payload message) (inr refl) (of_alpha message)) tt)))))
 
 -- what holds of the value of one step and then of the next
 bound : {A B : Type 0} (Q : A → Type 0) (P : B → Type 0) (r : Result A FieldFault) (f : A → Result B FieldFault) → IfOk r Q →

@@ -81,28 +81,22 @@ taken_out (past_page {high = high} {function = function} {ws = ws} items rest e 
           (begins_still d.before d.gone d.after d.some (subst BeginsNoMessage d.parts b)) d.reads;
     }
 
--- the last codeword, once the middle part is idle
-whole_still : (us ms vs : List Kind) → 0 < length ms → EndsWhole (us ++ (ms ++ vs)) → EndsWhole (us ++ (replicate (length ms) Idle ++ vs))
-whole_still us [] vs some e = absurd (omega arith)
-whole_still [] (m ∷ []) [] some e = tt
-whole_still [] (m ∷ []) (v ∷ vs) some e = e
-whole_still [] (m ∷ n ∷ ms) vs some e = whole_still [] (n ∷ ms) vs (omega arith) e
-whole_still (u ∷ []) (m ∷ ms) vs some e = whole_still [] (m ∷ ms) vs some e
-whole_still (u ∷ w ∷ us) (m ∷ ms) vs some e = whole_still (w ∷ us) (m ∷ ms) vs some e
-
-idle_still : (us ms vs : List Kind) → 0 < length ms → EndsIdle (us ++ (ms ++ vs)) → EndsIdle (us ++ (replicate (length ms) Idle ++ vs))
-idle_still us [] vs some e = absurd (omega arith)
-idle_still [] (m ∷ []) [] some e = refl
-idle_still [] (m ∷ []) (v ∷ vs) some e = e
-idle_still [] (m ∷ n ∷ ms) vs some e = idle_still [] (n ∷ ms) vs (omega arith) e
-idle_still (u ∷ []) (m ∷ ms) vs some e = idle_still [] (m ∷ ms) vs some e
-idle_still (u ∷ w ∷ us) (m ∷ ms) vs some e = idle_still (w ∷ us) (m ∷ ms) vs some e
+-- what is said of the last codeword alone, once the middle part is idle
+module _ (P : List Kind → Type 0) (idle : P (Idle ∷ [])) (drops : (u w : Kind) (ws : List Kind) → P (u ∷ w ∷ ws) → P (w ∷ ws))
+    (adds : (u w : Kind) (ws : List Kind) → P (w ∷ ws) → P (u ∷ w ∷ ws)) where
+  last_still : (us ms vs : List Kind) → 0 < length ms → P (us ++ (ms ++ vs)) → P (us ++ (replicate (length ms) Idle ++ vs))
+  last_still us [] vs some e = absurd (omega arith)
+  last_still [] (m ∷ []) [] some e = idle
+  last_still [] (m ∷ []) (v ∷ vs) some e = adds Idle v vs (drops m v vs e)
+  last_still [] (m ∷ n ∷ ms) vs some e = adds Idle Idle _ (last_still [] (n ∷ ms) vs (omega arith) (drops m n _ e))
+  last_still (u ∷ []) (m ∷ ms) vs some e = adds u Idle _ (last_still [] (m ∷ ms) vs some (drops u m _ e))
+  last_still (u ∷ w ∷ us) (m ∷ ms) vs some e = adds u w _ (last_still (w ∷ us) (m ∷ ms) vs some (drops u w _ e))
 
 ends_still : (end : End) (us ms vs : List Kind) → 0 < length ms → EndsAs end (us ++ (ms ++ vs)) →
     EndsAs end (us ++ (replicate (length ms) Idle ++ vs))
 ends_still ends.Open us ms vs some e = tt
-ends_still ends.Closed us ms vs some e = whole_still us ms vs some e
-ends_still ends.Idle us ms vs some e = idle_still us ms vs some e
+ends_still ends.Closed us ms vs some e = last_still EndsWhole tt (λ u w ws d. d) (λ u w ws d. d) us ms vs some e
+ends_still ends.Idle us ms vs some e = last_still EndsIdle refl (λ u w ws d. d) (λ u w ws d. d) us ms vs some e
 
 as_long : (ws us ms vs : List Kind) → ws ≡ us ++ (ms ++ vs) → length (us ++ (replicate (length ms) Idle ++ vs)) ≡ length ws
 as_long ws us ms vs parts =

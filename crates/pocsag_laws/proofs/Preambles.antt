@@ -34,29 +34,15 @@ unfoldable all_far : ℕ → List ℕ → Bool
 all_far zero bits = true
 all_far (suc n) bits = is_far (high_number 0 (take 32 bits)) && all_far n (drop 1 bits)
 
-upright_far : all_far 544 (drop 32 (clean_start Upright)) ≡ true
-unfolding all_far is_far low_ones high_first high_number
-upright_far = refl
-
-inverted_far : all_far 544 (drop 32 (clean_start Inverted)) ≡ true
-unfolding all_far is_far low_ones high_first high_number
-inverted_far = refl
-
 far_start : (p : Polarity) → all_far 544 (drop 32 (clean_start p)) ≡ true
-far_start Upright = upright_far
-far_start Inverted = inverted_far
-
-upright_long : length (clean_start Upright) ≡ 608
-unfolding high_first
-upright_long = refl
-
-inverted_long : length (clean_start Inverted) ≡ 608
-unfolding high_first
-inverted_long = refl
+unfolding all_far is_far low_ones high_first high_number
+far_start Upright = refl
+far_start Inverted = refl
 
 start_long : (p : Polarity) → length (clean_start p) ≡ 608
-start_long Upright = upright_long
-start_long Inverted = inverted_long
+unfolding high_first
+start_long Upright = refl
+start_long Inverted = refl
 
 far_at : (n i : ℕ) (bits : List ℕ) → all_far n bits ≡ true → i < n → is_far (high_number 0 (take 32 (drop i bits))) ≡ true
 unfolding all_far
@@ -67,21 +53,18 @@ far_at (suc n) (suc i) bits all below =
     let next : 1 + i ≡ suc i = omega arith in
     subst (λ (l : List ℕ). is_far (high_number 0 (take 32 l)) ≡ true) (drop-drop i 1 bits ∙ ap (λ (k : ℕ). drop k bits) next) rest
 
-not_near : (w : ℕ) (p : Polarity) → is_far w ≡ true → ¬ (count_ones (bit_xor sync_word (as_sent p w)) ≤ 2)
+ones_between : (w : ℕ) → is_far w ≡ true → (w < 2 ^ 32) × (3 ≤ count_ones (bit_xor sync_word w)) × (count_ones (bit_xor sync_word w) ≤ 29)
 unfolding is_far
-not_near w Upright far near =
+ones_between w far =
     let parts = and_parts (ltb w (2 ^ 32)) (leb 3 (low_ones 32 (bit_xor sync_word w)) && leb (low_ones 32 (bit_xor sync_word w)) 29) far in
     let bounds = and_parts (leb 3 (low_ones 32 (bit_xor sync_word w))) (leb (low_ones 32 (bit_xor sync_word w)) 29) parts.1 in
     let small = ltb-true w (2 ^ 32) parts.0 in
     let count = low_ones_are 32 (bit_xor sync_word w) (xor_lt 32 sync_word w (omega arith) small) in
-    omega (arith, count, leb-true _ _ bounds.0)
-not_near w Inverted far near =
-    let parts = and_parts (ltb w (2 ^ 32)) (leb 3 (low_ones 32 (bit_xor sync_word w)) && leb (low_ones 32 (bit_xor sync_word w)) 29) far in
-    let bounds = and_parts (leb 3 (low_ones 32 (bit_xor sync_word w))) (leb (low_ones 32 (bit_xor sync_word w)) 29) parts.1 in
-    let small = ltb-true w (2 ^ 32) parts.0 in
-    let count = low_ones_are 32 (bit_xor sync_word w) (xor_lt 32 sync_word w (omega arith) small) in
-    let both = both_polarities w small in
-    omega (arith, count, both, leb-true _ _ bounds.1)
+    (small, omega (arith, count, leb-true _ _ bounds.0), omega (arith, count, leb-true _ _ bounds.1))
+
+not_near : (w : ℕ) (p : Polarity) → is_far w ≡ true → ¬ (count_ones (bit_xor sync_word (as_sent p w)) ≤ 2)
+not_near w Upright far near = omega (arith, near, (ones_between w far).1)
+not_near w Inverted far near = let ones = ones_between w far in omega (arith, near, both_polarities w ones.0, ones.2)
 
 pub preamble_quiet : (before rest : List ℕ) (p : Polarity)
     → IsQuiet (before ++ (clean_start p ++ rest)) (length before + 32) (length before + 576)

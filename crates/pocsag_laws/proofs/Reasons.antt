@@ -62,9 +62,13 @@ quote_or_byte text (f, (b, p, at)) (g, (c, q, other)) =
 abbrev pub wanted : Refusal
 wanted = refusal.Undone undone.OutOfMemory
 
-other_reasons : (text : List ℕ) (why : Refusal) → IsUnread text why → why ≢ wanted →
+-- one of the other reasons, each of which excludes the others
+abbrev IsReason : (text : List ℕ) → Refusal → Type 0
+IsReason text why =
     ((why ≡ refusal.InQuotes) × (HasNoRecord text × EndsInQuotes text))
     ⊎ (((why ≡ refusal.StrayQuote) × HasStrayQuote text) ⊎ ((why ≡ refusal.Unknown) × (HasStrayByte text ⊎ (text ≡ []))))
+
+other_reasons : (text : List ℕ) (why : Refusal) → IsUnread text why → why ≢ wanted → IsReason text why
 other_reasons text refusal.InQuotes h n = inl (refl, h)
 other_reasons text refusal.StrayQuote h n = inr (inl (refl, h))
 other_reasons text refusal.Unknown h n = inr (inr (refl, h))
@@ -73,41 +77,24 @@ other_reasons text (refusal.Field f) h n = absurd h
 other_reasons text (refusal.Add f) h n = absurd h
 other_reasons text (refusal.Cancel f) h n = absurd h
 
+open_or_byte : (text : List ℕ) → HasNoRecord text × EndsInQuotes text → HasStrayByte text ⊎ (text ≡ []) → ⊥
+open_or_byte text opened (inl lost) = never_open text lost.0 lost.1.0 lost.1.1 opened.1
+open_or_byte text opened (inr empty) = open_not_empty text opened.0 empty
+
+quote_or_unknown : (text : List ℕ) → HasStrayQuote text → HasStrayByte text ⊎ (text ≡ []) → ⊥
+quote_or_unknown text quote (inl lost) = quote_or_byte text quote lost
+quote_or_unknown text quote (inr empty) = lost_not_empty text quote.0 quote.1.0 quote.1.1 empty
+
+same_reason : (text : List ℕ) (why other : Refusal) → IsReason text why → IsReason text other → why ≡ other
+same_reason text why other (inl a) (inl b) = a.0 ∙ sym b.0
+same_reason text why other (inl a) (inr (inl b)) = absurd (never_open text b.1.0 b.1.1.0 b.1.1.1 a.1.1)
+same_reason text why other (inl a) (inr (inr b)) = absurd (open_or_byte text a.1 b.1)
+same_reason text why other (inr (inl a)) (inl b) = absurd (never_open text a.1.0 a.1.1.0 a.1.1.1 b.1.1)
+same_reason text why other (inr (inl a)) (inr (inl b)) = a.0 ∙ sym b.0
+same_reason text why other (inr (inl a)) (inr (inr b)) = absurd (quote_or_unknown text a.1 b.1)
+same_reason text why other (inr (inr a)) (inl b) = absurd (open_or_byte text b.1 a.1)
+same_reason text why other (inr (inr a)) (inr (inl b)) = absurd (quote_or_unknown text b.1 a.1)
+same_reason text why other (inr (inr a)) (inr (inr b)) = a.0 ∙ sym b.0
+
 pub one_reason : (text : List ℕ) (why other : Refusal) → IsUnread text why → IsUnread text other → why ≢ wanted → other ≢ wanted → why ≡ other
-one_reason text why other p q m n = elim (other_reasons text why p m) [
-  | inl a ↦ elim (other_reasons text other q n) [
-    | inl b ↦ a.0 ∙ sym b.0
-    | inr rest ↦ elim rest [
-      | inl b ↦ absurd (never_open text b.1.0 b.1.1.0 b.1.1.1 a.1.1)
-      | inr b ↦ elim b.1 [
-        | inl lost ↦ absurd (never_open text lost.0 lost.1.0 lost.1.1 a.1.1)
-        | inr empty ↦ absurd (open_not_empty text a.1.0 empty)
-      ]
-    ]
-  ]
-  | inr first ↦ elim first [
-    | inl a ↦ elim (other_reasons text other q n) [
-      | inl b ↦ absurd (never_open text a.1.0 a.1.1.0 a.1.1.1 b.1.1)
-      | inr rest ↦ elim rest [
-        | inl b ↦ a.0 ∙ sym b.0
-        | inr b ↦ elim b.1 [
-          | inl lost ↦ absurd (quote_or_byte text a.1 lost)
-          | inr empty ↦ absurd (lost_not_empty text a.1.0 a.1.1.0 a.1.1.1 empty)
-        ]
-      ]
-    ]
-    | inr a ↦ elim (other_reasons text other q n) [
-      | inl b ↦ elim a.1 [
-        | inl lost ↦ absurd (never_open text lost.0 lost.1.0 lost.1.1 b.1.1)
-        | inr empty ↦ absurd (open_not_empty text b.1.0 empty)
-      ]
-      | inr rest ↦ elim rest [
-        | inl b ↦ elim a.1 [
-          | inl lost ↦ absurd (quote_or_byte text b.1 lost)
-          | inr empty ↦ absurd (lost_not_empty text b.1.0 b.1.1.0 b.1.1.1 empty)
-        ]
-        | inr b ↦ a.0 ∙ sym b.0
-      ]
-    ]
-  ]
-]
+one_reason text why other p q m n = same_reason text why other (other_reasons text why p m) (other_reasons text other q n)

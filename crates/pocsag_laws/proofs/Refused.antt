@@ -1,5 +1,6 @@
 -- What is refused has no tour.
-use Rattle.pocsag_tour.proofs.Prelude.{◌≡◌, ℕ, ◌+◌, ◌%◌, ◌<◌, ◌≤◌, ◌==◌, ◌&&◌, ◌⊎◌, nat_lt, Bool, true, false, not, cond, List, [], ◌∷◌, refl, subst, ◌∙◌, arith, eq-eqb, inl, inr, eqb-true, nat_tests, End, Classes, Step, runs, load, start_of, finish_of, holds, idles, AsksForLast, IsTour, LastIsWhole, Leads, IsReached, IsUnclosed, runs_of}
+use Rattle.pocsag_tour.proofs.Prelude.{◌≡◌, ℕ, ◌+◌, ◌%◌, ◌<◌, ◌==◌, ◌&&◌, ◌⊎◌, Bool, true, false, not, cond, List, [], ◌∷◌, refl, subst, ◌∙◌, arith, eq-eqb, inl, inr, eqb-true, End, Classes, Step, runs, load, start_of, finish_of, holds, idles, AsksForLast, IsTour, LastIsWhole, Leads, IsReached, IsUnclosed, runs_of}
+use Rattle.std.proofs.lemmas.Bool.{cases_lt}
 use Rattle.pocsag_words.specs.declared.ending.End.TheVariants as ends
 use Rattle.pocsag_slots.specs.declared.step.Step.TheVariants.{Idle as Stay, Run}
 use Rattle.pocsag_tour.specs.Reached.{IsApart, at_start, by_idle, by_run}
@@ -80,20 +81,10 @@ unfolding runs_of
 runs_are k choice b end ss t c true h = t.early c h
 runs_are k choice b end ss t c false h = omega (arith, t.late c h)
 
-is_less : (d : ℕ) → nat_lt d 136 ≡ true → d < 136
-is_less d t = grind (arith, nat_tests)
-
-is_more : (d : ℕ) → nat_lt d 136 ≡ false → 136 ≤ d
-is_more d t = grind (arith, nat_tests)
-
-low_test : (d n : ℕ) (b : Bool) → nat_lt d 136 ≡ b → 0 < n → (136 ≤ d → n ≡ 0) → d < 136
-low_test d n true t some none = is_less d t
-low_test d n false t some none = absurd (let z : n ≡ 0 = none (is_more d t) in omega arith)
-
 known_runs : (k : Classes) (choice : ℕ → ℕ) (b : ℕ) (end : End) (ss : List Step) → IsTour k end choice b ss → (d : ℕ) (f : Bool) →
     0 < runs d f ss → (d < 136) × (0 < runs_of k choice d f)
 known_runs k choice b end ss t d f some =
-    let low : d < 136 = low_test d (runs d f ss) (nat_lt d 136) refl some (t.no_other d f) in
+    let low : d < 136 = elim (cases_lt d 136) [ inl less ↦ less | inr above ↦ absurd (omega (arith, some, t.no_other d f above)) ] in
     (low, rw (runs_are k choice b end ss t d f low) at some)
 
 pub never_apart : (k : Classes) (end : End) (choice : ℕ → ℕ) (b set : ℕ) (ss : List Step) → IsApart k choice b set →

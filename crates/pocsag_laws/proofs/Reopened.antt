@@ -39,29 +39,33 @@ use Rattle.pocsag_laws.specs.Reopened.{NamesNoMemory}
 use Rattle.pocsag_open.specs.Replies.{AreReplies, IsLineReply, IsRefusalPrinted, IsReply, IsSession, edited, listed, noted, planned, read, refused, sent_first, too_long, unread}
 use Rattle.pocsag_open.proofs.Sessions.{plan_or_heading}
 
+-- what holds of each record whose first field is the word of an edit holds of an edit
+by_word : (P : Row → Type 0) → P (codes "clear" ∷ []) → ((a : List ℕ) → P (codes "cancel" ∷ a ∷ [])) → ((a : List ℕ) → P (codes "sent" ∷ a ∷ [])) →
+    ((a k m : List ℕ) → P (codes "add" ∷ a ∷ k ∷ m ∷ [])) → (row : Row) (pages after : List Page) → IsEdit row pages after → P row
+unfolding asked_of
+by_word P clear cancel sent add [] pages after d = absurd d
+by_word P clear cancel sent add (w ∷ []) pages after d =
+    subst (λ (x : List ℕ). P (x ∷ [])) (sym (is_word w (codes "clear") (is_true _ _ pages after d))) clear
+by_word P clear cancel sent add (w ∷ a ∷ []) pages after d =
+    let of = λ (x : List ℕ). P (x ∷ a ∷ []) in
+    elim (pair_word w a pages after d) [ inl e ↦ subst of (sym e) (cancel a) | inr e ↦ subst of (sym e) (sent a) ]
+by_word P clear cancel sent add (w ∷ a ∷ k ∷ []) pages after d = absurd d
+by_word P clear cancel sent add (w ∷ a ∷ k ∷ m ∷ []) pages after d =
+    subst (λ (x : List ℕ). P (x ∷ a ∷ k ∷ m ∷ [])) (sym (is_word w (codes "add") (is_true _ _ pages after d))) (add a k m)
+by_word P clear cancel sent add (w ∷ a ∷ k ∷ m ∷ n ∷ row) pages after d = absurd d
+
 -- the text of an edit, without its line feed
 edit_body : (row : Row) (pages after : List Page) → IsEdit row pages after → row_text default_writer row ≡ row_body default_writer row ++ line_feed ∷ []
-unfolding asked_of fields_text is_blank
-edit_body [] pages after d = absurd d
-edit_body (w ∷ []) pages after d =
-    subst (λ (x : List ℕ). row_text default_writer (x ∷ []) ≡ row_body default_writer (x ∷ []) ++ line_feed ∷ [])
-    (sym (is_word w (codes "clear") (is_true _ _ pages after d))) refl
-edit_body (w ∷ a ∷ rest) pages after d = refl
+unfolding fields_text is_blank
+edit_body = by_word (λ row. row_text default_writer row ≡ row_body default_writer row ++ line_feed ∷ []) refl (λ a. refl) (λ a. refl) (λ a k m. refl)
 
 edit_plain : (row : Row) (pages after : List Page) → IsEdit row pages after → strip_bom (row_body default_writer row) ≡ row_body default_writer row
-unfolding asked_of fields_text strip_bom
-edit_plain [] pages after d = absurd d
-edit_plain (w ∷ []) pages after d =
-    subst (λ (x : List ℕ). strip_bom (row_body default_writer (x ∷ [])) ≡ row_body default_writer (x ∷ []))
-    (sym (is_word w (codes "clear") (is_true _ _ pages after d))) refl
-edit_plain (w ∷ a ∷ []) pages after d =
-    let plain = λ (x : List ℕ). strip_bom (row_body default_writer (x ∷ a ∷ [])) ≡ row_body default_writer (x ∷ a ∷ []) in
-    elim (pair_word w a pages after d) [ inl e ↦ subst plain (sym e) refl | inr e ↦ subst plain (sym e) refl ]
-edit_plain (w ∷ a ∷ k ∷ []) pages after d = absurd d
-edit_plain (w ∷ a ∷ k ∷ m ∷ []) pages after d =
-    subst (λ (x : List ℕ). strip_bom (row_body default_writer (x ∷ a ∷ k ∷ m ∷ [])) ≡ row_body default_writer (x ∷ a ∷ k ∷ m ∷ []))
-    (sym (is_word w (codes "add") (is_true _ _ pages after d))) refl
-edit_plain (w ∷ a ∷ k ∷ m ∷ n ∷ row) pages after d = absurd d
+unfolding fields_text strip_bom
+edit_plain = by_word (λ row. strip_bom (row_body default_writer row) ≡ row_body default_writer row) refl (λ a. refl) (λ a. refl) (λ a k m. refl)
+
+no_body : (row : Row) (pages after : List Page) → IsEdit row pages after → row_body default_writer row ≢ []
+unfolding fields_text
+no_body = by_word (λ row. row_body default_writer row ≢ []) (λ e. cc e) (λ a e. cc e) (λ a e. cc e) (λ a k m e. cc e)
 
 -- no text of a record ends with a carriage return
 returned : (q : QuoteState) → MayEnd (quote_state_after q 13) → ⊥
@@ -95,43 +99,21 @@ whole_text row text spelled =
     rw none refl
 
 -- the line of an edit reads as its record alone
+edit_spelled : (row : Row) (pages after : List Page) → IsEdit row pages after → IsRowText row (row_body default_writer row)
+edit_spelled [] pages after d = absurd (edit_some [] pages after d refl)
+edit_spelled (f ∷ rest) pages after d = row_spelled f rest
+
+record_is : (row : Row) (pages after : List Page) → IsEdit row pages after → record_text (row_body default_writer row) ≡ row_body default_writer row
+record_is row pages after d =
+    let body = row_body default_writer row in
+    let whole : without_return body ≡ body = whole_text row body (edit_spelled row pages after d) in
+    ap strip_bom whole ∙ edit_plain row pages after d
+
 edit_line : (row : Row) (pages after : List Page) → IsEdit row pages after → IsRowText row (record_text (row_body default_writer row))
-edit_line [] pages after d = absurd (edit_some [] pages after d refl)
-edit_line (f ∷ rest) pages after d =
-    let spelled = row_spelled f rest in
-    let plain = edit_plain (f ∷ rest) pages after d in
-    let whole = whole_text (f ∷ rest) (row_body default_writer (f ∷ rest)) spelled in
-    subst (λ (t : List ℕ). IsRowText (f ∷ rest) t) (sym (ap strip_bom whole ∙ plain)) spelled
-
-some_body : (row : Row) (pages after : List Page) → IsEdit row pages after → record_text (row_body default_writer row) ≡ [] →
-    row_body default_writer row ≡ []
-some_body [] pages after d e = absurd (edit_some [] pages after d refl)
-some_body (f ∷ rest) pages after d e =
-    let whole = whole_text (f ∷ rest) (row_body default_writer (f ∷ rest)) (row_spelled f rest) in
-    sym (ap strip_bom whole ∙ edit_plain (f ∷ rest) pages after d) ∙ e
-
-no_body : (row : Row) (pages after : List Page) → IsEdit row pages after → row_body default_writer row ≡ [] → ⊥
-unfolding asked_of fields_text
-no_body [] pages after d e = d
-no_body (w ∷ []) pages after d e =
-    let here : row_body default_writer (codes "clear" ∷ []) ≡ [] =
-    subst (λ (x : List ℕ). row_body default_writer (x ∷ []) ≡ []) (is_word w (codes "clear") (is_true _ _ pages after d)) e in
-    cc here
-no_body (w ∷ a ∷ []) pages after d e =
-    let none = λ (x : List ℕ). row_body default_writer (x ∷ a ∷ []) ≡ [] in
-    elim (pair_word w a pages after d) [
-      | inl same ↦ let here : row_body default_writer (codes "cancel" ∷ a ∷ []) ≡ [] = subst none same e in cc here
-      | inr same ↦ let here : row_body default_writer (codes "sent" ∷ a ∷ []) ≡ [] = subst none same e in cc here
-    ]
-no_body (w ∷ a ∷ k ∷ []) pages after d e = d
-no_body (w ∷ a ∷ k ∷ m ∷ []) pages after d e =
-    let here : row_body default_writer (codes "add" ∷ a ∷ k ∷ m ∷ []) ≡ [] =
-    subst (λ (x : List ℕ). row_body default_writer (x ∷ a ∷ k ∷ m ∷ []) ≡ []) (is_word w (codes "add") (is_true _ _ pages after d)) e in
-    cc here
-no_body (w ∷ a ∷ k ∷ m ∷ n ∷ row) pages after d e = d
+edit_line row pages after d = subst (IsRowText row) (sym (record_is row pages after d)) (edit_spelled row pages after d)
 
 some_text : (row : Row) (pages after : List Page) → IsEdit row pages after → record_text (row_body default_writer row) ≢ []
-some_text row pages after d none = no_body row pages after d (some_body row pages after d none)
+some_text row pages after d none = no_body row pages after d (sym (record_is row pages after d) ∙ none)
 
 first_of : List Row → Row
 first_of [] = []
@@ -252,6 +234,15 @@ wanted_now told reply more e h = record {
       ∙ ap (λ (l : List ℕ). h.front ++ l) (append_assoc (codes "refused: out of memory") (line_feed ∷ h.rest) more);
 }
 
+-- what the first reply and the others leave
+then_others : (told reply more : List ℕ) (between mid after pages : List Page) → told ≡ reply ++ more → Leaves between mid reply →
+    (between ≡ mid → Leaves after pages more) → Leaves after pages told
+then_others told reply more between mid after pages parts (inl same) others = elim (others same) [
+  | inl is ↦ inl is
+  | inr wanted ↦ inr (wanted_later told reply more parts wanted)
+]
+then_others told reply more between mid after pages parts (inr wanted) others = inr (wanted_now told reply more parts wanted)
+
 no_first : (line behind : List ℕ) → IsFirstLine [] line behind → ⊥
 no_first line behind first = elim first.parts [
   | inl parts ↦ none_of line behind parts
@@ -290,17 +281,9 @@ rows_reopened IsKnown OutputFails on_limit (row ∷ rows) (line ∷ lines) start
     let answer = line_reply IsKnown OutputFails on_limit (row_body default_writer row) row start between mid reply its (short_line row start mid edit)
     (edit_line row start mid edit) (some_text row start mid edit) (record_reply IsKnown OutputFails on_limit row start between mid reply its edit)
     (subst (λ (l : List ℕ). IsLineReply IsKnown OutputFails on_limit l start between reply its) at_line_is.0 here) in
-    elim answer [
-      | inl same ↦
-          let later = rows_reopened IsKnown OutputFails on_limit rows lines mid pages after more others each.1 run
-          (subst (λ (l : List ℕ). AreLines lines l) at_line_is.1 cut)
-          (subst (λ (ps : List Page). AreReplies IsKnown OutputFails on_limit lines ps after more others) same next) in
-          elim later [
-            | inl is ↦ inl is
-            | inr wanted ↦ inr (wanted_later told reply more parts wanted)
-          ]
-      | inr wanted ↦ inr (wanted_now told reply more parts wanted)
-    ]
+    then_others told reply more between mid after pages parts answer (λ same.
+    rows_reopened IsKnown OutputFails on_limit rows lines mid pages after more others each.1 run (subst (AreLines lines) at_line_is.1 cut)
+    (subst (λ (ps : List Page). AreReplies IsKnown OutputFails on_limit lines ps after more others) same next))
 
 heading_body : row_text default_writer first_record ≡ row_body default_writer first_record ++ line_feed ∷ []
 unfolding fields_text is_blank
@@ -333,17 +316,9 @@ session_reopened IsKnown OutputFails on_limit rows (line ∷ lines) pages after 
     let answer = line_reply IsKnown OutputFails on_limit (row_body default_writer first_record) first_record [] between [] reply its heading_short
     spelled heading_some (heading_reply IsKnown OutputFails on_limit [] between reply its)
     (subst (λ (l : List ℕ). IsLineReply IsKnown OutputFails on_limit l [] between reply its) at_line_is.0 here) in
-    elim answer [
-      | inl same ↦
-          let later = rows_reopened IsKnown OutputFails on_limit rows lines [] pages after more others each run
-          (subst (λ (l : List ℕ). AreLines lines l) at_line_is.1 cut)
-          (subst (λ (ps : List Page). AreReplies IsKnown OutputFails on_limit lines ps after more others) same next) in
-          elim later [
-            | inl is ↦ inl is
-            | inr wanted ↦ inr (wanted_later told reply more parts wanted)
-          ]
-      | inr wanted ↦ inr (wanted_now told reply more parts wanted)
-    ]
+    then_others told reply more between [] after pages parts answer (λ same.
+    rows_reopened IsKnown OutputFails on_limit rows lines [] pages after more others each run (subst (AreLines lines) at_line_is.1 cut)
+    (subst (λ (ps : List Page). AreReplies IsKnown OutputFails on_limit lines ps after more others) same next))
 
 -- *Reopened*
 pub reopened : (IsKnown OutputFails : Type 0) (on_limit : OnLimit) (rows : List Row) (pages after : List Page) (told : List ℕ) (placed : List PlacementResult) →

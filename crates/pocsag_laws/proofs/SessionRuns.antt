@@ -1,20 +1,16 @@
 -- A session is a run of edits whose records are lines.
-use Rattle.std.proofs.Common.{ℕ, ◌^◌, ◌<◌, ◌-◌, inl, inr, List, [], ◌∷◌, ◌++◌, length, take, drop, refl, sym, subst, arith, codes, take-append-drop}
-use Rattle.std.specs.Prelude.{slice_get}
+use Rattle.std.proofs.Common.{ℕ, List, [], ◌∷◌, ◌++◌, refl, arith}
 use Rattle.std.specs.List.{AllByRecursion}
-use Rattle.std.proofs.lemmas.Bool.{cases_Bool}
-use Rattle.csv.specs.Reading.{is_bom, strip_bom}
 use Rattle.pocsag_pages.specs.PageFile.{Row}
 use Rattle.pocsag_pages.specs.declared.page.Page.{Page}
 use Rattle.pocsag_plan.specs.declared.search.OnLimit.{OnLimit}
 use Rattle.pocsag_journal.specs.Journals.{IsLine}
-use Rattle.pocsag_journal.specs.LineTexts.{HasNoLineFeed, is_return, record_text, without_return}
+use Rattle.pocsag_journal.specs.LineTexts.{HasNoLineFeed, record_text}
 use Rattle.pocsag_journal.specs.PageLines.{HaveLines}
 use Rattle.pocsag_journal.specs.Runs.{IsRun, sent_record}
 use Rattle.pocsag_journal.proofs.EditRuns.{runs_join}
-use Rattle.pocsag_journal.proofs.FieldLines.{feedless_front, read_line, row_line}
-use Rattle.pocsag_journal.proofs.LineFeeds.{none_found}
-use Rattle.pocsag_journal.proofs.LinedPages.{decimal_feedless, run_lined}
+use Rattle.pocsag_journal.proofs.FieldLines.{read_line}
+use Rattle.pocsag_journal.proofs.LinedPages.{run_lined}
 use Rattle.pocsag_open.specs.Lines.{AreLines}
 use Rattle.pocsag_open.specs.Plans.{PlacementResult}
 use Rattle.pocsag_open.specs.Replies.{AreReplies, IsLineReply, IsReply, IsSession, edited, listed, noted, planned, read, refused, sent_first, too_long, unread}

@@ -38,10 +38,7 @@ not_kept output most taken later text before after file.Write whole short (inr (
     let same : length later ≡ length taken = ap length full.0 in
     inr (inr (omega (arith, same, full.1, short)))
 not_kept output most taken later text before after file.Write whole short (inr (inr none)) = absurd (none whole)
-not_kept output most taken later text before after file.Device whole short h = h
-not_kept output most taken later text before after file.EqualPaths whole short h = h
-not_kept output most taken later text before after file.Owner whole short h = h
-not_kept output most taken later text before after file.TooLarge whole short h = h
+not_kept output most taken later text before after f whole short h = absurd h
 
 -- and is not answered there, or where the output failed
 pub not_answered : (output : Type 0) (most : ℕ) (taken later : List ℕ) (row : Row) (pages next : List Page) (before after : ℕ) (f : FileFault) →
@@ -52,10 +49,7 @@ not_answered output most taken later row pages next before after file.Write line
 not_answered output most taken later row pages next before after file.Write line (inr h) =
     not_kept output most taken later (row_text default_writer row) before after file.Write line.line (line_length row pages next h.0) h.1
 not_answered output most taken later row pages next before after file.OutOfMemory line h = tt
-not_answered output most taken later row pages next before after file.Device line h = h.1
-not_answered output most taken later row pages next before after file.EqualPaths line h = h.1
-not_answered output most taken later row pages next before after file.Owner line h = h.1
-not_answered output most taken later row pages next before after file.TooLarge line h = h.1
+not_answered output most taken later row pages next before after f line h = absurd h.1
 
 -- what a line's record is read from has no line feed
 returned_feedless : (line : List ℕ) → HasNoLineFeed line → HasNoLineFeed (without_return line)
@@ -68,10 +62,8 @@ returned_feedless line none = elim (cases_Bool (is_return (slice_get line (lengt
 
 marked_feedless : (line : List ℕ) → HasNoLineFeed line → HasNoLineFeed (strip_bom line)
 unfolding strip_bom
-marked_feedless [] none = none
-marked_feedless (a ∷ []) none = none
-marked_feedless (a ∷ b ∷ []) none = none
 marked_feedless (a ∷ b ∷ c ∷ rest) none = elim (cases_Bool (is_bom a b c)) [ inl t ↦ rw t none.1.1.1 | inr f ↦ rw f none ]
+marked_feedless line none = none
 
 pub text_feedless : (line : List ℕ) → HasNoLineFeed line → HasNoLineFeed (record_text line)
 text_feedless line none = marked_feedless (without_return line) (returned_feedless line none)
@@ -92,9 +84,7 @@ wider i o k I O K file.Device a b c h = a h
 wider i o k I O K file.Write a b c (inl h) = inl (b h)
 wider i o k I O K file.Write a b c (inr h) = inr (c h)
 wider i o k I O K file.OutOfMemory a b c h = tt
-wider i o k I O K file.EqualPaths a b c h = h
-wider i o k I O K file.Owner a b c h = h
-wider i o k I O K file.TooLarge a b c h = h
+wider i o k I O K f a b c h = absurd h
 
 -- a line has a byte, or a line feed behind it
 pub line_counts : (pending line rest : List ℕ) → IsFirstLine pending line rest → length rest < length pending

@@ -6,9 +6,8 @@ use Rattle.pocsag_pages.specs.declared.page.Page.{Page}
 use Rattle.pocsag_plan.specs.declared.search.OnLimit.{OnLimit}
 use Rattle.pocsag_journal.specs.Crashes.{RestartsAs}
 use Rattle.pocsag_journal.specs.Faults.{ExplainsAnew}
-use Rattle.pocsag_journal.specs.Journals.{ListsPages}
-use Rattle.pocsag_journal.specs.Moments.{IsSafe, LeavesOnly}
-use Rattle.pocsag_journal.specs.Views.{IsHeld, IsMeasured, disk_of}
+use Rattle.pocsag_journal.specs.Moments.{LeavesOnly}
+use Rattle.pocsag_journal.specs.Views.{disk_of}
 use Rattle.pocsag_journal.specs.declared.journal.Journal.{Journal}
 use Rattle.pocsag_journal.specs.declared.fault.JournalFault.{JournalFault}
 use Rattle.pocsag_journal.specs.declared.fault.JournalFault.TheVariants as journal
@@ -26,11 +25,7 @@ pub anew_explains : (bytes : List ℕ) (file : Option (List ℕ)) (file_failed I
 anew_explains bytes file failed I O K before after pages journal.WriteFault begins k h = inr (k h)
 anew_explains bytes file failed I O K before after pages journal.OutOfMemory begins k h = tt
 anew_explains bytes file failed I O K before after pages (journal.NoLine n) begins k h = (pages, begins, h)
-anew_explains bytes file failed I O K before after pages journal.ReadFault begins k h = absurd h
-anew_explains bytes file failed I O K before after pages journal.TooLarge begins k h = absurd h
-anew_explains bytes file failed I O K before after pages journal.NotJournal begins k h = absurd h
-anew_explains bytes file failed I O K before after pages journal.OtherVersion begins k h = absurd h
-anew_explains bytes file failed I O K before after pages (journal.BadLine n) begins k h = absurd h
+anew_explains bytes file failed I O K before after pages f begins k h = absurd h
 
 -- what is read as the pages before is read after no line
 pub read_first : (IsKnown OutputFails : Type 0) (on_limit : OnLimit) (input : List ℕ) (before : List Page) (left : List ℕ) → RestartsAs left before →
@@ -38,11 +33,6 @@ pub read_first : (IsKnown OutputFails : Type 0) (on_limit : OnLimit) (input : Li
 unfolding AreFirstLines AreReplies
 read_first IsKnown OutputFails on_limit input before left is =
     record { lines = []; rest = input; pages = before; printed = []; placed = []; firsts = refl; replies = (refl, refl, refl); read = is }
-
--- what is written anew stands for the pages
-pub held_anew : {D : Type 0} (journal : Journal D) (held : List ℕ) (may_leave : List ℕ → Type 0) (pages : List Page) →
-    ListsPages held pages → IsMeasured journal held → IsSafe held may_leave → IsHeld journal held may_leave pages
-held_anew journal held may_leave pages listed measured safe = record { stands = listed.stands; counted = measured; safe = safe }
 
 -- what a crash leaves of a journal it leaves of its disk
 pub of_disk : {D : Type 0} (moment : D → ℕ) (left_since : D → ℕ → List ℕ → Type 0) (old new : Journal D) (Holds : List ℕ → Type 0) →

@@ -34,18 +34,13 @@ explains on_limit end pages limit (streaming.Plan (planning.SearchLimit stop)) e
 )
 explains on_limit end pages limit (streaming.Plan planning.OutOfMemory) e h = h.1
 explains on_limit end pages limit (streaming.Round f) e h = h.1
-explains on_limit end pages limit (streaming.Transmission f) e h = tt
-explains on_limit end pages limit (streaming.Certificate f) e h = tt
+explains on_limit end pages limit f e h = tt
 
 -- and so does that of a stream of a front
 pub explains_front : (on_limit : OnLimit) (end : End) (most : ℕ) (pages : List Page) (f : StreamFault) →
     ExplainsBookFront (plan_search on_limit end) pages most (front.Stream f) → ExplainsFrontUndone on_limit end most pages (undone_of f)
-explains_front on_limit end most pages (streaming.Plan planning.BadLimit) h = absurd (h (record { some = omega arith; few = omega arith }))
 explains_front on_limit end most pages (streaming.Plan (planning.SearchLimit stop)) h = (h.0, h.2, (bound_tree_of stop.tree, h.3))
-explains_front on_limit end most pages (streaming.Plan planning.OutOfMemory) h = h.1
-explains_front on_limit end most pages (streaming.Round f) h = h.1
-explains_front on_limit end most pages (streaming.Transmission f) h = tt
-explains_front on_limit end most pages (streaming.Certificate f) h = tt
+explains_front on_limit end most pages f h = explains on_limit end pages default_limit f refl h
 
 -- a store whose outputs failed, or one of whose outputs could not be written, did not place them
 pub unsent : {Output : Type 0} (failures : Output → ℕ) (IsKnown : Type 0) (tx_name cert_name : List ℕ) (before after : List PlacementResult)

@@ -34,10 +34,12 @@ pub told_once : (IsKnown : Type 0) (before after printed : List ℕ) (placed : L
 told_once IsKnown before after printed placed Q q e =
     record { printed = printed; placed = []; answers = e; outputs = λ is_known. sym (append-nil placed); holds = q }
 
-pub told_this : {X E : Type 0} (r : Result X E) (IsKnown : Type 0) (before after printed : List ℕ) (placed : List PlacementResult)
-    (Q : List ℕ → List PlacementResult → Type 0) → Q printed [] → OnOk r (after ≡ before ++ printed) → OnOk r (PrintsAndPlaces IsKnown before after placed placed Q)
-told_this r IsKnown before after printed placed Q q h =
-    on_ok r _ _ (told_once IsKnown before after printed placed Q q) h
+-- this is reported, and this became of the places
+pub told_this : {X E : Type 0} (r : Result X E) (IsKnown : Type 0) (before after printed : List ℕ) (placed later more : List PlacementResult)
+    (Q : List ℕ → List PlacementResult → Type 0) → Q printed more → (IsKnown → later ≡ placed ++ more) → OnOk r (after ≡ before ++ printed) →
+    OnOk r (PrintsAndPlaces IsKnown before after placed later Q)
+told_this r IsKnown before after printed placed later more Q q on h =
+    on_ok r _ _ (λ e. record { printed = printed; placed = more; answers = e; outputs = on; holds = q }) h
 
 -- what was delivered is such a text, or a part of one
 pub told_more : {X E : Type 0} (r : Result X E) (before after due : List ℕ) (is : List ℕ → Type 0) → is due → Delivers r before after due →

@@ -7,10 +7,6 @@ use Rattle.pocsag_open.specs.Lines.{IsByteKept, IsLineFound, IsSeen}
 use Rattle.pocsag_open.specs.declared.lines.LineRead.{LineRead}
 use Rattle.pocsag_open.specs.declared.lines.LineRead.TheVariants as found
 
-pub no_feed_more : (seen : List ℕ) (b : ℕ) → HasNoLineFeed seen → b ≢ line_feed → HasNoLineFeed (seen ++ b ∷ [])
-no_feed_more [] b h n = (n, tt)
-no_feed_more (s ∷ seen) b h n = (h.0, no_feed_more seen b h.1 n)
-
 some_more : (seen : List ℕ) (b : ℕ) → seen ++ b ∷ [] ≢ []
 some_more [] b e = cc e
 some_more (s ∷ seen) b e = cc e

@@ -34,14 +34,10 @@ plan_or_heading end (Some b) tx cert row e h = cc (e.2, h)
 pub other_none : (asking : Line) (row : Row) → (asking ≡ line.List → ⊥) →
     ((tx cert : Bor (List ℕ)) (end : End) (most : Option ℕ) → asking ≡ line.Plan tx cert end most → ⊥) → (asking ≡ line.Journal → ⊥) →
     IsAskedBy asking row → AsksNone row
-other_none (line.Add a k m) row l p j h = h
-other_none (line.Cancel a) row l p j h = h
-other_none (line.Sent n) row l p j h = h
 other_none line.List row l p j h = absurd (l refl)
 other_none (line.Plan tx cert end most) row l p j h = absurd (p tx cert end most refl)
-other_none line.Clear row l p j h = h
 other_none line.Journal row l p j h = absurd (j refl)
-other_none line.Unknown row l p j h = h
+other_none asking row l p j h = h
 
 -- a reason that applies to the plan is due where it is refused
 pub plan_due : (OutputFails : Type 0) (on_limit : OnLimit) (end : End) (most : Option ℕ) (tx cert : List ℕ) (row : Row) (pages : List Page)

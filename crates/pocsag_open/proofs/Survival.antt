@@ -2,31 +2,25 @@
 use Rattle.std.proofs.Common.{◌≡◌, inl, inr, ℕ, ◌+◌, ◌-◌, List, [], ◌∷◌, ◌++◌, length, take, drop, refl, sym, ap, ◌∙◌, subst, arith, append_assoc, append-nil, take-append-drop}
 use Rattle.std.proofs.Math.Seq.{take-append-add}
 use Rattle.std.specs.Prelude.{OnErr, Result, Ok, Err}
-use Rattle.pocsag_words.specs.Devices.{Delivers, TookPrefix}
+use Rattle.pocsag_words.specs.Devices.{TookPrefix}
 use Rattle.pocsag_pages.specs.declared.page.Page.{Page}
 use Rattle.pocsag_plan.specs.declared.search.OnLimit.{OnLimit}
 use Rattle.pocsag_journal.specs.Keepers.{ReadsAsEither}
 use Rattle.pocsag_open.specs.Lines.{AreLines, IsFirstLine}
 use Rattle.pocsag_open.specs.Plans.{PlacementResult}
 use Rattle.pocsag_open.specs.Replies.{AreReplies, IsLineReply, IsSession, PrintsAndPlaces}
-use Rattle.pocsag_open.specs.Survival.{AreFirstLines, IsCutShort, ReadsAfterLines, ReadsOrReplied, RepliesAndPlaces, RepliesTo, Survives, TookPartOf, begun, between, untold, within}
+use Rattle.pocsag_open.specs.Survival.{AreFirstLines, IsCutBehind, IsCutShort, ReadsAfterLines, ReadsOrReplied, RepliesAndPlaces, RepliesTo, Survives, begun, between, untold, within}
 
 pub on_err : {X E : Type 0} (r : Result X E) (P Q : Type 0) → (P → Q) → OnErr r P → OnErr r Q
 on_err (Ok x) P Q f h = tt
 on_err (Err e) P Q f h = f h
 
 -- a prefix that was taken is a part
-pub took_part : (before after due : List ℕ) (is : List ℕ → Type 0) → is due → TookPrefix before after due → TookPartOf before after is
-took_part before after due is so took =
+part_of : (before after due : List ℕ) → TookPrefix before after due → after ≡ before ++ take (length after - length before) due
+part_of before after due took =
     let n : ℕ = length after - length before in
     let all : length before + n ≡ length after = omega (arith, took.0) in
-    let part : after ≡ before ++ take n due =
-    sym took.1 ∙ ap (λ (k : ℕ). take k (before ++ due)) (sym all) ∙ take-append-add before due n in
-    inr (due, take n due, drop n due, so, sym (take-append-drop n due), part)
-
-pub told_part : {X E : Type 0} (r : Result X E) (before after due : List ℕ) (is : List ℕ → Type 0) → is due → Delivers r before after due →
-    OnErr r (TookPartOf before after is)
-told_part r before after due is so h = on_err r _ _ (took_part before after due is so) h.1
+    sym took.1 ∙ ap (λ (k : ℕ). take k (before ++ due)) (sym all) ∙ take-append-add before due n
 
 -- what is read as the pages before or after a reply
 pub either_read : (Replies : (before after : List Page) → List ℕ → Type 0) (before after : List Page) (printed : List ℕ)
@@ -35,36 +29,14 @@ pub either_read : (Replies : (before after : List Page) → List ℕ → Type 0)
 either_read Replies before after printed reads_as left so (inl is) = inl is
 either_read Replies before after printed reads_as left so (inr is) = inr (after, (printed, so, is))
 
--- an answer of which a part was reported is cut short
-pub cut_part : (Replies : (before after : List Page) → List ℕ → Type 0)
-    (before after : List Page) (out_before out_after : List ℕ) (reads_as : List ℕ → List Page → Type 0) (may_leave : List ℕ → Type 0)
-    (is : List ℕ → Type 0) → ((printed : List ℕ) → is printed → Replies before after printed) →
-    ((left : List ℕ) → may_leave left → ReadsOrReplied reads_as Replies before left) → ((left : List ℕ) → may_leave left → reads_as left after) →
-    TookPartOf out_before out_after is → IsCutShort Replies before out_before out_after reads_as may_leave
-cut_part Replies before after out_before out_after reads_as may_leave is reply either kept (inl same) = untold same either
-cut_part Replies before after out_before out_after reads_as may_leave is reply either kept (inr (printed, part, more, so, parts, took)) =
-    begun after printed part more (reply printed so) parts took kept
-
--- the same where the pages stay as they are
-pub cut_told : {X E : Type 0} (r : Result X E) (Replies : (before after : List Page) → List ℕ → Type 0)
-    (before : List Page) (out_before out_after : List ℕ)
-    (reads_as : List ℕ → List Page → Type 0) (may_leave : List ℕ → Type 0) (is : List ℕ → Type 0) →
-    ((printed : List ℕ) → is printed → Replies before before printed) → ((left : List ℕ) → may_leave left → reads_as left before) →
-    OnErr r (TookPartOf out_before out_after is) → OnErr r (IsCutShort Replies before out_before out_after reads_as may_leave)
-cut_told r Replies before out_before out_after reads_as may_leave is reply kept h =
-    on_err r _ _
-    (λ took. cut_part Replies before before out_before out_after reads_as may_leave is reply (λ left now. inl (kept left now)) kept took) h
-
--- the same of a reply that is known
-pub cut_due : {X E : Type 0} (r : Result X E) (Replies : (before after : List Page) → List ℕ → Type 0)
-    (before : List Page) (out_before out_after due : List ℕ)
-    (reads_as : List ℕ → List Page → Type 0) (may_leave : List ℕ → Type 0) → Replies before before due →
-    ((left : List ℕ) → may_leave left → reads_as left before) → OnErr r (TookPrefix out_before out_after due) →
-    OnErr r (IsCutShort Replies before out_before out_after reads_as may_leave)
-cut_due r Replies before out_before out_after due reads_as may_leave reply kept h =
-    cut_told r Replies before out_before out_after reads_as may_leave (λ (printed : List ℕ). printed ≡ due)
-    (λ printed e. subst (λ (t : List ℕ). Replies before before t) (sym e) reply) kept
-    (on_err r _ _ (took_part out_before out_after due (λ (printed : List ℕ). printed ≡ due) refl) h)
+-- an answer of which a prefix was reported is cut short
+pub cut_due : (Replies : (before after : List Page) → List ℕ → Type 0) (before after : List Page) (out_before out_after due : List ℕ)
+    (reads_as : List ℕ → List Page → Type 0) (may_leave : List ℕ → Type 0) → Replies before after due →
+    ((left : List ℕ) → may_leave left → reads_as left after) → TookPrefix out_before out_after due →
+    IsCutShort Replies before out_before out_after reads_as may_leave
+cut_due Replies before after out_before out_after due reads_as may_leave reply kept took =
+    let n : ℕ = length out_after - length out_before in
+    begun after due (take n due) (drop n due) reply (sym (take-append-drop n due)) (part_of out_before out_after due took) kept
 
 -- of its first part
 pub cut_front : (Replies : (before after : List Page) → List ℕ → Type 0) (before : List Page)
@@ -72,29 +44,21 @@ pub cut_front : (Replies : (before after : List Page) → List ℕ → Type 0) (
     Replies before before (first ++ last) → ((left : List ℕ) → may_leave left → reads_as left before) →
     TookPrefix out_before out_after first → IsCutShort Replies before out_before out_after reads_as may_leave
 cut_front Replies before out_before out_after first last reads_as may_leave reply kept took =
-    cut_of (took_part out_before out_after first (λ (printed : List ℕ). printed ≡ first) refl took)
-  where
-    cut_of : TookPartOf out_before out_after (λ (printed : List ℕ). printed ≡ first) → IsCutShort Replies before out_before out_after reads_as may_leave
-    cut_of (inl same) = untold same (λ left now. inl (kept left now))
-    cut_of (inr (printed, part, more, so, parts, is)) =
-        begun before (first ++ last) part (more ++ last) reply
-        (ap (λ (l : List ℕ). l ++ last) (sym so ∙ parts) ∙ append_assoc part more last) is kept
+    let n : ℕ = length out_after - length out_before in
+    begun before (first ++ last) (take n first) (drop n first ++ last) reply
+    (ap (λ (l : List ℕ). l ++ last) (sym (take-append-drop n first)) ∙ append_assoc (take n first) (drop n first) last)
+    (part_of out_before out_after first took) kept
 
 -- and of its last part
-pub cut_last : {X E : Type 0} (r : Result X E) (Replies : (before after : List Page) → List ℕ → Type 0)
-    (before : List Page) (out_before mid out_after first last : List ℕ)
+pub cut_last : (Replies : (before after : List Page) → List ℕ → Type 0) (before : List Page) (out_before mid out_after first last : List ℕ)
     (reads_as : List ℕ → List Page → Type 0) (may_leave : List ℕ → Type 0) → mid ≡ out_before ++ first → Replies before before (first ++ last) →
-    ((left : List ℕ) → may_leave left → reads_as left before) → OnErr r (TookPrefix mid out_after last) →
-    OnErr r (IsCutShort Replies before out_before out_after reads_as may_leave)
-cut_last r Replies before out_before mid out_after first last reads_as may_leave begins reply kept h =
-    on_err r _ _ (λ took. cut_of (took_part mid out_after last (λ (printed : List ℕ). printed ≡ last) refl took)) h
-  where
-    cut_of : TookPartOf mid out_after (λ (printed : List ℕ). printed ≡ last) → IsCutShort Replies before out_before out_after reads_as may_leave
-    cut_of (inl same) = begun before (first ++ last) first last reply refl (same ∙ begins) kept
-    cut_of (inr (printed, part, more, so, parts, is)) =
-        begun before (first ++ last) (first ++ part) more reply
-        (ap (λ (l : List ℕ). first ++ l) (sym so ∙ parts) ∙ sym (append_assoc first part more))
-        (is ∙ ap (λ (l : List ℕ). l ++ part) begins ∙ append_assoc out_before first part) kept
+    ((left : List ℕ) → may_leave left → reads_as left before) → TookPrefix mid out_after last →
+    IsCutShort Replies before out_before out_after reads_as may_leave
+cut_last Replies before out_before mid out_after first last reads_as may_leave begins reply kept took =
+    let n : ℕ = length out_after - length mid in
+    begun before (first ++ last) (first ++ take n last) (drop n last) reply
+    (ap (λ (l : List ℕ). first ++ l) (sym (take-append-drop n last)) ∙ sym (append_assoc first (take n last) (drop n last)))
+    (part_of mid out_after last took ∙ ap (λ (l : List ℕ). l ++ take n last) begins ∙ append_assoc out_before first (take n last)) kept
 
 -- and by other names
 pub read_as : (Replies More : (before after : List Page) → List ℕ → Type 0) (before : List Page) (reads_as : List ℕ → List Page → Type 0)
@@ -206,12 +170,13 @@ all_answered IsKnown OutputFails on_limit input pending before now start out fir
   holds = record { lines = so_far.lines; cut = all_lines so_far.lines input pending none so_far.firsts; replies = so_far.replies };
 }
 
--- what a crash leaves between two lines
-pub survives_between : (IsKnown OutputFails : Type 0) (on_limit : OnLimit) (input pending : List ℕ) (before now : List Page) (start out : List ℕ)
-    (first_placed placed : List PlacementResult) (reads_as : List ℕ → List Page → Type 0) (may_leave : List ℕ → Type 0) →
-    Answered IsKnown OutputFails on_limit input pending before now start out first_placed placed → ((left : List ℕ) → may_leave left → reads_as left now) →
-    Survives IsKnown OutputFails on_limit input before start out first_placed placed reads_as may_leave
-survives_between IsKnown OutputFails on_limit input pending before now start out first_placed placed reads_as may_leave so_far kept = record {
+-- what a crash leaves, by what stands behind the lines that are answered
+survives : (IsKnown OutputFails : Type 0) (on_limit : OnLimit) (input pending : List ℕ) (before now : List Page) (start out next : List ℕ)
+    (first_placed placed then_placed : List PlacementResult) (reads_as : List ℕ → List Page → Type 0) (may_leave : List ℕ → Type 0) →
+    (so_far : Answered IsKnown OutputFails on_limit input pending before now start out first_placed placed) →
+    IsCutBehind IsKnown OutputFails on_limit pending now (start ++ so_far.printed) next (first_placed ++ so_far.placed) then_placed reads_as may_leave →
+    Survives IsKnown OutputFails on_limit input before start next first_placed then_placed reads_as may_leave
+survives IsKnown OutputFails on_limit input pending before now start out next first_placed placed then_placed reads_as may_leave so_far cut = record {
   lines = so_far.lines;
   rest = pending;
   now = now;
@@ -219,8 +184,16 @@ survives_between IsKnown OutputFails on_limit input pending before now start out
   placed = so_far.placed;
   firsts = so_far.firsts;
   replies = so_far.replies;
-  cut = between so_far.answers kept;
+  cut = cut;
 }
+
+-- between two lines
+pub survives_between : (IsKnown OutputFails : Type 0) (on_limit : OnLimit) (input pending : List ℕ) (before now : List Page) (start out : List ℕ)
+    (first_placed placed : List PlacementResult) (reads_as : List ℕ → List Page → Type 0) (may_leave : List ℕ → Type 0) →
+    Answered IsKnown OutputFails on_limit input pending before now start out first_placed placed → ((left : List ℕ) → may_leave left → reads_as left now) →
+    Survives IsKnown OutputFails on_limit input before start out first_placed placed reads_as may_leave
+survives_between IsKnown OutputFails on_limit input pending before now start out first_placed placed reads_as may_leave so_far kept =
+    survives _ _ _ _ _ _ _ _ _ _ _ _ _ _ _ so_far (between so_far.answers kept)
 
 -- what was placed more, behind what was placed so far
 placed_on : (IsKnown OutputFails : Type 0) (on_limit : OnLimit) (line : List ℕ) (first mid more later : List PlacementResult) (before after : List Page) (printed : List ℕ) →
@@ -235,21 +208,13 @@ pub survives_within : (IsKnown OutputFails : Type 0) (on_limit : OnLimit) (input
     Answered IsKnown OutputFails on_limit input pending before now start out first_placed placed → IsFirstLine pending line behind →
     IsCutShort (RepliesAndPlaces IsKnown OutputFails on_limit line placed then_placed) now out next reads_as may_leave →
     Survives IsKnown OutputFails on_limit input before start next first_placed then_placed reads_as may_leave
-survives_within IsKnown OutputFails on_limit input pending line behind before now start out next first_placed placed then_placed reads_as may_leave so_far first cut = record {
-  lines = so_far.lines;
-  rest = pending;
-  now = now;
-  printed = so_far.printed;
-  placed = so_far.placed;
-  firsts = so_far.firsts;
-  replies = so_far.replies;
-  cut = within line behind first
-      (subst (λ (l : List ℕ). IsCutShort (RepliesAndPlaces IsKnown OutputFails on_limit line (first_placed ++ so_far.placed) then_placed) now l next reads_as may_leave)
-      so_far.answers
-      (cut_as (RepliesAndPlaces IsKnown OutputFails on_limit line placed then_placed)
-      (RepliesAndPlaces IsKnown OutputFails on_limit line (first_placed ++ so_far.placed) then_placed) now out next reads_as may_leave
-      (λ after printed is. placed_on IsKnown OutputFails on_limit line first_placed placed so_far.placed then_placed now after printed so_far.outputs is) cut));
-}
+survives_within IsKnown OutputFails on_limit input pending line behind before now start out next first_placed placed then_placed reads_as may_leave so_far first cut =
+    survives _ _ _ _ _ _ _ _ _ _ _ _ _ _ _ so_far (within line behind first
+    (subst (λ (l : List ℕ). IsCutShort (RepliesAndPlaces IsKnown OutputFails on_limit line (first_placed ++ so_far.placed) then_placed) now l next reads_as may_leave)
+    so_far.answers
+    (cut_as (RepliesAndPlaces IsKnown OutputFails on_limit line placed then_placed)
+    (RepliesAndPlaces IsKnown OutputFails on_limit line (first_placed ++ so_far.placed) then_placed) now out next reads_as may_leave
+    (λ after printed is. placed_on IsKnown OutputFails on_limit line first_placed placed so_far.placed then_placed now after printed so_far.outputs is) cut)))
 
 -- what is read as the pages now is read after the lines so far
 pub read_now : (IsKnown OutputFails : Type 0) (on_limit : OnLimit) (input pending : List ℕ) (before now : List Page) (start out : List ℕ)

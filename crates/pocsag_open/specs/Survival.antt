@@ -86,8 +86,3 @@ pub record ReadsAfterLines (IsKnown OutputFails : Type 0) (on_limit : OnLimit) (
   pub firsts : AreFirstLines lines input rest
   pub replies : AreReplies IsKnown OutputFails on_limit lines before pages printed placed
   pub read : reads_as left pages
-
--- What was taken more is a part of such a text, or nothing.
-abbrev pub TookPartOf : (before after : List ℕ) → (List ℕ → Type 0) → Type 0
-TookPartOf before after is =
-    (after ≡ before) ⊎ ((printed part more : List ℕ) × is printed × (printed ≡ part ++ more) × (after ≡ before ++ part))

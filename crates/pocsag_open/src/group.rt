@@ -1,7 +1,7 @@
 use crate::fault::OpenFault;
 use crate::kept_round::open_journal;
 use crate::round_files::{OpenArgs, RoundFiles, load_pages};
-use crate::session::{PlanSettings, run_open, run_open_pages};
+use crate::session::{run_open, run_open_pages};
 use crate::words::{JOURNAL, READ_ONLY, ROUND, ROUND_SHAPES};
 use clap::{ArgMatches, Error};
 use pocsag_plan::OnLimit;
@@ -59,14 +59,7 @@ impl Group for RoundGroup {
 
 // Keeps an open round in memory alone. Returns the exit status.
 fn open_round(context: Context<'_>, args: OpenArgs<'_>) -> Result<u8, OpenFault> {
-    let mut settings = PlanSettings {
-        store: RoundFiles {
-            context,
-            args,
-            made: Vec::new(context.alloc),
-        },
-        on_limit: args.on_limit,
-    };
+    let mut settings = RoundFiles::settings(context, args);
     let mut input = ReaderSource::new(context.rt.stdin(), Role::Lines, context.diagnostics);
     let mut out = context.out();
     let Some(path) = args.pages else {

@@ -119,25 +119,13 @@ impl<'a, 'w> JournalFile<'a, 'w> {
         options.append(true);
         let context = self.place.context;
         let mut file = context.opened(ROLE, options.open(context.rt, staged_file.path()))?;
-        let named = self.fill(&mut file, staged_file, text)?;
-        Ok((file, named))
-    }
-
-    // The same of the file that was opened.
-    fn fill(
-        &self,
-        file: &mut File,
-        staged_file: &StagedFile,
-        text: &[u8],
-    ) -> Result<Named, OpenFault> {
-        let context = self.place.context;
-        lock(context, file, OpenFault::File(FileFault::Device))?;
+        lock(context, &file, OpenFault::File(FileFault::Device))?;
         let named = Named::of(&context.opened(ROLE, file.metadata())?);
         context.written(ROLE, file.write_all(text))?;
         staged_file.sync(context)?;
         self.stands()?;
         staged_file.put(context)?;
-        Ok(named)
+        Ok((file, named))
     }
 }
 
@@ -233,17 +221,11 @@ impl<'a, 'w> FirstPages<'a, 'w> {
         if let Some(file) = &mut self.file {
             return file.read(buffer);
         }
-        match load_pages(self.place.context, self.args, self.path) {
-            Ok(mut file) => {
-                let count = file.read(buffer);
-                self.file = Some(file);
-                count
-            }
-            Err(fault) => {
-                self.place.why.set(Some(fault));
-                Err(DeviceFault)
-            }
-        }
+        let loaded = load_pages(self.place.context, self.args, self.path);
+        let mut file = self.place.by_disk(loaded)?;
+        let count = file.read(buffer);
+        self.file = Some(file);
+        count
     }
 }
 

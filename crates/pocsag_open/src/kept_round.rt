@@ -3,7 +3,6 @@ use crate::fault::OpenFault;
 use crate::journal_file::{FirstPages, JournalFile, JournalPlace};
 use crate::kept_streams::{KeptStreams, open_kept, print_read};
 use crate::round_files::{OpenArgs, RoundFiles};
-use crate::session::PlanSettings;
 use pocsag_journal::{Journal, Replayed, list_journal};
 use pocsag_pages::RoundFault;
 use pocsag_plan::Book;
@@ -76,14 +75,7 @@ fn keep_on(place: JournalPlace<'_, '_>, args: OpenArgs<'_>) -> Result<u8, OpenFa
         book: Book::new(context.alloc),
         keeper: Journal::on(file),
     };
-    let mut settings = PlanSettings {
-        store: RoundFiles {
-            context,
-            args,
-            made: Vec::new(context.alloc),
-        },
-        on_limit: args.on_limit,
-    };
+    let mut settings = RoundFiles::settings(context, args);
     let mut streams = KeptStreams {
         pages: match args.pages {
             Some(path) => Some(FirstPages::new(place, args, path)),

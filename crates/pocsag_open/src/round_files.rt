@@ -3,6 +3,7 @@ ghost use Rattle.pocsag_open.specs.Plans.{failed_plan, no_bytes, no_names, no_pl
 
 use crate::fault::OpenFault;
 use crate::outputs::OutputStore;
+use crate::session::PlanSettings;
 use csv::ByteRecord;
 use pocsag_pages::{FILE_LIMIT, held_pages, quote_fault};
 use pocsag_plan::OnLimit;
@@ -118,6 +119,18 @@ fn wrong_field(row: &ByteRecord) -> &'static str {
 }
 
 impl<'a> RoundFiles<'a> {
+    /// How plans are made in an open round that is asked for so.
+    pub fn settings(context: Context<'a>, args: OpenArgs<'a>) -> PlanSettings<RoundFiles<'a>> {
+        PlanSettings {
+            store: RoundFiles {
+                context,
+                args,
+                made: Vec::new(context.alloc),
+            },
+            on_limit: args.on_limit,
+        }
+    }
+
     // Refuses the places of a plan where one is the page file, the journal or a standard stream.
     fn refuse_taken(&self, tx: &str, cert: &str) -> Result<(), FileFault> {
         let OpenArgs { pages, journal, .. } = self.args;
@@ -155,13 +168,11 @@ impl<'a> OutputStore for RoundFiles<'a> {
         context.diagnostics.refuse(role);
         self.refuse_taken(tx, cert)?;
         let opened = if keep {
-            if !is_regular_or_none(context.rt, tx) {
-                context.note(format_args!("transmission {tx}: no regular file"));
-                return Err(FileFault::Device);
-            }
-            if !is_regular_or_none(context.rt, cert) {
-                context.note(format_args!("certificate {cert}: no regular file"));
-                return Err(FileFault::Device);
+            for (what, path) in [("transmission", tx), ("certificate", cert)] {
+                if !is_regular_or_none(context.rt, path) {
+                    context.note(format_args!("{what} {path}: no regular file"));
+                    return Err(FileFault::Device);
+                }
             }
             refuse_shared(context, pages, tx, cert)?;
             // No transmission ever stands without its certificate.

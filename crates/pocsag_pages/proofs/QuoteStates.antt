@@ -1,15 +1,18 @@
 -- Where a line stands, and what its bytes are then the text of.
-use Rattle.std.proofs.Common.{◌≡◌, ℕ, ◌+◌, ◌<◌, ◌==◌, ◌&&◌, Bool, true, false, arith, List, [], ◌∷◌, ◌++◌, length, drop, get_or, nat_eq, refl, sym, ap, ◌∙◌, subst, inl, inr, append_assoc}
+use Rattle.std.proofs.Common.{◌≡◌, ◌≢◌, ℕ, ◌+◌, ◌<◌, ◌==◌, ◌&&◌, Bool, true, false, cond, arith, List, [], ◌∷◌, ◌++◌, length, drop, get_or, nat_eq, refl, sym, ap, ◌∙◌, subst, inl, inr, append_assoc}
 use Rattle.std.specs.List.{starts_with}
 use Rattle.std.proofs.lemmas.List.{append-nil, drop_more}
 use Rattle.std.proofs.lemmas.Bool.{cases_Bool, eqb-true, or_from, or_parts}
 use Rattle.std.proofs.lemmas.Bool.Decides.{nat_tests}
 use Rattle.csv.specs.Reading.{is_bom, strip_bom}
-use Rattle.csv.specs.Writing.{default_writer, escaped, needs_byte, needs_quotes}
+use Rattle.csv.specs.Writing.{default_writer, escaped, needs_byte, needs_quotes, quoted}
 use Rattle.pocsag_pages.specs.declared.quote_state.QuoteState.{QuoteState}
 use Rattle.pocsag_pages.specs.declared.quote_state.QuoteState.TheVariants as at
-use Rattle.pocsag_pages.specs.QuoteStates.{MayEnd, unquoted_after, quote_state_after, quote_state_from}
-use Rattle.pocsag_pages.specs.RecordTexts.{IsRowText}
+use Rattle.pocsag_pages.specs.QuoteStates.{MayEnd, MayGoOn, bare_after, unquoted_after, quote_state_after, quote_state_from}
+use Rattle.pocsag_pages.specs.QuotePlaces.{IsRecordFront}
+use Rattle.pocsag_pages.specs.QuotePlaces.IsRecordFront.{at_start, closed, opened, unquoted}
+use Rattle.pocsag_pages.specs.Quotes.{IsFieldStart}
+use Rattle.pocsag_pages.specs.RecordTexts.{IsFieldText, IsRowText}
 use Rattle.pocsag_pages.specs.RecordTexts.IsFieldText.{bare, between_quotes}
 use Rattle.pocsag_pages.specs.RecordTexts.IsRowText.{last, before}
 
@@ -83,100 +86,127 @@ plain_more : (held : List ℕ) (b : ℕ) → needs_quotes default_writer held �
 plain_more [] b e f = rw f refl
 plain_more (x ∷ held) b e f = or_from _ _ (or_parts _ _ e).0 (plain_more held b (or_parts _ _ e).1 f)
 
--- what stands before the bytes that are to come, of a field that holds these bytes so far
-abbrev held_text : QuoteState → List ℕ → List ℕ
-held_text at.Start held = []
-held_text at.Bare held = held
-held_text at.Open held = 34 ∷ escaped default_writer held
-held_text at.Closed held = 34 ∷ (escaped default_writer held ++ 34 ∷ [])
-held_text at.Broken held = []
-held_text at.Ended held = []
+-- what holds of both sides of a choice
+pub chosen : (P : QuoteState → Type 0) (test : Bool) (r s : QuoteState) → (test ≡ true → P r) → (test ≡ false → P s) → P (cond test r s)
+chosen P true r s h k = h refl
+chosen P false r s h k = k refl
 
-abbrev IsHeld : QuoteState → List ℕ → Type 0
-IsHeld at.Start held = Unit {0}
-IsHeld at.Bare held = needs_quotes default_writer held ≡ false
-IsHeld at.Open held = Unit {0}
-IsHeld at.Closed held = Unit {0}
-IsHeld at.Broken held = ⊥
-IsHeld at.Ended held = ⊥
+-- a record goes on before each state that is not lost
+pub goes_on : (P : QuoteState → Type 0) → (P at.Broken → ⊥) → (P at.Ended → ⊥) → (q : QuoteState) (xs : List ℕ) → P (quote_state_from q xs) → MayGoOn q
+unfolding quote_state_from
+goes_on P broken ended at.Start xs h = tt
+goes_on P broken ended at.Bare xs h = tt
+goes_on P broken ended at.Open xs h = tt
+goes_on P broken ended at.Closed xs h = tt
+goes_on P broken ended at.Broken [] h = broken h
+goes_on P broken ended at.Broken (b ∷ xs) h = goes_on P broken ended at.Broken xs h
+goes_on P broken ended at.Ended [] h = ended h
+goes_on P broken ended at.Ended (b ∷ xs) h = goes_on P broken ended at.Ended xs h
+
+pub may_go : (q : QuoteState) (xs : List ℕ) → MayEnd (quote_state_from q xs) → MayGoOn q
+may_go = goes_on MayEnd (λ m. m) (λ m. m)
+
+pub run_on : (q : QuoteState) (xs ys : List ℕ) → quote_state_from q (xs ++ ys) ≡ quote_state_from (quote_state_from q xs) ys
+unfolding quote_state_from
+run_on q [] ys = refl
+run_on q (b ∷ xs) ys = run_on (quote_state_after q b) xs ys
+
+pub behind : (q : QuoteState) (seen ys : List ℕ) → quote_state_from at.Start seen ≡ q → quote_state_from at.Start (seen ++ ys) ≡ quote_state_from q ys
+behind q seen ys e = run_on at.Start seen ys ∙ ap (λ (s : QuoteState). quote_state_from s ys) e
+
+pub one_more : (q : QuoteState) (seen : List ℕ) (b : ℕ) → quote_state_from at.Start seen ≡ q → quote_state_from at.Start (seen ++ b ∷ []) ≡ quote_state_after q b
+unfolding quote_state_from
+one_more q seen b e = behind q seen (b ∷ []) e
+
+-- a record is not lost in quotes, and goes on behind a comma elsewhere
+pub lost_behind : (q : QuoteState) (b : ℕ) → (MayGoOn (quote_state_after q b) → ⊥) → q ≢ at.Open
+lost_behind q b dead is =
+    dead (subst (λ (s : QuoteState). MayGoOn (quote_state_after s b)) (sym is) (chosen MayGoOn (b == 34) at.Closed at.Open (λ e. tt) (λ e. tt)))
+
+pub behind_comma : (q : QuoteState) → MayEnd q → quote_state_after q 44 ≡ at.Start
+behind_comma at.Start may = refl
+behind_comma at.Bare may = refl
+behind_comma at.Open may = absurd may
+behind_comma at.Closed may = refl
+behind_comma at.Broken may = absurd may
+behind_comma at.Ended may = absurd may
 
 -- it is the text of a record
-abbrev IsText : List ℕ → Type 0
+abbrev pub IsText : List ℕ → Type 0
 IsText text = (fields : List (List ℕ)) × IsRowText fields text
 
-pub never_broken : (xs : List ℕ) → MayEnd (quote_state_from at.Broken xs) → ⊥
-unfolding quote_state_from
-never_broken [] m = m
-never_broken (b ∷ xs) m = never_broken xs m
+-- one field more
+row_joined : (fields : List (List ℕ)) (text field more : List ℕ) → IsRowText fields text → IsFieldText field more →
+    IsRowText (fields ++ field ∷ []) (text ++ 44 ∷ more)
+row_joined [] text field more row h = elim row [ ]
+row_joined (f ∷ []) text field more (last t) h = before t (last h)
+row_joined (f ∷ fs) line field more (before {text = t} {rest = r} first row) h =
+    subst (IsRowText (f ∷ fs ++ field ∷ [])) (sym (append_assoc t (44 ∷ r) (44 ∷ more))) (before first (row_joined fs r field more row h))
 
-pub never_ended : (xs : List ℕ) → MayEnd (quote_state_from at.Ended xs) → ⊥
-unfolding quote_state_from
-never_ended [] m = m
-never_ended (b ∷ xs) m = never_ended xs m
+joined : (start field text : List ℕ) → IsFieldStart start → IsFieldText field text → IsText (start ++ text)
+joined start field text (inl none) h = rw none (field ∷ [], last h)
+joined start field text (inr (front, (fields, row, is))) h =
+    rw (is, append_assoc) (fields ++ field ∷ [], row_joined fields front field text row h)
 
-never_unquoted : (b : ℕ) (xs : List ℕ) → MayEnd (quote_state_from (unquoted_after b) xs) → ⊥
-never_unquoted b xs m = elim (cases_Bool (b == 34)) [
-  | inl quote ↦ never_broken xs (rw quote at m)
-  | inr other ↦ never_ended xs (rw other at m)
-]
+-- a front that ends outside quotes is the text of a record
+pub front_text : (q : QuoteState) (start front : List ℕ) → IsRecordFront q start front → q ≢ at.Open → IsText front
+front_text q start front (at_start begins) shut = rw append-nil at (joined start [] [] begins (bare refl))
+front_text q start front (unquoted held begins plain) shut = joined start held held begins (bare plain)
+front_text q start front (opened held begins) shut = absurd (shut refl)
+front_text q start front (closed held begins) shut = joined start held (quoted default_writer held) begins between_quotes
 
-text_at : (q : QuoteState) (held xs : List ℕ) → IsHeld q held → MayEnd (quote_state_from q xs) → IsText (held_text q held ++ xs)
+pub front_on : (q : QuoteState) (start front : List ℕ) → IsRecordFront q start front → MayGoOn q
+front_on q start front (at_start begins) = tt
+front_on q start front (unquoted held begins plain) = tt
+front_on q start front (opened held begins) = tt
+front_on q start front (closed held begins) = tt
+
+-- where the last field starts, and in which line
+abbrev pub newer : {A : Type 0} → QuoteState → A → A → A
+newer at.Start old new = new
+newer _ old new = old
+
+-- a front, one byte more
+abbrev IsNext : (start front : List ℕ) (b : ℕ) → QuoteState → Type 0
+IsNext start front b r = MayGoOn r → IsRecordFront r (newer r start (front ++ b ∷ [])) (front ++ b ∷ [])
+
+moved : (r : QuoteState) (start field new : List ℕ) (b : ℕ) → field ++ b ∷ [] ≡ new → IsRecordFront r start (start ++ new) → IsRecordFront r start ((start ++ field) ++ b ∷ [])
+moved r start field new b e front = rw (append_assoc, e) front
+
+comma_next : (start front : List ℕ) (b : ℕ) → IsText front → (b == 44) ≡ true → IsNext start front b at.Start
+comma_next start front b text comma on = rw (eqb-true b 44 comma) (at_start (inr (front, (text.0, text.1, refl))))
+
+bare_next : (start held : List ℕ) (b : ℕ) → IsFieldStart start → needs_quotes default_writer held ≡ false → IsNext start (start ++ held) b (bare_after b)
+bare_next start held b begins plain =
+    chosen (IsNext start (start ++ held) b) (b == 44) at.Start _ (comma_next start (start ++ held) b (joined start held held begins (bare plain)))
+    (λ inside. chosen (IsNext start (start ++ held) b) (needs_byte default_writer b) (unquoted_after b) at.Bare
+    (λ bad on. absurd (chosen (λ (r : QuoteState). MayGoOn r → ⊥) (b == 34) at.Broken at.Ended (λ e m. m) (λ e m. m) on))
+    (λ small on. moved at.Bare start held (held ++ b ∷ []) b refl (unquoted (held ++ b ∷ []) begins (plain_more held b plain small))))
+
+pub next : (q : QuoteState) (start front : List ℕ) (b : ℕ) → IsRecordFront q start front → IsNext start front b (quote_state_after q b)
+next q start front b (at_start begins) =
+    chosen (IsNext start start b) (b == 34) at.Open (bare_after b)
+    (λ quote on. rw (eqb-true b 34 quote) (rw escaped_none at (opened [] begins)))
+    (λ other. rw append-nil at (bare_next start [] b begins refl))
+next q start front b (unquoted held begins plain) = bare_next start held b begins plain
+next q start front b (opened held begins) =
+    chosen (IsNext start front b) (b == 34) at.Closed at.Open
+    (λ quote on. moved at.Closed start (34 ∷ escaped default_writer held) (quoted default_writer held) b (rw (eqb-true b 34 quote) refl) (closed held begins))
+    (λ other on. moved at.Open start (34 ∷ escaped default_writer held) _ b (ap (λ (t : List ℕ). 34 ∷ t) (sym (escaped_more held b other))) (opened (held ++ b ∷ []) begins))
+next q start front b (closed held begins) =
+    chosen (IsNext start front b) (b == 34) at.Open _
+    (λ quote on. moved at.Open start (quoted default_writer held) _ b
+    (rw (eqb-true b 34 quote, escaped_quote) (ap (λ (t : List ℕ). 34 ∷ t) (append_assoc (escaped default_writer held) (34 ∷ []) (34 ∷ []))))
+    (opened (held ++ 34 ∷ []) begins))
+    (λ other. chosen (IsNext start front b) (b == 44) at.Start at.Broken
+    (comma_next start front b (joined start held (quoted default_writer held) begins between_quotes)) (λ inside on. absurd on))
+
+text_at : (xs : List ℕ) (q : QuoteState) (start front : List ℕ) → IsRecordFront q start front → MayEnd (quote_state_from q xs) → IsText (front ++ xs)
 unfolding quote_state_from
-text_at at.Start held [] h m = ([] ∷ [], last (bare refl))
-text_at at.Bare held [] h m = rw (append-nil held) (held ∷ [], last (bare h))
-text_at at.Open held [] h m = absurd m
-text_at at.Closed held [] h m = rw (append-nil (34 ∷ (escaped default_writer held ++ 34 ∷ []))) (held ∷ [], last between_quotes)
-text_at at.Broken held xs h m = absurd h
-text_at at.Ended held xs h m = absurd h
-text_at at.Start held (b ∷ xs) h m = elim (cases_Bool (b == 34)) [
-  | inl quote ↦ rw (eqb-true b 34 quote) (rw escaped_none at (text_at at.Open [] xs tt (rw quote at m)))
-  | inr other ↦ elim (cases_Bool (b == 44)) [
-    | inl comma ↦
-        let rest = text_at at.Start [] xs tt (rw (other, comma) at m) in
-        rw (eqb-true b 44 comma) ([] ∷ rest.0, before (bare refl) rest.1)
-    | inr inside ↦ elim (cases_Bool (needs_byte default_writer b)) [
-      | inl bad ↦ absurd (never_ended xs (rw (bad, other, inside) at m))
-      | inr plain ↦ text_at at.Bare (b ∷ []) xs (plain_more [] b refl plain) (rw (plain, other, inside) at m)
-    ]
-  ]
-]
-text_at at.Bare held (b ∷ xs) h m = elim (cases_Bool (b == 44)) [
-  | inl comma ↦
-      let rest = text_at at.Start [] xs tt (rw comma at m) in
-      rw (eqb-true b 44 comma) (held ∷ rest.0, before (bare h) rest.1)
-  | inr inside ↦ elim (cases_Bool (needs_byte default_writer b)) [
-    | inl bad ↦ absurd (never_unquoted b xs (rw (bad, inside) at m))
-    | inr plain ↦
-        subst IsText (append_assoc held (b ∷ []) xs)
-        (text_at at.Bare (held ++ b ∷ []) xs (plain_more held b h plain) (rw (plain, inside) at m))
-  ]
-]
-text_at at.Open held (b ∷ xs) h m = elim (cases_Bool (b == 34)) [
-  | inl quote ↦
-      rw (eqb-true b 34 quote)
-      (subst (λ (t : List ℕ). IsText (34 ∷ t)) (append_assoc (escaped default_writer held) (34 ∷ []) xs)
-      (text_at at.Closed held xs tt (rw quote at m)))
-  | inr other ↦
-      subst (λ (t : List ℕ). IsText (34 ∷ t))
-      (ap (λ (t : List ℕ). t ++ xs) (escaped_more held b other) ∙ append_assoc (escaped default_writer held) (b ∷ []) xs)
-      (text_at at.Open (held ++ b ∷ []) xs tt (rw other at m))
-]
-text_at at.Closed held (b ∷ xs) h m = elim (cases_Bool (b == 34)) [
-  | inl quote ↦
-      rw (eqb-true b 34 quote)
-      (subst (λ (t : List ℕ). IsText (34 ∷ t))
-      (ap (λ (t : List ℕ). t ++ xs) (escaped_quote held)
-      ∙ append_assoc (escaped default_writer held) (34 ∷ 34 ∷ []) xs
-      ∙ sym (append_assoc (escaped default_writer held) (34 ∷ []) (34 ∷ xs)))
-      (text_at at.Open (held ++ 34 ∷ []) xs tt (rw quote at m)))
-  | inr other ↦ elim (cases_Bool (b == 44)) [
-    | inl comma ↦
-        let rest = text_at at.Start [] xs tt (rw (other, comma) at m) in
-        rw (eqb-true b 44 comma) (held ∷ rest.0, before between_quotes rest.1)
-    | inr bad ↦ absurd (never_broken xs (rw (other, bad) at m))
-  ]
-]
+text_at [] q start front h may = rw append-nil (front_text q start front h (λ e. subst MayEnd e may))
+text_at (b ∷ xs) q start front h may =
+    subst IsText (append_assoc front (b ∷ []) xs) (text_at xs _ _ _ (next q start front b h (may_go (quote_state_after q b) xs may)) may)
 
 -- where a record may end, the bytes are the text of one
 pub text_of : (line : List ℕ) → MayEnd (quote_state_from at.Start line) → IsText line
-text_of line m = text_at at.Start [] line tt m
+text_of line m = text_at line at.Start [] [] (at_start (inl refl)) m

@@ -7,24 +7,23 @@ use Rattle.std.proofs.lemmas.Bool.{cases_Bool, eqb-true, false_from_ne_true, or_
 use Rattle.csv.specs.Machine.{next_record}
 use Rattle.csv.specs.Reading.{default_config, records, records_from}
 use Rattle.csv.specs.Writing.{default_writer, escaped, needs_byte, needs_quotes, quoted}
+use Rattle.csv.specs.declared.parser.State.{State}
 use Rattle.csv.specs.declared.parser.State.TheVariants as st
-use Rattle.csv.proofs.RoundTrip.{plain-run, quoted-run, start-same}
+use Rattle.csv.proofs.RoundTrip.{plain-run, quoted-run, record-same, start-same}
 use Rattle.pocsag_pages.specs.declared.quote_state.QuoteState.{QuoteState}
 use Rattle.pocsag_pages.specs.declared.quote_state.QuoteState.TheVariants as at
-use Rattle.pocsag_pages.specs.QuoteStates.{MayEnd, bare_after, quote_state_after, quote_state_from}
+use Rattle.pocsag_pages.specs.QuoteStates.{MayEnd, MayGoOn, bare_after, quote_state_after, quote_state_from}
 use Rattle.pocsag_pages.specs.RecordTexts.{EndsInQuotes, HasNoRecord, IsFieldText, IsRowText}
-use Rattle.pocsag_pages.proofs.QuoteStates.{text_of}
+use Rattle.pocsag_pages.proofs.QuoteStates.{at_the_end, behind_comma, may_go, text_of}
 use Rattle.pocsag_pages.specs.RecordTexts.IsFieldText.{bare, between_quotes}
 use Rattle.pocsag_pages.specs.RecordTexts.IsRowText.{last, before}
 
--- a byte that calls for no quotes is no mark of the format
-plain_byte : (b : ℕ) → needs_byte default_writer b ≡ false → ((b == 44) ≡ false) × ((b == 34) ≡ false) × ((b == 13) ≡ false) × ((b == 10) ≡ false)
+-- a byte that calls for no quotes is no comma and no quote
+plain_byte : (b : ℕ) → needs_byte default_writer b ≡ false → ((b == 44) ≡ false) × ((b == 34) ≡ false)
 plain_byte b e =
     let a = false_from_ne_true (b == 44) (λ t. cc (rw t at e)) in
     let q = false_from_ne_true (b == 34) (λ t. cc (rw (a, t) at e)) in
-    let r = false_from_ne_true (b == 13) (λ t. cc (rw (a, q, t) at e)) in
-    let n = false_from_ne_true (b == 10) (λ t. cc (rw (a, q, r, t) at e)) in
-    (a, q, r, n)
+    (a, q)
 
 plain_goes_on : (b : ℕ) → needs_byte default_writer b ≡ false → bare_after b ≡ at.Bare
 plain_goes_on b e = rw (e, (plain_byte b e).0) refl
@@ -67,100 +66,70 @@ opened : (bytes : List ℕ) → quote_state_from at.Start (34 ∷ bytes) ≡ quo
 unfolding quote_state_from
 opened bytes = refl
 
-after_comma : (q : QuoteState) (bytes : List ℕ) → quote_state_after q 44 ≡ at.Start → quote_state_from q (44 ∷ bytes) ≡ quote_state_from at.Start bytes
-after_comma q bytes e = next q at.Start 44 bytes e
-
-bare_place : (x : List ℕ) → needs_quotes default_writer x ≡ false → MayEnd (quote_state_from at.Start x)
-unfolding quote_state_from
-bare_place [] e = tt
-bare_place (b ∷ x) e =
-    let ends : quote_state_from at.Bare x ≡ at.Bare = ap (quote_state_from at.Bare) (sym (append-nil x)) ∙ bare_run x [] (or_parts _ _ e).1 in
-    subst MayEnd (sym (next at.Start at.Bare b x (plain_starts b (or_parts _ _ e).0) ∙ ends)) tt
-
-field_place : (field text : List ℕ) → IsFieldText field text → MayEnd (quote_state_from at.Start text)
-unfolding quote_state_from
-field_place x text (bare e) = bare_place x e
-field_place x text between_quotes = subst MayEnd (sym (opened (escaped default_writer x ++ 34 ∷ []) ∙ quoted_place x [])) tt
-
-bare_comma : (x rest : List ℕ) → needs_quotes default_writer x ≡ false → quote_state_from at.Start (x ++ 44 ∷ rest) ≡ quote_state_from at.Start rest
-bare_comma [] rest e = after_comma at.Start rest refl
-bare_comma (b ∷ x) rest e =
-    next at.Start at.Bare b (x ++ 44 ∷ rest) (plain_starts b (or_parts _ _ e).0)
-    ∙ bare_run x (44 ∷ rest) (or_parts _ _ e).1 ∙ after_comma at.Bare rest refl
-
-field_comma : (field text rest : List ℕ) → IsFieldText field text → quote_state_from at.Start (text ++ 44 ∷ rest) ≡ quote_state_from at.Start rest
-field_comma x text rest (bare e) = bare_comma x rest e
-field_comma x text rest between_quotes =
-    ap (quote_state_from at.Start) (quoted_with x (44 ∷ rest)) ∙ opened _ ∙ quoted_place x (44 ∷ rest) ∙ after_comma at.Closed rest refl
+field_run : (field text : List ℕ) → IsFieldText field text →
+    (q : QuoteState) × (MayEnd q × ((rest : List ℕ) → quote_state_from at.Start (text ++ rest) ≡ quote_state_from q rest))
+field_run [] text (bare e) = (at.Start, (tt, λ rest. refl))
+field_run (b ∷ x) text (bare e) =
+    (at.Bare, (tt, λ rest. next at.Start at.Bare b (x ++ rest) (plain_starts b (or_parts _ _ e).0) ∙ bare_run x rest (or_parts _ _ e).1))
+field_run x text between_quotes = (at.Closed, (tt, λ rest. ap (quote_state_from at.Start) (quoted_with x rest) ∙ opened _ ∙ quoted_place x rest))
 
 pub row_place : (fields : List (List ℕ)) (text : List ℕ) → IsRowText fields text → MayEnd (quote_state_from at.Start text)
 row_place [] t x = elim x [ ]
-row_place (f ∷ []) t (last h) = field_place f t h
-row_place (f ∷ fs) line (before {text = t} {rest = r} h more) = subst MayEnd (sym (field_comma f t r h)) (row_place fs r more)
+row_place (f ∷ []) t (last h) =
+    let run = field_run f t h in
+    subst MayEnd (sym (ap (quote_state_from at.Start) (sym (append-nil t)) ∙ run.1.1 [] ∙ at_the_end run.0)) run.1.0
+row_place (f ∷ fs) line (before {text = t} {rest = r} h more) =
+    let run = field_run f t h in
+    subst MayEnd (sym (run.1.1 (44 ∷ r) ∙ next run.0 at.Start 44 r (behind_comma run.0 run.1.0))) (row_place fs r more)
 
--- what csv reads of a field, and behind it
-bare_read : (fields : List (List ℕ)) (x rest : List ℕ) → needs_quotes default_writer x ≡ false
-    → next_record default_config st.StartField fields [] (x ++ 44 ∷ rest) ≡ next_record default_config st.StartField (fields ++ x ∷ []) [] rest
-unfolding next_record
-bare_read fields [] rest e = refl
-bare_read fields (b ∷ x) rest e =
-    let marks = plain_byte b (or_parts _ _ e).0 in
-    start-same fields [] b (x ++ 44 ∷ rest) marks.1 ∙ plain-run fields [] (b ∷ x) (44 ∷ rest) e
+-- how csv stands behind a field
+abbrev IsReadTo : (field text : List ℕ) → State → Type 0
+IsReadTo field text s =
+    (fields : List (List ℕ)) →
+    ((tail : List ℕ) → next_record default_config st.StartField fields [] (text ++ tail) ≡ next_record default_config s fields field tail)
+    × (next_record default_config s fields field [] ≡ Some (fields ++ field ∷ [], st.StartRecord, []))
+    × ((rest : List ℕ) → next_record default_config s fields field (44 ∷ rest) ≡ next_record default_config st.StartField (fields ++ field ∷ []) [] rest)
 
-field_read : (fields : List (List ℕ)) (field text rest : List ℕ) → IsFieldText field text
-    → next_record default_config st.StartField fields [] (text ++ 44 ∷ rest) ≡ next_record default_config st.StartField (fields ++ field ∷ []) [] rest
+field_read : (field text : List ℕ) → IsFieldText field text → (s : State) × IsReadTo field text s
 unfolding next_record
-field_read fields x text rest (bare e) = bare_read fields x rest e
-field_read fields x text rest between_quotes =
-    ap (next_record default_config st.StartField fields []) (quoted_with x (44 ∷ rest)) ∙ quoted-run fields [] x (44 ∷ rest)
-
-bare_last : (fields : List (List ℕ)) (x : List ℕ) → needs_quotes default_writer x ≡ false
-    → next_record default_config st.StartField fields [] x ≡ Some (fields ++ x ∷ [], st.StartRecord, [])
-unfolding next_record
-bare_last fields [] e = refl
-bare_last fields (b ∷ x) e =
-    let marks = plain_byte b (or_parts _ _ e).0 in
-    start-same fields [] b x marks.1
-    ∙ ap (λ (t : List ℕ). next_record default_config st.InField fields [] (b ∷ t)) (sym (append-nil x))
-    ∙ plain-run fields [] (b ∷ x) [] e
-
-field_last : (fields : List (List ℕ)) (field text : List ℕ) → IsFieldText field text
-    → next_record default_config st.StartField fields [] text ≡ Some (fields ++ field ∷ [], st.StartRecord, [])
-unfolding next_record
-field_last fields x text (bare e) = bare_last fields x e
-field_last fields x text between_quotes = quoted-run fields [] x []
+field_read [] text (bare e) = (st.StartField, λ fields. (λ tail. refl, refl, λ rest. refl))
+field_read (b ∷ x) text (bare e) = (
+  st.InField,
+  λ fields. (
+    λ tail. start-same fields [] b (x ++ tail) (plain_byte b (or_parts _ _ e).0).1 ∙ plain-run fields [] (b ∷ x) tail e,
+    refl,
+    λ rest. refl,
+  ),
+)
+field_read x text between_quotes = (
+  st.AfterQuote,
+  λ fields. (
+    λ tail. ap (next_record default_config st.StartField fields []) (quoted_with x tail) ∙ quoted-run fields [] x tail,
+    refl,
+    λ rest. refl,
+  ),
+)
 
 row_read : (so_far fields : List (List ℕ)) (text : List ℕ) → IsRowText fields text
     → next_record default_config st.StartField so_far [] text ≡ Some (so_far ++ fields, st.StartRecord, [])
 row_read so_far [] t x = elim x [ ]
-row_read so_far (f ∷ []) t (last h) = field_last so_far f t h
+row_read so_far (f ∷ []) t (last h) =
+    let read = (field_read f t h).1 so_far in
+    ap (next_record default_config st.StartField so_far []) (sym (append-nil t)) ∙ read.0 [] ∙ read.1
 row_read so_far (f ∷ fs) line (before {text = t} {rest = r} h more) =
-    field_read so_far f t r h ∙ row_read (so_far ++ f ∷ []) fs r more
+    let read = (field_read f t h).1 so_far in
+    read.0 (44 ∷ r) ∙ read.2 r ∙ row_read (so_far ++ f ∷ []) fs r more
     ∙ ap (λ (rows : List (List ℕ)). Some (rows, st.StartRecord, [])) (append_assoc so_far (f ∷ []) fs)
 
 -- a text begins with no end of a line
-begins : (b : ℕ) (text : List ℕ) → (b == 13) ≡ false → (b == 10) ≡ false
-    → next_record default_config st.StartRecord [] [] (b ∷ text) ≡ next_record default_config st.StartField [] [] (b ∷ text)
-unfolding next_record
-begins b text r n = rw (r, n) refl
-
-bare_begins : (x rest : List ℕ) → needs_quotes default_writer x ≡ false → (x ++ rest ≡ [] → ⊥) → ((rest ≡ []) ⊎ ((tail : List ℕ) × (rest ≡ 44 ∷ tail)))
-    → next_record default_config st.StartRecord [] [] (x ++ rest) ≡ next_record default_config st.StartField [] [] (x ++ rest)
-bare_begins [] rest e some (inl none) = absurd (some none)
-bare_begins [] rest e some (inr h) = rw h.1 (begins 44 h.0 refl refl)
-bare_begins (b ∷ x) rest e some h =
-    let marks = plain_byte b (or_parts _ _ e).0 in
-    begins b (x ++ rest) marks.2 marks.3
-
-row_begins : (fields : List (List ℕ)) (text : List ℕ) → IsRowText fields text → (text ≡ [] → ⊥)
-    → next_record default_config st.StartRecord [] [] text ≡ next_record default_config st.StartField [] [] text
-row_begins [] t x some = elim x [ ]
-row_begins (x ∷ []) t (last (bare e)) some =
-    let whole = append-nil x in
-    rw whole at (bare_begins x [] e (λ none. some (sym whole ∙ none)) (inl refl))
-row_begins (f ∷ []) t (last between_quotes) some = begins 34 _ refl refl
-row_begins (x ∷ fs) line (before {rest = r} (bare e) more) some = bare_begins x (44 ∷ r) e some (inr (r, refl))
-row_begins (f ∷ fs) line (before between_quotes more) some = begins 34 _ refl refl
+row_begins : (b : ℕ) (xs : List ℕ) → MayEnd (quote_state_from at.Start (b ∷ xs))
+    → next_record default_config st.StartRecord [] [] (b ∷ xs) ≡ next_record default_config st.StartField [] [] (b ∷ xs)
+unfolding quote_state_from
+row_begins b xs may =
+    let no_end : (n : ℕ) → (MayGoOn (quote_state_after at.Start n) → ⊥) → (b == n) ≡ false = λ n dead.
+    false_from_ne_true (b == n) (λ t. dead (may_go (quote_state_after at.Start n) xs
+    (subst (λ (z : ℕ). MayEnd (quote_state_from at.Start (z ∷ xs))) (eqb-true b n t) may))) in
+    record-same [] [] b xs (no_end 13 (λ on. on)) (no_end 10 (λ on. on))
 
 pub none_left : (n : ℕ) → records_from default_config n st.StartRecord [] ≡ []
 unfolding records_from next_record
@@ -174,7 +143,8 @@ one_row text fields e = rw (add-one, e) (ap (λ (rows : List (List (List ℕ))).
 
 -- the text of a record, unless it is empty, reads as that record alone
 pub rows_are : (fields : List (List ℕ)) (text : List ℕ) → IsRowText fields text → (text ≡ [] → ⊥) → records default_config text ≡ fields ∷ []
-rows_are fields text row some = one_row text fields (row_begins fields text row some ∙ row_read [] fields text row)
+rows_are fields [] row some = absurd (some refl)
+rows_are fields (b ∷ xs) row some = one_row (b ∷ xs) fields (row_begins b xs (row_place fields (b ∷ xs) row) ∙ row_read [] fields (b ∷ xs) row)
 
 none_in : (row : List (List ℕ)) → only_row (records default_config []) ≡ Some row → ⊥
 unfolding records_from next_record
@@ -211,15 +181,6 @@ pub open_quote : (text : List ℕ) → quote_state_from at.Start text ≡ at.Ope
 open_quote text e = text_of (text ++ 34 ∷ []) (closes at.Start text e)
 
 pub may_end : (q : QuoteState) → (q ≡ at.Start) ⊎ ((q ≡ at.Bare) ⊎ (q ≡ at.Closed)) → MayEnd q
-may_end at.Start h = tt
-may_end at.Bare h = tt
-may_end at.Closed h = tt
-may_end at.Open (inl e) = cc e
-may_end at.Open (inr (inl e)) = cc e
-may_end at.Open (inr (inr e)) = cc e
-may_end at.Broken (inl e) = cc e
-may_end at.Broken (inr (inl e)) = cc e
-may_end at.Broken (inr (inr e)) = cc e
-may_end at.Ended (inl e) = cc e
-may_end at.Ended (inr (inl e)) = cc e
-may_end at.Ended (inr (inr e)) = cc e
+may_end q (inl e) = rw e tt
+may_end q (inr (inl e)) = rw e tt
+may_end q (inr (inr e)) = rw e tt

@@ -1,39 +1,34 @@
 -- What is known of a walk over the quotes of a page file at a place.
-use Rattle.std.specs.Prelude.{◌≡◌, ℕ, true, List, [], ◌∷◌, ◌++◌}
-use Rattle.csv.specs.Writing.{default_writer, escaped, quote_mark}
+use Rattle.std.specs.Prelude.{◌≡◌, ℕ, Bool, true, false, List, [], ◌∷◌, ◌++◌}
+use Rattle.csv.specs.Writing.{default_writer, escaped, needs_quotes, quote_mark, quoted}
 use Rattle.pocsag_pages.specs.declared.quote_place.QuotePlace.{QuotePlace}
 use Rattle.pocsag_pages.specs.declared.quote_state.QuoteState.{QuoteState}
 use Rattle.pocsag_pages.specs.declared.quote_state.QuoteState.TheVariants as at
 use Rattle.pocsag_pages.specs.Quotes.{AreRecords, IsFieldStart, line_behind}
-use Rattle.pocsag_pages.specs.QuoteStates.{MayGoOn, quote_state_from}
+use Rattle.pocsag_pages.specs.QuoteStates.{quote_state_from}
 
--- What stands behind the front of a record, in which a field begins in this line: the quote that opens the field, and behind it
--- each quote doubled.
-pub record IsOpenedIn (before front behind : List ℕ) (line : ℕ) : Type 0 where
-  pub start : List ℕ
-  pub held : List ℕ
-  pub parts : front ≡ start ++ quote_mark ∷ (escaped default_writer held ++ behind)
-  pub begins : IsFieldStart start
-  pub place : line ≡ line_behind (before ++ start)
+-- The front of a record that stands so, and where its last field starts: nothing of that field, bytes of it without quotes, its
+-- opening quote and each quote behind that doubled, or the whole field in its quotes.
+pub data IsRecordFront : QuoteState → (start front : List ℕ) → Type 0 where
+  at_start : {front : List ℕ} → IsFieldStart front → IsRecordFront at.Start front front
+  unquoted : {start : List ℕ} (held : List ℕ) → IsFieldStart start → needs_quotes default_writer held ≡ false → IsRecordFront at.Bare start (start ++ held)
+  opened : {start : List ℕ} (held : List ℕ) → IsFieldStart start → IsRecordFront at.Open start (start ++ quote_mark ∷ escaped default_writer held)
+  closed : {start : List ℕ} (held : List ℕ) → IsFieldStart start → IsRecordFront at.Closed start (start ++ quoted default_writer held)
 
--- What is known of the field at hand, behind a front of its record.
-abbrev pub IsFieldAt : QuoteState → (before front : List ℕ) → (opened : ℕ) → Type 0
-IsFieldAt at.Start before front opened = IsFieldStart front
-IsFieldAt at.Bare before front opened = Unit {0}
-IsFieldAt at.Open before front opened = IsOpenedIn before front [] opened
-IsFieldAt at.Closed before front opened = IsOpenedIn before front (quote_mark ∷ []) opened
-IsFieldAt at.Broken before front opened = Unit {0}
-IsFieldAt at.Ended before front opened = Unit {0}
+-- Whether there are no bytes.
+abbrev pub is_empty : List ℕ → Bool
+is_empty [] = true
+is_empty (b ∷ bytes) = false
 
 -- The walk has seen these bytes: whole records, and a front of one more.
 pub record HasSeen (place : QuotePlace) (seen : List ℕ) : Type 0 where
   pub before : List ℕ
+  pub start : List ℕ
   pub front : List ℕ
   pub parts : seen ≡ before ++ front
   pub records : AreRecords place.number before
   pub state : quote_state_from at.Start front ≡ place.state
-  pub goes_on : MayGoOn place.state
-  pub blank : place.is_blank ≡ true → front ≡ []
-  pub begun : front ≡ [] → place.is_blank ≡ true
+  pub field : IsRecordFront place.state start front
+  pub blank : place.is_blank ≡ is_empty front
   pub line : place.line ≡ line_behind seen
-  pub field : IsFieldAt place.state before front place.opened
+  pub opened : place.opened ≡ line_behind (before ++ start)

@@ -31,15 +31,10 @@ abbrev pub MayEnd : QuoteState → Type 0
 MayEnd at.Start = Unit {0}
 MayEnd at.Bare = Unit {0}
 MayEnd at.Closed = Unit {0}
-MayEnd at.Open = ⊥
-MayEnd at.Broken = ⊥
-MayEnd at.Ended = ⊥
+MayEnd _ = ⊥
 
 -- A record may go on there.
 abbrev pub MayGoOn : QuoteState → Type 0
-MayGoOn at.Start = Unit {0}
-MayGoOn at.Bare = Unit {0}
-MayGoOn at.Open = Unit {0}
-MayGoOn at.Closed = Unit {0}
 MayGoOn at.Broken = ⊥
 MayGoOn at.Ended = ⊥
+MayGoOn _ = Unit {0}

@@ -2,7 +2,8 @@ ghost use Rattle.std.specs.Prelude.{◌≡◌, ◌+◌, ◌≤◌, ◌⊎◌, �
 ghost use Rattle.csv.specs.Records.{fields_of};
 ghost use Rattle.pocsag_words.specs.Devices.{HasFailed};
 ghost use Rattle.pocsag_pages.specs.Pages.{page_limit};
-ghost use Rattle.pocsag_pages.specs.PageFile.{fault_after, page_of, pages_of, round_of_rows, verdict, verdict_of_rows};
+ghost use Rattle.pocsag_pages.specs.PageFile.{fault_after, page_of, pages_of, round_of_rows, verdict};
+ghost use Rattle.pocsag_pages.specs.Queues.{queue_of_rows, queue_verdict};
 
 use crate::fault::{FieldFault, RecordFault, RoundFault};
 use crate::record::{is_header_row, page_of_row};
@@ -50,24 +51,21 @@ fn with_row(
     }
 }
 
-// The round of the records that the reader has left; `row` is where they are read into.
-fn judge_rows(
-    alloc: Global,
-    reader: &mut RowReader<'_>,
-    row: &mut ByteRecord,
-) -> Result<Round, RoundFault>
+// The round of the records that the reader has left.
+fn judge_rows(alloc: Global, reader: &mut RowReader<'_>) -> Result<Round, RoundFault>
     ensures ok { IfOk result (λ r. round_of_rows reader.old ≡ Ok r) }
     ensures err { IfErr result
         (λ e. (e ≡ RoundFault.OutOfMemory) ⊎ (round_of_rows reader.old ≡ Err e)) }
 {
     let mut builder = RoundBuilder::new(alloc);
+    let mut row = ByteRecord::new(alloc);
     let mut earlier = 0;
     loop {
-        let found = reader.read(row)?;
+        let found = reader.read(&mut row)?;
         if !found {
             return builder.into_round();
         }
-        builder = match with_row(alloc, builder, earlier, row) {
+        builder = match with_row(alloc, builder, earlier, &row) {
             Ok(longer) => longer,
             Err(fault) => return Err(fault.numbered(earlier + 1)),
         };
@@ -75,24 +73,27 @@ fn judge_rows(
     }
 }
 
-// The round of all the records of the reader, the header first; `row` is where they are read into.
-fn judge_all(
-    alloc: Global,
-    reader: &mut RowReader<'_>,
-    row: &mut ByteRecord,
-) -> Result<Round, RoundFault>
-    ensures ok { IfOk result (λ r. verdict_of_rows reader.old ≡ Ok r) }
-    ensures err { IfErr result
-        (λ e. (e ≡ RoundFault.OutOfMemory) ⊎ (verdict_of_rows reader.old ≡ Err e)) }
+// The records behind the header of the bytes of a page file, or the fault that these have before any. Where they are too many
+// none of them is read.
+pub(crate) fn rows_behind_header(alloc: Global, bytes: &[u8]) -> Result<RowReader<'_>, RoundFault>
+    ensures round { IfOk result (λ rows. verdict bytes.now ≡ round_of_rows rows) }
+    ensures queue { IfOk result (λ rows. queue_verdict bytes.now ≡ queue_of_rows rows) }
+    ensures err { IfErr result (λ e. (e ≡ RoundFault.OutOfMemory)
+        ⊎ ((verdict bytes.now ≡ Err e) × (queue_verdict bytes.now ≡ Err e))) }
 {
-    let found = reader.read(row)?;
+    if bytes.len() > FILE_LIMIT {
+        return Err(RoundFault::TooLarge);
+    }
+    let mut reader = RowReader::of(alloc, bytes);
+    let mut row = ByteRecord::new(alloc);
+    let found = reader.read(&mut row)?;
     if !found {
         return Err(RoundFault::BadHeader);
     }
-    if !is_header_row(row) {
+    if !is_header_row(&row) {
         return Err(RoundFault::BadHeader);
     }
-    judge_rows(alloc, reader, row)
+    Ok(reader)
 }
 
 /// The round of the bytes of a page file, or their first fault. Where they are too many none of them is read.
@@ -100,12 +101,8 @@ pub fn round_of(alloc: Global, bytes: &[u8]) -> Result<Round, RoundFault>
     ensures ok { IfOk result (λ r. verdict bytes.now ≡ Ok r) }
     ensures err { IfErr result (λ e. (e ≡ RoundFault.OutOfMemory) ⊎ (verdict bytes.now ≡ Err e)) }
 {
-    if bytes.len() > FILE_LIMIT {
-        return Err(RoundFault::TooLarge);
-    }
-    let mut reader = RowReader::of(alloc, bytes);
-    let mut row = ByteRecord::new(alloc);
-    judge_all(alloc, &mut reader, &mut row)
+    let mut reader = rows_behind_header(alloc, bytes)?;
+    judge_rows(alloc, &mut reader)
 }
 
 /// The round of the page file that a reader holds up to its end, or the file's first fault. What the reader lends is judged where

@@ -7,9 +7,9 @@ ghost use Rattle.pocsag_pages.specs.PageFile.{fault_after, numbered, page_of};
 ghost use Rattle.pocsag_pages.specs.Queues.{IsQueue, firsts, held_pages, left_of, queue_of_rows, queue_verdict};
 
 use crate::fault::{RecordFault, RoundFault};
-use crate::file::{FILE_LIMIT, round_of};
+use crate::file::{FILE_LIMIT, round_of, rows_behind_header};
 use crate::page::Page;
-use crate::record::{is_header_row, page_of_row};
+use crate::record::page_of_row;
 use crate::round::{PAGE_LIMIT, Round};
 use crate::round_builder::RoundBuilder;
 use crate::row_reader::RowReader;
@@ -39,26 +39,23 @@ fn queue_page(alloc: Global, earlier: usize, row: &ByteRecord) -> Result<Page, R
     }
 }
 
-// The pages of the records that the reader has left; `row` is where they are read into.
-fn queue_rows(
-    alloc: Global,
-    reader: &mut RowReader<'_>,
-    row: &mut ByteRecord,
-) -> Result<Vec<Page>, RoundFault>
+// The pages of the records that the reader has left.
+fn queue_rows(alloc: Global, reader: &mut RowReader<'_>) -> Result<Vec<Page>, RoundFault>
     ensures ok { IfOk result (λ q. queue_of_rows reader.old ≡ Ok q.items) }
     ensures queue { IfOk result (λ q. IsQueue q.items) }
     ensures err { IfErr result (λ e. (e ≡ RoundFault.OutOfMemory) ⊎ (queue_of_rows reader.old ≡ Err e)) }
 {
     let mut pages = Vec::new(alloc);
+    let mut row = ByteRecord::new(alloc);
     loop {
-        let found = reader.read(row)?;
+        let found = reader.read(&mut row)?;
         if !found {
             if pages.is_empty() {
                 return Err(RoundFault::NoPages);
             }
             return Ok(pages);
         }
-        let page = match queue_page(alloc, pages.len(), row) {
+        let page = match queue_page(alloc, pages.len(), &row) {
             Ok(page) => page,
             Err(fault) => return Err(fault),
         };
@@ -74,19 +71,8 @@ fn queue_of(alloc: Global, bytes: &[u8]) -> Result<Vec<Page>, RoundFault>
     ensures queue { IfOk result (λ q. IsQueue q.items) }
     ensures err { IfErr result (λ e. (e ≡ RoundFault.OutOfMemory) ⊎ (queue_verdict bytes.now ≡ Err e)) }
 {
-    if bytes.len() > FILE_LIMIT {
-        return Err(RoundFault::TooLarge);
-    }
-    let mut reader = RowReader::of(alloc, bytes);
-    let mut row = ByteRecord::new(alloc);
-    let found = reader.read(&mut row)?;
-    if !found {
-        return Err(RoundFault::BadHeader);
-    }
-    if !is_header_row(&row) {
-        return Err(RoundFault::BadHeader);
-    }
-    queue_rows(alloc, &mut reader, &mut row)
+    let mut reader = rows_behind_header(alloc, bytes)?;
+    queue_rows(alloc, &mut reader)
 }
 
 /// The pages of the bytes of a page file, or their first fault. Where pages may wait for earlier ones of their address, an

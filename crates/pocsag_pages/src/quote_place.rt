@@ -1,5 +1,5 @@
 ghost use Rattle.std.specs.Prelude.{◌≡◌, ℕ, ◌+◌, ◌^◌, ◌<◌, ◌≤◌, List, [], ◌∷◌, ◌++◌, IfErr, IfOk};
-ghost use Rattle.pocsag_pages.specs.Quotes.{HasQuoteFault, ends_line};
+ghost use Rattle.pocsag_pages.specs.Quotes.{HasQuoteFault, IsWellQuoted, ends_line};
 ghost use Rattle.pocsag_pages.specs.QuotePlaces.{HasSeen};
 
 use crate::fault::QuoteFault;
@@ -13,7 +13,7 @@ pub(crate) struct QuotePlace {
     pub(crate) is_blank: bool,
     pub(crate) number: usize,
     pub(crate) line: usize,
-    // The line of the last quote that opened a field.
+    // The line in which the field at hand starts.
     pub(crate) opened: usize,
 }
 
@@ -34,43 +34,41 @@ impl QuotePlace {
         ensures lines { IfOk result (λ next. next.line ≤ self.line + 1) }
         ensures fault { IfErr result (λ f. (seen rest : List ℕ) → HasSeen self seen →
             HasQuoteFault (seen ++ byte ∷ rest) f) }
+        ensures lost { IfErr result (λ f. (seen rest : List ℕ) → HasSeen self seen →
+            IsWellQuoted (seen ++ byte ∷ rest) → ⊥) }
     {
         let line = self.line + usize::from(byte == b'\n');
-        if ends_line(byte) && !matches!(self.state, QuoteState::Open) {
-            return Ok(QuotePlace {
-                state: QuoteState::Start,
-                is_blank: true,
-                number: self.number + usize::from(!self.is_blank),
-                line,
-                opened: self.opened,
-            });
-        }
         let QuotePlace {
-            state: before,
             number,
             line: here,
             ..
         } = self;
-        match before.after(byte) {
+        match self.state.after(byte) {
             QuoteState::Broken | QuoteState::Ended => {
+                if ends_line(byte) {
+                    return Ok(QuotePlace {
+                        state: QuoteState::Start,
+                        is_blank: true,
+                        number: self.number + usize::from(!self.is_blank),
+                        line,
+                        opened: line,
+                    });
+                }
                 if byte == b'"' {
                     return Err(QuoteFault::Inside { number, line: here });
                 }
                 Err(QuoteFault::Followed { number, line: here })
             }
-            state => {
-                let opened = match before {
-                    QuoteState::Start => here,
+            state => Ok(QuotePlace {
+                state,
+                is_blank: false,
+                number,
+                line,
+                opened: match state {
+                    QuoteState::Start => line,
                     _ => self.opened,
-                };
-                Ok(QuotePlace {
-                    state,
-                    is_blank: false,
-                    number,
-                    line,
-                    opened,
-                })
-            }
+                },
+            }),
         }
     }
 }

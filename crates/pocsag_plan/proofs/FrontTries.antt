@@ -1,6 +1,6 @@
 -- What a try of some first pages says of them.
-use Rattle.std.proofs.Common.{◌≡◌, ℕ, ◌+◌, ◌-◌, ◌<◌, ◌≤◌, List, length, take, arith, inl, inr, refl, sym, ◌∙◌, subst, ap}
-use Rattle.std.specs.Prelude.{◌⊎◌, ◌↔◌, Err, IsErrOf, Option, Some, None, false}
+use Rattle.std.proofs.Common.{◌≡◌, ℕ, ◌+◌, ◌-◌, ◌<◌, ◌≤◌, List, length, take, arith, inl, inr, refl, slice_index, sym, ◌∙◌, subst, ap}
+use Rattle.std.specs.Prelude.{◌⊎◌, Option, Some, None, false}
 use Rattle.std.proofs.lemmas.List.{length-take, length-take-le}
 use Rattle.pocsag_words.specs.declared.ending.End.{End}
 use Rattle.pocsag_pages.specs.declared.page.Page.{Page}
@@ -10,6 +10,7 @@ use Rattle.pocsag_pages.proofs.FirstPages.{first_round}
 use Rattle.pocsag_pages.proofs.GoodPages.{apart_pages}
 use Rattle.pocsag_slots.specs.declared.class.Classes.{Classes}
 use Rattle.pocsag_slots.specs.Loads.{AreClassesOf, IsLeast}
+use Rattle.pocsag_slots.proofs.Sayable.{tour_worded}
 use Rattle.pocsag_tree.specs.Limits.{second_ranges}
 use Rattle.pocsag_tree.specs.CertificateText.{HasText}
 use Rattle.pocsag_tree.specs.Views.{bound_tree_of}
@@ -18,7 +19,6 @@ use Rattle.pocsag_branch.specs.declared.fault.SearchLimit.{SearchLimit}
 use Rattle.pocsag_branch.specs.declared.fault.SearchFault.TheVariants as searching
 use Rattle.pocsag_check.specs.Acceptance.{IsAccepted}
 use Rattle.pocsag_branch.specs.Found.{HasPage, IsBound, IsLimit, IsNodeLimit}
-use Rattle.pocsag_plan.specs.declared.fault.NoFront.{NoFront}
 use Rattle.pocsag_plan.specs.declared.fault.NoFront.TheVariants as front
 use Rattle.pocsag_plan.specs.declared.fault.PlanFault.{PlanFault}
 use Rattle.pocsag_plan.specs.declared.fault.PlanFault.TheVariants as planning
@@ -31,7 +31,8 @@ use Rattle.pocsag_plan.specs.declared.attempt.FrontBounds.{FrontBounds}
 use Rattle.pocsag_plan.specs.Attempts.{ExceedsPages, HasSpare, AreFrontBounds, IsCut, IsExcess, IsUndecidedAt, IsUpper, StopsAt}
 use Rattle.pocsag_plan.specs.Fronts.{AreBeyond, AreToBeSearched, ExplainsFront, FirstNeeds, IsFrontFor, IsLongestFront, IsUndecidedFor, IsWhyNoMore, ShowsBeyond}
 use Rattle.pocsag_plan.specs.Plans.{NoneHasFewer}
-use Rattle.pocsag_plan.specs.Within.{IsOutcome, IsOutcomeFault, IsTightOrStopped}
+use Rattle.pocsag_plan.specs.Within.{IsOutcome, IsOutcomeFault, IsOutcomeFor, IsTightOrStopped}
+use Rattle.pocsag_plan.proofs.Completed.{some_batch}
 use Rattle.pocsag_plan.proofs.Counted.{has_page}
 use Rattle.pocsag_plan.proofs.Explained.{explained}
 
@@ -119,12 +120,6 @@ module _ (search : Search) (R : List Page) (batches : ℕ) (round : IsRound R) (
   beyond k bound counted (inl is) = inl (none_fewer k (batches + 1) counted is.1)
   beyond k bound counted (inr undecided) = inr (not_decided k counted undecided)
 
-  shows_more : (k : Classes) (bound : ℕ) → AreClassesOf k search.end R →
-      ((batches < bound) × IsBound k search.end (batches + 1)) ⊎ IsUndecidedAt k search batches →
-      (batches < bound) ⊎ ((search.on_limit ≡ Always) × IsUndecidedFor search R batches)
-  shows_more k bound counted (inl is) = inl is.0
-  shows_more k bound counted (inr undecided) = inr (not_decided k counted undecided)
-
   pub pages_beyond : (certificate : Certificate) → ExceedsPages search R batches certificate → AreBeyond search R batches
   pages_beyond certificate is = beyond is.table certificate.batches is.counted is.excess.beyond
 
@@ -134,7 +129,7 @@ module _ (search : Search) (R : List Page) (batches : ℕ) (round : IsRound R) (
     accepted = record { table = is.table; counted = is.counted; accepted = is.excess.accepted };
     text = is.excess.text;
     at_least = is.excess.at_least;
-    more = shows_more is.table certificate.batches is.counted is.excess.beyond;
+    more = elim is.excess.beyond [ inl more ↦ inl more.0 | inr undecided ↦ inr (not_decided is.table is.counted undecided) ];
   }
 
 module _ (search : Search) (R : List Page) (batches count : ℕ) (round : IsRound R) (limited : IsNodeLimit search.limit) where
@@ -202,18 +197,30 @@ spare_front search R batches bounds stop round limited is closed spare at =
 pub first_has_page : (k : Classes) (end : End) (R : List Page) (n : ℕ) → AreClassesOf k end (take n R) → 0 < n → 0 < length R → HasPage k
 first_has_page k end R n counted some any = has_page k end (take n R) counted (omega (arith, length-take n R))
 
+-- What a search left for the classes of a round is sent.
+pub sent_for : (search : Search) (R : List Page) (outcome : Outcome) → IsRound R → IsOutcomeFor search R outcome →
+    (U : List ℕ) × IsLegalList search.end U outcome.found.batches R
+sent_for search R outcome round is =
+    let found = outcome.found in
+    let within = is.of_classes.within in
+    let sent = tour_worded is.table search.end (slice_index found.choice.early) found.batches found.steps.items R
+    (some_batch is.table search.end search.limit outcome.bound found within) round is.classes within.tour in
+    (sent.0, sent.2)
+
 -- What is found for the first page alone, where it does not fit.
-pub first_needs : (k : Classes) (search : Search) (R : List Page) (batches : ℕ) (outcome : Outcome) → IsRound (take 1 R) → IsNodeLimit search.limit →
-    AreClassesOf k search.end (take 1 R) → IsOutcome k search outcome → batches < outcome.found.batches → (U : List ℕ) →
-    IsLegalList search.end U outcome.found.batches (take 1 R) → FirstNeeds search R batches outcome.found.batches
-first_needs k search R batches outcome round limited counted is more U legal =
+pub first_needs : (search : Search) (R : List Page) (batches : ℕ) (outcome : Outcome) → IsRound (take 1 R) → IsNodeLimit search.limit →
+    IsOutcomeFor search (take 1 R) outcome → batches < outcome.found.batches → FirstNeeds search R batches outcome.found.batches
+first_needs search R batches outcome round limited is more =
     let less : ℕ = outcome.found.batches - 1 in
     let next : outcome.found.batches ≡ less + 1 = omega (arith, more) in
+    let left = is.of_classes in
+    let sent = sent_for search (take 1 R) outcome round is in
     record {
-      codewords = U;
-      legal = legal;
-      fewest = beyond search (take 1 R) less round limited k outcome.bound counted
-          (bound_beyond k search less outcome.bound outcome.found.batches search.on_limit outcome.stopped refl next is.within.bounded is.fewest is.stopped);
+      codewords = sent.0;
+      legal = sent.1;
+      fewest = beyond search (take 1 R) less round limited is.table outcome.bound is.classes
+          (bound_beyond is.table search less outcome.bound outcome.found.batches search.on_limit outcome.stopped refl next left.within.bounded
+          left.fewest left.stopped);
       more = more;
     }
 
@@ -232,33 +239,34 @@ cut_of search R batches bounds outcome is closed found within =
     }
 
 -- The front that ends at the cut.
-module _ (search : Search) (R : List Page) (batches : ℕ) (cut : FrontCut) (F : List Page) (round : IsRound R) (limited : IsNodeLimit search.limit)
-    (is : IsCut search R batches cut) (same : F ≡ take cut.count R) where
+module _ (search : Search) (R S : List Page) (batches : ℕ) (cut : FrontCut) (F : List Page) (round : IsRound R) (pages : S ≡ R)
+    (limited : IsNodeLimit search.limit) (found : IsCut search S batches cut) (same : F ≡ take cut.count R) where
+  is : IsCut search R batches cut
+  is = subst (λ (v : List Page). IsCut search v batches cut) pages found
+
   long : length F ≡ cut.count
   long = ap length same ∙ length-take-le cut.count R is.among
 
-  pub front_of : (U : List ℕ) → IsLegalList search.end U cut.outcome.found.batches (take cut.count R) → IsFrontFor search R batches (length F)
-  front_of U legal =
+  pub outcome_for : IsOutcomeFor search F cut.outcome
+  outcome_for = subst (λ (v : List Page). IsOutcomeFor search v cut.outcome) (sym same) is.outcome
+
+  pub front_of : IsFrontFor search R batches (length F)
+  front_of =
+      let sent = sent_for search (take cut.count R) cut.outcome (first_round cut.count R round is.some is.among) is.outcome in
       subst (IsFrontFor search R batches) (sym long)
       (record {
         some = is.some;
         among = is.among;
-        sent = record { codewords = U; used = cut.outcome.found.batches; legal = legal; few = is.within };
+        sent = record { codewords = sent.0; used = cut.outcome.found.batches; legal = sent.1; few = is.within };
         longest = λ less. longest_beyond search R batches cut.count round limited cut.why is.upper less;
       })
 
+  pub longest_of : search.on_limit ≡ Fewest → IsLongestFront search.end R batches (length F)
+  longest_of fewest = record {
+    among = front_of.among;
+    sent = front_of.sent;
+    longest = λ less. elim (front_of.longest less) [ inl none ↦ none | inr undecided ↦ absurd (cc (undecided.0, fewest)) ];
+  }
+
   pub why_of : IsWhyNoMore search R batches (length F) cut.why
   why_of = subst (λ (n : ℕ). IsWhyNoMore search R batches n cut.why) (sym long) (why_no_more search R batches cut.count round limited cut.why is.upper)
-
-pub longest_of : (search : Search) (R : List Page) (batches count : ℕ) → IsFrontFor search R batches count → search.on_limit ≡ Fewest →
-    IsLongestFront search.end R batches count
-longest_of search R batches count is fewest = record {
-  among = is.among;
-  sent = is.sent;
-  longest = λ less. elim (is.longest less) [ inl none ↦ none | inr undecided ↦ absurd (cc (undecided.0, fewest)) ];
-}
-
--- a fault that is none of the limit's, answered by another call
-pub another_fault : {A B : Type 0} (N : Type 0) (e : NoFront) → N → (IsErrOf {T = A} (Err e) (front.Plan planning.BadLimit) → ⊥) →
-    IsErrOf {T = B} (Err e) (front.Plan planning.BadLimit) ↔ (¬ N)
-another_fault N e is other = (λ b. absurd (other (cc b)), λ no. absurd (no is))

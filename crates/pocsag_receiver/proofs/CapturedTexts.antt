@@ -1,5 +1,5 @@
 -- What is listed of a capture, and why a command does not answer for one.
-use Rattle.std.proofs.Common.{◌≡◌, ℕ, ◌+◌, ◌*◌, ◌<◌, ◌≤◌, Bool, true, false, List, [], ◌∷◌, ◌++◌, length, get_or, map, take, All, Option, refl, sym, ap, ap₂, subst, ◌∙◌, arith, append_assoc, if◌then◌else◌}
+use Rattle.std.proofs.Common.{◌≡◌, ℕ, ◌+◌, ◌*◌, ◌<◌, ◌≤◌, Bool, true, false, List, [], ◌∷◌, ◌++◌, length, get_or, map, take, Option, refl, sym, ap, ap₂, subst, ◌∙◌, arith, append_assoc, if◌then◌else◌}
 use Rattle.std.proofs.Math.Seq.{take-length}
 use Rattle.std.proofs.lemmas.List.{append-nil, flat_map_more, length-map, length-take-le, map-append, take_more}
 use Rattle.std.proofs.lemmas.List.Elements.{All-nil, All-push, All-weaker}
@@ -12,7 +12,7 @@ use Rattle.pocsag_capture.specs.CapturedPages.{HasCaptured}
 use Rattle.pocsag_capture.specs.ExtractedBytes.{ExtractsOne}
 use Rattle.pocsag_capture.specs.PageEnds.{AreNumbered, HasTransmissions, IsCapturedTransmission, UncutStandWhole, pages_captured}
 use Rattle.pocsag_capture.specs.Receptions.{AreInStep, AreReceptions, received}
-use Rattle.pocsag_capture.specs.Sent.{HoldsSent, StandAmong}
+use Rattle.pocsag_capture.specs.Sent.{StandAmong}
 use Rattle.pocsag_capture.specs.declared.captured_transmission.CapturedTransmission.{CapturedTransmission}
 use Rattle.pocsag_capture.specs.declared.reception.ReceptionStats.{ReceptionStats}
 use Rattle.pocsag_capture.specs.declared.reception.Reception.{Reception}
@@ -21,7 +21,7 @@ use Rattle.pocsag_decode.specs.Faults.{IsFaultless}
 use Rattle.pocsag_shell.specs.declared.fault.FileFault.TheVariants as file
 use Rattle.pocsag_show.specs.declared.view.View.{View}
 use Rattle.pocsag_receiver.specs.Captures.{ExplainsOne, ListsAmong, ListsCaptured, ListsCapturedPart, ListsWhole, TextOfTransmissions}
-use Rattle.pocsag_receiver.specs.CapturedForms.{captured_header, captured_line, captured_listing, captured_row, captured_text, is_picked, mark_of, picked_pages}
+use Rattle.pocsag_receiver.specs.CapturedForms.{captured_header, captured_text, is_picked, picked_pages}
 use Rattle.pocsag_receiver.specs.Views.{ExplainsShowing}
 use Rattle.pocsag_receiver.specs.declared.captured.Picking.{Picking}
 use Rattle.pocsag_receiver.specs.declared.fault.ReceiverFault.{ReceiverFault}
@@ -99,12 +99,6 @@ module _ (only : Option ℕ) (T : Bool → Page → List ℕ) (pages : List Page
       (ap (λ (n : ℕ). take n cuts) (is ∙ sym long) ∙ take-length cuts)
 
 -- ---- the transmissions, of which the first were listed
-
--- what is listed of a transmission, as JSON or as CSV
-abbrev pub captured_by : (is_json : Bool) → Picking → CapturedTransmission → List ℕ
-captured_by is_json k c =
-    if is_json then picked_pages k.only (λ is_cut p. captured_line k.texts (mark_of c is_cut) p) c.pages.items c.cuts.items
-    else picked_pages k.only (captured_row k.texts) c.pages.items c.cuts.items
 
 numbered_push : (n : ℕ) (cs : List CapturedTransmission) (c : CapturedTransmission) → AreNumbered n cs → c.number ≡ n + length cs → AreNumbered n (cs ++ c ∷ [])
 numbered_push n [] c f is = (omega (arith, is), tt)

@@ -1,4 +1,3 @@
 pub mod CapturedTexts
 pub mod Read
 pub mod Received
-pub mod Tokens

@@ -1,13 +1,11 @@
 -- What is received of bytes that were sent, and why a command does not answer.
-use Rattle.std.proofs.Common.{◌≡◌, ◌⊎◌, ℕ, ◌*◌, Bool, false, List, ◌++◌, length, None, Some, Result, Ok, Err, refl, sym, ap, ◌∙◌, subst, inl, inr, arith}
-use Rattle.std.specs.Result.{OnOk}
+use Rattle.std.proofs.Common.{◌≡◌, ◌⊎◌, ℕ, ◌*◌, List, ◌++◌, length, None, Some, Result, Ok, Err, refl, ap, ◌∙◌, subst, inl, inr, arith}
+use Rattle.std.specs.Result.{IfOk, MatchResult, is_ok}
 use Rattle.pocsag_pages.specs.declared.page.Page.{Page}
 use Rattle.pocsag_pages.specs.Bytes.{Sent, after_preamble, body_bytes, synced, words_of}
 use Rattle.pocsag_pages.proofs.Lengths.{body_length, synced_count}
 use Rattle.pocsag_decode.specs.Faults.{IsFaultless, ReadsAs}
-use Rattle.pocsag_decode.specs.Repairs.{Counts}
 use Rattle.pocsag_decode.proofs.Preambles.{after_is}
-use Rattle.pocsag_decode.proofs.Repairs.{nothing_differs}
 use Rattle.pocsag_decode.proofs.SentBytes.{body_begins}
 use Rattle.pocsag_pager.specs.Faults.{hearing_fault}
 use Rattle.pocsag_pager.specs.Shown.{ShowsSome}
@@ -17,10 +15,15 @@ use Rattle.pocsag_shell.specs.declared.fault.FileFault.TheVariants as file
 use Rattle.pocsag_receiver.specs.Faults.{receiver_status}
 use Rattle.pocsag_receiver.specs.Forms.{listed_in}
 use Rattle.pocsag_receiver.specs.Listings.{DecodedIn, ExplainsDecoding, ExplainsHearing}
-use Rattle.pocsag_receiver.specs.Repair.{IsSoOfRead}
 use Rattle.pocsag_receiver.specs.declared.fault.ReceiverFault.{ReceiverFault}
 use Rattle.pocsag_receiver.specs.declared.fault.ReceiverFault.TheVariants as fault
 use Rattle.pocsag_receiver.specs.declared.form.ListForm.{ListForm}
+
+-- what holds of a value holds of it behind `map_err`
+pub passed_on : {T E D : Type 0} (P : T → Type 0) (Q : E → Type 0) (r : Result T E) (mapped : Result T D) (v : T)
+    → MatchResult r (λ x. mapped ≡ Ok x) Q → is_ok mapped ≡ is_ok r → mapped ≡ Ok v → IfOk r P → P v
+passed_on P Q (Ok x) mapped v same variant is p = let e : x ≡ v = cc in subst P e p
+passed_on P Q (Err e) mapped v same variant is p = let ok = ap is_ok is in absurd (cc)
 
 -- what is listed of the bytes that were sent are their pages
 pub listed_as_sent : {form : ListForm} (X bytes : List ℕ) (ps : List Page) (out out' : List ℕ)
@@ -50,11 +53,3 @@ batches_long X T s =
     let count = synced_count 0 T in
     let size = body_length (synced 0 T) in
     omega (arith, ap length body)
-
--- nothing is corrected of bytes that are read as they are
-pub counts_none : {T E : Type 0} (r : Result T E) (held : List ℕ) (asked : Bool) → asked ≡ false →
-    OnOk r (IsSoOfRead held asked (Counts (record { words = 0; bits = 0 }) held))
-counts_none (Ok _) held asked off =
-    let none = nothing_differs held held refl in
-    record { bytes = held; read = rw off refl; holds = record { in_words = sym none.0; in_bits = sym none.1 } }
-counts_none (Err _) held asked off = tt

@@ -1,16 +1,16 @@
 -- How the pages of captures are listed: each with its state, and in JSON also with its transmission (this project's own).
-use Rattle.std.specs.Prelude.{ℕ, ◌==◌, Bool, true, false, if◌then◌else◌, List, [], ◌∷◌, ◌++◌, Option, Some, None, codes}
+use Rattle.std.specs.Prelude.{ℕ, ◌==◌, Bool, true, if◌then◌else◌, List, [], ◌∷◌, ◌++◌, Option, Some, None, codes}
 use Rattle.std.specs.List.{flat_map}
 use Rattle.std.specs.Fmt.{decimal}
 use Rattle.csv.specs.Writing.{default_writer, row_text}
-use Rattle.json.specs.Json.{Json, boolean, member, no_members, number, object, string}
+use Rattle.json.specs.Json.{Json, Members, boolean, member, no_members, number, object, string}
 use Rattle.json.specs.Print.{print}
 use Rattle.json.specs.Tree.{json_tokens}
 use Rattle.pocsag_pages.specs.declared.page.Page.{Page}
 use Rattle.pocsag_capture.specs.Bits.{inverts}
 use Rattle.pocsag_capture.specs.declared.captured_transmission.CapturedTransmission.{CapturedTransmission}
 use Rattle.pocsag_decode.specs.Listing.{header}
-use Rattle.pocsag_receiver.specs.Forms.{kind_read, message_read, record_read}
+use Rattle.pocsag_receiver.specs.Forms.{page_members, record_read}
 use Rattle.pocsag_receiver.specs.declared.captured.Mark.{Mark}
 use Rattle.pocsag_receiver.specs.declared.captured.Picking.{Picking}
 
@@ -27,18 +27,18 @@ state_fields (Some is_cut) = state_field is_cut ∷ []
 abbrev pub captured_row : List Bool → (is_cut : Bool) → Page → List ℕ
 captured_row texts is_cut p = row_text default_writer (record_read texts p ++ state_fields (Some is_cut))
 
--- The JSON object of a page: what it has without a capture, its state, and of its transmission the number, whether each bit was
--- received as the other, and the bit at which it begins.
-abbrev pub captured_object : List Bool → Mark → Page → Json
-captured_object texts m p =
-    object (member (codes "address") (number (decimal p.address))
-    (member (codes "function") (number (decimal p.function))
-    (member (codes "kind") (string (kind_read texts p.function p.payload))
-    (member (codes "message") (string (message_read texts p.function p.payload))
-    (member (codes "state") (string (state_field m.is_cut))
+-- The members that the JSON object of a page of a capture has behind those of each form: its state, and of its transmission the
+-- number, whether each bit was received as the other, and the bit at which it begins.
+abbrev pub mark_members : Mark → Members
+mark_members m =
+    member (codes "state") (string (state_field m.is_cut))
     (member (codes "transmission") (number (decimal m.transmission))
     (member (codes "inverted") (boolean m.is_inverted)
-    (member (codes "bit") (number (decimal m.bit)) no_members))))))))
+    (member (codes "bit") (number (decimal m.bit)) no_members)))
+
+-- The JSON object of a page of a capture.
+abbrev pub captured_object : List Bool → Mark → Page → Json
+captured_object texts m p = object (page_members texts p (mark_members m))
 
 -- Its line: the text of the object, without spaces, and a line feed.
 abbrev pub captured_line : List Bool → Mark → Page → List ℕ

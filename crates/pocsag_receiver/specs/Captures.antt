@@ -78,19 +78,16 @@ pub record ViewsOne (view : View) (capture : List ℕ) (nth : ℕ) (heard : List
   pub rows : HasRows view bytes
   pub viewed : Viewed view bytes out_before out_after
 
--- A prefix of it was taken.
-pub record ViewsOnePart (view : View) (capture : List ℕ) (nth : ℕ) (out_before out_after : List ℕ) : Type 0 where
-  pub heard : List ReceptionStats
-  pub bytes : List ℕ
-  pub extracts : ExtractsOne capture nth heard bytes
-  pub viewed : ViewedPart view bytes out_before out_after
-
 -- These are the bytes of the transmission of this number, as it is extracted.
 pub record IsSoOfOne (capture : List ℕ) (nth : ℕ) (P : List ℕ → Type 0) : Type 0 where
   pub heard : List ReceptionStats
   pub bytes : List ℕ
   pub extracts : ExtractsOne capture nth heard bytes
   pub holds : P bytes
+
+-- A prefix of what is shown of it was taken.
+abbrev pub ViewsOnePart : View → (capture : List ℕ) → (nth : ℕ) → (out_before out_after : List ℕ) → Type 0
+ViewsOnePart view capture nth out_before out_after = IsSoOfOne capture nth (λ bytes. ViewedPart view bytes out_before out_after)
 
 -- There is no such transmission, the rows that are asked for are behind its last batch, or memory or the writer refused.
 abbrev pub ExplainsOne : View → (capture : List ℕ) → (nth : ℕ) → ReceiverFault → Type 0

@@ -4,7 +4,7 @@ use Rattle.std.specs.Prelude.{ℕ, ◌+◌, Bool, false, if◌then◌else◌, ge
 use Rattle.std.specs.List.{flat_map}
 use Rattle.std.specs.Fmt.{decimal}
 use Rattle.csv.specs.Writing.{default_writer, row_text}
-use Rattle.json.specs.Json.{Json, member, no_members, number, object, string}
+use Rattle.json.specs.Json.{Json, Members, member, no_members, number, object, string}
 use Rattle.json.specs.Print.{print}
 use Rattle.json.specs.Tree.{json_tokens}
 use Rattle.pocsag_text.specs.Text.{alpha_text}
@@ -38,13 +38,17 @@ record_read texts p =
 abbrev pub text_listing : List Bool → List Page → List ℕ
 text_listing texts ps = row_text default_writer header ++ flat_map (λ p. row_text default_writer (record_read texts p)) ps
 
--- The JSON object of a page.
-abbrev pub page_object : List Bool → Page → Json
-page_object texts p =
-    object (member (codes "address") (number (decimal p.address))
+-- The members that the JSON object of a page has in each form, in front of others.
+abbrev pub page_members : List Bool → Page → Members → Members
+page_members texts p others =
+    member (codes "address") (number (decimal p.address))
     (member (codes "function") (number (decimal p.function))
     (member (codes "kind") (string (kind_read texts p.function p.payload))
-    (member (codes "message") (string (message_read texts p.function p.payload)) no_members))))
+    (member (codes "message") (string (message_read texts p.function p.payload)) others)))
+
+-- The JSON object of a page.
+abbrev pub page_object : List Bool → Page → Json
+page_object texts p = object (page_members texts p no_members)
 
 -- The line of a page: the text of its object, without spaces, and a line feed.
 abbrev pub json_line : List Bool → Page → List ℕ

@@ -14,7 +14,7 @@ ghost use Rattle.pocsag_receiver.specs.declared.fault.ReceiverFault.TheVariants 
 use crate::captured::{Picking, text_captured};
 use crate::fault::ReceiverFault;
 use crate::show::show_bytes;
-use crate::transmission::{read_transmission, refuse_long};
+use crate::transmission::read_transmission;
 use pocsag_capture::{Extracted, ReceptionStats, extract_one, receptions_in};
 use pocsag_decode::readings_have_no_fault;
 use pocsag_pager::Pager;
@@ -60,11 +60,9 @@ fn list_captured<O: Sink>(
     ensures write_failed { IsErrOf result (fault.File file.Write) →
         HasFailed (O.failures out.old) (O.failures out.new) }
 {
-    let found = receptions_in(alloc, capture)?;
-    if let Some(address) = capture_listing.picking.only
-        && let Err(refused) = Pager::new(alloc, address)
-    {
-        return Err(ReceiverFault::Pager(refused));
+    let found = receptions_in(alloc, capture).map_err(ReceiverFault::Capture)?;
+    if let Some(address) = capture_listing.picking.only {
+        Pager::new(alloc, address)?;
     }
     let mut heard = Vec::new(alloc);
     let receptions = found.as_slice();
@@ -119,22 +117,10 @@ pub fn run_list_capture<T: Source, O: Sink, E: Sink + Drop>(
     ensures write_failed { printed_by err.new ≡ Some (fault.File file.Write) →
         HasFailed (O.failures out.old) (O.failures out.new) }
 {
-    // What the device lends is read where it stands; otherwise it is read whole.
-    let done = 'listed: {
-        let Some(capture) = tx.lent() else {
-            break 'listed match read_transmission(alloc, tx) {
-                Ok(capture) => list_captured(alloc, capture_listing, capture.as_slice(), out),
-                Err(refused) => Err(ReceiverFault::File(refused)),
-            };
-        };
-        if let Err(refused) = refuse_long(capture) {
-            break 'listed Err(ReceiverFault::File(refused));
-        }
-        let listed = list_captured(alloc, capture_listing, capture, out);
-        tx.take_all();
-        listed
-    };
-    err.end(done)
+    err.end(match read_transmission(alloc, tx) {
+        Ok(capture) => list_captured(alloc, capture_listing, capture.as_slice(), out),
+        Err(refused) => Err(ReceiverFault::File(refused)),
+    })
 }
 
 // Shows one of the transmissions of the bytes of a capture.
@@ -156,12 +142,11 @@ fn show_captured<O: Sink>(
         HasFailed (O.failures out.old) (O.failures out.new) }
 {
     readings_have_no_fault();
-    let Extracted { bytes, heard } = extract_one(alloc, capture, viewing.nth)?;
+    let Extracted { bytes, heard } = extract_one(alloc, capture, viewing.nth).map_err(
+        ReceiverFault::Capture,
+    )?;
     viewing.heard = heard;
-    match show_bytes(alloc, viewing.view, bytes.as_slice(), out) {
-        Ok(status) => Ok(status),
-        Err(fault) => Err(fault),
-    }
+    show_bytes(alloc, viewing.view, bytes.as_slice(), out)
 }
 
 /// `show TX --capture`: shows one of the transmissions of a capture, and says how it was received. Returns the exit status.
@@ -189,20 +174,8 @@ pub fn run_show_capture<T: Source, O: Sink, E: Sink + Drop>(
     ensures write_failed { printed_by err.new ≡ Some (fault.File file.Write) →
         HasFailed (O.failures out.old) (O.failures out.new) }
 {
-    // What the device lends is read where it stands; otherwise it is read whole.
-    let done = 'shown: {
-        let Some(capture) = tx.lent() else {
-            break 'shown match read_transmission(alloc, tx) {
-                Ok(capture) => show_captured(alloc, viewing, capture.as_slice(), out),
-                Err(refused) => Err(ReceiverFault::File(refused)),
-            };
-        };
-        if let Err(refused) = refuse_long(capture) {
-            break 'shown Err(ReceiverFault::File(refused));
-        }
-        let shown = show_captured(alloc, viewing, capture, out);
-        tx.take_all();
-        shown
-    };
-    err.end(done)
+    err.end(match read_transmission(alloc, tx) {
+        Ok(capture) => show_captured(alloc, viewing, capture.as_slice(), out),
+        Err(refused) => Err(ReceiverFault::File(refused)),
+    })
 }

@@ -1,19 +1,17 @@
 //! The forms in which the pages of captures are listed: each with its state.
-ghost use Rattle.std.specs.Prelude.{◌≡◌, ◌+◌, ◌^◌, ◌<◌, ◌≤◌, ◌∷◌, ◌++◌, [], All, true, false, length, IfOk, OnOk};
+ghost use Rattle.std.specs.Prelude.{◌≡◌, ◌+◌, ◌^◌, ◌<◌, ◌≤◌, ◌++◌, All, length, IfOk};
 ghost use Rattle.pocsag_words.specs.Frame.{input_limit};
 ghost use Rattle.pocsag_pages.specs.Listable.{IsListable};
-ghost use Rattle.pocsag_decode.specs.Lines.{IsReady, text_in};
 ghost use Rattle.pocsag_capture.specs.Bits.{capture_bits};
 ghost use Rattle.pocsag_capture.specs.Receptions.{behind};
 ghost use Rattle.pocsag_capture.specs.declared.reception.Reception.{Reception};
 ghost use Rattle.pocsag_receiver.specs.Captures.{TextOfTransmissions};
-ghost use Rattle.pocsag_receiver.specs.CapturedForms.{captured_line, captured_row, is_picked, mark_of, picked_pages};
+ghost use Rattle.pocsag_receiver.specs.CapturedForms.{captured_line, captured_text, is_picked, mark_of, picked_pages};
 
-use crate::form::{kind_read, message_read, put_read, state_name};
+use crate::form::{begin_page_object, end_object, put_read, state_name};
 use pocsag_capture::{CapturedTransmission, Reception, ReceptionStats, capture_pages};
 use pocsag_pages::Page;
 use std::alloc::{AllocError, Global};
-use std::str;
 
 /// Which pages of a capture are listed, and in which form.
 #[derive(Clone, Copy)]
@@ -60,23 +58,7 @@ fn with_captured_line(
     requires { IsListable page.now }
     ensures { IfOk result (λ v. v.items ≡ lines.items ++ captured_line texts mark page.now) }
 {
-    let items = page.payload.as_slice();
-    let Ok(message) = message_read(alloc, texts, page.function, items) else {
-        return Err(AllocError);
-    };
-    let Ok(message) = str::from_utf8(message.as_slice()) else {
-        unreachable!()
-    };
-    let mut writer = json::Writer::new(lines);
-    writer.begin_object()?;
-    writer.key("address")?;
-    writer.u64(u64::from(page.address))?;
-    writer.key("function")?;
-    writer.u64(u64::from(page.function))?;
-    writer.key("kind")?;
-    writer.string(kind_read(texts, page.function, items))?;
-    writer.key("message")?;
-    writer.string(message)?;
+    let mut writer = begin_page_object(alloc, lines, texts, page)?;
     writer.key("state")?;
     writer.string(state_name(mark.is_cut))?;
     writer.key("transmission")?;
@@ -85,10 +67,7 @@ fn with_captured_line(
     writer.boolean(mark.is_inverted)?;
     writer.key("bit")?;
     writer.u64(mark.bit)?;
-    writer.end_object()?;
-    let mut lines = writer.into_inner();
-    lines.push(b'\n')?;
-    Ok(lines)
+    end_object(writer)
 }
 
 // The lines before these, and those of the pages of a transmission that are asked for.
@@ -125,20 +104,21 @@ fn with_lines(
     Ok(lines)
 }
 
-// Writes the records of the pages of a transmission that are asked for.
-fn put_transmission(
+// The text before these, and what is listed of a transmission: lines of JSON, or records.
+fn with_transmission(
     alloc: Global,
-    writer: &mut csv::Writer<Vec<u8>>,
+    before: Vec<u8>,
     picking: Picking,
     captured: &CapturedTransmission,
-) -> Result<(), AllocError>
-    requires ready { IsReady writer.old }
+) -> Result<Vec<u8>, AllocError>
     requires listable { All IsListable captured.now.pages.items }
     requires long { length captured.now.cuts.items ≡ length captured.now.pages.items }
-    ensures ready { OnOk result (IsReady writer.new) }
-    ensures rows { OnOk result (text_in writer.new ≡ text_in writer.old ++ picked_pages picking.only
-        (captured_row picking.texts) captured.now.pages.items captured.now.cuts.items) }
+    ensures { IfOk result (λ v. v.items ≡ before.items ++ captured_text picking captured.now) }
 {
+    if picking.is_json {
+        return with_lines(alloc, before, picking, captured);
+    }
+    let mut writer = csv::Writer::from_writer(before);
     let pages = captured.pages.as_slice();
     let cuts = captured.cuts.as_slice();
     for index in 0..pages.len() {
@@ -146,67 +126,9 @@ fn put_transmission(
         if !is_picked(picking.only, page.address) {
             continue;
         }
-        put_read(alloc, writer, picking.texts, page, Some(cuts[index]))?;
+        put_read(alloc, &mut writer, picking.texts, page, Some(cuts[index]))?;
     }
-    Ok(())
-}
-
-// The records of the pages of the receptions, by one writer.
-fn rows_captured(
-    alloc: Global,
-    picking: Picking,
-    capture: &[u8],
-    found: &[Reception],
-    heard: &mut Vec<ReceptionStats>,
-) -> Result<Vec<u8>, AllocError>
-    requires few { length capture.now ≤ input_limit }
-    requires some { All (λ (r : Reception). 0 < r.batches) found.now }
-    requires ends { All (λ (r : Reception). behind r < 2 ^ 60) found.now }
-    requires form { picking.is_json ≡ false }
-    ensures { IfOk result (λ text.
-        TextOfTransmissions (capture_bits capture.now) picking found.now heard.old.items heard.new.items text.items) }
-{
-    let mut writer = csv::Writer::from_writer(Vec::new(alloc));
-    let Ok(()) = writer.write_fields(&[b"address".as_slice(), b"kind", b"message", b"state"]) else {
-        return Err(AllocError);
-    };
-    let mut number = 0;
-    for reception in found {
-        number += 1;
-        let transmission = capture_pages(alloc, capture, number, *reception)?;
-        put_transmission(alloc, &mut writer, picking, &transmission)?;
-        heard.push(transmission.heard)?;
-    }
-    match writer.into_inner() {
-        Ok(text) => Ok(text),
-        Err(_) => Err(AllocError),
-    }
-}
-
-// The lines of JSON of the pages of the receptions.
-fn lines_captured(
-    alloc: Global,
-    picking: Picking,
-    capture: &[u8],
-    found: &[Reception],
-    heard: &mut Vec<ReceptionStats>,
-) -> Result<Vec<u8>, AllocError>
-    requires few { length capture.now ≤ input_limit }
-    requires some { All (λ (r : Reception). 0 < r.batches) found.now }
-    requires ends { All (λ (r : Reception). behind r < 2 ^ 60) found.now }
-    requires form { picking.is_json ≡ true }
-    ensures { IfOk result (λ text.
-        TextOfTransmissions (capture_bits capture.now) picking found.now heard.old.items heard.new.items text.items) }
-{
-    let mut lines = Vec::new(alloc);
-    let mut number = 0;
-    for reception in found {
-        number += 1;
-        let captured = capture_pages(alloc, capture, number, *reception)?;
-        lines = with_lines(alloc, lines, picking, &captured)?;
-        heard.push(captured.heard)?;
-    }
-    Ok(lines)
+    writer.into_inner().map_err(|_| AllocError)
 }
 
 /// The listing of the receptions of a capture. How each was received is put behind the others.
@@ -223,8 +145,16 @@ pub(crate) fn text_captured(
     ensures { IfOk result (λ text.
         TextOfTransmissions (capture_bits capture.now) picking found.now heard.old.items heard.new.items text.items) }
 {
-    if picking.is_json {
-        return lines_captured(alloc, picking, capture, found, heard);
+    let mut text = Vec::new(alloc);
+    if !picking.is_json {
+        text.extend_from_slice(b"address,kind,message,state\n")?;
     }
-    rows_captured(alloc, picking, capture, found, heard)
+    let mut number = 0;
+    for reception in found {
+        number += 1;
+        let captured = capture_pages(alloc, capture, number, *reception)?;
+        text = with_transmission(alloc, text, picking, &captured)?;
+        heard.push(captured.heard)?;
+    }
+    Ok(text)
 }

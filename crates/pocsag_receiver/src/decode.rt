@@ -16,8 +16,8 @@ ghost use Rattle.pocsag_receiver.specs.declared.fault.ReceiverFault.TheVariants 
 
 use crate::fault::ReceiverFault;
 use crate::form::{ListForm, list_in};
-use crate::repair::{NOTHING, Repairing, repair_asked};
-use crate::transmission::{read_transmission, refuse_long};
+use crate::repair::{Repairing, repair_asked};
+use crate::transmission::read_transmission;
 use pocsag_decode::{
     decode, judge_bytes, list_sent, readings_have_no_fault, readings_of_bytes_are_one,
 };
@@ -48,14 +48,12 @@ fn list_decoded_in<O: Sink>(
     ensures write_failed { IsErrOf result (fault.File file.Write) →
         HasFailed (O.failures out.old) (O.failures out.new) }
 {
-    judge_bytes(bytes)?;
+    judge_bytes(bytes).map_err(ReceiverFault::Transmission)?;
     if let ListForm::Listing = form {
         list_sent(alloc, bytes, out)?;
         return Ok(0);
     }
-    let Ok(pages) = decode(alloc, bytes) else {
-        return Err(ReceiverFault::File(FileFault::OutOfMemory));
-    };
+    let pages = decode(alloc, bytes).map_err(|_| ReceiverFault::File(FileFault::OutOfMemory))?;
     list_in(alloc, form, pages, out)?;
     Ok(0)
 }
@@ -87,10 +85,7 @@ fn decode_bytes<O: Sink>(
     readings_of_bytes_are_one();
     readings_have_no_fault();
     decoding.repairing.corrected = repair_asked(decoding.repairing.is_asked, bytes);
-    match list_decoded_in(alloc, decoding.form, bytes, out) {
-        Ok(status) => Ok(status),
-        Err(fault) => Err(fault),
-    }
+    list_decoded_in(alloc, decoding.form, bytes, out)
 }
 
 /// `decode TX`: lists the pages of a transmission, with repair those that its words read as once each is repaired, and says how
@@ -134,23 +129,8 @@ pub fn run_decode<T: Source, O: Sink, E: Sink + Drop>(
     ensures write_failed { printed_by err.new ≡ Some (fault.File file.Write) →
         HasFailed (O.failures out.old) (O.failures out.new) }
 {
-    // Without repair what the device lends is read where it stands; otherwise it is read whole.
-    let done = 'listed: {
-        if !decoding.repairing.is_asked
-            && let Some(bytes) = tx.lent()
-        {
-            if let Err(refused) = refuse_long(bytes) {
-                break 'listed Err(ReceiverFault::File(refused));
-            }
-            decoding.repairing.corrected = NOTHING;
-            let listed = list_decoded_in(alloc, decoding.form, bytes, out);
-            tx.take_all();
-            break 'listed listed;
-        }
-        match read_transmission(alloc, tx) {
-            Ok(mut bytes) => decode_bytes(alloc, decoding, bytes.as_mut_slice(), out),
-            Err(refused) => Err(ReceiverFault::File(refused)),
-        }
-    };
-    err.end(done)
+    err.end(match read_transmission(alloc, tx) {
+        Ok(mut bytes) => decode_bytes(alloc, decoding, bytes.as_mut_slice(), out),
+        Err(refused) => Err(ReceiverFault::File(refused)),
+    })
 }

@@ -57,27 +57,11 @@ impl From<FileFault> for ReceiverFault {
     }
 }
 
-impl From<DecodeFault> for ReceiverFault {
-    ghost from_gives = { λ refused e. e ≡ fault.Transmission refused };
-
-    fn from(refused: DecodeFault) -> ReceiverFault {
-        ReceiverFault::Transmission(refused)
-    }
-}
-
 impl From<PagerFault> for ReceiverFault {
     ghost from_gives = { λ refused e. e ≡ fault.Pager refused };
 
     fn from(refused: PagerFault) -> ReceiverFault {
         ReceiverFault::Pager(refused)
-    }
-}
-
-impl From<CaptureFault> for ReceiverFault {
-    ghost from_gives = { λ refused e. e ≡ fault.Capture refused };
-
-    fn from(refused: CaptureFault) -> ReceiverFault {
-        ReceiverFault::Capture(refused)
     }
 }
 

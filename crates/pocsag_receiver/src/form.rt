@@ -3,6 +3,10 @@ ghost use Rattle.std.specs.Prelude.{◌≡◌, ◌<◌, ◌∷◌, ◌++◌, [],
 ghost use Rattle.std.specs.List.{flat_map};
 ghost use Rattle.std.specs.Str.{IsAscii};
 ghost use Rattle.csv.specs.Writing.{default_writer, row_text};
+ghost use Rattle.json.specs.Json.{Members, object};
+ghost use Rattle.json.specs.Print.{print};
+ghost use Rattle.json.specs.Token.{end_object};
+ghost use Rattle.json.specs.Tree.{json_tokens, members_tokens};
 ghost use Rattle.pocsag_words.specs.Devices.{TookPrefix};
 ghost use Rattle.pocsag_text.specs.Bits.{AreItems};
 ghost use Rattle.pocsag_pages.specs.Listable.{IsListable};
@@ -10,7 +14,7 @@ ghost use Rattle.pocsag_decode.specs.Faults.{NamesFailures};
 ghost use Rattle.pocsag_decode.specs.Lines.{IsReady, PutsRow, text_in};
 ghost use Rattle.pocsag_decode.specs.Listing.{header};
 ghost use Rattle.pocsag_receiver.specs.CapturedForms.{state_field, state_fields};
-ghost use Rattle.pocsag_receiver.specs.Forms.{is_text, json_line, json_lines, kind_read, listed_in, message_read, record_read, text_listing};
+ghost use Rattle.pocsag_receiver.specs.Forms.{is_text, json_lines, kind_read, listed_in, message_read, page_members, record_read, text_listing};
 
 use pocsag_decode::{ListFault, list_owned, message_of};
 use pocsag_pages::Page;
@@ -83,20 +87,20 @@ pub(crate) fn message_read(
     message_of(alloc, function, items)
 }
 
-// The lines before these, and that of a page.
-fn with_line(
+// The lines before these, and the JSON object of a page as far as all forms have it.
+pub(crate) fn begin_page_object(
     alloc: Global,
     lines: Vec<u8>,
     texts: [bool; 3],
     page: &Page,
-) -> Result<Vec<u8>, AllocError>
+) -> Result<json::Writer, AllocError>
     requires { IsListable page.now }
-    ensures { IfOk result (λ v. v.items ≡ lines.items ++ json_line texts page.now) }
+    ensures before { IfOk result (λ w. w.before ≡ lines.items) }
+    ensures begun { (others : Members) → IfOk result (λ w.
+        w.tokens ++ members_tokens others ≡ json_tokens (object (page_members texts page.now others))) }
 {
     let items = page.payload.as_slice();
-    let Ok(message) = message_read(alloc, texts, page.function, items) else {
-        return Err(AllocError);
-    };
+    let message = message_read(alloc, texts, page.function, items).map_err(|_| AllocError)?;
     let Ok(message) = str::from_utf8(message.as_slice()) else {
         unreachable!()
     };
@@ -110,6 +114,13 @@ fn with_line(
     writer.string(kind_read(texts, page.function, items))?;
     writer.key("message")?;
     writer.string(message)?;
+    Ok(writer)
+}
+
+// Ends the object and its line.
+pub(crate) fn end_object(mut writer: json::Writer) -> Result<Vec<u8>, AllocError>
+    ensures { IfOk result (λ v. v.items ≡ writer.before ++ (print (writer.tokens ++ end_object ∷ []) ++ 10 ∷ [])) }
+{
     writer.end_object()?;
     let mut lines = writer.into_inner();
     lines.push(b'\n')?;
@@ -123,7 +134,7 @@ fn lines_of(alloc: Global, texts: [bool; 3], pages: &[Page]) -> Result<Vec<u8>, 
 {
     let mut lines = Vec::new(alloc);
     for page in pages {
-        lines = with_line(alloc, lines, texts, page)?;
+        lines = end_object(begin_page_object(alloc, lines, texts, page)?)?;
     }
     Ok(lines)
 }
@@ -148,27 +159,19 @@ pub(crate) fn put_read(
     ensures { PutsRow result writer.old writer.new (record_read texts page.now ++ state_fields is_cut) }
 {
     let items = page.payload.as_slice();
-    let Ok(message) = message_read(alloc, texts, page.function, items) else {
-        return Err(AllocError);
-    };
+    let message = message_read(alloc, texts, page.function, items).map_err(|_| AllocError)?;
     let address = format!(in alloc; "{}", page.address)?;
-    let kind = kind_read(texts, page.function, items);
-    if let Some(is_cut) = is_cut {
-        let state = state_name(is_cut);
-        return match writer.write_fields(&[
+    let kind = kind_read(texts, page.function, items).as_bytes();
+    let written = match is_cut {
+        Some(is_cut) => writer.write_fields(&[
             address.as_bytes(),
-            kind.as_bytes(),
+            kind,
             message.as_slice(),
-            state.as_bytes(),
-        ]) {
-            Ok(()) => Ok(()),
-            Err(_) => Err(AllocError),
-        };
-    }
-    match writer.write_fields(&[address.as_bytes(), kind.as_bytes(), message.as_slice()]) {
-        Ok(()) => Ok(()),
-        Err(_) => Err(AllocError),
-    }
+            state_name(is_cut).as_bytes(),
+        ]),
+        None => writer.write_fields(&[address.as_bytes(), kind, message.as_slice()]),
+    };
+    written.map_err(|_| AllocError)
 }
 
 // The listing of pages with these functions as text.
@@ -177,16 +180,12 @@ fn text_listing(alloc: Global, texts: [bool; 3], pages: &[Page]) -> Result<Vec<u
     ensures { IfOk result (λ v. v.items ≡ text_listing texts pages.now) }
 {
     let mut writer = csv::Writer::from_writer(Vec::new(alloc));
-    let Ok(()) = writer.write_fields(&[b"address".as_slice(), b"kind", b"message"]) else {
-        return Err(AllocError);
-    };
+    let header = [b"address".as_slice(), b"kind", b"message"];
+    writer.write_fields(&header).map_err(|_| AllocError)?;
     for page in pages {
         put_read(alloc, &mut writer, texts, page, None)?;
     }
-    match writer.into_inner() {
-        Ok(text) => Ok(text),
-        Err(_) => Err(AllocError),
-    }
+    writer.into_inner().map_err(|_| AllocError)
 }
 
 /// Writes pages in a form. After a fault a prefix was written.

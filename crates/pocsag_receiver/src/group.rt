@@ -122,10 +122,7 @@ fn refused_words(alloc: Global, name: &str) -> Option<Result<u8, Error>> {
         SHOW => words_error(alloc, &SHOW_SHAPE, "pocsag show", BAD_ROWS),
         _ => return None,
     };
-    Some(Err(match refused {
-        Ok(error) => error,
-        Err(refused) => Error::from(refused),
-    }))
+    Some(Err(refused.unwrap_or_else(Error::from)))
 }
 
 fn words_error(

@@ -9,7 +9,7 @@ ghost use Rattle.pocsag_receiver.specs.declared.fault.ReceiverFault.TheVariants 
 
 use crate::fault::ReceiverFault;
 use crate::form::{ListForm, list_in};
-use crate::transmission::{read_transmission, refuse_long};
+use crate::transmission::read_transmission;
 use pocsag_pager::hear_all;
 use pocsag_shell::ErrorStream;
 use pocsag_words::{Sink, Source};
@@ -68,20 +68,8 @@ pub fn run_hear<T: Source, O: Sink, E: Sink + Drop>(
     ensures write_failed { printed_by err.new ≡ Some (fault.File file.Write) →
         HasFailed (O.failures out.old) (O.failures out.new) }
 {
-    // What the device lends is read where it stands; otherwise it is read whole.
-    let done = 'heard: {
-        let Some(bytes) = tx.lent() else {
-            break 'heard match read_transmission(alloc, tx) {
-                Ok(bytes) => list_heard(alloc, hearing, bytes.as_slice(), out),
-                Err(refused) => Err(ReceiverFault::File(refused)),
-            };
-        };
-        if let Err(refused) = refuse_long(bytes) {
-            break 'heard Err(ReceiverFault::File(refused));
-        }
-        let heard = list_heard(alloc, hearing, bytes, out);
-        tx.take_all();
-        heard
-    };
-    err.end(done)
+    err.end(match read_transmission(alloc, tx) {
+        Ok(bytes) => list_heard(alloc, hearing, bytes.as_slice(), out),
+        Err(refused) => Err(ReceiverFault::File(refused)),
+    })
 }

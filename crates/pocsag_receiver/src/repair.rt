@@ -25,8 +25,8 @@ impl Repairing {
     }
 }
 
-/// Nothing was corrected.
-pub(crate) const NOTHING: Repaired = Repaired { words: 0, bits: 0 };
+// Nothing was corrected.
+const NOTHING: Repaired = Repaired { words: 0, bits: 0 };
 
 /// Repairs each word of a transmission, where that is asked for, and answers how much was corrected.
 pub(crate) fn repair_asked(repair: bool, bytes: &mut [u8]) -> Repaired

@@ -12,8 +12,8 @@ ghost use Rattle.pocsag_receiver.specs.Views.{ExplainsShowing, HasRows, Viewed, 
 ghost use Rattle.pocsag_receiver.specs.declared.fault.ReceiverFault.TheVariants as fault;
 
 use crate::fault::ReceiverFault;
-use crate::repair::{NOTHING, Repairing, repair_asked};
-use crate::transmission::{read_transmission, refuse_long};
+use crate::repair::{Repairing, repair_asked};
+use crate::transmission::read_transmission;
 use pocsag_decode::judge_bytes;
 use pocsag_pages::preamble_len;
 use pocsag_shell::ErrorStream;
@@ -42,7 +42,7 @@ fn refuse_rows(view: View, bytes: &[u8]) -> Result<(), ReceiverFault>
     if rows.first <= batches {
         return Ok(());
     }
-    judge_bytes(bytes)?;
+    judge_bytes(bytes).map_err(ReceiverFault::Transmission)?;
     Err(ReceiverFault::NoSuchRows { rows, batches })
 }
 
@@ -132,23 +132,8 @@ pub fn run_show<T: Source, O: Sink, E: Sink + Drop>(
     ensures write_failed { printed_by err.new ≡ Some (fault.File file.Write) →
         HasFailed (O.failures out.old) (O.failures out.new) }
 {
-    // Without repair what the device lends is read where it stands; otherwise it is read whole.
-    let done = 'shown: {
-        if !showing.repairing.is_asked
-            && let Some(bytes) = tx.lent()
-        {
-            if let Err(refused) = refuse_long(bytes) {
-                break 'shown Err(ReceiverFault::File(refused));
-            }
-            showing.repairing.corrected = NOTHING;
-            let shown = show_bytes(alloc, showing.view, bytes, out);
-            tx.take_all();
-            break 'shown shown;
-        }
-        match read_transmission(alloc, tx) {
-            Ok(mut bytes) => show_read(alloc, showing, bytes.as_mut_slice(), out),
-            Err(refused) => Err(ReceiverFault::File(refused)),
-        }
-    };
-    err.end(done)
+    err.end(match read_transmission(alloc, tx) {
+        Ok(mut bytes) => show_read(alloc, showing, bytes.as_mut_slice(), out),
+        Err(refused) => Err(ReceiverFault::File(refused)),
+    })
 }

@@ -25,14 +25,13 @@ impl<'a> Context<'a> {
         ensures kept { IfOk found (λ file. result ≡ Ok file) }
         ensures fault { OnErr found (IsErrAnd result (λ e. (e ≡ FileFault.Device) ⊎ (e ≡ FileFault.OutOfMemory))) }
     {
-        match found {
-            Ok(found) => Ok(found),
-            Err(error) if error.kind() == ErrorKind::OutOfMemory => Err(FileFault::OutOfMemory),
-            Err(error) => {
-                self.diagnostics.meet(role, error.raw_os_error());
-                Err(FileFault::Device)
+        found.map_err(|error| {
+            if error.kind() == ErrorKind::OutOfMemory {
+                return FileFault::OutOfMemory;
             }
-        }
+            self.diagnostics.meet(role, error.raw_os_error());
+            FileFault::Device
+        })
     }
 
     /// The result of writing, renaming or synchronising a file, as a fault of the command if the system refused it.
@@ -40,13 +39,10 @@ impl<'a> Context<'a> {
         ensures kept { IfOk done (λ unit. result ≡ Ok unit) }
         ensures fault { OnErr done (IsErrOf result FileFault.Write) }
     {
-        match done {
-            Ok(()) => Ok(()),
-            Err(error) => {
-                self.diagnostics.meet(role, error.raw_os_error());
-                Err(FileFault::Write)
-            }
-        }
+        done.map_err(|error| {
+            self.diagnostics.meet(role, error.raw_os_error());
+            FileFault::Write
+        })
     }
 
     /// Standard output.

@@ -32,15 +32,10 @@ impl<F: Failure + Drop, S: Sink + Drop> ErrorStream<F, S> {
         ensures line { S.is_known → IfErr done (λ fault. (text : List ℕ) → F.output fault ≡ Some text →
             TookPrefix (S.taken (stream_of self.old)) (S.taken (stream_of self.new)) (error_line text)) }
     {
+        self.fault = done.err();
         match done {
-            Ok(status) => {
-                self.fault = None;
-                status
-            }
-            Err(fault) => {
-                self.fault = Some(fault);
-                print_fault(&mut self.sink, fault)
-            }
+            Ok(status) => status,
+            Err(fault) => print_fault(&mut self.sink, fault),
         }
     }
 

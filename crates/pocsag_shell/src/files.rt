@@ -277,18 +277,12 @@ pub(crate) fn one_file<'n>(
 }
 
 fn named_at<R: Files>(rt: &R, path: Option<&str>) -> Option<Named> {
-    match path {
-        Some(path) => Named::at(rt, path),
-        None => None,
-    }
+    Named::at(rt, path?)
 }
 
 /// Whether there is a path, and at it a regular file. A folder or nothing counts too: opening it reports the fault.
 pub fn is_regular(rt: &HostRuntime, path: Option<&str>) -> bool {
-    match path {
-        Some(path) => !is_other(fs::metadata(rt, path)),
-        None => false,
-    }
+    path.is_some_and(|path| !is_other(fs::metadata(rt, path)))
 }
 
 /// Whether a rename may replace what stands at the path: a regular file that is no link, or nothing. A folder counts too:
@@ -299,8 +293,5 @@ pub fn is_regular_or_none(rt: &HostRuntime, path: &str) -> bool {
 
 // Whether there is something other than a regular file or a folder.
 fn is_other(found: io::Result<Metadata>) -> bool {
-    match found {
-        Ok(metadata) => !metadata.is_file() && !metadata.is_dir(),
-        Err(_) => false,
-    }
+    found.is_ok_and(|metadata| !metadata.is_file() && !metadata.is_dir())
 }

@@ -45,16 +45,12 @@ impl<A: Group, B: Group> Group for Both<A, B> {
     }
 
     fn misplaced(&self, found: &ArgMatches<'_>) -> Option<&'static str> {
-        match self.0.misplaced(found) {
-            Some(text) => Some(text),
-            None => self.1.misplaced(found),
-        }
+        self.0.misplaced(found).or_else(|| self.1.misplaced(found))
     }
 
     fn run(&self, context: Context<'_>, call: Call<'_, '_>) -> Option<Result<u8, Error>> {
-        match self.0.run(context, call) {
-            Some(done) => Some(done),
-            None => self.1.run(context, call),
-        }
+        self.0
+            .run(context, call)
+            .or_else(|| self.1.run(context, call))
     }
 }

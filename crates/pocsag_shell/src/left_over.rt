@@ -69,10 +69,7 @@ fn may_be_left(rt: &HostRuntime, name: &str, file: &str) -> bool {
     let Ok(path) = format!(in rt.alloc(); "/proc/{number}") else {
         return false;
     };
-    match fs::metadata(rt, path.as_str()) {
-        Ok(_) => false,
-        Err(error) => error.kind() == ErrorKind::NotFound,
-    }
+    fs::metadata(rt, path.as_str()).is_err_and(|error| error.kind() == ErrorKind::NotFound)
 }
 
 // What killed runs may have left under the name of a file, in the folder of the place of a name.

@@ -18,10 +18,7 @@ pub fn put_whole<S: Sink>(sink: &mut S, bytes: &[u8]) -> Result<(), FileFault>
     ensures lost { IfErr result (λ e. e ≡ FileFault.Write) }
     ensures failures { CountsFailures result (S.failures sink.old) (S.failures sink.new) }
 {
-    match write_all(sink, bytes) {
-        Ok(()) => Ok(()),
-        Err(_) => Err(FileFault::Write),
-    }
+    write_all(sink, bytes).map_err(|_| FileFault::Write)
 }
 
 /// Writes a text of at most 200 bytes without allocating. A longer text is a fault.

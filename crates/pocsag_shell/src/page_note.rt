@@ -2,7 +2,7 @@
 
 use crate::context::Context;
 use crate::role::NamedFile;
-use csv::{ByteRecord, ReaderBuilder};
+use csv::{ByteRecord, Reader, ReaderBuilder};
 use pocsag_pages::{FieldFault, RecordFault, RoundFault};
 use std::alloc::Global;
 use std::fmt::{self, Display, Write};
@@ -28,19 +28,25 @@ impl Display for Front<'_> {
     }
 }
 
-// The line on which the record of this number begins, and the record up to the end of that line. Each record before it has
-// three fields, so reading them takes little memory.
-fn record_at(alloc: Global, file: &[u8], number: u32) -> Option<(usize, &[u8])> {
+// A reader behind the first records, so many of them, and the last of these.
+fn read_records(alloc: Global, file: &[u8], count: u64) -> Option<(Reader<&[u8]>, ByteRecord)> {
     let mut reader = ReaderBuilder::new()
         .has_headers(false)
         .flexible(true)
         .from_reader(alloc, file);
     let mut row = ByteRecord::new(alloc);
-    for _ in 0..number {
+    for _ in 0..count {
         if !reader.read_byte_record(&mut row).unwrap_or(false) {
             return None;
         }
     }
+    Some((reader, row))
+}
+
+// The line on which the record of this number begins, and the record up to the end of that line. Each record before it has
+// three fields, so reading them takes little memory.
+fn record_at(alloc: Global, file: &[u8], number: u32) -> Option<(usize, &[u8])> {
+    let (reader, _) = read_records(alloc, file, u64::from(number))?;
     let position = reader.position();
     let rest = file.get(position.byte() as usize..)?;
     let begins = rest.iter().position(|byte| !matches!(byte, b'\r' | b'\n'))?;
@@ -56,16 +62,7 @@ fn byte_at_fault(alloc: Global, file: &[u8], number: u32, fault: RecordFault) ->
     let RecordFault::Field(FieldFault::BadCharacter(place)) = fault else {
         return None;
     };
-    let mut reader = ReaderBuilder::new()
-        .has_headers(false)
-        .flexible(true)
-        .from_reader(alloc, file);
-    let mut row = ByteRecord::new(alloc);
-    for _ in 0..u64::from(number) + 1 {
-        if !reader.read_byte_record(&mut row).unwrap_or(false) {
-            return None;
-        }
-    }
+    let (_, row) = read_records(alloc, file, u64::from(number) + 1)?;
     row.get(2)?.get(place).copied()
 }
 

@@ -64,10 +64,7 @@ impl Named {
 
     /// The file that the path names, if there is one.
     pub fn at<R: Files>(rt: &R, path: &str) -> Option<Named> {
-        match fs::metadata(rt, path) {
-            Ok(metadata) => Some(Named::of(&metadata)),
-            Err(_) => None,
-        }
+        Some(Named::of(&fs::metadata(rt, path).ok()?))
     }
 
     /// The file behind a stream with this path. A character device such as a terminal does not count: it keeps no bytes.

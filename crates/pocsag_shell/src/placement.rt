@@ -30,26 +30,26 @@ fn rename_back<F: Folder>(folder: &mut F, file: &StagedFile, stood: bool) -> Res
     if stood {
         return folder.rename(file.role, &file.kept, place);
     }
-    match folder.remove(place) {
-        Ok(()) => Ok(()),
-        Err(_) => Err(FileFault::Write),
-    }
+    folder.remove(place).map_err(|_| FileFault::Write)
 }
 
-// Brings the older file back to its place, or none, and its name to the disk.
-fn bring_back<F: Folder>(folder: &mut F, file: &StagedFile, stood: bool) -> Result<(), FileFault>
+// Brings the older file back to its place, or none, and its name to the disk. Returns whether it did.
+fn bring_back<F: Folder>(folder: &mut F, file: &StagedFile, stood: bool) -> bool
     ensures stands { F.is_known → (bytes : Option (List ℕ)) → F.held folder.old (kept_at file.now) ≡ on_disk bytes →
-        (IsFalse stood → bytes ≡ None) → OnOk result
-        (IsOnDisk (F.held folder.new) (F.may_leave folder.new) (place_of file.now) bytes) }
+        (IsFalse stood → bytes ≡ None) → IsTrue result →
+        IsOnDisk (F.held folder.new) (F.may_leave folder.new) (place_of file.now) bytes }
     ensures others { F.is_known →
         IsSameButTwo (kept_at file.now) (place_of file.now) (F.held folder.old) (F.held folder.new) }
     ensures any_moment { F.is_known → (IsFalse stood → F.held folder.old (kept_at file.now) ≡ None) →
         StepsBy F.moment F.left_since F.may_leave folder.old folder.new
         (MayMove (kept_at file.now) (place_of file.now) (F.held folder.old (kept_at file.now))) }
-    ensures failures { F.is_known → CountsCalls result (F.failures folder.old) (F.failures folder.new) }
+    ensures succeeded { F.is_known → IsTrue result → F.failures folder.new ≡ F.failures folder.old }
+    ensures failed { F.is_known → IsFalse result → F.failures folder.new ≡ one_more (F.failures folder.old) }
 {
-    rename_back(folder, file, stood)?;
-    folder.sync_names(file.role, &file.place)
+    match rename_back(folder, file, stood) {
+        Ok(()) => folder.sync_names(file.role, &file.place).is_ok(),
+        Err(_) => false,
+    }
 }
 
 // Puts a file at its place and keeps the older one beside it. Returns whether there was one. Where it cannot, it brings the older
@@ -99,16 +99,10 @@ fn put_first<F: Folder>(folder: &mut F, file: &StagedFile) -> Result<bool, Faile
     let Err(fault) = folder.sync_names(role, place) else {
         return Ok(stood);
     };
-    match bring_back(folder, file, stood) {
-        Ok(()) => Err(FailedPlacement {
-            fault,
-            is_back: true,
-        }),
-        Err(_) => Err(FailedPlacement {
-            fault,
-            is_back: false,
-        }),
-    }
+    Err(FailedPlacement {
+        fault,
+        is_back: bring_back(folder, file, stood),
+    })
 }
 
 // Puts the files at their places, one by one. Where it cannot, it brings the older files back, the last first, and stops where one
@@ -146,13 +140,10 @@ fn put_rest<F: Folder>(folder: &mut F, files: &[StagedFile]) -> Result<(), Faile
         Err(unput) => unput,
     };
     if unput.is_back {
-        return match bring_back(folder, file, stood) {
-            Ok(()) => Err(unput),
-            Err(_) => Err(FailedPlacement {
-                fault: unput.fault,
-                is_back: false,
-            }),
-        };
+        return Err(FailedPlacement {
+            fault: unput.fault,
+            is_back: bring_back(folder, file, stood),
+        });
     }
     Err(unput)
 }

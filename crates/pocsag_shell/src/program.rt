@@ -23,38 +23,23 @@ pub fn run<G: Group>(rt: &HostRuntime, shape: &Shape, group: &G) -> u8 {
     let _input = hold_closed(rt, "/proc/self/fd/0", true);
     let _output = hold_closed(rt, "/proc/self/fd/1", false);
     let _errors = hold_closed(rt, "/proc/self/fd/2", false);
-    let done = match words_of(rt) {
-        Ok(words) => run_words(rt, shape, group, Some(words.as_slice())),
-        Err(FileFault::Device) => run_words(rt, shape, group, None),
-        Err(_) => Err(Error::from(AllocError)),
+    run_words(rt, shape, group).unwrap_or_else(|error| print_clap_error(rt, &error))
+}
+
+// Parses the words of the command line, where all are texts, and has the group carry them out. The first is the program's own name.
+fn run_words<G: Group>(rt: &HostRuntime, shape: &Shape, group: &G) -> Result<u8, Error> {
+    let words: Vec<String> = match env::args(rt) {
+        Ok(args) => args.collect(rt.alloc())?,
+        Err(error) if error.kind() == IoErrorKind::OutOfMemory => {
+            return Err(Error::from(AllocError));
+        }
+        Err(_) => {
+            let mut program = program(rt.alloc(), shape, group)?;
+            return Err(program.error(ErrorKind::ValueValidation, NOT_TEXT)?);
+        }
     };
-    match done {
-        Ok(status) => status,
-        Err(error) => print_clap_error(rt, &error),
-    }
-}
-
-// The words of the command line, if all are texts. The first is the program's own name.
-fn words_of(rt: &HostRuntime) -> Result<Vec<String>, FileFault> {
-    match env::args(rt) {
-        Ok(args) => Ok(args.collect(rt.alloc())?),
-        Err(error) if error.kind() == IoErrorKind::OutOfMemory => Err(FileFault::OutOfMemory),
-        Err(_) => Err(FileFault::Device),
-    }
-}
-
-// Parses the words, where all are texts, and has the group carry them out.
-fn run_words<G: Group>(
-    rt: &HostRuntime,
-    shape: &Shape,
-    group: &G,
-    words: Option<&[String]>,
-) -> Result<u8, Error> {
     let mut program = program(rt.alloc(), shape, group)?;
-    let Some(words) = words else {
-        return Err(program.error(ErrorKind::ValueValidation, NOT_TEXT)?);
-    };
-    let matches = program.try_get_matches_from_mut(words)?;
+    let matches = program.try_get_matches_from_mut(words.as_slice())?;
     answer(rt, group, &mut program, &matches)
 }
 

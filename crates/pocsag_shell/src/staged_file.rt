@@ -34,18 +34,15 @@ impl StagedFile {
         remove_left_over(context.rt, place);
         // A killed process with the same number may have left one.
         staged_file.remove(context);
-        match staged_file.create(context) {
-            Ok(file) => {
-                // Some file systems have no locks.
-                let _ = file.try_lock();
-                staged_file.file = Some(file);
-                Ok(staged_file)
-            }
-            Err(fault) => {
-                staged_file.remove(context);
-                Err(fault)
-            }
+        let made = staged_file.create(context);
+        if made.is_err() {
+            staged_file.remove(context);
         }
+        let file = made?;
+        // Some file systems have no locks.
+        let _ = file.try_lock();
+        staged_file.file = Some(file);
+        Ok(staged_file)
     }
 
     fn create(&self, context: Context<'_>) -> Result<File, FileFault> {

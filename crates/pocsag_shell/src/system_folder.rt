@@ -30,10 +30,9 @@ pub struct SystemFolder<'a> {
 /// turns.
 pub fn put_staged(context: Context<'_>, files: &[StagedFile]) -> Result<(), FileFault> {
     let mut folder = SystemFolder::new(context);
-    let done = match folder.prepare(files) {
-        Ok(()) => put_files(&mut folder, files),
-        Err(fault) => Err(fault),
-    };
+    let done = folder
+        .prepare(files)
+        .and_then(|_| put_files(&mut folder, files));
     // The locks last until they are removed.
     for (path, _file) in &folder.locks {
         let _ = fs::remove_file(context.rt, path.as_str());

@@ -6,7 +6,7 @@ use clap::{Arg, ArgAction, Command, value_parser};
 use std::alloc::{AllocError, Global};
 
 // The version of the program, and the line that `rt version` prints for the toolchain that proved it.
-const VERSION: &str = "1.0.0, proved by rattle-kit-13f logic dac8208d650f15bf";
+const VERSION: &str = "1.0.1, proved by rattle-kit-13f logic dac8208d650f15bf";
 
 fn argument<'a>(alloc: Global, word: &LineWord) -> Result<Arg<'a>, AllocError> {
     let argument = Arg::new(alloc, word.id);
@@ -51,30 +51,6 @@ pub fn command<'a>(alloc: Global, shape: &Shape) -> Result<Command<'a>, AllocErr
     .args(arguments)
 }
 
-// The commands of shapes.
-fn commands<'a>(alloc: Global, shapes: &[Shape]) -> Result<Vec<Command<'a>>, AllocError> {
-    let mut commands = Vec::new(alloc);
-    for shape in shapes {
-        commands.push(command(alloc, shape)?)?;
-    }
-    Ok(commands)
-}
-
-// The program that takes the words and has the commands of the tables.
-fn program_of<'a>(
-    alloc: Global,
-    shape: &Shape,
-    tables: &Tables,
-) -> Result<Command<'a>, AllocError> {
-    let words = arguments(alloc, tables.words.as_slice())?;
-    let commands = commands(alloc, tables.commands.as_slice())?;
-    command(alloc, shape)?
-        .version(VERSION)
-        .bin_name(shape.name)?
-        .args(words)?
-        .subcommands(commands)
-}
-
 /// Builds the program. It takes what the group takes, and `--verbose`.
 pub(crate) fn program<'a, G: Group>(
     alloc: Global,
@@ -87,5 +63,12 @@ pub(crate) fn program<'a, G: Group>(
     };
     group.add_to(&mut tables)?;
     tables.words.push(VERBOSE_FLAG)?;
-    program_of(alloc, shape, &tables)
+    let mut program = command(alloc, shape)?
+        .version(VERSION)
+        .bin_name(shape.name)?
+        .args(arguments(alloc, tables.words.as_slice())?)?;
+    for shape in &tables.commands {
+        program = program.subcommand(command(alloc, shape)?)?;
+    }
+    Ok(program)
 }

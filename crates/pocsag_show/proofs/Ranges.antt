@@ -51,7 +51,3 @@ pub flat_map_same : (f g : ℕ → List ℕ) (a n : ℕ) → ((i : ℕ) → a �
 flat_map_same f g a zero h = refl
 flat_map_same f g a (suc n) h =
     ap₂ (λ (x y : List ℕ). x ++ y) (h a (omega arith) (omega arith)) (flat_map_same f g (a + 1) n (λ i from small. h i (omega arith) (omega arith)))
-
--- one piece behind the other
-pub more : (first piece rest before after : List ℕ) → before ≡ first ++ piece → after ≡ before ++ rest → after ≡ first ++ (piece ++ rest)
-more first piece rest before after p q = q ∙ (ap (λ (l : List ℕ). l ++ rest) p ∙ append_assoc first piece rest)

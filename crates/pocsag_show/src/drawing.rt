@@ -5,7 +5,7 @@ ghost use Rattle.pocsag_show.specs.Drawing.{drawing_text, frame_lines, row_drawn
 ghost use Rattle.pocsag_show.specs.Rows.{end_row, first_row, rows_between};
 
 use crate::counts::Counts;
-use crate::heading::put_heading;
+use crate::heading::{put_seen_before, put_text_before};
 use crate::judged::Judged;
 use crate::legend::{legend_lines, put_key, put_legend};
 use crate::page_lines::put_pages;
@@ -18,6 +18,7 @@ use pocsag_words::{BATCH_CODEWORDS, FRAMES};
 use std::alloc::{AllocError, Global};
 
 // Writes the rows that are drawn, each behind its pages.
+#[tactic(auto, using(crate::proofs::Ranges::put_all))]
 fn put_rows(text: &mut Vec<u8>, window: Window) -> Result<(), AllocError>
     ensures { OnOk result (text.new.items ≡ text.old.items
         ++ flat_map (row_drawn window.low) (rows_between window.low window.high)) }
@@ -38,7 +39,7 @@ fn put_rows(text: &mut Vec<u8>, window: Window) -> Result<(), AllocError>
 }
 
 // Writes a line at each side of a frame, over so many rows.
-#[tactic(auto, unfolding(crate::specs::Drawing::frame_line, crate::specs::Drawing::frame_lines))]
+#[tactic(auto, using(crate::proofs::Ranges::put_more), unfolding(crate::specs::Drawing::frame_line, crate::specs::Drawing::frame_lines))]
 fn put_frame_lines(text: &mut Vec<u8>, count: usize) -> Result<(), AllocError>
     ensures { OnOk result (text.new.items ≡ text.old.items ++ frame_lines count) }
 {
@@ -52,7 +53,7 @@ fn put_frame_lines(text: &mut Vec<u8>, count: usize) -> Result<(), AllocError>
 }
 
 // Writes the drawing of pages in a transmission with these counts.
-#[tactic(auto, unfolding(crate::specs::Drawing::drawing_text, crate::specs::Drawing::rows_and_pages))]
+#[tactic(auto, unfolding(crate::specs::Drawing::drawing_text, crate::specs::Drawing::heading, crate::specs::Drawing::rows_and_pages))]
 fn put_drawing(
     alloc: Global,
     text: &mut Vec<u8>,
@@ -66,7 +67,9 @@ fn put_drawing(
     ensures { OnOk result (text.new.items ≡ text.old.items
         ++ drawing_text window.low window.high counts.batches counts.codewords counts.idles pages.now) }
 {
-    put_heading(text, window, counts, legend_lines(window, pages))?;
+    let lines = legend_lines(window, pages);
+    put_text_before(text, window, counts, lines)?;
+    put_seen_before(text, window, counts, lines)?;
     put_rows(text, window)?;
     put_pages(alloc, text, window, pages)?;
     put_frame_lines(text, window.count())?;

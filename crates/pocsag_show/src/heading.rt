@@ -1,6 +1,6 @@
 ghost use Rattle.std.specs.Prelude.{◌≡◌, ◌+◌, ◌*◌, ◌^◌, ◌<◌, ◌≤◌, ◌++◌, OnOk};
 ghost use Rattle.std.specs.List.{flat_map, range_with_len};
-ghost use Rattle.pocsag_show.specs.Drawing.{axis_number, counted, heading, seen_before, text_before};
+ghost use Rattle.pocsag_show.specs.Drawing.{axis_number, seen_before, text_before};
 
 use crate::counts::Counts;
 use crate::picture::{put_counts, put_totals};
@@ -10,9 +10,9 @@ use crate::window::Window;
 use pocsag_words::{BATCH_CODEWORDS, FRAMES};
 use std::alloc::AllocError;
 
-// Writes what is reported before the rows: which batches are drawn, the totals and what the drawing is.
+/// Writes what is reported before the rows: which batches are drawn, the totals and what the drawing is.
 #[tactic(auto, unfolding(crate::specs::Drawing::text_before, crate::specs::Drawing::opening, crate::specs::Drawing::title, crate::specs::Drawing::description, crate::specs::Drawing::explanation))]
-fn put_text_before(
+pub(crate) fn put_text_before(
     text: &mut Vec<u8>,
     window: Window,
     counts: Counts,
@@ -45,7 +45,7 @@ fn put_text_before(
 }
 
 // Writes the numbers below this one over the rows, the first of them at x, each so far from the one before.
-#[tactic(auto, unfolding(crate::specs::Drawing::axis_number))]
+#[tactic(auto, using(crate::proofs::Ranges::put_more), unfolding(crate::specs::Drawing::axis_number))]
 fn put_axis(
     text: &mut Vec<u8>,
     count: usize,
@@ -69,21 +69,10 @@ fn put_axis(
     Ok(())
 }
 
-// Writes the counts that are seen.
-fn put_counted(text: &mut Vec<u8>, counts: Counts) -> Result<(), AllocError>
-    requires { 0 < counts.batches }
-    ensures { OnOk result (text.new.items ≡ text.old.items
-        ++ counted counts.batches counts.codewords counts.idles) }
-{
-    put(text, b"<text x='12' y='40'>")?;
-    put_counts(text, counts)?;
-    put(text, b"</text>\n")
-}
-
-// Writes what is seen before the rows: on the ground which batches are drawn, the counts, and the words frame, slot and
-// batch with the numbers of the frames and slots.
-#[tactic(auto, unfolding(crate::specs::Drawing::seen_before, crate::specs::Drawing::headed, crate::specs::Drawing::axes))]
-fn put_seen_before(
+/// Writes what is seen before the rows: on the ground which batches are drawn, the counts, and the words frame, slot and
+/// batch with the numbers of the frames and slots.
+#[tactic(auto, unfolding(crate::specs::Drawing::seen_before, crate::specs::Drawing::headed, crate::specs::Drawing::counted, crate::specs::Drawing::axes))]
+pub(crate) fn put_seen_before(
     text: &mut Vec<u8>,
     window: Window,
     counts: Counts,
@@ -103,29 +92,14 @@ fn put_seen_before(
             <text class='t' x='12' y='22'>Batches {first} to {last} of {batches}</text>"
         ),
     )?;
-    put_counted(text, counts)?;
+    put(text, b"<text x='12' y='40'>")?;
+    put_counts(text, counts)?;
     put(
         text,
-        b"<text class='e' x='74' y='60'>frame</text><text class='e' x='74' y='74'>slot</text>\
+        b"</text>\n<text class='e' x='74' y='60'>frame</text><text class='e' x='74' y='74'>slot</text>\
         <text class='e' x='50' y='74'>batch</text>",
     )?;
     put_axis(text, FRAMES, 108, 56, 60)?;
     put_axis(text, BATCH_CODEWORDS, 94, 28, 74)?;
     put(text, b"\n")
-}
-
-/// Writes all that stands before the rows, where the legend has so many lines.
-#[tactic(auto, unfolding(crate::specs::Drawing::heading))]
-pub(crate) fn put_heading(
-    text: &mut Vec<u8>,
-    window: Window,
-    counts: Counts,
-    lines: usize,
-) -> Result<(), AllocError>
-    requires { 0 < counts.batches }
-    ensures { OnOk result (text.new.items ≡ text.old.items
-        ++ heading window.low window.high counts.batches counts.codewords counts.idles lines) }
-{
-    put_text_before(text, window, counts, lines)?;
-    put_seen_before(text, window, counts, lines)
 }

@@ -17,10 +17,7 @@ fn put_record(writer: &mut Writer<Vec<u8>>, fields: &[&[u8]; 7]) -> Result<(), A
     requires { IsReady writer.old }
     ensures { PutsRow result writer.old writer.new (map (λ field. field.now) fields.now) }
 {
-    match writer.write_fields(fields) {
-        Ok(()) => Ok(()),
-        Err(_) => Err(AllocError),
-    }
+    writer.write_fields(fields).map_err(|_| AllocError)
 }
 
 // Writes the record of a page.
@@ -31,9 +28,7 @@ fn put_place(alloc: Global, writer: &mut Writer<Vec<u8>>, placed: &Placed) -> Re
 {
     let page = &placed.page;
     let items = page.payload.as_slice();
-    let Ok(message) = message_of(alloc, page.function, items) else {
-        return Err(AllocError);
-    };
+    let message = message_of(alloc, page.function, items).map_err(|_| AllocError)?;
     let (mut batch, mut frame, mut slot) = (Buffer::new(), Buffer::new(), Buffer::new());
     let (mut codewords, mut address) = (Buffer::new(), Buffer::new());
     let fields = [
@@ -85,8 +80,5 @@ pub(crate) fn listing_of(alloc: Global, judged: &Judged) -> Result<Vec<u8>, Allo
 {
     let mut writer = Writer::from_writer(Vec::new(alloc));
     put_places(alloc, &mut writer, judged.placed.as_slice())?;
-    match writer.into_inner() {
-        Ok(text) => Ok(text),
-        Err(_) => Err(AllocError),
-    }
+    writer.into_inner().map_err(|_| AllocError)
 }

@@ -33,6 +33,7 @@ fn put_piece(text: &mut Vec<u8>, low: usize, placed: &Placed, row: usize) -> Res
 }
 
 // Writes what is drawn of a page in the rows in which it has codewords.
+#[tactic(auto, using(crate::proofs::Ranges::put_next, crate::proofs::Ranges::put_all))]
 fn put_pieces(text: &mut Vec<u8>, window: Window, placed: &Placed) -> Result<(), AllocError>
     requires { window.high < 2 ^ 59 }
     ensures { OnOk result (text.new.items ≡ text.old.items

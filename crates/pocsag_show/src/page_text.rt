@@ -46,9 +46,7 @@ pub(crate) fn put_told(alloc: Global, text: &mut Vec<u8>, placed: &Placed) -> Re
         return Ok(());
     }
     put(text, b": ")?;
-    let Ok(message) = message_of(alloc, page.function, items) else {
-        return Err(AllocError);
-    };
+    let message = message_of(alloc, page.function, items).map_err(|_| AllocError)?;
     for byte in message.as_slice() {
         put_escaped(text, *byte)?;
     }

@@ -72,7 +72,7 @@ fn put_number(text: &mut Vec<u8>, number: u64) -> Result<(), AllocError>
 }
 
 // Writes the eight frames of a batch, each with its two cells.
-#[tactic(auto, unfolding(crate::specs::Picture::frame_cells))]
+#[tactic(auto, using(crate::proofs::Ranges::put_more), unfolding(crate::specs::Picture::frame_cells))]
 fn put_frames(text: &mut Vec<u8>, letters: &[u8], batch: usize) -> Result<(), AllocError>
     requires { 16 * batch + 16 ≤ length letters.now }
     ensures { OnOk result (text.new.items ≡ text.old.items
@@ -86,6 +86,7 @@ fn put_frames(text: &mut Vec<u8>, letters: &[u8], batch: usize) -> Result<(), Al
 }
 
 // Writes the lines of the batches from one up to before another.
+#[tactic(auto, using(crate::proofs::Ranges::put_all), unfolding(crate::specs::Picture::batch_lines))]
 fn put_batches(
     text: &mut Vec<u8>,
     letters: &[u8],

@@ -15,8 +15,5 @@ pub(crate) fn put(text: &mut Vec<u8>, piece: &[u8]) -> Result<(), AllocError>
 pub(crate) fn put_printed<D: Display + Drop>(text: &mut Vec<u8>, value: D) -> Result<(), AllocError>
     ensures { OnOk result (IfSome (D.output value) (λ printed. text.new.items ≡ text.old.items ++ printed)) }
 {
-    match text.write_fmt(value) {
-        Ok(()) => Ok(()),
-        Err(_) => Err(AllocError),
-    }
+    text.write_fmt(value).map_err(|_| AllocError)
 }

@@ -52,8 +52,5 @@ pub fn show<S: Sink>(alloc: Global, view: View, bytes: &[u8], sink: &mut S) -> R
     ensures failures { NamesFailures result ShowFault.WriteFault (S.failures sink.old) (S.failures sink.new) }
 {
     let text = text_of(alloc, view, bytes)?;
-    match write_all(sink, text.as_slice()) {
-        Ok(()) => Ok(()),
-        Err(_) => Err(ShowFault::WriteFault),
-    }
+    write_all(sink, text.as_slice()).map_err(|_| ShowFault::WriteFault)
 }

@@ -24,10 +24,8 @@ fn put_sound<O: Sink>(keying: Keying, bytes: &[u8], out: &mut O) -> Result<u8, S
     ensures write_failed { IsErrOf result (fault.File file.Write) →
         HasFailed (O.failures out.old) (O.failures out.new) }
 {
-    match write_wav(keying, bytes, out) {
-        Ok(()) => Ok(0),
-        Err(refused) => Err(SoundFault::from(refused)),
-    }
+    write_wav(keying, bytes, out)?;
+    Ok(0)
 }
 
 /// `wav TX`: writes the sound of a transmission as a WAV file. Returns the exit status.

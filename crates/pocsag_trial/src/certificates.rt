@@ -1,13 +1,14 @@
-use crate::line::Line;
+use crate::line::{Line, show};
 use pocsag_tree::{CertificateFault, depth, nodes, read_certificate, write_certificate};
 use pocsag_words::{MemorySink, MemorySource, OutOfMemory};
 use std::alloc::Global;
+use std::io;
 
 // The certificate of `loops-apart` in its first version.
 const LOOPS_APART: &[u8; 20] =
     b"PCB1\x00\x00\x00\x03\x02\x00\x01\x30\x00\x02\x00\x00\x01\x00\x80\x00";
 
-pub fn read_loops_apart(alloc: Global, line: &mut Line) -> Result<(), OutOfMemory> {
+fn read_loops_apart(alloc: Global, line: &mut Line) -> Result<(), OutOfMemory> {
     let mut source = MemorySource::new(LOOPS_APART, 1, 1000);
     match read_certificate(alloc, &mut source) {
         Ok(certificate) => {
@@ -30,4 +31,8 @@ pub fn read_loops_apart(alloc: Global, line: &mut Line) -> Result<(), OutOfMemor
         Err(_) => line.put("not read"),
     }
     Ok(())
+}
+
+pub fn show_all<R: AllocGlobal + Print>(rt: &R) -> io::Result<()> {
+    show(rt, "read_certificate of loops-apart", read_loops_apart)
 }

@@ -1,22 +1,24 @@
 //! Calls at the largest sizes that their limits allow, and those of rounds also at one between.
 
 use crate::kept::Kept;
-use crate::line::Line;
-use crate::pages::show_no_round;
+use crate::line::{Line, show};
+use crate::long_file::LongFile;
+use crate::pages::example;
 use crate::plans::{put_always, put_book_plan, put_counts};
 use crate::receivers::IDLE;
 use crate::searches::{put_free_search, put_search};
 use arrayvec::ArrayString;
 use pocsag_batch::{FirstFault, first_stream, lay_in_order, lay_out, order_of, write};
-use pocsag_core_cases::{ones, round_of, tour_of};
+use pocsag_core_cases::{ones, tour_of};
 use pocsag_decode::{DecodeFault, Decoder, ListFault, decode, list};
 use pocsag_pager::{PagerFault, hear_all};
-use pocsag_pages::{Page, Round, RoundFault, SYNC_WORD};
+use pocsag_pages::{Page, Round, RoundFault, SYNC_WORD, read_round};
 use pocsag_plan::{Book, OnLimit, PlanFault, Search, StreamFault, plan, plan_stream};
 use pocsag_tree::{CertificateFault, depth, nodes, read_certificate};
 use pocsag_words::{End, MemorySource, OutOfMemory, Word, address_word, message_word};
 use std::alloc::Global;
 use std::fmt::Write;
+use std::io;
 
 const PAGES: u32 = 20_000;
 
@@ -26,31 +28,27 @@ const SIZES: [u32; 2] = [2_000, PAGES];
 const ITEMS: usize = 1_400;
 
 // A round of so many pages of so many items each, for the addresses from 0.
-fn many_pages(alloc: Global, count: u32, items: usize) -> Result<Round, RoundFault> {
+fn many_pages(alloc: Global, count: u32, items: usize) -> Result<Round, OutOfMemory> {
     let mut pages = Vec::new(alloc);
     for address in 0..count {
-        let Ok(page) = ones(alloc, address, items) else {
-            return Err(RoundFault::OutOfMemory);
-        };
-        if pages.push(page).is_err() {
-            return Err(RoundFault::OutOfMemory);
-        }
+        pages.push(ones(alloc, address, items)?)?;
     }
-    Round::from_pages(alloc, pages)
+    match Round::from_pages(alloc, pages) {
+        Ok(round) => Ok(round),
+        Err(_) => Err(OutOfMemory),
+    }
 }
 
-pub fn copy_long_page(alloc: Global, line: &mut Line) -> Result<(), OutOfMemory> {
+fn copy_long_page(alloc: Global, line: &mut Line) -> Result<(), OutOfMemory> {
     let copy = ones(alloc, 8, ITEMS)?.copy(alloc)?;
     line.put(copy.payload.as_slice().len());
     Ok(())
 }
 
 /// The tour of 2,000 tones and of 20,000 that all start early, their order and their layout.
-pub fn tour_many_tones(alloc: Global, line: &mut Line) -> Result<(), OutOfMemory> {
+fn tour_many_tones(alloc: Global, line: &mut Line) -> Result<(), OutOfMemory> {
     for count in SIZES {
-        let Ok(round) = many_pages(alloc, count, 0) else {
-            return Err(OutOfMemory);
-        };
+        let round = many_pages(alloc, count, 0)?;
         let Ok(steps) = tour_of(alloc, &round, None, 2_500, End::Open) else {
             return Err(OutOfMemory);
         };
@@ -62,7 +60,7 @@ pub fn tour_many_tones(alloc: Global, line: &mut Line) -> Result<(), OutOfMemory
 }
 
 /// The tour of 20,000 tones of frame 0 that all start early, one to a batch: no round has a tour of more steps.
-pub fn tour_longest_segments(alloc: Global, line: &mut Line) -> Result<(), OutOfMemory> {
+fn tour_longest_segments(alloc: Global, line: &mut Line) -> Result<(), OutOfMemory> {
     let mut pages = Vec::new(alloc);
     for place in 0..PAGES {
         pages.push(ones(alloc, 8 * place, 0)?)?;
@@ -87,7 +85,7 @@ fn tone_batches(alloc: Global, count: usize) -> Result<Vec<u8>, OutOfMemory> {
 }
 
 /// The greatest transmission, 3,947,579 batches with a tone in each, in pieces: how many pages were fed.
-pub fn feed_greatest(alloc: Global, line: &mut Line) -> Result<(), OutOfMemory> {
+fn feed_greatest(alloc: Global, line: &mut Line) -> Result<(), OutOfMemory> {
     let mut decoder = Decoder::new(alloc);
     let many = tone_batches(alloc, 1_000)?;
     let rest = tone_batches(alloc, 579)?;
@@ -146,7 +144,7 @@ fn put_heard(heard: Result<Vec<Page>, PagerFault>, line: &mut Line) -> Result<()
 }
 
 /// A long round and the longest one.
-pub fn send_long_pages(alloc: Global, line: &mut Line) -> Result<(), OutOfMemory> {
+fn send_long_pages(alloc: Global, line: &mut Line) -> Result<(), OutOfMemory> {
     for count in SIZES {
         put_sent(alloc, count, line)?;
     }
@@ -156,9 +154,7 @@ pub fn send_long_pages(alloc: Global, line: &mut Line) -> Result<(), OutOfMemory
 // So many long pages in file order: how many bytes are written, whether they are decoded to the pages, how many bytes
 // the listing of these has, and what the pager of the last page shows.
 fn put_sent(alloc: Global, count: u32, line: &mut Line) -> Result<(), OutOfMemory> {
-    let Ok(round) = many_pages(alloc, count, ITEMS) else {
-        return Err(OutOfMemory);
-    };
+    let round = many_pages(alloc, count, ITEMS)?;
     let sent = bytes_of(alloc, &round)?;
     line.put(sent.bytes().len());
     match decode(alloc, sent.bytes()) {
@@ -230,7 +226,7 @@ fn data_pages(alloc: Global, pages: &[(u32, u8, usize)]) -> Result<Vec<u8>, OutO
 
 /// Pages of 1,400 items and of one more for the functions that report their items, decoded, listed and heard, and
 /// one of 1,401 items for function 3, heard alone.
-pub fn receive_long_data(alloc: Global, line: &mut Line) -> Result<(), OutOfMemory> {
+fn receive_long_data(alloc: Global, line: &mut Line) -> Result<(), OutOfMemory> {
     let pages = [(1, 1, 1_400), (2, 1, 1_401), (3, 2, 1_400), (4, 2, 1_401)];
     put_received(alloc, data_pages(alloc, &pages)?.as_slice(), 16, line)?;
     let letters = data_pages(alloc, &[(6, 3, 1_401)])?;
@@ -238,7 +234,7 @@ pub fn receive_long_data(alloc: Global, line: &mut Line) -> Result<(), OutOfMemo
 }
 
 /// A transmission of 20,001 tones, one page more than a round may have.
-pub fn receive_many_tones(alloc: Global, line: &mut Line) -> Result<(), OutOfMemory> {
+fn receive_many_tones(alloc: Global, line: &mut Line) -> Result<(), OutOfMemory> {
     let mut bytes = Vec::new(alloc);
     put(&mut bytes, &[0xaa; 72])?;
     let tone = address_word(1, 0);
@@ -265,7 +261,7 @@ fn tone_file(alloc: Global, count: u32) -> Result<Vec<u8>, OutOfMemory> {
 
 /// The page files of 2,000 tones and of 20,000 in file order, and that of one more: the batches or the fault, and how
 /// many bytes are written.
-pub fn stream_many_tones(alloc: Global, line: &mut Line) -> Result<(), OutOfMemory> {
+fn stream_many_tones(alloc: Global, line: &mut Line) -> Result<(), OutOfMemory> {
     for count in [2_000, PAGES, PAGES + 1] {
         let file = tone_file(alloc, count)?;
         let mut source = MemorySource::new(file.as_slice(), 65_536, u64::MAX);
@@ -278,6 +274,23 @@ pub fn stream_many_tones(alloc: Global, line: &mut Line) -> Result<(), OutOfMemo
             Err(fault) => line.put(fault),
         }
         line.put(tx.bytes().len());
+    }
+    Ok(())
+}
+
+/// A page file of 268,435,456 bytes, and the faults of one with a byte more.
+fn read_largest(alloc: Global, line: &mut Line) -> Result<(), OutOfMemory> {
+    for length in [268_435_456, 268_435_457] {
+        match read_round(alloc, &mut LongFile::new(length)) {
+            Ok(round) => line.put(round.pages().len()),
+            Err(RoundFault::OutOfMemory) => return Err(OutOfMemory),
+            Err(fault) => line.put(fault),
+        }
+    }
+    let mut tx = Kept::new(alloc);
+    match first_stream(alloc, &mut LongFile::new(268_435_457), &mut tx) {
+        Ok(batches) => line.put(batches),
+        Err(fault) => line.put(fault),
     }
     Ok(())
 }
@@ -316,7 +329,7 @@ fn many_nodes(alloc: Global) -> Result<Vec<u8>, OutOfMemory> {
     Ok(bytes)
 }
 
-pub fn read_many_nodes(alloc: Global, line: &mut Line) -> Result<(), OutOfMemory> {
+fn read_many_nodes(alloc: Global, line: &mut Line) -> Result<(), OutOfMemory> {
     let bytes = many_nodes(alloc)?;
     let mut source = MemorySource::new(bytes.as_slice(), 4_096, u64::MAX);
     match read_certificate(alloc, &mut source) {
@@ -345,11 +358,9 @@ const EIGHT_PAGES: [(u32, usize); 8] = [
 ];
 
 /// The search and the free search of 2,000 tones and of 20,000, which fill 125 batches and 1,250.
-pub fn search_many_tones(alloc: Global, line: &mut Line) -> Result<(), OutOfMemory> {
+fn search_many_tones(alloc: Global, line: &mut Line) -> Result<(), OutOfMemory> {
     for count in SIZES {
-        let Ok(round) = many_pages(alloc, count, 0) else {
-            return Err(OutOfMemory);
-        };
+        let round = many_pages(alloc, count, 0)?;
         put_search(alloc, &round, NODE_LIMIT, End::Closed, line)?;
         put_free_search(alloc, &round, NODE_LIMIT, line)?;
     }
@@ -357,15 +368,18 @@ pub fn search_many_tones(alloc: Global, line: &mut Line) -> Result<(), OutOfMemo
 }
 
 /// A search that stops at the greatest node limit.
-pub fn search_many_nodes(alloc: Global, line: &mut Line) -> Result<(), OutOfMemory> {
-    match round_of(alloc, &EIGHT_PAGES) {
-        Ok(round) => put_search(alloc, &round, NODE_LIMIT, End::Open, line),
-        Err(fault) => show_no_round(fault, line),
-    }
+fn search_many_nodes(alloc: Global, line: &mut Line) -> Result<(), OutOfMemory> {
+    put_search(
+        alloc,
+        &example(alloc, &EIGHT_PAGES)?,
+        NODE_LIMIT,
+        End::Open,
+        line,
+    )
 }
 
 /// The plans of 2,000 pages and of 20,000, each of 1,400 items.
-pub fn plan_long_pages(alloc: Global, line: &mut Line) -> Result<(), OutOfMemory> {
+fn plan_long_pages(alloc: Global, line: &mut Line) -> Result<(), OutOfMemory> {
     for count in SIZES {
         put_plans(alloc, count, line)?;
     }
@@ -375,9 +389,7 @@ pub fn plan_long_pages(alloc: Global, line: &mut Line) -> Result<(), OutOfMemory
 // The plan of so many pages for the closed end, with how many places its order has, and the one that is never refused for
 // the open end, with its bound.
 fn put_plans(alloc: Global, count: u32, line: &mut Line) -> Result<(), OutOfMemory> {
-    let Ok(round) = many_pages(alloc, count, ITEMS) else {
-        return Err(OutOfMemory);
-    };
+    let round = many_pages(alloc, count, ITEMS)?;
     match plan(alloc, &round, NODE_LIMIT, End::Closed) {
         Ok(plan) => {
             put_counts(&plan, line);
@@ -390,7 +402,7 @@ fn put_plans(alloc: Global, count: u32, line: &mut Line) -> Result<(), OutOfMemo
 }
 
 /// Open rounds of 2,000 tones and of 20,000, and the fault of one more.
-pub fn plan_full_book(alloc: Global, line: &mut Line) -> Result<(), OutOfMemory> {
+fn plan_full_book(alloc: Global, line: &mut Line) -> Result<(), OutOfMemory> {
     for count in SIZES {
         put_book(alloc, count, line)?;
     }
@@ -461,7 +473,7 @@ fn long_page_file(alloc: Global) -> Result<Vec<u8>, OutOfMemory> {
 }
 
 /// The longest page file from end to end: the counts of its plan, and how many bytes are written.
-pub fn stream_long_pages(alloc: Global, line: &mut Line) -> Result<(), OutOfMemory> {
+fn stream_long_pages(alloc: Global, line: &mut Line) -> Result<(), OutOfMemory> {
     let file = long_page_file(alloc)?;
     let mut source = MemorySource::new(file.as_slice(), 65_536, u64::MAX);
     let mut tx = Kept::new(alloc);
@@ -485,4 +497,70 @@ pub fn stream_long_pages(alloc: Global, line: &mut Line) -> Result<(), OutOfMemo
     line.put(tx.bytes().len());
     line.put(cert.bytes().len());
     Ok(())
+}
+
+pub fn show_all<R: AllocGlobal + Print>(rt: &R) -> io::Result<()> {
+    show(rt, "Page::copy of 1,400 items", copy_long_page)?;
+    show(
+        rt,
+        "tour, order_of and lay_out of 2,000 and 20,000 tones",
+        tour_many_tones,
+    )?;
+    show(
+        rt,
+        "tour of 20,000 tones of one frame",
+        tour_longest_segments,
+    )?;
+    show(rt, "feed and finish of 3,947,579 batches", feed_greatest)?;
+    show(
+        rt,
+        "write, decode, list and hear_all of 2,000 and 20,000 pages of 1,400 items",
+        send_long_pages,
+    )?;
+    show(
+        rt,
+        "decode, list and hear_all of pages of 1,400 and 1,401 items",
+        receive_long_data,
+    )?;
+    show(
+        rt,
+        "hear_all, decode and list of 20,001 tones",
+        receive_many_tones,
+    )?;
+    show(
+        rt,
+        "first_stream of 2,000 and 20,000 tones, and of one more",
+        stream_many_tones,
+    )?;
+    show(
+        rt,
+        "read_round of 268,435,456 bytes, and with first_stream of one more",
+        read_largest,
+    )?;
+    show(rt, "read_certificate of 1,000,000 nodes", read_many_nodes)?;
+    show(
+        rt,
+        "search and search_freely of 2,000 and 20,000 tones",
+        search_many_tones,
+    )?;
+    show(
+        rt,
+        "search of eight pages to 1,000,000 nodes",
+        search_many_nodes,
+    )?;
+    show(
+        rt,
+        "plan and bounded_plan of 2,000 and 20,000 pages of 1,400 items",
+        plan_long_pages,
+    )?;
+    show(
+        rt,
+        "a book of 2,000 and 20,000 tones, and its plans",
+        plan_full_book,
+    )?;
+    show(
+        rt,
+        "plan_stream of 20,000 pages of 1,400 items",
+        stream_long_pages,
+    )
 }

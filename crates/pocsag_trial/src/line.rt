@@ -1,8 +1,10 @@
 use arrayvec::ArrayString;
 use pocsag_pages::Page;
 use pocsag_slots::Step;
-use pocsag_words::Word;
+use pocsag_words::{OutOfMemory, Word};
+use std::alloc::Global;
 use std::fmt::{Display, Write};
+use std::io;
 
 /// The text of an answer, which takes no memory. What goes past its end is left out.
 #[derive(Drop)]
@@ -77,5 +79,23 @@ impl Line {
         for page in pages {
             self.put_page(page);
         }
+    }
+}
+
+/// Makes a call and prints its line: its name, and what it wrote or that memory was wanting.
+pub fn show<R: AllocGlobal + Print, F: FnOnce(Global, &mut Line) -> Result<(), OutOfMemory>>(
+    rt: &R,
+    name: &str,
+    call: F,
+) -> io::Result<()>
+    requires { F.IsAlwaysCallable call }
+{
+    let mut line = Line::new();
+    match call(rt.alloc(), &mut line) {
+        Ok(()) => {
+            let text = line.as_str();
+            println!(rt; "{name}:{text}")
+        }
+        Err(OutOfMemory) => println!(rt; "{name}: out of memory"),
     }
 }

@@ -1,12 +1,13 @@
-use crate::line::Line;
+use crate::line::{Line, show};
 use pocsag_core_cases::{THREE_PAGES_TIGHT, ones, round_of};
 use pocsag_pages::{Page, Payload, Round, RoundFault, WholeFault, read_round, read_whole};
 use pocsag_words::{MemorySource, OutOfMemory};
 use std::alloc::Global;
+use std::io;
 
 pub const LONE_TONE: &[u8; 30] = b"address,kind,message\n8,tone0,\n";
 
-fn show(round: Result<Round, RoundFault>, line: &mut Line) -> Result<(), OutOfMemory> {
+fn show_round(round: Result<Round, RoundFault>, line: &mut Line) -> Result<(), OutOfMemory> {
     match round {
         Ok(round) => line.put_pages(round.pages()),
         Err(RoundFault::OutOfMemory) => return Err(OutOfMemory),
@@ -15,16 +16,18 @@ fn show(round: Result<Round, RoundFault>, line: &mut Line) -> Result<(), OutOfMe
     Ok(())
 }
 
-// Why there is no round.
-pub fn show_no_round(fault: RoundFault, line: &mut Line) -> Result<(), OutOfMemory> {
-    match fault {
-        RoundFault::OutOfMemory => return Err(OutOfMemory),
-        fault => line.put(fault),
+/// Pages for which the tree of the search has 159 nodes.
+pub const FOUR_PAGES: [(u32, usize); 4] = [(5, 8), (1, 12), (7, 14), (6, 13)];
+
+/// The round of an example.
+pub fn example(alloc: Global, pages: &[(u32, usize)]) -> Result<Round, OutOfMemory> {
+    match round_of(alloc, pages) {
+        Ok(round) => Ok(round),
+        Err(_) => Err(OutOfMemory),
     }
-    Ok(())
 }
 
-pub fn read_lone_tone_whole(alloc: Global, line: &mut Line) -> Result<(), OutOfMemory> {
+fn read_lone_tone_whole(alloc: Global, line: &mut Line) -> Result<(), OutOfMemory> {
     let mut source = MemorySource::new(LONE_TONE, 7, 1000);
     match read_whole(alloc, &mut source, 30) {
         Ok(bytes) => line.put_bytes(bytes.as_slice()),
@@ -34,9 +37,9 @@ pub fn read_lone_tone_whole(alloc: Global, line: &mut Line) -> Result<(), OutOfM
     Ok(())
 }
 
-pub fn read_lone_tone(alloc: Global, line: &mut Line) -> Result<(), OutOfMemory> {
+fn read_lone_tone(alloc: Global, line: &mut Line) -> Result<(), OutOfMemory> {
     let mut source = MemorySource::new(LONE_TONE, 7, 1000);
-    show(read_round(alloc, &mut source), line)
+    show_round(read_round(alloc, &mut source), line)
 }
 
 fn show_copy(page: &Page, alloc: Global, line: &mut Line) -> Result<(), OutOfMemory> {
@@ -45,11 +48,11 @@ fn show_copy(page: &Page, alloc: Global, line: &mut Line) -> Result<(), OutOfMem
     Ok(())
 }
 
-pub fn copy_lone_tone(alloc: Global, line: &mut Line) -> Result<(), OutOfMemory> {
+fn copy_lone_tone(alloc: Global, line: &mut Line) -> Result<(), OutOfMemory> {
     show_copy(&ones(alloc, 8, 0)?, alloc, line)
 }
 
-pub fn copy_five_digits(alloc: Global, line: &mut Line) -> Result<(), OutOfMemory> {
+fn copy_five_digits(alloc: Global, line: &mut Line) -> Result<(), OutOfMemory> {
     let page = Page {
         address: 0,
         function: 0,
@@ -58,10 +61,23 @@ pub fn copy_five_digits(alloc: Global, line: &mut Line) -> Result<(), OutOfMemor
     show_copy(&page, alloc, line)
 }
 
-pub fn round_of_open_round(alloc: Global, line: &mut Line) -> Result<(), OutOfMemory> {
-    show(round_of(alloc, &[(8, 0), (16, 0)]), line)
+fn round_of_open_round(alloc: Global, line: &mut Line) -> Result<(), OutOfMemory> {
+    show_round(round_of(alloc, &[(8, 0), (16, 0)]), line)
 }
 
-pub fn round_of_tight_pages(alloc: Global, line: &mut Line) -> Result<(), OutOfMemory> {
-    show(round_of(alloc, &THREE_PAGES_TIGHT), line)
+fn round_of_tight_pages(alloc: Global, line: &mut Line) -> Result<(), OutOfMemory> {
+    show_round(round_of(alloc, &THREE_PAGES_TIGHT), line)
+}
+
+pub fn show_all<R: AllocGlobal + Print>(rt: &R) -> io::Result<()> {
+    show(rt, "read_whole of lone-tone", read_lone_tone_whole)?;
+    show(rt, "read_round of lone-tone", read_lone_tone)?;
+    show(rt, "Page::copy of lone-tone", copy_lone_tone)?;
+    show(rt, "Page::copy of five-digits", copy_five_digits)?;
+    show(rt, "Round::from_pages of open-round", round_of_open_round)?;
+    show(
+        rt,
+        "Round::from_pages of three-pages-tight",
+        round_of_tight_pages,
+    )
 }

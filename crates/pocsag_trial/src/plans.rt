@@ -1,8 +1,8 @@
 //! Plans of worked examples, as calls and as streams, and open rounds.
 
-use crate::line::Line;
-use crate::pages::show_no_round;
-use pocsag_core_cases::{THREE_PAGES_TIGHT, ones, round_of};
+use crate::line::{Line, show};
+use crate::pages::{FOUR_PAGES, example};
+use pocsag_core_cases::{THREE_PAGES_TIGHT, ones};
 use pocsag_pages::{Round, RoundFault};
 use pocsag_plan::{
     AddFault, Book, BookFault, Bounded, OnLimit, Plan, PlanFault, Search, StreamFault,
@@ -11,74 +11,9 @@ use pocsag_plan::{
 use pocsag_slots::Classes;
 use pocsag_words::{End, MemorySink, MemorySource, OutOfMemory};
 use std::alloc::Global;
-
-/// A call that plans, or an edit of an open round, on one example.
-#[derive(Clone, Copy)]
-pub enum Planning {
-    PlanTight,
-    PlanFourPages,
-    AlwaysFourPages,
-    AlwaysToOneNode,
-    StreamTwoNumeric,
-    StreamLoopsApart,
-    StreamClosed,
-    StreamIdle,
-    StreamAlways,
-    StreamAlwaysToOneNode,
-    BookOfTight,
-    AddToBook,
-    PlanBook,
-    PlanKept,
-    StreamKept,
-    StreamAlwaysKept,
-}
+use std::io;
 
 const LIMIT: u32 = 100_000;
-
-pub fn name_of(planning: Planning) -> &'static str {
-    match planning {
-        Planning::PlanTight => "plan of three-pages-tight",
-        Planning::PlanFourPages => "plan of four pages",
-        Planning::AlwaysFourPages => "bounded_plan of four pages, always",
-        Planning::AlwaysToOneNode => "bounded_plan of four pages to 1 node, always",
-        Planning::StreamTwoNumeric => "plan_stream of two-numeric-exact",
-        Planning::StreamLoopsApart => "plan_stream of loops-apart",
-        Planning::StreamClosed => "plan_stream of closed-both-ways",
-        Planning::StreamIdle => "plan_stream of closed-both-ways with an idle last",
-        Planning::StreamAlways => "plan_stream_always of loops-apart",
-        Planning::StreamAlwaysToOneNode => "plan_stream_always of loops-apart to 1 node",
-        Planning::BookOfTight => "Book::of_round of three-pages-tight",
-        Planning::AddToBook => "Book::add of open-round",
-        Planning::PlanBook => "Book::plan of open-round",
-        Planning::PlanKept => "Book::plan of kept-table",
-        Planning::StreamKept => "Book::bounded_stream of kept-table",
-        Planning::StreamAlwaysKept => "Book::bounded_stream of kept-table, always",
-    }
-}
-
-pub fn run(alloc: Global, planning: Planning, line: &mut Line) -> Result<(), OutOfMemory> {
-    match planning {
-        Planning::PlanTight => show_plan(alloc, &THREE_PAGES_TIGHT, line),
-        Planning::PlanFourPages => show_plan(alloc, &FOUR_PAGES, line),
-        Planning::AlwaysFourPages => show_always(alloc, &FOUR_PAGES, LIMIT, line),
-        Planning::AlwaysToOneNode => show_always(alloc, &FOUR_PAGES, 1, line),
-        Planning::StreamTwoNumeric => show_stream(alloc, TWO_NUMERIC, End::Open, line),
-        Planning::StreamLoopsApart => show_stream(alloc, LOOPS_APART, End::Open, line),
-        Planning::StreamClosed => show_stream(alloc, CLOSED_BOTH_WAYS, End::Closed, line),
-        Planning::StreamIdle => show_stream(alloc, CLOSED_BOTH_WAYS, End::Idle, line),
-        Planning::StreamAlways => show_stream_always(alloc, LOOPS_APART, LIMIT, line),
-        Planning::StreamAlwaysToOneNode => show_stream_always(alloc, LOOPS_APART, 1, line),
-        Planning::BookOfTight => show_book_of_tight(alloc, line),
-        Planning::AddToBook => show_added(alloc, line),
-        Planning::PlanBook => show_open_round(alloc, line),
-        Planning::PlanKept => show_kept_table(alloc, line),
-        Planning::StreamKept => show_kept_stream(alloc, End::Closed, OnLimit::Fewest, line),
-        Planning::StreamAlwaysKept => show_kept_stream(alloc, End::Open, OnLimit::Always, line),
-    }
-}
-
-// Pages for which the tree of the search has 159 nodes.
-const FOUR_PAGES: [(u32, usize); 4] = [(5, 8), (1, 12), (7, 14), (6, 13)];
 
 const TWO_NUMERIC: &[u8] = b"address,kind,message\n\
     0,numeric,1111111111111111111111111\n\
@@ -103,10 +38,7 @@ pub fn put_counts(plan: &Plan, line: &mut Line) {
 }
 
 fn show_plan(alloc: Global, pages: &[(u32, usize)], line: &mut Line) -> Result<(), OutOfMemory> {
-    let round = match round_of(alloc, pages) {
-        Ok(round) => round,
-        Err(fault) => return show_no_round(fault, line),
-    };
+    let round = example(alloc, pages)?;
     match plan(alloc, &round, LIMIT, End::Open) {
         Ok(plan) => {
             put_counts(&plan, line);
@@ -142,18 +74,6 @@ pub fn put_always(
         Err(fault) => line.put(fault),
     }
     Ok(())
-}
-
-fn show_always(
-    alloc: Global,
-    pages: &[(u32, usize)],
-    limit: u32,
-    line: &mut Line,
-) -> Result<(), OutOfMemory> {
-    match round_of(alloc, pages) {
-        Ok(round) => put_always(alloc, &round, limit, line),
-        Err(fault) => show_no_round(fault, line),
-    }
 }
 
 // What a stream answers, and behind it all that was written, which has to be nothing where memory is wanting.
@@ -213,10 +133,7 @@ fn show_stream_always(
 }
 
 fn show_book_of_tight(alloc: Global, line: &mut Line) -> Result<(), OutOfMemory> {
-    let round = match round_of(alloc, &THREE_PAGES_TIGHT) {
-        Ok(round) => round,
-        Err(fault) => return show_no_round(fault, line),
-    };
+    let round = example(alloc, &THREE_PAGES_TIGHT)?;
     let book = Book::of_round(alloc, &round)?;
     line.put_pages(book.pages());
     Ok(())
@@ -326,4 +243,75 @@ fn show_kept_stream(
     let answer = book.bounded_stream(&mut tx, &mut cert, search);
     put_bounded_stream(answer, &tx, &cert, line);
     Ok(())
+}
+
+fn show_plans<R: AllocGlobal + Print>(rt: &R) -> io::Result<()> {
+    show(
+        rt,
+        "plan of three-pages-tight",
+        |alloc, line| show_plan(alloc, &THREE_PAGES_TIGHT, line),
+    )?;
+    show(
+        rt,
+        "plan of four pages",
+        |alloc, line| show_plan(alloc, &FOUR_PAGES, line),
+    )?;
+    show(rt, "bounded_plan of four pages, always", |alloc, line| {
+        put_always(alloc, &example(alloc, &FOUR_PAGES)?, LIMIT, line)
+    })?;
+    show(
+        rt,
+        "bounded_plan of four pages to 1 node, always",
+        |alloc, line| { put_always(alloc, &example(alloc, &FOUR_PAGES)?, 1, line) },
+    )
+}
+
+fn show_streams<R: AllocGlobal + Print>(rt: &R) -> io::Result<()> {
+    show(rt, "plan_stream of two-numeric-exact", |alloc, line| {
+        show_stream(alloc, TWO_NUMERIC, End::Open, line)
+    })?;
+    show(rt, "plan_stream of loops-apart", |alloc, line| {
+        show_stream(alloc, LOOPS_APART, End::Open, line)
+    })?;
+    show(rt, "plan_stream of closed-both-ways", |alloc, line| {
+        show_stream(alloc, CLOSED_BOTH_WAYS, End::Closed, line)
+    })?;
+    show(
+        rt,
+        "plan_stream of closed-both-ways with an idle last",
+        |alloc, line| { show_stream(alloc, CLOSED_BOTH_WAYS, End::Idle, line) },
+    )?;
+    show(rt, "plan_stream_always of loops-apart", |alloc, line| {
+        show_stream_always(alloc, LOOPS_APART, LIMIT, line)
+    })?;
+    show(
+        rt,
+        "plan_stream_always of loops-apart to 1 node",
+        |alloc, line| { show_stream_always(alloc, LOOPS_APART, 1, line) },
+    )
+}
+
+fn show_open_rounds<R: AllocGlobal + Print>(rt: &R) -> io::Result<()> {
+    show(
+        rt,
+        "Book::of_round of three-pages-tight",
+        show_book_of_tight,
+    )?;
+    show(rt, "Book::add of open-round", show_added)?;
+    show(rt, "Book::plan of open-round", show_open_round)?;
+    show(rt, "Book::plan of kept-table", show_kept_table)?;
+    show(rt, "Book::bounded_stream of kept-table", |alloc, line| {
+        show_kept_stream(alloc, End::Closed, OnLimit::Fewest, line)
+    })?;
+    show(
+        rt,
+        "Book::bounded_stream of kept-table, always",
+        |alloc, line| { show_kept_stream(alloc, End::Open, OnLimit::Always, line) },
+    )
+}
+
+pub fn show_all<R: AllocGlobal + Print>(rt: &R) -> io::Result<()> {
+    show_plans(rt)?;
+    show_streams(rt)?;
+    show_open_rounds(rt)
 }

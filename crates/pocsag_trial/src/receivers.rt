@@ -1,9 +1,10 @@
-use crate::line::Line;
+use crate::line::{Line, show};
 use pocsag_decode::{DecodeFault, Decoder, ListFault, decode, list};
 use pocsag_pager::{Pager, PagerFault, hear_all};
 use pocsag_pages::{Page, SYNC_WORD};
 use pocsag_words::{MemorySink, OutOfMemory};
 use std::alloc::Global;
+use std::io;
 
 pub const IDLE: u32 = 0x7a89_c197;
 
@@ -41,12 +42,12 @@ fn show_decoded(
     Ok(())
 }
 
-pub fn decode_whole(alloc: Global, line: &mut Line) -> Result<(), OutOfMemory> {
+fn decode_whole(alloc: Global, line: &mut Line) -> Result<(), OutOfMemory> {
     show_decoded(decode(alloc, page_across_batches().as_slice()), line)
 }
 
 // Feeds one byte after the other; after a fault the decoder answers `Failed`.
-pub fn decode_bytes(alloc: Global, line: &mut Line) -> Result<(), OutOfMemory> {
+fn decode_bytes(alloc: Global, line: &mut Line) -> Result<(), OutOfMemory> {
     let mut decoder = Decoder::new(alloc);
     for byte in page_across_batches() {
         match decoder.feed(&[byte]) {
@@ -65,7 +66,7 @@ pub fn decode_bytes(alloc: Global, line: &mut Line) -> Result<(), OutOfMemory> {
     show_decoded(decoder.finish(), line)
 }
 
-pub fn list_decoded(alloc: Global, line: &mut Line) -> Result<(), OutOfMemory> {
+fn list_decoded(alloc: Global, line: &mut Line) -> Result<(), OutOfMemory> {
     show_list(alloc, page_across_batches().as_slice(), line)
 }
 
@@ -88,12 +89,12 @@ fn show_list(alloc: Global, bytes: &[u8], line: &mut Line) -> Result<(), OutOfMe
     Ok(())
 }
 
-pub fn hear_whole(alloc: Global, line: &mut Line) -> Result<(), OutOfMemory> {
+fn hear_whole(alloc: Global, line: &mut Line) -> Result<(), OutOfMemory> {
     show_heard(hear_all(alloc, page_across_batches().as_slice(), 7), line)
 }
 
 /// `wrong-bit-in-idle`: one tone, with two wrong bits in the idle behind it.
-pub fn hear_damaged(alloc: Global, line: &mut Line) -> Result<(), OutOfMemory> {
+fn hear_damaged(alloc: Global, line: &mut Line) -> Result<(), OutOfMemory> {
     let mut words = [IDLE; 32];
     words[0] = TONE;
     words[1] = 0x7a89_c194;
@@ -111,12 +112,12 @@ fn show_heard(heard: Result<Vec<Page>, PagerFault>, line: &mut Line) -> Result<(
     Ok(())
 }
 
-/// Two batches of idles and of these codewords by place, and what is asked of them.
+// Two batches of idles and of these codewords by place, and what is asked of them.
 #[derive(Clone, Copy)]
-pub struct Received {
-    pub name: &'static str,
+struct Received {
+    name: &'static str,
     words: &'static [(usize, u32)],
-    /// The address of a pager, or none where the pages are listed.
+    // The address of a pager, or none where the pages are listed.
     pager: Option<u32>,
 }
 
@@ -134,53 +135,51 @@ const DIGITS: u32 = 0xc261_572c;
 
 const ONES: u32 = 0xc444_47b9;
 
-pub const THREE_TO_ONE_ADDRESS: Received = Received {
-    name: "hear_all of three pages to one address",
-    words: &[
-        (0, TONE),
-        (1, TONE),
-        (16, TONE),
-        (17, ONES),
-        (18, ONES),
-        (19, ONES),
-    ],
-    pager: Some(8),
-};
+const RECEIVED: [Received; 5] = [
+    Received {
+        name: "hear_all of three pages to one address",
+        words: &[
+            (0, TONE),
+            (1, TONE),
+            (16, TONE),
+            (17, ONES),
+            (18, ONES),
+            (19, ONES),
+        ],
+        pager: Some(8),
+    },
+    Received {
+        name: "hear_all of four pages to one address",
+        words: &[
+            (0, TONE),
+            (1, TONE),
+            (15, DATA1),
+            (16, TONE),
+            (17, TONE),
+            (18, ONES),
+            (19, ONES),
+        ],
+        pager: Some(8),
+    },
+    Received {
+        name: "hear_all of a page of function 3",
+        words: &[(0, ALPHA), (1, 0xc143_87b8), (2, 0xc000_04dc)],
+        pager: Some(8),
+    },
+    Received {
+        name: "list of data1 and data2",
+        words: &[(0, DATA1), (1, DIGITS), (2, ONES), (4, DATA2), (5, DIGITS)],
+        pager: None,
+    },
+    Received {
+        name: "list of data2 behind three tones",
+        words: &[(0, TONE), (2, TONE), (4, TONE), (6, DATA2), (7, DIGITS)],
+        pager: None,
+    },
+];
 
-pub const FOUR_TO_ONE_ADDRESS: Received = Received {
-    name: "hear_all of four pages to one address",
-    words: &[
-        (0, TONE),
-        (1, TONE),
-        (15, DATA1),
-        (16, TONE),
-        (17, TONE),
-        (18, ONES),
-        (19, ONES),
-    ],
-    pager: Some(8),
-};
-
-pub const ALPHA_HEARD: Received = Received {
-    name: "hear_all of a page of function 3",
-    words: &[(0, ALPHA), (1, 0xc143_87b8), (2, 0xc000_04dc)],
-    pager: Some(8),
-};
-
-pub const DATA_LISTED: Received = Received {
-    name: "list of data1 and data2",
-    words: &[(0, DATA1), (1, DIGITS), (2, ONES), (4, DATA2), (5, DIGITS)],
-    pager: None,
-};
-
-pub const FOURTH_LISTED: Received = Received {
-    name: "list of data2 behind three tones",
-    words: &[(0, TONE), (2, TONE), (4, TONE), (6, DATA2), (7, DIGITS)],
-    pager: None,
-};
-
-/// What is received of the codewords.
-pub fn receive(alloc: Global, received: Received, line: &mut Line) -> Result<(), OutOfMemory> {
+// What is received of the codewords.
+fn receive(alloc: Global, received: &Received, line: &mut Line) -> Result<(), OutOfMemory> {
     let mut words = [IDLE; 32];
     for (place, word) in received.words {
         if *place < 32 {
@@ -201,7 +200,7 @@ fn put_heard(heard: Option<Page>, line: &mut Line) {
 }
 
 // Hears one word after the other; after want of memory the pager answers `Failed`.
-pub fn hear_words(alloc: Global, line: &mut Line) -> Result<(), OutOfMemory> {
+fn hear_words(alloc: Global, line: &mut Line) -> Result<(), OutOfMemory> {
     let mut pager = match Pager::new(alloc, 8) {
         Ok(pager) => pager,
         Err(fault) => {
@@ -226,6 +225,23 @@ pub fn hear_words(alloc: Global, line: &mut Line) -> Result<(), OutOfMemory> {
     }
     if let Ok(heard) = pager.end() {
         put_heard(heard, line);
+    }
+    Ok(())
+}
+
+pub fn show_all<R: AllocGlobal + Print>(rt: &R) -> io::Result<()> {
+    show(rt, "decode of page-across-batches", decode_whole)?;
+    show(rt, "feed and finish of page-across-batches", decode_bytes)?;
+    show(rt, "list of page-across-batches", list_decoded)?;
+    show(rt, "hear_all of page-across-batches", hear_whole)?;
+    show(rt, "hear_all of wrong-bit-in-idle", hear_damaged)?;
+    show(rt, "hear and end of wrong-bit-in-idle", hear_words)?;
+    for received in &RECEIVED {
+        show(
+            rt,
+            received.name,
+            |alloc, line| receive(alloc, received, line),
+        )?;
     }
     Ok(())
 }

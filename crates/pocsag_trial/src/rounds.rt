@@ -1,11 +1,12 @@
-use crate::line::Line;
+use crate::line::{Line, show};
 use crate::pages::LONE_TONE;
 use pocsag_batch::{FirstFault, first_stream, lay_in_order};
 use pocsag_pages::{RoundFault, read_round};
 use pocsag_words::{MemorySink, MemorySource, OutOfMemory};
 use std::alloc::Global;
+use std::io;
 
-pub fn lay_lone_tone(alloc: Global, line: &mut Line) -> Result<(), OutOfMemory> {
+fn lay_lone_tone(alloc: Global, line: &mut Line) -> Result<(), OutOfMemory> {
     let mut source = MemorySource::new(LONE_TONE, 7, 1000);
     let round = match read_round(alloc, &mut source) {
         Ok(round) => round,
@@ -21,7 +22,7 @@ pub fn lay_lone_tone(alloc: Global, line: &mut Line) -> Result<(), OutOfMemory> 
     Ok(())
 }
 
-pub fn stream_lone_tone(alloc: Global, line: &mut Line) -> Result<(), OutOfMemory> {
+fn stream_lone_tone(alloc: Global, line: &mut Line) -> Result<(), OutOfMemory> {
     let mut source = MemorySource::new(LONE_TONE, 7, 1000);
     let mut tx = MemorySink::<200>::new(64, 1000);
     let answer = first_stream(alloc, &mut source, &mut tx);
@@ -69,7 +70,7 @@ fn show_bad_file(
     Ok(())
 }
 
-pub fn stream_bad_files(alloc: Global, line: &mut Line) -> Result<(), OutOfMemory> {
+fn stream_bad_files(alloc: Global, line: &mut Line) -> Result<(), OutOfMemory> {
     show_bad_file(alloc, LONE_TONE, 29, line)?;
     show_bad_file(alloc, b"8,tone0,\n", 1000, line)?;
     for (records, ones) in BAD_FILES {
@@ -80,4 +81,10 @@ pub fn stream_bad_files(alloc: Global, line: &mut Line) -> Result<(), OutOfMemor
         show_bad_file(alloc, file.as_slice(), 10_000, line)?;
     }
     Ok(())
+}
+
+pub fn show_all<R: AllocGlobal + Print>(rt: &R) -> io::Result<()> {
+    show(rt, "lay_in_order of lone-tone", lay_lone_tone)?;
+    show(rt, "first_stream of lone-tone", stream_lone_tone)?;
+    show(rt, "bad files of first_stream", stream_bad_files)
 }

@@ -1,39 +1,22 @@
 //! Searches on worked examples and on rounds whose trees are large.
 ghost use Rattle.pocsag_branch.specs.Found.{IsNodeLimit};
 
-use crate::line::Line;
-use crate::pages::show_no_round;
+use crate::line::{Line, show};
+use crate::pages::{FOUR_PAGES, example};
 use pocsag_branch::{FallbackPlan, Found, FreeFault, SearchFault, fallback, search, search_freely};
 use pocsag_check::{check, check_open};
-use pocsag_core_cases::{THREE_PAGES_TIGHT, has_page, round_of};
+use pocsag_core_cases::{THREE_PAGES_TIGHT, has_page};
 use pocsag_pages::Round;
 use pocsag_slots::classes_of;
 use pocsag_tree::nodes;
 use pocsag_words::{End, OutOfMemory};
 use std::alloc::Global;
-
-/// A search on one example.
-#[derive(Clone, Copy)]
-pub enum Search {
-    Tight,
-    LoopsApart,
-    FourPages,
-    ToTwoNodes,
-    ToManyNodes,
-    FreelyTight,
-    FreelyFourPages,
-    FreelyEightPages,
-    FreelyToOneNode,
-    FallbackPlan,
-}
+use std::io;
 
 const LIMIT: u32 = 100_000;
 
 // Two pages that go round once each and meet nowhere.
 const LOOPS_APART: [(u32, usize); 2] = [(0, 15), (3, 15)];
-
-// Pages for which the tree of the search has 159 nodes.
-const FOUR_PAGES: [(u32, usize); 4] = [(5, 8), (1, 12), (7, 14), (6, 13)];
 
 // Pages for which each tree of the search's shape has at least 354,623 nodes.
 const EIGHT_PAGES: [(u32, usize); 8] = [
@@ -46,36 +29,6 @@ const EIGHT_PAGES: [(u32, usize); 8] = [
     (2, 30),
     (9, 14),
 ];
-
-pub fn name_of(search: Search) -> &'static str {
-    match search {
-        Search::Tight => "search of three-pages-tight",
-        Search::LoopsApart => "search of loops-apart, closed",
-        Search::FourPages => "search of four pages",
-        Search::ToTwoNodes => "search of loops-apart to 2 nodes",
-        Search::ToManyNodes => "search of eight pages to 300 nodes",
-        Search::FreelyTight => "search_freely of three-pages-tight",
-        Search::FreelyFourPages => "search_freely of four pages",
-        Search::FreelyEightPages => "search_freely of eight pages",
-        Search::FreelyToOneNode => "search_freely of loops-apart to 1 node",
-        Search::FallbackPlan => "near of loops-apart",
-    }
-}
-
-pub fn run(alloc: Global, search: Search, line: &mut Line) -> Result<(), OutOfMemory> {
-    match search {
-        Search::Tight => show_search(alloc, &THREE_PAGES_TIGHT, LIMIT, End::Open, line),
-        Search::LoopsApart => show_search(alloc, &LOOPS_APART, LIMIT, End::Closed, line),
-        Search::FourPages => show_search(alloc, &FOUR_PAGES, LIMIT, End::Open, line),
-        Search::ToTwoNodes => show_search(alloc, &LOOPS_APART, 2, End::Open, line),
-        Search::ToManyNodes => show_search(alloc, &EIGHT_PAGES, 300, End::Open, line),
-        Search::FreelyTight => show_free_search(alloc, &THREE_PAGES_TIGHT, LIMIT, line),
-        Search::FreelyFourPages => show_free_search(alloc, &FOUR_PAGES, LIMIT, line),
-        Search::FreelyEightPages => show_free_search(alloc, &EIGHT_PAGES, LIMIT, line),
-        Search::FreelyToOneNode => show_free_search(alloc, &LOOPS_APART, 1, line),
-        Search::FallbackPlan => show_near(alloc, &LOOPS_APART, line),
-    }
-}
 
 // The batches, how many steps and nodes there are, and whether the checker accepts the tree for the batches.
 fn put_found(round: &Round, found: &Found, end: End, line: &mut Line) {
@@ -113,24 +66,9 @@ pub fn put_search(
     Ok(())
 }
 
-fn show_search(
-    alloc: Global,
-    pages: &[(u32, usize)],
-    limit: u32,
-    end: End,
-    line: &mut Line,
-) -> Result<(), OutOfMemory>
-    requires { IsNodeLimit limit }
-{
-    match round_of(alloc, pages) {
-        Ok(round) => put_search(alloc, &round, limit, end, line),
-        Err(fault) => show_no_round(fault, line),
-    }
-}
-
 // The fewest batches that are shown, how many steps and nodes there are, and whether the checker accepts the
 // tree for them.
-fn put_near(round: &Round, fallback: &FallbackPlan, line: &mut Line) {
+fn put_fallback(round: &Round, fallback: &FallbackPlan, line: &mut Line) {
     line.put(fallback.least);
     line.put(fallback.steps.len());
     line.put(nodes(&fallback.tree));
@@ -155,7 +93,7 @@ pub fn put_free_search(
         Ok(found) => put_found(round, &found, End::Open, line),
         Err(FreeFault::SearchLimit { fallback, stop }) => {
             line.put("near");
-            put_near(round, &fallback, line);
+            put_fallback(round, &fallback, line);
             line.put(nodes(&stop.tree));
             line.put(check_open(round, stop.found, &stop.tree, End::Open));
         }
@@ -164,33 +102,77 @@ pub fn put_free_search(
     Ok(())
 }
 
-fn show_free_search(
+fn show_fallback(
     alloc: Global,
     pages: &[(u32, usize)],
-    limit: u32,
     line: &mut Line,
-) -> Result<(), OutOfMemory>
-    requires { IsNodeLimit limit }
-{
-    match round_of(alloc, pages) {
-        Ok(round) => put_free_search(alloc, &round, limit, line),
-        Err(fault) => show_no_round(fault, line),
-    }
-}
-
-fn show_near(alloc: Global, pages: &[(u32, usize)], line: &mut Line) -> Result<(), OutOfMemory> {
-    let round = match round_of(alloc, pages) {
-        Ok(round) => round,
-        Err(fault) => return show_no_round(fault, line),
-    };
+) -> Result<(), OutOfMemory> {
+    let round = example(alloc, pages)?;
     let classes = classes_of(&round, End::Open);
     if !has_page(&classes) {
         line.put("no pages");
         return Ok(());
     }
     match fallback(alloc, &classes, End::Open) {
-        Ok(fallback) => put_near(&round, &fallback, line),
+        Ok(fallback) => put_fallback(&round, &fallback, line),
         Err(_) => return Err(OutOfMemory),
     }
     Ok(())
+}
+
+fn show_searches<R: AllocGlobal + Print>(rt: &R) -> io::Result<()> {
+    show(rt, "search of three-pages-tight", |alloc, line| {
+        put_search(
+            alloc,
+            &example(alloc, &THREE_PAGES_TIGHT)?,
+            LIMIT,
+            End::Open,
+            line,
+        )
+    })?;
+    show(rt, "search of loops-apart, closed", |alloc, line| {
+        put_search(
+            alloc,
+            &example(alloc, &LOOPS_APART)?,
+            LIMIT,
+            End::Closed,
+            line,
+        )
+    })?;
+    show(rt, "search of four pages", |alloc, line| {
+        put_search(alloc, &example(alloc, &FOUR_PAGES)?, LIMIT, End::Open, line)
+    })?;
+    show(rt, "search of loops-apart to 2 nodes", |alloc, line| {
+        put_search(alloc, &example(alloc, &LOOPS_APART)?, 2, End::Open, line)
+    })?;
+    show(rt, "search of eight pages to 300 nodes", |alloc, line| {
+        put_search(alloc, &example(alloc, &EIGHT_PAGES)?, 300, End::Open, line)
+    })
+}
+
+fn show_free_searches<R: AllocGlobal + Print>(rt: &R) -> io::Result<()> {
+    show(rt, "search_freely of three-pages-tight", |alloc, line| {
+        put_free_search(alloc, &example(alloc, &THREE_PAGES_TIGHT)?, LIMIT, line)
+    })?;
+    show(rt, "search_freely of four pages", |alloc, line| {
+        put_free_search(alloc, &example(alloc, &FOUR_PAGES)?, LIMIT, line)
+    })?;
+    show(rt, "search_freely of eight pages", |alloc, line| {
+        put_free_search(alloc, &example(alloc, &EIGHT_PAGES)?, LIMIT, line)
+    })?;
+    show(
+        rt,
+        "search_freely of loops-apart to 1 node",
+        |alloc, line| { put_free_search(alloc, &example(alloc, &LOOPS_APART)?, 1, line) },
+    )?;
+    show(
+        rt,
+        "fallback of loops-apart",
+        |alloc, line| show_fallback(alloc, &LOOPS_APART, line),
+    )
+}
+
+pub fn show_all<R: AllocGlobal + Print>(rt: &R) -> io::Result<()> {
+    show_searches(rt)?;
+    show_free_searches(rt)
 }

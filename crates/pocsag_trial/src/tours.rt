@@ -1,10 +1,11 @@
-use crate::line::Line;
-use crate::pages::show_no_round;
+use crate::line::{Line, show};
+use crate::pages::example;
 use pocsag_batch::{lay_out, order_of};
-use pocsag_core_cases::{NoTour, THREE_PAGES_TIGHT, round_of, tour_of};
+use pocsag_core_cases::{NoTour, THREE_PAGES_TIGHT, tour_of};
 use pocsag_tour::TourFault;
 use pocsag_words::{End, OutOfMemory};
 use std::alloc::Global;
+use std::io;
 
 fn show_no_tour(fault: NoTour, line: &mut Line) -> Result<(), OutOfMemory> {
     match fault {
@@ -25,10 +26,7 @@ fn show_tour(
     late: Option<u8>,
     line: &mut Line,
 ) -> Result<(), OutOfMemory> {
-    let round = match round_of(alloc, pages) {
-        Ok(round) => round,
-        Err(fault) => return show_no_round(fault, line),
-    };
+    let round = example(alloc, pages)?;
     match tour_of(alloc, &round, late, 1, End::Open) {
         Ok(steps) => line.put_steps(steps.as_slice()),
         Err(fault) => return show_no_tour(fault, line),
@@ -36,43 +34,38 @@ fn show_tour(
     Ok(())
 }
 
-pub fn tour_loop_apart_early(alloc: Global, line: &mut Line) -> Result<(), OutOfMemory> {
-    show_tour(alloc, &[(3, 15)], None, line)
-}
-
-pub fn tour_loop_apart_late(alloc: Global, line: &mut Line) -> Result<(), OutOfMemory> {
-    show_tour(alloc, &[(3, 15)], Some(48), line)
-}
-
-pub fn tour_two_numeric(alloc: Global, line: &mut Line) -> Result<(), OutOfMemory> {
-    show_tour(alloc, &[(0, 5), (3, 9)], None, line)
-}
-
-pub fn order_tight_pages(alloc: Global, line: &mut Line) -> Result<(), OutOfMemory> {
-    let round = match round_of(alloc, &THREE_PAGES_TIGHT) {
-        Ok(round) => round,
-        Err(fault) => return show_no_round(fault, line),
-    };
+// The order of the tour of the pages, and their layout.
+fn lay_out_tight_pages(alloc: Global, line: &mut Line) -> Result<(), OutOfMemory> {
+    let round = example(alloc, &THREE_PAGES_TIGHT)?;
     let steps = match tour_of(alloc, &round, None, 2, End::Open) {
         Ok(steps) => steps,
         Err(fault) => return show_no_tour(fault, line),
     };
     let order = order_of(alloc, &round, steps.as_slice(), End::Open)?;
     line.put_places(order.as_slice());
-    Ok(())
-}
-
-pub fn lay_out_tight_pages(alloc: Global, line: &mut Line) -> Result<(), OutOfMemory> {
-    let round = match round_of(alloc, &THREE_PAGES_TIGHT) {
-        Ok(round) => round,
-        Err(fault) => return show_no_round(fault, line),
-    };
-    let steps = match tour_of(alloc, &round, None, 2, End::Open) {
-        Ok(steps) => steps,
-        Err(fault) => return show_no_tour(fault, line),
-    };
     let batches = lay_out(alloc, &round, steps.as_slice(), End::Open)?;
     line.put(batches.count());
     line.put_words(batches.words());
     Ok(())
+}
+
+pub fn show_all<R: AllocGlobal + Print>(rt: &R) -> io::Result<()> {
+    show(
+        rt,
+        "tour of loop-apart, early",
+        |alloc, line| show_tour(alloc, &[(3, 15)], None, line),
+    )?;
+    show(
+        rt,
+        "tour of loop-apart, late",
+        |alloc, line| show_tour(alloc, &[(3, 15)], Some(48), line),
+    )?;
+    show(rt, "tour of two-numeric-exact", |alloc, line| {
+        show_tour(alloc, &[(0, 5), (3, 9)], None, line)
+    })?;
+    show(
+        rt,
+        "order_of and lay_out of three-pages-tight",
+        lay_out_tight_pages,
+    )
 }

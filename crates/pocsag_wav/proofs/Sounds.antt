@@ -11,7 +11,7 @@ use Rattle.std.proofs.lemmas.Option.{slice_get-get_or}
 use Rattle.std.specs.Int.{bit_at, cast_signed, cast_unsigned, div_ceil, from_bool, w16}
 use Rattle.std.specs.List.{flat_map}
 use Rattle.pocsag_wav.specs.declared.keying.Keying.{Keying}
-use Rattle.pocsag_wav.specs.Levels.{IsKeyed, bits_sent, high_level, keyed_bytes, level_at, level_in, low_level}
+use Rattle.pocsag_wav.specs.Levels.{high_level, keyed_bytes, level_at, level_in, low_level}
 use Rattle.pocsag_wav.specs.Wav.{IsWav, sample_bytes, wav_header}
 use Rattle.pocsag_wav.specs.Samples.{IsCount, samples_of}
 
@@ -110,28 +110,19 @@ module _ (keying : Keying) (bytes : List ℕ) where
       ∙ (sym (append_assoc before (flat_map sample_bytes (samples_of keying bytes i)) rest)
       ∙ (ap (λ (l : List ℕ). l ++ rest) (sym told) ∙ append_assoc now piece rest))
 
--- so many samples are those of a transmission
-pub are_keyed : (keying : Keying) (bytes : List ℕ) (n : ℕ) → IsCount keying (bits_sent keying bytes) n →
-    IsKeyed keying bytes (samples_of keying (keyed_bytes keying.preamble bytes) n)
-are_keyed keying bytes n count =
-    let B = keyed_bytes keying.preamble bytes in
-    let long = length-samples_of keying B n in
-    record {
-      levels = λ i h. get-samples_of keying B n i (omega (arith, long));
-      all = λ i. rw long (count i);
-    }
-
--- so is a file of the bytes that are keyed, with the header of so many
+-- a file of the bytes that are keyed, with the header of so many samples, is the sound of a transmission
 pub is_wav : (keying : Keying) (bytes keyed : List ℕ) (bits n : ℕ) → keyed ≡ keyed_bytes keying.preamble bytes → bits ≡ 8 * length keyed + 544 →
     IsCount keying bits n → 36 + 2 * n < 2 ^ 32 →
     IsWav keying bytes (wav_header keying.samples n ++ flat_map sample_bytes (samples_of keying keyed n))
 is_wav keying bytes keyed bits n same due count fits =
     let long : length (samples_of keying keyed n) ≡ n = length-samples_of keying keyed n in
-    let counted : IsCount keying (bits_sent keying bytes) n =
-    subst (λ (m : ℕ). IsCount keying m n) (due ∙ ap (λ (l : List ℕ). 8 * length l + 544) same) count in
     record {
       samples = samples_of keying keyed n;
-      keyed = subst (λ (l : List ℕ). IsKeyed keying bytes (samples_of keying l n)) (sym same) (are_keyed keying bytes n counted);
+      keyed = record {
+        levels = λ i h. get-samples_of keying keyed n i (omega (arith, long))
+            ∙ ap (λ (l : List ℕ). Some (level_at keying.is_inverted l (i * keying.rate / keying.samples))) same;
+        all = λ i. rw long (subst (λ (m : ℕ). (i < n) ↔ (i * keying.rate / keying.samples < m)) (due ∙ ap (λ (l : List ℕ). 8 * length l + 544) same) (count i));
+      };
       held = record {
         fits = omega (arith, long);
         whole = ap (λ (k : ℕ). wav_header keying.samples k ++ flat_map sample_bytes (samples_of keying keyed n)) (sym long);

@@ -9,4 +9,5 @@ pub root_with-requires : goal.root_with-requires
 root_with-requires c = rw c.all_limits.ensures.value c.in_ok-met.ensures.choice
 
 pub returns-clause-tree : goal.returns-clause-tree
-returns-clause-tree c = record { after = _; examined = rw c.all_limits.ensures.value at c.in_ok-tree.ensures.node }
+returns-clause-tree c =
+    record { fixed = c.requires; after = _; examined = rw c.all_limits.ensures.value at c.in_ok-tree.ensures.node }

@@ -12,7 +12,7 @@ pub returns-then-is_unfinished-clause-fault : goal.returns-then-is_unfinished-cl
 returns-then-is_unfinished-clause-fault c =
     let k = c.args.classes.now in
     let tree = bound_tree_of c.args.tree in
-    let fills = c.requires.tree.examined.fills in
+    let fills = c.requires.tree.examined.fills c.requires.tree.fixed in
     let some = some_unseen tree fills.closed fills.unseen fills.layout (sym c.if-is_unfinished.ensures) in
     let full : fills.closed ≡ c.args.task.limit = omega (arith, fills.spent, fills.whole some) in
     record {
@@ -32,14 +32,14 @@ returns-then-is_unfinished-clause-fault c =
       some = some;
       marks = fills.layout ∙ ap (λ n. replicate n false ++ replicate fills.unseen true) full;
       accepted = tree_open k c.args.task tree c.requires.tree;
-      shaped = c.requires.tree.examined.shaped;
+      shaped = c.requires.tree.examined.shaped c.requires.tree.fixed;
     }
 
 pub returns-clause-found : goal.returns-clause-found
 returns-clause-found c =
     let k = c.args.classes.now in
     let tree = bound_tree_of c.args.tree in
-    let fills = c.requires.tree.examined.fills in
+    let fills = c.requires.tree.examined.fills c.requires.tree.fixed in
     let none = none_unseen tree fills.closed fills.unseen fills.layout (sym c.is_unfinished.ensures ∙ c.if-is_unfinished.false) in
     let closed = closed_is tree fills.closed fills.unseen fills.layout in
     let accepted = tree_whole k c.args.task tree c.requires.tree (sym c.is_unfinished.ensures ∙ c.if-is_unfinished.false) in
@@ -54,5 +54,5 @@ returns-clause-found c =
       examined = fills.layout ∙ ap (λ n. replicate fills.closed false ++ replicate n true) none ∙ append-nil (replicate fills.closed false)
           ∙ ap (λ n. replicate n false) (sym closed);
       few = omega (arith, closed, fills.spent, fills.within);
-      shaped = one_more refl c.requires.tree.examined.shaped;
+      shaped = one_more refl (c.requires.tree.examined.shaped c.requires.tree.fixed);
     }

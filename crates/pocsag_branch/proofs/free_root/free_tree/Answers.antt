@@ -1,13 +1,14 @@
-use Rattle.std.proofs.Common.{◌≡◌, ◌≤◌, Result, Ok, Err, IfOk, arith, subst}
+use Rattle.std.proofs.Common.{◌≡◌, ◌≤◌, false, Result, Ok, Err, IfOk, arith, subst}
 use Rattle.std.proofs.lemmas.Result.{IfErr-weaker}
 use Rattle.pocsag_slots.specs.declared.class.Classes.{Classes}
 use Rattle.pocsag_tree.specs.declared.shape.Tree.{Tree}
 use Rattle.pocsag_tree.specs.BoundTrees.{BoundTree}
 use Rattle.pocsag_tree.specs.Views.{bound_tree_of}
-use Rattle.pocsag_branch.specs.declared.early_end.EarlyEnd.{EarlyEnd}
-use Rattle.pocsag_branch.specs.declared.early_end.EarlyEnd.TheVariants.{Met, Limit, OutOfMemory}
+use Rattle.pocsag_branch.specs.declared.task.Stop.{Stop}
+use Rattle.pocsag_branch.specs.declared.task.Stop.TheVariants.{Met, Limit, OutOfMemory}
 use Rattle.pocsag_branch.specs.declared.task.Task.{Task}
-use Rattle.pocsag_branch.specs.FreeNode.{IsFreeTree, IsEarlyEnd}
+use Rattle.pocsag_branch.specs.Examined.{IsStop}
+use Rattle.pocsag_branch.specs.FreeNode.{IsFreeTree}
 use Rattle.pocsag_branch.proofs.free_root.free_tree.Goals as goal
 
 same_tree : (k : Classes) (q r : Task) (t : BoundTree) → r.end ≡ q.end → r.batches ≡ q.batches → r.limit ≤ q.limit → IsFreeTree k r t →
@@ -18,10 +19,10 @@ same_tree k q r t same_end same_batches less h =
       few = omega (arith, h.few);
     }
 
-within_limit : (k : Classes) (q r : Task) (found : Result Tree EarlyEnd) → r.end ≡ q.end → r.batches ≡ q.batches → r.limit ≤ q.limit →
+within_limit : (k : Classes) (q r : Task) (found : Result Tree Stop) → r.end ≡ q.end → r.batches ≡ q.batches → r.limit ≤ q.limit →
     IfOk found (λ tree. IsFreeTree k r (bound_tree_of tree)) → IfOk found (λ tree. IsFreeTree k q (bound_tree_of tree))
 within_limit k q r (Ok t) same_end same_batches less h = same_tree k q r (bound_tree_of t) same_end same_batches less h
-within_limit k q r (Err early_end) same_end same_batches less h = h
+within_limit k q r (Err stop) same_end same_batches less h = h
 
 pub returns-else-task-short-clause-tree : goal.returns-else-task-short-clause-tree
 returns-else-task-short-clause-tree c =
@@ -29,25 +30,25 @@ returns-else-task-short-clause-tree c =
     c.task_within-second.ensures.end c.task_within-second.ensures.batches
     (omega (arith, c.task_within-second.ensures.limit)) c.tree_of_try-in-Err-Limit.ensures.tree
 
-same_halt : (k : Classes) (q r : Task) (early_end : EarlyEnd) → r.end ≡ q.end → r.batches ≡ q.batches → IsEarlyEnd k r early_end → IsEarlyEnd k q early_end
-same_halt k q r (Met answer) same_end same_batches h = rw same_end at (rw same_batches at h)
-same_halt k q r Limit same_end same_batches h = tt
-same_halt k q r OutOfMemory same_end same_batches h = tt
+same_stop : (k : Classes) (q r : Task) (stop : Stop) → q.fixed ≡ false → r.end ≡ q.end → r.batches ≡ q.batches → IsStop k r stop → IsStop k q stop
+same_stop k q r (Met answer) free same_end same_batches h = rw same_end at (rw same_batches at h)
+same_stop k q r Limit free same_end same_batches h = free
+same_stop k q r OutOfMemory free same_end same_batches h = tt
 
 pub returns-in-Ok-clause-tree : goal.returns-in-Ok-clause-tree
 returns-in-Ok-clause-tree c =
     same_tree c.args.classes.now c.args.task c.task_within-first.result (bound_tree_of c.in-Ok.tree) c.task_within-first.ensures.end
     c.task_within-first.ensures.batches (omega (arith, c.task_within-first.ensures.limit, c.min-short.ensures)) c.in-Ok.ensures.tree
 
-pub returns-in-Err-Met-clause-early_end : goal.returns-in-Err-Met-clause-early_end
-returns-in-Err-Met-clause-early_end c =
-    same_halt c.args.classes.now c.args.task c.task_within-first.result (Met c.in-Err-Met.answer) c.task_within-first.ensures.end
+pub returns-in-Err-Met-clause-stop : goal.returns-in-Err-Met-clause-stop
+returns-in-Err-Met-clause-stop c =
+    same_stop c.args.classes.now c.args.task c.task_within-first.result (Met c.in-Err-Met.answer) c.requires c.task_within-first.ensures.end
     c.task_within-first.ensures.batches
-    (subst (IsEarlyEnd c.args.classes.now c.task_within-first.result) c.in-Err-Met.field-0-is c.in-Err-Met.ensures.early_end)
+    (subst (IsStop c.args.classes.now c.task_within-first.result) c.in-Err-Met.field-0-is c.in-Err-Met.ensures.stop)
 
-pub returns-else-task-short-clause-early_end : goal.returns-else-task-short-clause-early_end
-returns-else-task-short-clause-early_end c =
+pub returns-else-task-short-clause-stop : goal.returns-else-task-short-clause-stop
+returns-else-task-short-clause-stop c =
     IfErr-weaker c.tree_of_try-in-Err-Limit.result _ _
-    (λ early_end h. same_halt c.args.classes.now c.args.task c.task_within-second.result early_end c.task_within-second.ensures.end
+    (λ stop h. same_stop c.args.classes.now c.args.task c.task_within-second.result stop c.requires c.task_within-second.ensures.end
     c.task_within-second.ensures.batches h)
-    c.tree_of_try-in-Err-Limit.ensures.early_end
+    c.tree_of_try-in-Err-Limit.ensures.stop

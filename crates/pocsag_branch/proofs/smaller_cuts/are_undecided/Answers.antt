@@ -3,7 +3,7 @@ use Rattle.std.proofs.lemmas.List.{take_all}
 use Rattle.std.proofs.lemmas.List.Elements.{All-more}
 use Rattle.pocsag_slots.specs.declared.way.Way.TheVariants.{IdleIn}
 use Rattle.pocsag_branch.specs.Undecided.{Falls}
-use Rattle.pocsag_branch.proofs.FreeNodes.{undecided_falls}
+use Rattle.pocsag_branch.proofs.Settled.{undecided_falls}
 use Rattle.pocsag_branch.proofs.smaller_cuts.are_undecided.Goals as goal
 
 pub loop-way-preserved : goal.loop-way-preserved

@@ -1,66 +1,49 @@
 use Rattle.std.proofs.Common.{◌+◌, ◌-◌, ◌*◌, ◌/◌, ◌%◌, ◌++◌, Bool, Option, refl, sym, ap, subst, ◌∙◌, arith}
 use Rattle.std.specs.Prelude.{IsTrue, nat_le, option_to_list}
-use Rattle.pocsag_words.specs.Kinds.{kind_of}
 use Rattle.pocsag_words.specs.declared.codeword.Kind.{Kind}
 use Rattle.pocsag_decode.specs.Places.{is_message}
 use Rattle.pocsag_pager.specs.Shown.{said}
 use Rattle.pocsag_capture.specs.Bits.{capture_bits}
-use Rattle.pocsag_capture.specs.TakenWords.{cut_by, corrected_word}
+use Rattle.pocsag_capture.specs.TakenWords.{cut_by}
 use Rattle.pocsag_capture.specs.declared.captured_transmission.CapturedTransmission.{CapturedTransmission}
 use Rattle.pocsag_capture.specs.declared.corrector.WordCorrector.{WordCorrector}
-use Rattle.pocsag_capture.proofs.Extracts.{first_long}
-use Rattle.pocsag_capture.proofs.PageEnds.{IsCaptured, as_many_cuts, capturing_all, capturing_none, capturing_sync, capturing_word, message_by, uncut_pages_stand}
+use Rattle.pocsag_capture.proofs.CorrectedWords.{correcting_none, correcting_sync}
+use Rattle.pocsag_capture.proofs.PageEnds.{IsCaptured, as_many_cuts, capturing_all, capturing_word, message_by, uncut_pages_stand}
 use Rattle.pocsag_capture.proofs.captured_transmission.capture_pages.Goals as goal
-
-pub take_sync-requires-clause-corrected : goal.take_sync-requires-clause-corrected
-take_sync-requires-clause-corrected c =
-    omega (arith, c.loop-place.invariant.correcting.few_bits, first_long (capture_bits c.args.capture.now) c.args.reception c.loop-place.place)
-
-pub take_sync-requires-clause-lost : goal.take_sync-requires-clause-lost
-take_sync-requires-clause-lost c =
-    omega (arith, c.loop-place.invariant.correcting.few_lost, first_long (capture_bits c.args.capture.now) c.args.reception c.loop-place.place)
-
-pub take-corrected_word-requires-clause-corrected : goal.take-corrected_word-requires-clause-corrected
-take-corrected_word-requires-clause-corrected c =
-    omega (arith, c.loop-place.invariant.correcting.few_bits, first_long (capture_bits c.args.capture.now) c.args.reception c.loop-place.place)
-
-pub take-corrected_word-requires-clause-lost : goal.take-corrected_word-requires-clause-lost
-take-corrected_word-requires-clause-lost c =
-    omega (arith, c.loop-place.invariant.correcting.few_lost, first_long (capture_bits c.args.capture.now) c.args.reception c.loop-place.place)
-
-pub take-corrected_word-requires-clause-cut : goal.take-corrected_word-requires-clause-cut
-take-corrected_word-requires-clause-cut c =
-    omega (arith, c.loop-place.invariant.correcting.few_cuts, first_long (capture_bits c.args.capture.now) c.args.reception c.loop-place.place)
 
 pub take-requires-clause-follows : goal.take-requires-clause-follows
 take-requires-clause-follows c message =
     let takes = c.take-corrected_word.ensures in
-    subst (λ (b : Bool). IsTrue b) (sym c.loop-place.invariant.open_page)
-    (message_by c.loop-place.corrector.is_open (said takes.mended) (kind_of (corrected_word c.take-corrected_word.result.kept)) takes.kind
-    (subst (λ (k : Kind). IsTrue (is_message k)) c.kind.ensures.kind message))
+    rw c.loop-place.invariant.open_page (message_by c.loop-place.corrector.is_open (said takes.mended)
+    (subst (λ (k : Kind). IsTrue (is_message k)) (c.kind_of_number-kind.ensures.kind ∙ takes.kind) message))
 
 pub loop-place-init : goal.loop-place-init
-loop-place-init c =
-    capturing_none c.steady_batches-steady.result _ _ c.new-cuts.result.items refl refl refl refl c.new.ensures.items refl c.new-cuts.ensures.items
+loop-place-init c = record {
+  correcting = correcting_none _ _ _;
+  open_page = refl;
+  pages = λ more. rw c.new.ensures.items refl;
+  ended = c.new-cuts.ensures.items;
+}
 
 pub loop-place-preserved-then-place-eq0 : goal.loop-place-preserved-then-place-eq0
 loop-place-preserved-then-place-eq0 c =
-    capturing_sync (capture_bits c.args.capture.now) c.args.reception c.loop-place.place c.received_word-word.result c.steady_batches-steady.result
-    c.loop-place.corrector c.take_sync.new.self c.loop-place.growing c.loop-place.cuts.items c.received_word-word.ensures c.loop-place.invariant
-    c.if-place-eq0.true c.take_sync.ensures.bits c.take_sync.ensures.open_page c.take_sync.ensures.lost c.take_sync.ensures.cut
+    let f = c.loop-place.invariant in
+    record {
+      correcting = correcting_sync _ _ _ c.received_word-word.result _ c.loop-place.corrector c.take_sync.new.self c.received_word-word.ensures f.correcting
+          c.if-place-eq0.true c.take_sync.ensures.bits c.take_sync.ensures.open_page c.take_sync.ensures.lost c.take_sync.ensures.cut;
+      open_page = f.open_page ∙ sym c.take_sync.ensures.open_page;
+      pages = f.pages;
+      ended = f.ended;
+    }
 
 pub loop-place-preserved : goal.loop-place-preserved
 loop-place-preserved c =
     capturing_word (capture_bits c.args.capture.now) c.args.reception c.loop-place.place c.received_word-word.result c.steady_batches-steady.result
     c.loop-place.corrector c.take-corrected_word.new.self c.loop-place.growing c.loop-place.cuts.items c.received_word-word.ensures c.loop-place.invariant
-    (corrected_word c.take-corrected_word.result.kept) ((c.loop-place.place % 17 - 1) / 2) c.kind.result
+    c.take-corrected_word.result.codeword ((c.loop-place.place % 17 - 1) / 2) c.kind_of_number-kind.result
     (nat_le (17 * c.steady_batches-steady.result) c.loop-place.place) c.take-corrected_word.result.ended c.take.new.self c.note_end.new.cuts.items
-    c.if-place-eq0.false refl refl c.kind.ensures.kind c.take-corrected_word.ensures c.in_ok-note_end.ensures c.in_ok-take.ensures.reads
+    c.if-place-eq0.false refl refl c.kind_of_number-kind.ensures.kind c.take-corrected_word.ensures c.in_ok-note_end.ensures c.in_ok-take.ensures.reads
     c.in_ok-take.ensures.current
-
-pub close-ended-requires : goal.close-ended-requires
-close-ended-requires c =
-    omega (arith, c.loop-place.invariant.correcting.few_cuts, first_long (capture_bits c.args.capture.now) c.args.reception c.loop-place.place)
 
 abbrev pub captured_there : goal.Joined-growing-5 → CapturedTransmission
 captured_there c = record {

@@ -15,11 +15,7 @@ returns-clause-extracted c =
 
 pub returns-clause-sent : goal.returns-clause-sent
 returns-clause-sent c = λ pages sent.
-    let same = c.in_ok-put_extract.ensures.same in
-    let extracted =
-    extracts_all c.args.capture.now (record { bytes = c.put_extracts.new.bytes; heard = c.in_ok-heard.heard }) c.in_ok-bytes.bytes.items c.put_extract.new.bytes.items c.in_ok-put_extract.field-0 c.as_slice.result.now
-    c.in_ok-bytes.ensures (ap (λ (r : Reception). r.words) same) (ap (λ (r : Reception). r.batches) same) c.in_ok-put_extract.ensures.extracted
-    c.in_ok-heard.ensures (subst (AreReceptions (capture_bits c.args.capture.now)) (sym c.as_slice.ensures.value) c.in_ok-found.ensures.found) in
+    let extracted = returns-clause-extracted c in
     record {
       pages = extracted.pages;
       among = shows_what_was_sent c.args.capture.now _ pages extracted.pages sent extracted.captured;

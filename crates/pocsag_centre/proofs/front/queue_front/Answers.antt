@@ -1,5 +1,6 @@
 use Rattle.std.proofs.Common.{◌≡◌, List, ◌++◌, true, take, length, All, refl, sym, ap, subst, ◌∙◌}
 use Rattle.std.specs.Prelude.{Ok}
+use Rattle.std.proofs.lemmas.Result.{err_from_is_err_and}
 use Rattle.pocsag_pages.specs.declared.page.Page.{Page}
 use Rattle.pocsag_pages.specs.Listable.{IsListable}
 use Rattle.pocsag_pages.specs.Queues.{firsts, held_pages, left_of}
@@ -10,36 +11,36 @@ use Rattle.pocsag_centre.proofs.FirstPart.{first_is, front_read, front_unwritten
 use Rattle.pocsag_centre.proofs.QueueRounds.{held_spellable, left_back, left_listable}
 use Rattle.pocsag_centre.proofs.front.queue_front.Goals as goal
 
-pub returns-in-Ok-left_pages-clause-front : goal.returns-in-Ok-left_pages-clause-front
-returns-in-Ok-left_pages-clause-front g c = λ t.
-    let Q = c.in-Ok.queue.items in
-    let read = c.in-Ok.ensures.ok t in
-    let found = c.in-Ok-longest_front.ensures in
-    let front = c.in-Ok-longest_front.front in
-    let R = c.in-Ok-first_pages.firsts in
-    let same : R ≡ firsts Q = c.in-Ok-first_pages.ensures ∙ ap firsts c.as_slice.ensures.value in
+pub returns-clause-front : goal.returns-clause-front
+returns-clause-front g c = λ t.
+    let Q = c.in_ok-queue.queue.items in
+    let read = c.in_ok-queue.ensures.ok t in
+    let found = c.in_ok-front.ensures in
+    let front = c.in_ok-front.front in
+    let R = c.in-Ok.firsts in
+    let same : R ≡ firsts Q = c.in-Ok.ensures ∙ ap firsts c.as_slice.ensures.value in
     let left : c.in-Ok-left_pages.rest.items ≡ left_of front.round Q =
     c.in-Ok-left_pages.ensures ∙ ap (λ (v : List Page). left_of v Q) c.pages.ensures.pages in
     let texts = held_spellable c.args.asked.may_wait _ Q read c.pages_of_files_are_spellable.ensures.files c.pages_of_files_are_spellable.ensures.queues in
-    let others = left_back Q front.round c.in-Ok.ensures.queue (c.page_files_are_read_back.ensures.pages, c.page_files_are_read_back.ensures.queues)
-    c.args.asked.may_wait c.in-Ok.ensures.apart texts c.in-Ok-left_pages.rest.items left in
+    let others = left_back Q front.round c.in_ok-queue.ensures.queue (c.page_files_are_read_back.ensures.pages, c.page_files_are_read_back.ensures.queues)
+    c.args.asked.may_wait c.in_ok-queue.ensures.apart texts c.in-Ok-left_pages.rest.items left in
     front_read _ c.args.asked Q R _ read same
     (first_is R front.round front.rest.items _ found.parts refl) left found.front found.longest found.plan found.within found.why others
 
-pub returns-in-Ok-left_pages-clause-listable : goal.returns-in-Ok-left_pages-clause-listable
-returns-in-Ok-left_pages-clause-listable g c =
-    let Q = c.in-Ok.queue.items in
-    let front = c.in-Ok-longest_front.front in
+pub returns-clause-listable : goal.returns-clause-listable
+returns-clause-listable g c =
+    let Q = c.in_ok-queue.queue.items in
+    let front = c.in_ok-front.front in
     let left : c.in-Ok-left_pages.rest.items ≡ left_of front.round Q =
     c.in-Ok-left_pages.ensures ∙ ap (λ (v : List Page). left_of v Q) c.pages.ensures.pages in
-    subst (All IsListable) (sym left) (left_listable Q front.round c.in-Ok.ensures.queue)
+    subst (All IsListable) (sym left) (left_listable Q front.round c.in_ok-queue.ensures.queue)
 
-pub returns-in-Err-longest_front-clause-explained : goal.returns-in-Err-longest_front-clause-explained
-returns-in-Err-longest_front-clause-explained g c = λ t.
-    let Q = c.in-Ok.queue.items in
-    let held = c.in-Ok.ensures.ok t in
-    let same : c.in-Ok-first_pages.firsts ≡ firsts Q = c.in-Ok-first_pages.ensures ∙ ap firsts c.as_slice.ensures.value in
-    rw c.from.ensures
-    (front_unwritten _ c.args.asked Q held c.in-Err-longest_front.fault
-    (subst (λ (v : List Page). ExplainsFront c.args.asked.search v c.args.asked.batches c.in-Err-longest_front.fault)
-    same c.in-Err-longest_front.ensures.fault))
+pub returns-in_err-front-clause-explained : goal.returns-in_err-front-clause-explained
+returns-in_err-front-clause-explained g c = λ t.
+    let p = err_from_is_err_and c.from_residual-in_err-front.result c.from_residual-in_err-front.ensures.1 in
+    let refused = c.in_err-front.field-0.0 in
+    let same : c.in-Ok.firsts ≡ firsts c.in_ok-queue.queue.items =
+    c.in-Ok.ensures ∙ ap firsts c.as_slice.ensures.value in
+    rw (p.1, p.2)
+    (front_unwritten _ c.args.asked c.in_ok-queue.queue.items (c.in_ok-queue.ensures.ok t) refused
+    (subst (λ (v : List Page). ExplainsFront c.args.asked.search v c.args.asked.batches refused) same c.in_err-front.ensures.fault))

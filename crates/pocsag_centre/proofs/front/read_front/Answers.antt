@@ -1,5 +1,6 @@
 use Rattle.std.proofs.Common.{◌≡◌, List, ◌++◌, false, take, length, refl, sym, ap, subst, ◌∙◌}
 use Rattle.std.specs.Prelude.{Ok}
+use Rattle.std.proofs.lemmas.Result.{err_from_is_err_and}
 use Rattle.pocsag_pages.specs.declared.page.Page.{Page}
 use Rattle.pocsag_pages.specs.Pages.{AreGood}
 use Rattle.pocsag_pages.specs.Queues.{firsts, held_pages, left_of}
@@ -10,12 +11,12 @@ use Rattle.pocsag_centre.proofs.FirstPart.{first_is, front_read, front_unwritten
 use Rattle.pocsag_centre.proofs.QueueRounds.{round_firsts, round_held, round_left}
 use Rattle.pocsag_centre.proofs.front.read_front.Goals as goal
 
-pub returns-in-Ok-longest_front-clause-front : goal.returns-in-Ok-longest_front-clause-front
-returns-in-Ok-longest_front-clause-front g c = λ t.
-    let R = c.in-Ok.round in
-    let read = c.in-Ok.ensures.ok t in
-    let front = c.in-Ok-longest_front.front in
-    let found = c.in-Ok-longest_front.ensures in
+pub returns-clause-front : goal.returns-clause-front
+returns-clause-front g c = λ t.
+    let R = c.in_ok-round.round in
+    let read = c.in_ok-round.ensures.ok t in
+    let front = c.in_ok-longest_front.field-0 in
+    let found = c.in_ok-longest_front.ensures in
     let off : c.args.asked.may_wait ≡ false = c.if-asked.false in
     let held = round_held c.args.asked.may_wait _ R off read in
     let good : AreGood R = c.keeps_rules.ensures.good in
@@ -29,18 +30,18 @@ returns-in-Ok-longest_front-clause-front g c = λ t.
     (sym behind) found.front found.longest found.plan found.within found.why
     (subst (λ b. IsPageFileOf b front.rest.items (page_file front.rest.items)) (sym off) others)
 
-pub returns-in-Ok-longest_front-clause-listable : goal.returns-in-Ok-longest_front-clause-listable
-returns-in-Ok-longest_front-clause-listable g c =
-    let front = c.in-Ok-longest_front.front in
-    rest_listable c.in-Ok.round front.round front.rest.items (length front.round) c.in-Ok-longest_front.ensures.parts refl c.keeps_rules.ensures
+pub returns-clause-listable : goal.returns-clause-listable
+returns-clause-listable g c =
+    let front = c.in_ok-longest_front.field-0 in
+    rest_listable c.in_ok-round.round front.round front.rest.items (length front.round) c.in_ok-longest_front.ensures.parts refl c.keeps_rules.ensures
 
-pub returns-in-Err-longest_front-clause-explained : goal.returns-in-Err-longest_front-clause-explained
-returns-in-Err-longest_front-clause-explained g c = λ t.
-    let R = c.in-Ok.round in
-    let off : c.args.asked.may_wait ≡ false = c.if-asked.false in
-    let held = round_held c.args.asked.may_wait _ R off (c.in-Ok.ensures.ok t) in
-    let same = round_firsts R c.keeps_rules.ensures.good in
-    rw c.from.ensures
-    (front_unwritten _ c.args.asked R held c.in-Err-longest_front.fault
-    (subst (λ (v : List Page). ExplainsFront c.args.asked.search v c.args.asked.batches c.in-Err-longest_front.fault) (sym same)
-    c.in-Err-longest_front.ensures.fault))
+pub returns-in_err-longest_front-clause-explained : goal.returns-in_err-longest_front-clause-explained
+returns-in_err-longest_front-clause-explained g c = λ t.
+    let p = err_from_is_err_and c.from_residual-in_err-longest_front.result c.from_residual-in_err-longest_front.ensures.1 in
+    let refused = c.in_err-longest_front.field-0.0 in
+    let R = c.in_ok-round.round in
+    let held = round_held c.args.asked.may_wait _ R c.if-asked.false (c.in_ok-round.ensures.ok t) in
+    rw (p.1, p.2)
+    (front_unwritten _ c.args.asked R held refused
+    (subst (λ (v : List Page). ExplainsFront c.args.asked.search v c.args.asked.batches refused)
+    (sym (round_firsts R c.keeps_rules.ensures.good)) c.in_err-longest_front.ensures.fault))

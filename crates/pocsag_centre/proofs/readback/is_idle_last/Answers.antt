@@ -1,7 +1,7 @@
 use Rattle.std.proofs.Common.{◌≡◌, ℕ, ◌-◌, take, drop, length, sym, ap, ◌∙◌, arith}
 use Rattle.std.proofs.lemmas.List.{length-drop, take_all}
 use Rattle.std.proofs.lemmas.Slice.Eq.{bytes_eq-Decides}
-use Rattle.pocsag_centre.proofs.Endings.{idle_bytes, idle_end, idle_last, last_four}
+use Rattle.pocsag_centre.proofs.Endings.{idle_bytes, idle_end, last_four}
 use Rattle.pocsag_centre.proofs.readback.is_idle_last.Goals as goal
 
 pub returns : goal.returns
@@ -14,7 +14,7 @@ returns c = λ codewords sent.
       λ yes.
           let four : take (length bytes - from) (drop from bytes) ≡ idle_bytes =
           (bytes_eq-Decides _ _).0 (sym c.eq.ensures ∙ yes) ∙ c.as_slice.ensures in
-          idle_last bytes codewords sent (sym last ∙ sym all ∙ four),
+          (idle_end bytes codewords sent).0 (sym last ∙ sym all ∙ four),
       λ idle.
-          c.eq.ensures ∙ (bytes_eq-Decides _ _).1 (all ∙ last ∙ idle_end bytes codewords sent idle ∙ sym c.as_slice.ensures),
+          c.eq.ensures ∙ (bytes_eq-Decides _ _).1 (all ∙ last ∙ (idle_end bytes codewords sent).1 idle ∙ sym c.as_slice.ensures),
     )

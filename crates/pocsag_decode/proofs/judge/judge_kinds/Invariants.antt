@@ -1,9 +1,11 @@
-use Rattle.std.proofs.Common.{◌≡◌, ◌+◌, take, Ok}
+use Rattle.std.proofs.Common.{◌≡◌, ◌+◌, drop, Bool, Result}
+use Rattle.pocsag_decode.specs.declared.fault.DecodeFault.{DecodeFault}
 use Rattle.pocsag_decode.specs.Judgements.{JudgesMore}
 use Rattle.pocsag_decode.proofs.judge.judge_kinds.Given as goal
 
 abbrev pub invariant-loop-codeword : goal.invariant-loop-codeword
 invariant-loop-codeword l = record {
   at : l.place ≡ l.fn.place + l.codeword-index;
-  judged : JudgesMore (Ok l.in_page) l.fn.place l.fn.in_page (take l.codeword-index l.codewords);
+  rest : (r : Result Bool DecodeFault) → JudgesMore r l.place l.in_page (drop l.codeword-index l.codewords)
+      → JudgesMore r l.fn.place l.fn.in_page l.codewords;
 }

@@ -1,15 +1,23 @@
-use Rattle.std.proofs.Common.{◌≡◌, ◌+◌, ◌/◌, length, map, take, refl, ap, subst, ◌∙◌, arith, Err, Ok}
+use Rattle.std.proofs.Common.{◌≡◌, ℕ, List, [], ◌<◌, ◌/◌, length, get_or, map, refl, sym, ap, subst, ◌∙◌, arith, Err, Ok}
 use Rattle.std.specs.Int.{from_be_bytes, w32}
-use Rattle.std.proofs.lemmas.List.{take_all}
+use Rattle.std.proofs.lemmas.List.{get_or-map, length-map}
 use Rattle.std.proofs.lemmas.Result.{err_from_is_err_and}
 use Rattle.pocsag_pages.specs.Bytes.{words_of}
 use Rattle.pocsag_pager.proofs.WholeWords.{chunk_words}
 use Rattle.pocsag_decode.specs.Judgements.{JudgesMore}
-use Rattle.pocsag_decode.proofs.Fine.{bad_among, fine_none, word_judged}
+use Rattle.pocsag_decode.proofs.Fine.{none_behind, word_bad, word_then}
 use Rattle.pocsag_decode.proofs.judge.judge_words.Goals as goal
 
+-- the word of a chunk is one of the words
+word_at : (chunks : List (List ℕ)) (i w : ℕ) → i < length chunks → w ≡ from_be_bytes w32 (get_or chunks i [])
+    → w ≡ get_or (map (from_be_bytes w32) chunks) i 0
+word_at chunks i w within is = is ∙ sym (get_or-map (from_be_bytes w32) chunks i [] 0 within)
+
 pub loop-word-init : goal.loop-word-init
-loop-word-init c = record { at = omega arith; judged = fine_none c.args.place c.args.in_page }
+loop-word-init c =
+    let all : map (from_be_bytes w32) c.as_chunks.result.0.now ≡ words_of c.args.bytes.now =
+    ap (map (from_be_bytes w32)) c.as_chunks.ensures.front ∙ chunk_words (length c.args.bytes.now / 4) c.args.bytes.now refl in
+    record { at = omega arith; rest = λ r h. subst (JudgesMore r c.args.place c.args.in_page) all h }
 
 pub overflow_add-place : goal.overflow_add-place
 overflow_add-place c =
@@ -21,33 +29,29 @@ overflow_add-place c =
 pub loop-word-preserved : goal.loop-word-preserved
 loop-word-preserved c =
     let loop = c.loop-word in
+    let chunks = c.as_chunks.result.0.now in
+    let count = length-map chunks (from_be_bytes w32) in
     record {
       at = let at = loop.invariant.at in omega arith;
-      judged =
-          word_judged c.args.place loop.place loop.word-index c.args.in_page loop.in_page c.as_chunks.result.0.now c.from_be_bytes.result
-          (Ok c.in_ok-in_page.in_page) loop.invariant.at (omega arith) c.from_be_bytes.ensures loop.invariant.judged c.in_ok-in_page.ensures;
+      rest = λ r h. loop.invariant.rest r
+          (word_then loop.place loop.word-index loop.in_page (map (from_be_bytes w32) chunks) c.from_be_bytes.result (omega arith)
+          (word_at chunks loop.word-index _ (omega arith) c.from_be_bytes.ensures) c.in_ok-in_page.in_page r c.in_ok-in_page.ensures.judged h);
     }
 
 pub returns-in_err-in_page : goal.returns-in_err-in_page
 returns-in_err-in_page c =
     let loop = c.loop-word in
     let chunks = c.as_chunks.result.0.now in
-    let all : map (from_be_bytes w32) chunks ≡ words_of c.args.bytes.now =
-    ap (map (from_be_bytes w32)) c.as_chunks.ensures.front ∙ chunk_words (length c.args.bytes.now / 4) c.args.bytes.now refl in
+    let count = length-map chunks (from_be_bytes w32) in
     let p = err_from_is_err_and c.from_residual.result c.from_residual.ensures.1 in
     let f = c.in_err-in_page.field-0.0 in
-    rw (p.1, p.2)
-    (subst (JudgesMore (Err f) c.args.place c.args.in_page) all
-    (bad_among c.args.place (loop.word-index + 1) c.args.in_page chunks f
-    (word_judged c.args.place loop.place loop.word-index c.args.in_page loop.in_page chunks c.from_be_bytes.result (Err f) loop.invariant.at
-    (omega arith) c.from_be_bytes.ensures loop.invariant.judged c.in_err-in_page.ensures)))
+    rw (p.1, p.2) (loop.invariant.rest (Err f)
+    (word_bad loop.place loop.word-index loop.in_page (map (from_be_bytes w32) chunks) c.from_be_bytes.result (omega arith)
+    (word_at chunks loop.word-index _ (omega arith) c.from_be_bytes.ensures) f c.in_err-in_page.ensures.judged))
 
 pub returns : goal.returns
 returns c =
     let loop = c.loop-word in
     let chunks = c.as_chunks.result.0.now in
-    let long : length chunks ≡ length c.args.bytes.now / 4 = c.as_chunks.ensures.front_len in
-    let whole : map (from_be_bytes w32) (take loop.word-index chunks) ≡ words_of c.args.bytes.now =
-    ap (map (from_be_bytes w32)) (take_all loop.word-index chunks (omega arith) ∙ c.as_chunks.ensures.front)
-    ∙ chunk_words (length c.args.bytes.now / 4) c.args.bytes.now refl in
-    subst (JudgesMore (Ok loop.in_page) c.args.place c.args.in_page) whole loop.invariant.judged
+    let count = length-map chunks (from_be_bytes w32) in
+    loop.invariant.rest (Ok loop.in_page) (none_behind loop.place loop.word-index loop.in_page (map (from_be_bytes w32) chunks) (omega arith))

@@ -1,7 +1,7 @@
-use Rattle.std.proofs.Common.{◌≡◌, ◌+◌, ◌*◌, ◌≤◌, length, [], refl, ◌∙◌, arith}
+use Rattle.std.proofs.Common.{◌≡◌, ◌+◌, ◌*◌, ◌≤◌, length, refl, sym, ◌∙◌, arith}
 use Rattle.std.proofs.lemmas.Result.{on_err_weaker, on_ok_weaker}
-use Rattle.pocsag_decode.proofs.Listings.{all_due, all_listed, more_listed, none_listed, poured, still_due}
-use Rattle.pocsag_decode.proofs.Prefixes.{after_fault, took_on, took_so_far}
+use Rattle.pocsag_decode.proofs.Listings.{all_listed, more_listed, none_listed, poured}
+use Rattle.pocsag_decode.proofs.Prefixes.{after_fault, took_last, took_on, took_so_far}
 use Rattle.pocsag_decode.proofs.lister.list_batches.Goals as goal
 
 pub loop-i-init : goal.loop-i-init
@@ -20,10 +20,9 @@ loop-i-preserved g c =
     record {
       can = record { ready = c.in_ok-write_many_records.ensures.ready; listable = c.in_ok-take_batch.ensures.can.listable };
       told = λ is_known.
-          poured (g.S.Sink.taken c.args.sink.now) (g.S.Sink.taken loop.sink) (g.S.Sink.taken c.write_many_records.new.sink) c.take_batch.new.self
-          (record (c.take_batch.new.self) { records = c.write_many_records.new.writer }) (loop.i + 1) bytes refl (c.in_ok-write_many_records.ensures.told is_known)
-          (more_listed (g.S.Sink.taken c.args.sink.now) (g.S.Sink.taken loop.sink) loop.lister c.take_batch.new.self loop.i bytes within
-          (loop.invariant.told is_known) c.in_ok-take_batch.ensures.reads);
+          poured _ (g.S.Sink.taken loop.sink) (g.S.Sink.taken c.write_many_records.new.sink) _ _ _ (c.in_ok-write_many_records.ensures.told is_known)
+          (more_listed _ (g.S.Sink.taken loop.sink) loop.lister c.take_batch.new.self loop.i bytes within c.in_ok-take_batch.ensures.reads
+          (loop.invariant.told is_known));
       grown = λ is_known. omega (arith, loop.invariant.grown is_known, c.in_ok-write_many_records.ensures.grown is_known);
       failures = c.in_ok-write_many_records.ensures.failures.0 ∙ loop.invariant.failures;
     }
@@ -33,37 +32,33 @@ returns-clause-whole g c = λ is_known.
     let loop = c.loop-i in
     let bytes = c.args.bytes.now in
     let long : length bytes ≡ 68 * loop.i = let whole = c.requires.long in omega arith in
-    on_ok_weaker c.write_records.result
-    (λ written. all_listed (g.S.Sink.taken c.args.sink.now) (g.S.Sink.taken loop.sink) (g.S.Sink.taken c.write_records.new.sink) loop.lister
-    c.close.new.self loop.i bytes long c.in_ok-close.ensures.text written (loop.invariant.told is_known))
-    (c.write_records.ensures.whole is_known)
+    let all = all_listed _ (g.S.Sink.taken loop.sink) loop.lister c.close.new.self loop.i bytes long c.in_ok-close.ensures.text
+    (loop.invariant.told is_known) in
+    on_ok_weaker c.write_records.result (λ written. written ∙ sym all) (c.write_records.ensures.whole is_known)
 
 pub returns-in_err-take_batch-clause-part : goal.returns-in_err-take_batch-clause-part
 returns-in_err-take_batch-clause-part g c = λ is_known.
     let loop = c.loop-i in
-    let due = still_due (g.S.Sink.taken c.args.sink.now) (g.S.Sink.taken loop.sink) loop.lister loop.i c.args.bytes.now (omega arith) (loop.invariant.told is_known) in
     after_fault c.from_residual.result
-    (took_so_far (g.S.Sink.taken c.args.sink.now) (g.S.Sink.taken loop.sink) _ _ (loop.invariant.grown is_known) due.1)
+    (took_so_far (g.S.Sink.taken c.args.sink.now) (g.S.Sink.taken loop.sink) _ _ (loop.invariant.grown is_known) (loop.invariant.told is_known))
 
 pub returns-in_err-write_many_records-clause-part : goal.returns-in_err-write_many_records-clause-part
 returns-in_err-write_many_records-clause-part g c = λ is_known.
     let loop = c.loop-i in
     let bytes = c.args.bytes.now in
     let within : 68 * loop.i + 68 ≤ length bytes = omega arith in
-    let due =
-    still_due (g.S.Sink.taken c.args.sink.now) (g.S.Sink.taken loop.sink) c.take_batch.new.self (loop.i + 1) bytes (omega arith)
-    (more_listed (g.S.Sink.taken c.args.sink.now) (g.S.Sink.taken loop.sink) loop.lister c.take_batch.new.self loop.i bytes within
-    (loop.invariant.told is_known) c.in_ok-take_batch.ensures.reads) in
     after_fault c.from_residual-in_err-write_many_records.result
     (took_on (g.S.Sink.taken c.args.sink.now) (g.S.Sink.taken loop.sink) (g.S.Sink.taken c.write_many_records.new.sink) _ _ _
-    (loop.invariant.grown is_known) due.1 (c.in_err-write_many_records.ensures.part is_known))
+    (loop.invariant.grown is_known)
+    (more_listed _ (g.S.Sink.taken loop.sink) loop.lister c.take_batch.new.self loop.i bytes within c.in_ok-take_batch.ensures.reads
+    (loop.invariant.told is_known))
+    (c.in_err-write_many_records.ensures.part is_known))
 
 pub returns-in_err-close-clause-part : goal.returns-in_err-close-clause-part
 returns-in_err-close-clause-part g c = λ is_known.
     let loop = c.loop-i in
-    let due = still_due (g.S.Sink.taken c.args.sink.now) (g.S.Sink.taken loop.sink) loop.lister loop.i c.args.bytes.now (omega arith) (loop.invariant.told is_known) in
     after_fault c.from_residual-in_err-close.result
-    (took_so_far (g.S.Sink.taken c.args.sink.now) (g.S.Sink.taken loop.sink) _ _ (loop.invariant.grown is_known) due.1)
+    (took_so_far (g.S.Sink.taken c.args.sink.now) (g.S.Sink.taken loop.sink) _ _ (loop.invariant.grown is_known) (loop.invariant.told is_known))
 
 pub returns-clause-part : goal.returns-clause-part
 returns-clause-part g c = λ is_known.
@@ -71,8 +66,8 @@ returns-clause-part g c = λ is_known.
     let bytes = c.args.bytes.now in
     let long : length bytes ≡ 68 * loop.i = let whole = c.requires.long in omega arith in
     on_err_weaker c.write_records.result
-    (took_on (g.S.Sink.taken c.args.sink.now) (g.S.Sink.taken loop.sink) (g.S.Sink.taken c.write_records.new.sink) _ [] _
+    (took_last (g.S.Sink.taken c.args.sink.now) (g.S.Sink.taken loop.sink) (g.S.Sink.taken c.write_records.new.sink) _ _
     (loop.invariant.grown is_known)
-    (all_due (g.S.Sink.taken c.args.sink.now) (g.S.Sink.taken loop.sink) loop.lister c.close.new.self loop.i bytes long
-    c.in_ok-close.ensures.text (loop.invariant.told is_known)))
+    (all_listed _ (g.S.Sink.taken loop.sink) loop.lister c.close.new.self loop.i bytes long c.in_ok-close.ensures.text
+    (loop.invariant.told is_known)))
     (c.write_records.ensures.part is_known)

@@ -60,29 +60,21 @@ loop-bytes-preserved c =
     (ap (λ (n : ℕ). c.loop-bytes.told.bits + n) c.from-in-loop-bytes.ensures)
 
 pub returns-clause-repaired : goal.returns-clause-repaired
-returns-clause-repaired c =
-    let t = c.loop-bytes.invariant in
-    let long = long_now _ _ _ _ _ _ t in
-    repaired_all _ _ _ _ _ _ t (omega arith)
+returns-clause-repaired c = repaired_all _ _ _ _ _ _ c.loop-bytes.invariant (omega arith)
 
 pub returns-clause-counted : goal.returns-clause-counted
 returns-clause-counted c =
     let t = c.loop-bytes.invariant in
-    let long = long_now _ _ _ _ _ _ t in
-    let short : length c.args.bytes.now < c.loop-bytes.at + 4 = omega arith in
-    record { in_words = counted_words _ _ _ _ _ _ t short; in_bits = counted_bits _ _ _ _ _ _ t short }
+    record { in_words = counted_words _ _ _ _ _ _ t (omega arith); in_bits = counted_bits _ _ _ _ _ _ t (omega arith) }
 
 pub returns-clause-restored : goal.returns-clause-restored
 returns-clause-restored c = λ X T sent damaged.
-    let t = c.loop-bytes.invariant in
-    let long = long_now _ _ _ _ _ _ t in
-    c.repair_restores.ensures.damaged X T _ _ sent damaged (repaired_all _ _ _ _ _ _ t (omega arith))
+    c.repair_restores.ensures.damaged X T _ _ sent damaged (repaired_all _ _ _ _ _ _ c.loop-bytes.invariant (omega arith))
 
 pub returns-clause-whole : goal.returns-clause-whole
 returns-clause-whole c = λ T sent.
     let t = c.loop-bytes.invariant in
-    let long = long_now _ _ _ _ _ _ t in
-    let short : length c.args.bytes.now < c.loop-bytes.at + 4 = omega arith in
+    let short : length c.loop-bytes.bytes < c.loop-bytes.at + 4 = omega arith in
     let same = c.repair_restores.ensures.whole _ T _ sent (repaired_all _ _ _ _ _ _ t short) in
     let none = nothing_differs _ _ same in
     (same, counted_words _ _ _ _ _ _ t short ∙ none.0, counted_bits _ _ _ _ _ _ t short ∙ none.1)

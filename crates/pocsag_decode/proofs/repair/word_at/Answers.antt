@@ -4,7 +4,7 @@ use Rattle.std.proofs.lemmas.Grind.{common_steps}
 use Rattle.std.proofs.lemmas.List.{length-drop, length-take}
 use Rattle.std.proofs.lemmas.List.Elements.{All-drop, All-from_get_or, All-take}
 use Rattle.std.proofs.lemmas.Nat.{be_bytes_4}
-use Rattle.pocsag_decode.proofs.Repairs.{each_small}
+use Rattle.pocsag_decode.proofs.Words.{each_small}
 use Rattle.pocsag_decode.proofs.repair.word_at.Goals as goal
 
 pub returns : goal.returns

@@ -6,54 +6,36 @@ use Rattle.pocsag_findings.specs.declared.finding.Reached.TheVariants.{Below, Fr
 use Rattle.pocsag_findings.specs.Findings.{findings_within}
 use Rattle.pocsag_findings.specs.Views.{all_stated}
 use Rattle.pocsag_findings.specs.Rules.{fact_holds}
-use Rattle.pocsag_findings.proofs.Nodes.{found_child, held_close, held_cut, held_node, refused_node, split_says, two_more}
+use Rattle.pocsag_findings.proofs.Nodes.{found_child, held_close, held_cut, listed_node, split_says, two_more}
 use Rattle.pocsag_findings.proofs.listing.+listing.Goals as goal
 
-pub put_node-child_below-requires-clause-class : goal.put_node-child_below-requires-clause-class
-put_node-child_below-requires-clause-class t c =
-    (split_says c.args.context.now.classes.now c.args.context.now.end c.args.context.now.batches c.args.place.now.limits _ _
+pub put_node-child_of_split-requires : goal.put_node-child_of_split-requires
+put_node-child_of_split-requires t c =
+    let says = split_says c.args.context.now.classes.now c.args.context.now.end c.args.context.now.batches c.args.place.now.limits _ _
     (bound_tree_of c.in-Split.below.value) (bound_tree_of c.in-Split.from.value) _ _ _ c.fact_of-fact.ensures
     (bound_tree_of-split c.args.tree.now c.in-Split.class c.in-Split.m c.in-Split.below c.in-Split.from c.in-Split.is)
-    c.in_ok-put_fact.ensures.holds c.if-not-branch.false).0
+    c.in_ok-put_fact.ensures.holds c.if-not-branch.false in
+    record {
+      deep = omega arith;
+      ordered = c.requires;
+      class = says.0;
+      above = rw c.from.ensures says.1;
+      within = rw c.from.ensures says.2;
+    }
 
-pub put_node-child_below-requires-clause-above : goal.put_node-child_below-requires-clause-above
-put_node-child_below-requires-clause-above t c =
-    rw c.from.ensures
-    ((split_says c.args.context.now.classes.now c.args.context.now.end c.args.context.now.batches c.args.place.now.limits _ _
+pub put_node-child_of_split-requires-in-Split : goal.put_node-child_of_split-requires-in-Split
+put_node-child_of_split-requires-in-Split t c =
+    let says = split_says c.args.context.now.classes.now c.args.context.now.end c.args.context.now.batches c.args.place.now.limits _ _
     (bound_tree_of c.in-Split.below.value) (bound_tree_of c.in-Split.from.value) _ _ _ c.fact_of-fact.ensures
     (bound_tree_of-split c.args.tree.now c.in-Split.class c.in-Split.m c.in-Split.below c.in-Split.from c.in-Split.is)
-    c.in_ok-put_fact.ensures.holds c.if-not-branch.false).1)
-
-pub put_node-child_below-requires-clause-within : goal.put_node-child_below-requires-clause-within
-put_node-child_below-requires-clause-within t c =
-    rw c.from.ensures
-    ((split_says c.args.context.now.classes.now c.args.context.now.end c.args.context.now.batches c.args.place.now.limits _ _
-    (bound_tree_of c.in-Split.below.value) (bound_tree_of c.in-Split.from.value) _ _ _ c.fact_of-fact.ensures
-    (bound_tree_of-split c.args.tree.now c.in-Split.class c.in-Split.m c.in-Split.below c.in-Split.from c.in-Split.is)
-    c.in_ok-put_fact.ensures.holds c.if-not-branch.false).2)
-
-pub put_node-child_from-requires-clause-class : goal.put_node-child_from-requires-clause-class
-put_node-child_from-requires-clause-class t c =
-    (split_says c.args.context.now.classes.now c.args.context.now.end c.args.context.now.batches c.args.place.now.limits _ _
-    (bound_tree_of c.in-Split.below.value) (bound_tree_of c.in-Split.from.value) _ _ _ c.fact_of-fact.ensures
-    (bound_tree_of-split c.args.tree.now c.in-Split.class c.in-Split.m c.in-Split.below c.in-Split.from c.in-Split.is)
-    c.in_ok-put_fact.ensures.holds c.if-not-branch.false).0
-
-pub put_node-child_from-requires-clause-above : goal.put_node-child_from-requires-clause-above
-put_node-child_from-requires-clause-above t c =
-    rw c.from-in-Split.ensures
-    ((split_says c.args.context.now.classes.now c.args.context.now.end c.args.context.now.batches c.args.place.now.limits _ _
-    (bound_tree_of c.in-Split.below.value) (bound_tree_of c.in-Split.from.value) _ _ _ c.fact_of-fact.ensures
-    (bound_tree_of-split c.args.tree.now c.in-Split.class c.in-Split.m c.in-Split.below c.in-Split.from c.in-Split.is)
-    c.in_ok-put_fact.ensures.holds c.if-not-branch.false).1)
-
-pub put_node-child_from-requires-clause-within : goal.put_node-child_from-requires-clause-within
-put_node-child_from-requires-clause-within t c =
-    rw c.from-in-Split.ensures
-    ((split_says c.args.context.now.classes.now c.args.context.now.end c.args.context.now.batches c.args.place.now.limits _ _
-    (bound_tree_of c.in-Split.below.value) (bound_tree_of c.in-Split.from.value) _ _ _ c.fact_of-fact.ensures
-    (bound_tree_of-split c.args.tree.now c.in-Split.class c.in-Split.m c.in-Split.below c.in-Split.from c.in-Split.is)
-    c.in_ok-put_fact.ensures.holds c.if-not-branch.false).2)
+    c.in_ok-put_fact.ensures.holds c.if-not-branch.false in
+    record {
+      deep = omega arith;
+      ordered = c.requires;
+      class = says.0;
+      above = rw c.from-in-Split.ensures says.1;
+      within = rw c.from-in-Split.ensures says.2;
+    }
 
 pub put_node-put_each-requires : goal.put_node-put_each-requires
 put_node-put_each-requires t c =
@@ -109,8 +91,8 @@ put_node-returns-in-Cut t c =
     let held : fact_holds c.args.context.now.end c.args.context.now.batches c.fact_of-fact.result ≡ true =
     sym c.in_ok-put_fact.ensures.holds ∙ c.if-not-branch.false in
     on_ok_weaker c.put_each.result
-    (λ all. held_node c.args.context.now.classes.now c.args.context.now.end c.args.context.now.batches c.args.context.now.depth
-    c.args.place.now.limits c.args.place.now.above c.args.place.now.reached (bound_tree_of c.args.tree.now) _ _ _ _ _ _ (omega arith)
+    (λ all. listed_node c.args.context.now.classes.now c.args.context.now.end c.args.context.now.batches c.args.context.now.depth
+    c.args.place.now.limits c.args.place.now.above c.args.place.now.reached (bound_tree_of c.args.tree.now) _ _ _ _ _ _ _ (omega arith)
     c.fact_of-fact.ensures c.in_ok-shares.ensures held c.in_ok-put_fact.ensures.put all
     (rw (is, c.as_slice.ensures.value, c.ways-out.ensures.items, c.deref-in-Cut.ensures.value) refl))
     c.put_each.ensures
@@ -121,8 +103,8 @@ put_node-returns-in-Close t c =
     let held : fact_holds c.args.context.now.end c.args.context.now.batches c.fact_of-fact.result ≡ true =
     sym c.in_ok-put_fact.ensures.holds ∙ c.if-not-branch.false in
     on_ok_weaker c.put_each-in-Close.result
-    (λ all. held_node c.args.context.now.classes.now c.args.context.now.end c.args.context.now.batches c.args.context.now.depth
-    c.args.place.now.limits c.args.place.now.above c.args.place.now.reached (bound_tree_of c.args.tree.now) _ _ _ _ _ _ (omega arith)
+    (λ all. listed_node c.args.context.now.classes.now c.args.context.now.end c.args.context.now.batches c.args.context.now.depth
+    c.args.place.now.limits c.args.place.now.above c.args.place.now.reached (bound_tree_of c.args.tree.now) _ _ _ _ _ _ _ (omega arith)
     c.fact_of-fact.ensures c.in_ok-shares.ensures held c.in_ok-put_fact.ensures.put all
     (rw (is, c.as_slice-in-Close.ensures.value, c.ending_ways-out.ensures.items, c.deref-in-Close.ensures.value) refl))
     c.put_each-in-Close.ensures
@@ -147,7 +129,7 @@ put_node-returns-in_ok-high-in-Split t c =
     (λ all.
     let second : all_stated c.put_node-in-Split.new.found.items ≡ all_stated c.put_node.new.found.items ++ high =
     rw (c.deref-in-Split-2.ensures, c.deref-in-Split-3.ensures, c.in_ok-high-in-Split.ensures.child, c.from-in-Split.ensures) at all in
-    held_node k end b depth l above c.args.place.now.reached (bound_tree_of c.args.tree.now) _ _ (low ++ high) _ _ _ (omega arith)
+    listed_node k end b depth l above c.args.place.now.reached (bound_tree_of c.args.tree.now) _ _ _ (low ++ high) _ _ _ (omega arith)
     c.fact_of-fact.ensures c.in_ok-shares.ensures held c.in_ok-put_fact.ensures.put (two_more _ low high _ _ first second)
     (rw is refl))
     c.put_node-in-Split.ensures
@@ -155,10 +137,10 @@ put_node-returns-in_ok-high-in-Split t c =
 pub put_node-returns-then-not-branch : goal.put_node-returns-then-not-branch
 put_node-returns-then-not-branch t c =
     on_ok_weaker c.put_below_unjudged.result
-    (λ all. refused_node c.args.context.now.classes.now c.args.context.now.end c.args.context.now.batches c.args.context.now.depth
-    c.args.place.now.limits c.args.place.now.above c.args.place.now.reached (bound_tree_of c.args.tree.now) _ _ _ _ _ (omega arith)
+    (λ all. listed_node c.args.context.now.classes.now c.args.context.now.end c.args.context.now.batches c.args.context.now.depth
+    c.args.place.now.limits c.args.place.now.above c.args.place.now.reached (bound_tree_of c.args.tree.now) _ _ _ _ _ _ _ (omega arith)
     c.fact_of-fact.ensures c.in_ok-shares.ensures (sym c.in_ok-put_fact.ensures.holds ∙ c.if-not-branch.true)
-    c.in_ok-put_fact.ensures.put all)
+    c.in_ok-put_fact.ensures.put all refl)
     c.put_below_unjudged.ensures
 
 pub put_each-loop-index-preserved : goal.put_each-loop-index-preserved

@@ -1,4 +1,4 @@
-use Rattle.std.proofs.Common.{◌≡◌, ℕ, ◌<◌, ◌≤◌, ◌++◌, List, [], ◌∷◌, length, get_or, take, drop, ◌+◌, arith, ap, ◌∙◌, subst, sym, take-append-drop}
+use Rattle.std.proofs.Common.{◌≡◌, false, ℕ, ◌<◌, ◌≤◌, ◌++◌, List, [], ◌∷◌, length, get_or, take, drop, ◌+◌, arith, ap, ◌∙◌, subst, sym, take-append-drop}
 use Rattle.std.proofs.lemmas.List.{drop_more, length-take-le, take_more}
 use Rattle.std.proofs.Math.Seq.{take-length}
 use Rattle.pocsag_pages.specs.declared.page.Page.{Page}
@@ -6,6 +6,7 @@ use Rattle.pocsag_journal.specs.Faults.{HasNoLine, IsUnspelled}
 use Rattle.pocsag_journal.specs.Journals.{ListsPages}
 use Rattle.pocsag_journal.proofs.KeptPages.{listed_first, listed_on}
 use Rattle.pocsag_journal.proofs.LinedPages.{not_unlined}
+use Rattle.pocsag_journal.proofs.compaction.text_of_pages.Goals.{In_ok-is_added}
 use Rattle.pocsag_journal.proofs.compaction.text_of_pages.Goals as goal
 
 whole : (text : List ℕ) (pages so_far : List Page) (i : ℕ) → length pages ≤ i → i ≤ length pages → so_far ≡ take i pages →
@@ -49,13 +50,16 @@ returns-clause-listed c =
     whole c.loop-index.text.items c.args.pages.now c.loop-index.book c.loop-index.index c.loop-index-test.false
     c.loop-index.auto.index-end c.loop-index.invariant.1 c.loop-index.invariant.0
 
+has_none : (c : In_ok-is_added) → c.in_ok-is_added.is_added ≡ false → HasNoLine c.args.pages.now (c.loop-index.index + 1)
+has_none c none =
+    next_has_none c.args.pages.now c.loop-index.index c.index-pages-index.result c.loop-index-test.true c.index-pages-index.is
+    (subst (λ (ps : List Page). IsUnspelled ps c.index-pages-index.result) c.loop-index.invariant.1 (c.in_ok-is_added.ensures.none none))
+
 pub returns-then-not-is_added-clause-explained : goal.returns-then-not-is_added-clause-explained
 returns-then-not-is_added-clause-explained c =
-    next_has_none c.args.pages.now c.loop-index.index c.index-pages-index.result c.loop-index-test.true c.index-pages-index.is
-    (subst (λ (ps : List Page). IsUnspelled ps c.index-pages-index.result) c.loop-index.invariant.1 (c.in_ok-is_added.ensures.none c.if-not-is_added.true))
+    has_none (goal.at.returns-then-not-is_added-clause-explained c).In_ok-is_added c.if-not-is_added.true
 
 pub returns-then-not-is_added-clause-lined : goal.returns-then-not-is_added-clause-lined
 returns-then-not-is_added-clause-lined c = λ lined.
     absurd (not_unlined c.args.pages.now (c.loop-index.index + 1) lined
-    (next_has_none c.args.pages.now c.loop-index.index c.index-pages-index.result c.loop-index-test.true c.index-pages-index.is
-    (subst (λ (ps : List Page). IsUnspelled ps c.index-pages-index.result) c.loop-index.invariant.1 (c.in_ok-is_added.ensures.none c.if-not-is_added.true))))
+    (has_none (goal.at.returns-then-not-is_added-clause-lined c).In_ok-is_added c.if-not-is_added.true))

@@ -1,11 +1,15 @@
-use Rattle.std.proofs.Common.{arith, refl}
+use Rattle.std.proofs.Common.{◌≡◌, ℕ, List, arith, refl, subst}
 use Rattle.csv.specs.Records.{fields_of}
-use Rattle.pocsag_journal.proofs.Fields.{has_field, no_count, no_end}
+use Rattle.pocsag_journal.specs.Edited.{SpellsCount}
+use Rattle.pocsag_journal.proofs.Fields.{has_field, none_of_more, plan_fields}
 use Rattle.pocsag_journal.proofs.edits.front_line.Goals as goal
 
 pub returns-in_err-end-clause-asks : goal.returns-in_err-end-clause-asks
 returns-in_err-end-clause-asks c =
-    rw c.from_residual.ensures (no_end (fields_of c.args.row.now) (omega (arith, c.requires)) c.in_err-end.ensures.none)
+    let row = fields_of c.args.row.now in
+    rw c.from_residual.ensures
+    (none_of_more row (omega (arith, c.requires))
+    (λ end most tx cert asks t u. c.in_err-end.ensures.none end ((plan_fields end most tx cert row asks).its_end (omega (arith, c.requires)))))
 
 pub returns-in_err-get-clause-asks : goal.returns-in_err-get-clause-asks
 returns-in_err-get-clause-asks c =
@@ -13,9 +17,13 @@ returns-in_err-get-clause-asks c =
 
 pub returns-in_err-batches-clause-asks : goal.returns-in_err-batches-clause-asks
 returns-in_err-batches-clause-asks c =
+    let row = fields_of c.args.row.now in
     rw c.from_residual-in_err-batches.ensures
-    (no_count (fields_of c.args.row.now) c.in_ok-get.field-0.now c.requires c.in_ok-get.ensures.value
-    (λ count is. cc ((c.in_err-batches.ensures count).1 is)))
+    (none_of_more row (omega (arith, c.requires))
+    (λ end most tx cert asks t u.
+    let counted = (plan_fields end most tx cert row asks).its_count (omega (arith, c.requires)) in
+    let same : counted.0 ≡ c.in_ok-get.field-0.now = cc (counted.2, c.in_ok-get.ensures.value) in
+    cc ((c.in_err-batches.ensures counted.1).1 (subst (λ (f : List ℕ). SpellsCount f counted.1) same counted.3))))
 
 pub plan_line-requires : goal.plan_line-requires
 plan_line-requires c = (

@@ -1,6 +1,5 @@
-use Rattle.std.proofs.Common.{◌≡◌, None, sym, ◌∙◌, arith}
-use Rattle.csv.specs.Records.{fields_of}
-use Rattle.pocsag_journal.proofs.Fields.{none_by_length}
+use Rattle.std.proofs.Common.{◌≡◌, None, ap, length, sym, ◌∙◌, arith}
+use Rattle.pocsag_journal.proofs.Fields.{plan_fields}
 use Rattle.pocsag_journal.proofs.edits.line_of.Goals.{in-1, in-2, in-3, in-4, in-5, in_default}
 use Rattle.pocsag_journal.proofs.edits.line_of.Goals as goal
 
@@ -13,5 +12,9 @@ returns-in-None-clause-asks c = elim c.match-len.branch [
   | in-5 w ↦ let e : w.front_line-asked.result ≡ None = sym w.asked-is ∙ c.in-None.is in rw e at w.front_line-asked.ensures.asks
   | in_default w ↦
       let n = c.len.ensures in
-      none_by_length (fields_of c.args.row.now) (λ e. absurd (omega arith)) (λ e. absurd (omega arith)) (λ e. absurd (omega (arith, e)))
+      record {
+        list = λ e. let one = ap length e in absurd (omega (arith, one));
+        heading = λ e. let two = ap length e in absurd (omega (arith, two));
+        plan = λ end most tx cert asks t u. let its = plan_fields end most tx cert _ asks in absurd (omega (arith, its.some, its.few));
+      }
 ]

@@ -1,4 +1,4 @@
-use Rattle.std.proofs.Common.{◌≡◌, List, [], drop, ap, sym, ◌∙◌, rules, arith}
+use Rattle.std.proofs.Common.{◌≡◌, [], drop, ap, sym, ◌∙◌, rules, arith}
 use Rattle.std.proofs.lemmas.List.{drop_all}
 use Rattle.pocsag_pages.specs.declared.quote_state.QuoteState.TheVariants as at
 use Rattle.pocsag_pages.specs.QuoteStates.{quote_state_from}

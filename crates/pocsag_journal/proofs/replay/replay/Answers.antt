@@ -2,9 +2,10 @@ use Rattle.std.proofs.Common.{Bool, ℕ, List, ◌++◌, length, drop, ap, arith
 use Rattle.std.specs.Prelude.{Some, None, codes}
 use Rattle.std.proofs.lemmas.Bool.Decides.{Decides-eqb}
 use Rattle.std.proofs.lemmas.Slice.Eq.{starts_is, strip_prefix_is}
-use Rattle.pocsag_journal.specs.Journals.{MakesLine}
+use Rattle.pocsag_journal.specs.Journals.{IsBegun, MakesLine}
 use Rattle.pocsag_journal.proofs.Beginnings.{cut_of, not_begun}
 use Rattle.pocsag_journal.proofs.Replays.{made_bad, made_end, made_first, made_on, nothing_read, shorter}
+use Rattle.pocsag_journal.proofs.replay.replay.Goals.{After-starts_with-in_default}
 use Rattle.pocsag_journal.proofs.replay.replay.Goals as goal
 
 pub returns-then-starts_with-clause-read : goal.returns-then-starts_with-clause-read
@@ -16,25 +17,24 @@ returns-then-starts_with-clause-read c =
     (cut_of bytes line (drop (length bytes) line) c.first_line-first.ensures (starts.0 c.if-starts_with.true)
     (strip_prefix_is Decides-eqb bytes line None c.in_default.ensures.cases))
 
-pub returns-then-starts_with-2-clause-told : goal.returns-then-starts_with-2-clause-told
-returns-then-starts_with-2-clause-told c =
+none_begun : (c : After-starts_with-in_default) → ¬ IsBegun c.args.bytes.now
+none_begun c =
     let bytes = c.args.bytes.now in
     let line = c.first_line-first.result.now in
-    let named = starts_is Decides-eqb bytes (codes "pocsag journal,") c.starts_with-in_default.result c.starts_with-in_default.ensures.value in (
-      not_begun bytes line c.starts_with.result c.first_line-first.ensures
-          (strip_prefix_is Decides-eqb bytes line None c.in_default.ensures.cases)
-          (starts_is Decides-eqb line bytes c.starts_with.result c.starts_with.ensures.value).1 c.if-starts_with.false,
-      (drop 15 bytes, named.0 c.if-starts_with-2.true),
+    not_begun bytes line c.starts_with.result c.first_line-first.ensures (strip_prefix_is Decides-eqb bytes line None c.in_default.ensures.cases)
+    (starts_is Decides-eqb line bytes c.starts_with.result c.starts_with.ensures.value).1 c.if-starts_with.false
+
+pub returns-then-starts_with-2-clause-told : goal.returns-then-starts_with-2-clause-told
+returns-then-starts_with-2-clause-told c =
+    let named = starts_is Decides-eqb c.args.bytes.now (codes "pocsag journal,") c.starts_with-in_default.result c.starts_with-in_default.ensures.value in (
+      none_begun (goal.at.returns-then-starts_with-2-clause-told c).After-starts_with-in_default,
+      (drop 15 c.args.bytes.now, named.0 c.if-starts_with-2.true),
     )
 
 pub returns-in_default-clause-told : goal.returns-in_default-clause-told
 returns-in_default-clause-told c =
-    let bytes = c.args.bytes.now in
-    let line = c.first_line-first.result.now in
-    let named = starts_is Decides-eqb bytes (codes "pocsag journal,") c.starts_with-in_default.result c.starts_with-in_default.ensures.value in (
-      not_begun bytes line c.starts_with.result c.first_line-first.ensures
-          (strip_prefix_is Decides-eqb bytes line None c.in_default.ensures.cases)
-          (starts_is Decides-eqb line bytes c.starts_with.result c.starts_with.ensures.value).1 c.if-starts_with.false,
+    let named = starts_is Decides-eqb c.args.bytes.now (codes "pocsag journal,") c.starts_with-in_default.result c.starts_with-in_default.ensures.value in (
+      none_begun (goal.at.returns-in_default-clause-told c).After-starts_with-in_default,
       λ h. true≢false (sym (named.1 h.0 h.1) ∙ c.if-starts_with-2.false),
     )
 

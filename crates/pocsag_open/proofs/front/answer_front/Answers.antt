@@ -1,38 +1,33 @@
-use Rattle.std.proofs.Common.{◌≡◌, inr, List, ℕ, ◌<◌, ◌^◌, [], ◌∷◌, ◌++◌, arith, rules, refl, subst, sym}
+use Rattle.std.proofs.Common.{◌<◌, ◌^◌, [], ◌∷◌, arith, rules, refl, subst, sym}
 use Rattle.csv.specs.Records.{fields_of}
 use Rattle.pocsag_journal.specs.Journals.{IsLine}
 use Rattle.pocsag_words.specs.Devices.{HasFailed}
 use Rattle.pocsag_journal.proofs.LineLengths.{line_length}
 use Rattle.pocsag_open.proofs.Ends.{not_kept, not_told, sent_line}
 use Rattle.pocsag_journal.proofs.Moments.{named}
-use Rattle.pocsag_journal.specs.declared.refusal.Refusal.TheVariants as refusal
-use Rattle.pocsag_open.specs.Answers.{front_answer}
 use Rattle.pocsag_open.specs.Plans.{HasFailedOutput, placed_plan}
-use Rattle.pocsag_open.specs.Replies.{IsRefusalPrinted, front_refused, front_sent}
-use Rattle.pocsag_open.specs.Survival.{FrontRepliesAndPlaces, untold}
+use Rattle.pocsag_open.specs.Replies.{front_refused, front_sent}
+use Rattle.pocsag_open.specs.Survival.{FrontRepliesTo, ReadsOrReplied, untold}
 use Rattle.pocsag_open.proofs.Fronts.{front_edit, front_placed, front_read, front_read_placed, if_err, if_ok}
-use Rattle.pocsag_open.proofs.Survival.{cut_part, cut_told, on_err, told_part, took_part}
-use Rattle.pocsag_open.proofs.Printed.{on_ok, told_as, told_more}
+use Rattle.pocsag_open.proofs.Survival.{cut_due, on_err}
+use Rattle.pocsag_open.proofs.Printed.{told_this}
+use Rattle.pocsag_journal.specs.Moments.{LeavesOnly}
+use Rattle.pocsag_open.proofs.front.answer_front.Goals.{After-keep}
 use Rattle.pocsag_open.proofs.front.answer_front.Goals as goal
 
 pub returns-in-Err-clause-replied : goal.returns-in-Err-clause-replied
 returns-in-Err-clause-replied g c = λ is_known.
     let un = c.in-Err.ensures.unplaced in
-    told_as c.refuse.result _ _ _ _ _ _ _ _ un.outputs
-    (λ printed is. front_refused c.in-Err.fault c.in-Err.ensures.explained refl is un.refused)
-    (told_more c.refuse.result _ _ _ (IsRefusalPrinted (refusal.Undone c.in-Err.fault)) refl (c.refuse.ensures.printed is_known))
+    told_this c.refuse.result _ _ _ _ _ _ un.placed _ (front_refused c.in-Err.fault c.in-Err.ensures.explained refl refl un.refused) un.outputs
+    ((c.refuse.ensures.printed is_known).0)
 
 pub returns-in-Err-clause-cut : goal.returns-in-Err-clause-cut
 returns-in-Err-clause-cut g c = λ keeps is_known stands.
     let un = c.in-Err.ensures.unplaced in
-    cut_told c.refuse.result
-    (FrontRepliesAndPlaces g.P.OutputStore.is_known (HasFailedOutput g.P.Output.Sink.failures) c.args.settings.now.on_limit c.args.asked.end c.args.asked.batches c.args.asked.tx.now c.args.asked.cert.now
-    (g.P.OutputStore.placed c.args.settings.now.store) (g.P.OutputStore.placed c.place_front.new.settings.store))
-    c.args.round.now.book (g.O.Sink.taken c.args.out.now) (g.O.Sink.taken c.refuse.new.out) g.K.Keeper.reads_as
-    (g.K.Keeper.may_leave c.args.round.now.keeper) (IsRefusalPrinted (refusal.Undone c.in-Err.fault))
-    (λ printed is. (un.placed, front_refused c.in-Err.fault c.in-Err.ensures.explained refl is un.refused, un.outputs))
-    (λ left now. g.K.Keeper.restarts c.args.round.now.keeper c.args.round.now.book left keeps stands now)
-    (told_part c.refuse.result _ _ _ (IsRefusalPrinted (refusal.Undone c.in-Err.fault)) refl (c.refuse.ensures.printed is_known))
+    on_err c.refuse.result _ _
+    (cut_due _ _ _ _ _ _ _ _ (un.placed, front_refused c.in-Err.fault c.in-Err.ensures.explained refl refl un.refused, un.outputs)
+    (λ left now. g.K.Keeper.restarts c.args.round.now.keeper c.args.round.now.book left keeps stands now))
+    ((c.refuse.ensures.printed is_known).1)
 
 pub returns-in_err-keep-clause-cut : goal.returns-in_err-keep-clause-cut
 returns-in_err-keep-clause-cut g c = λ keeps is_known stands.
@@ -46,8 +41,12 @@ returns-in_err-keep-clause-cut g c = λ keeps is_known stands.
     (HasFailedOutput g.P.Output.Sink.failures) (g.P.OutputStore.placed c.args.settings.now.store) (g.P.OutputStore.placed c.place_front.new.settings.store) done.placed g.K.Keeper.reads_as left
     (only.each left (g.K.Keeper.counts_now c.keep.new.self (g.K.Keeper.moment c.args.round.now.keeper) left keeps only.later now))))
 
-pub returns-in_err-keep-clause-any_moment : goal.returns-in_err-keep-clause-any_moment
-returns-in_err-keep-clause-any_moment g c = λ keeps stands.
+-- once what keeps the edit was given it, a crash leaves what is read as the pages before it, or as those after it
+kept : (g : _) (c : After-keep g) → g.K.Keeper.is_known → g.K.Keeper.represents c.args.round.now.keeper c.args.round.now.book →
+    LeavesOnly g.K.Keeper.moment g.K.Keeper.left_since c.args.round.now.keeper c.keep.new.self
+    (ReadsOrReplied g.K.Keeper.reads_as (FrontRepliesTo g.P.OutputStore.is_known (HasFailedOutput g.P.Output.Sink.failures) c.args.settings.now.on_limit
+    c.args.asked.end c.args.asked.batches c.args.asked.tx.now c.args.asked.cert.now) c.args.round.now.book)
+kept g c = λ keeps stands.
     let done = c.in-Ok.ensures.planned in
     let edit = front_edit _ _ _ _ c.args.asked.tx.now c.args.asked.cert.now _ _ _ _ _ _ done.planned c.drop_first.ensures _ c.in-Ok.ensures.edit in
     named g.K.Keeper.moment g.K.Keeper.left_since c.args.round.now.keeper c.keep.new.self _ _
@@ -55,18 +54,15 @@ returns-in_err-keep-clause-any_moment g c = λ keeps stands.
     (λ left is.
     front_read _ _ _ _ c.args.asked.tx.now c.args.asked.cert.now _ _ _ _ _ _ done.planned c.drop_first.ensures (HasFailedOutput g.P.Output.Sink.failures) g.K.Keeper.reads_as left is)
 
+pub returns-in_err-keep-clause-any_moment : goal.returns-in_err-keep-clause-any_moment
+returns-in_err-keep-clause-any_moment g c = kept g (goal.at.returns-in_err-keep-clause-any_moment g c).After-keep
+
 pub returns-clause-replied : goal.returns-clause-replied
 returns-clause-replied g c = λ is_known.
     let done = c.in-Ok.ensures.planned in
     let front = c.in-Ok.sent.0 in
-    on_ok c.print_sent.result _ _
-    (λ (printed : g.O.Sink.taken c.print_sent.new.out ≡ g.O.Sink.taken c.args.out.now ++ front_answer front.batches front.pages front.bound). record {
-      printed = front_answer front.batches front.pages front.bound;
-      placed = placed_plan c.args.asked.tx.now c.args.asked.cert.now done.sent ∷ [];
-      answers = printed;
-      outputs = done.placed;
-      holds = front_sent front.pages front.batches front.bound done.sent done.planned c.drop_first.ensures refl refl;
-    })
+    told_this c.print_sent.result _ _ _ _ _ _ (placed_plan c.args.asked.tx.now c.args.asked.cert.now done.sent ∷ []) _
+    (front_sent front.pages front.batches front.bound done.sent done.planned c.drop_first.ensures refl refl) done.placed
     ((c.print_sent.ensures.printed is_known).0)
 
 pub returns-clause-stands : goal.returns-clause-stands
@@ -78,37 +74,17 @@ returns-clause-stands g c = λ stands.
 pub returns-clause-cut : goal.returns-clause-cut
 returns-clause-cut g c = λ keeps is_known stands.
     let done = c.in-Ok.ensures.planned in
-    let front = c.in-Ok.sent.0 in
-    let due : List ℕ = front_answer front.batches front.pages front.bound in
     let edit = front_edit _ _ _ _ c.args.asked.tx.now c.args.asked.cert.now _ _ _ _ _ _ done.planned c.drop_first.ensures _ c.in-Ok.ensures.edit in
-    let reply = front_placed _ _ _ _ c.args.asked.tx.now c.args.asked.cert.now _ _ _ _ _ _ done.planned c.drop_first.ensures
-    (HasFailedOutput g.P.Output.Sink.failures) (g.P.OutputStore.placed c.args.settings.now.store) (g.P.OutputStore.placed c.place_front.new.settings.store) done.placed in
-    let kept : (left : List ℕ) → g.K.Keeper.may_leave c.keep.new.self left → g.K.Keeper.reads_as left c.drop_first.new.self = λ left now.
-    g.K.Keeper.restarts c.keep.new.self c.drop_first.new.self left keeps
-    (c.in_ok-keep.ensures.stands c.args.round.now.book c.drop_first.new.self stands edit) now in
     on_err c.print_sent.result _ _
-    (λ took.
-    cut_part
-    (FrontRepliesAndPlaces g.P.OutputStore.is_known (HasFailedOutput g.P.Output.Sink.failures) c.args.settings.now.on_limit c.args.asked.end c.args.asked.batches c.args.asked.tx.now c.args.asked.cert.now
-    (g.P.OutputStore.placed c.args.settings.now.store) (g.P.OutputStore.placed c.place_front.new.settings.store))
-    c.args.round.now.book c.drop_first.new.self (g.O.Sink.taken c.args.out.now) (g.O.Sink.taken c.print_sent.new.out) g.K.Keeper.reads_as
-    (g.K.Keeper.may_leave c.keep.new.self) (λ (printed : List ℕ). printed ≡ due)
-    (λ printed is.
-    subst (λ (t : List ℕ). FrontRepliesAndPlaces g.P.OutputStore.is_known (HasFailedOutput g.P.Output.Sink.failures) c.args.settings.now.on_limit c.args.asked.end c.args.asked.batches
-    c.args.asked.tx.now c.args.asked.cert.now (g.P.OutputStore.placed c.args.settings.now.store) (g.P.OutputStore.placed c.place_front.new.settings.store)
-    c.args.round.now.book c.drop_first.new.self t) (sym is) reply)
-    (λ left now. inr (c.drop_first.new.self, (due, reply, kept left now))) kept
-    (took_part (g.O.Sink.taken c.args.out.now) (g.O.Sink.taken c.print_sent.new.out) due (λ (printed : List ℕ). printed ≡ due) refl took))
+    (cut_due _ _ c.drop_first.new.self _ _ _ _ _
+    (front_placed _ _ _ _ c.args.asked.tx.now c.args.asked.cert.now _ _ _ _ _ _ done.planned c.drop_first.ensures
+    (HasFailedOutput g.P.Output.Sink.failures) (g.P.OutputStore.placed c.args.settings.now.store) (g.P.OutputStore.placed c.place_front.new.settings.store) done.placed)
+    (λ left now. g.K.Keeper.restarts c.keep.new.self c.drop_first.new.self left keeps
+    (c.in_ok-keep.ensures.stands c.args.round.now.book c.drop_first.new.self stands edit) now))
     ((c.print_sent.ensures.printed is_known).1)
 
 pub returns-clause-any_moment : goal.returns-clause-any_moment
-returns-clause-any_moment g c = λ keeps stands.
-    let done = c.in-Ok.ensures.planned in
-    let edit = front_edit _ _ _ _ c.args.asked.tx.now c.args.asked.cert.now _ _ _ _ _ _ done.planned c.drop_first.ensures _ c.in-Ok.ensures.edit in
-    named g.K.Keeper.moment g.K.Keeper.left_since c.args.round.now.keeper c.keep.new.self _ _
-    (c.keep.ensures.any_moment keeps c.args.round.now.book c.drop_first.new.self stands edit)
-    (λ left is.
-    front_read _ _ _ _ c.args.asked.tx.now c.args.asked.cert.now _ _ _ _ _ _ done.planned c.drop_first.ensures (HasFailedOutput g.P.Output.Sink.failures) g.K.Keeper.reads_as left is)
+returns-clause-any_moment g c = kept g (goal.at.returns-clause-any_moment g c).After-keep
 
 pub returns-in-Err-clause-explained : goal.returns-in-Err-clause-explained
 returns-in-Err-clause-explained g c = λ counts stands.

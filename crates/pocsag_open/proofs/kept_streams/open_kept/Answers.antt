@@ -4,10 +4,12 @@ use Rattle.pocsag_words.specs.Devices.{HasFailed}
 use Rattle.pocsag_journal.specs.Journals.{journal_limit}
 use Rattle.pocsag_journal.specs.Views.{IsHeld, disk_of}
 use Rattle.pocsag_open.specs.Ends.{AreCountless, HasGivenUp}
-use Rattle.pocsag_open.specs.KeptRounds.{HasFileFailed, begun, not_begun}
+use Rattle.pocsag_open.specs.KeptRounds.{HasFileFailed, ReadsKept, begun, not_begun}
 use Rattle.pocsag_open.specs.Plans.{HasFailedOutput}
 use Rattle.pocsag_open.proofs.Ends.{wider}
-use Rattle.pocsag_open.proofs.KeptRounds.{anew_explains, held_anew, left_anew, left_read, of_disk, only_anew, only_kept}
+use Rattle.pocsag_open.proofs.KeptRounds.{anew_explains, left_anew, left_read, of_disk, only_anew, only_kept}
+use Rattle.pocsag_journal.specs.Moments.{LeavesOnly}
+use Rattle.pocsag_open.proofs.kept_streams.open_kept.Goals.{After-run_open_kept, In_ok-compact}
 use Rattle.pocsag_open.proofs.kept_streams.open_kept.Goals as goal
 
 pub returns-in_err-round-clause-survives : goal.returns-in_err-round-clause-survives
@@ -48,69 +50,52 @@ returns-in_err-compact-clause-explained g c = λ d f i.
     (c.in_err-compact.ensures.explained d) in
     search (rules, cause)
 
+-- the journal that is written anew stands for the pages
+stands : (g : _) (c : In_ok-compact g) → g.D.Disk.is_known → IsHeld c.compact.new.self (g.D.Disk.held (disk_of c.compact.new.self))
+    (g.D.Disk.may_leave (disk_of c.compact.new.self)) c.in_ok-round.field-0 × g.D.Disk.is_sound (disk_of c.compact.new.self)
+stands g c known = (
+  record { stands = (c.in_ok-compact.ensures.adds known).stands; counted = c.in_ok-compact.ensures.measured known; safe = c.in_ok-compact.ensures.safe known },
+  c.in_ok-compact.ensures.sound known,
+)
+
 pub returns-in-Ok-clause-survives : goal.returns-in-Ok-clause-survives
 returns-in-Ok-clause-survives g c = λ d f i o.
     let begins = c.in_ok-round.ensures.begins f (g.D.Disk.held (disk_of c.args.round.now.keeper)) (c.in_ok-replayed.ensures.read d) (c.in_ok-replayed.ensures.few d) in
-    let stands : g.D.Disk.is_known → IsHeld c.compact.new.self (g.D.Disk.held (disk_of c.compact.new.self))
-    (g.D.Disk.may_leave (disk_of c.compact.new.self)) c.in_ok-round.field-0 × g.D.Disk.is_sound (disk_of c.compact.new.self) = λ known. (
-      held_anew c.compact.new.self (g.D.Disk.held (disk_of c.compact.new.self)) (g.D.Disk.may_leave (disk_of c.compact.new.self)) c.in_ok-round.field-0
-          (c.in_ok-compact.ensures.adds known) (c.in_ok-compact.ensures.measured known) (c.in_ok-compact.ensures.safe known),
-      c.in_ok-compact.ensures.sound known,
-    ) in
-    begun c.in_ok-round.field-0 begins (c.run_open_kept.ensures.survives d i o stands)
+    let held = stands g (goal.at.returns-in-Ok-clause-survives g c).In_ok-compact in
+    begun c.in_ok-round.field-0 begins (c.run_open_kept.ensures.survives d i o held)
 
-pub returns-in-Ok-clause-any_moment : goal.returns-in-Ok-clause-any_moment
-returns-in-Ok-clause-any_moment g c = λ d f i o.
+moments : (g : _) (c : After-run_open_kept g) → g.D.Disk.is_known → g.F.Source.is_known → g.I.Source.is_known → g.O.Sink.is_known →
+    (g.D.Disk.is_known → IsHeld c.compact.new.self (g.D.Disk.held (disk_of c.compact.new.self))
+    (g.D.Disk.may_leave (disk_of c.compact.new.self)) c.in_ok-round.field-0 × g.D.Disk.is_sound (disk_of c.compact.new.self)) →
+    LeavesOnly g.D.Disk.moment g.D.Disk.left_since (disk_of c.args.round.now.keeper) (disk_of c.run_open_kept.new.round.keeper)
+    (ReadsKept g.P.OutputStore.is_known (HasFailedOutput g.P.Output.Sink.failures) c.args.settings.now.on_limit (g.I.Source.held c.args.streams.now.input)
+    (g.D.Disk.held (disk_of c.args.round.now.keeper)) (option_map g.F.Source.held c.args.streams.now.pages) (g.D.Disk.may_leave (disk_of c.args.round.now.keeper)))
+moments g c d f i o held =
     let begins = c.in_ok-round.ensures.begins f (g.D.Disk.held (disk_of c.args.round.now.keeper)) (c.in_ok-replayed.ensures.read d) (c.in_ok-replayed.ensures.few d) in
-    let stands : g.D.Disk.is_known → IsHeld c.compact.new.self (g.D.Disk.held (disk_of c.compact.new.self))
-    (g.D.Disk.may_leave (disk_of c.compact.new.self)) c.in_ok-round.field-0 × g.D.Disk.is_sound (disk_of c.compact.new.self) = λ known. (
-      held_anew c.compact.new.self (g.D.Disk.held (disk_of c.compact.new.self)) (g.D.Disk.may_leave (disk_of c.compact.new.self)) c.in_ok-round.field-0
-          (c.in_ok-compact.ensures.adds known) (c.in_ok-compact.ensures.measured known) (c.in_ok-compact.ensures.safe known),
-      c.in_ok-compact.ensures.sound known,
-    ) in
     only_kept g.D.Disk.moment g.D.Disk.left_since g.D.Disk.may_leave (λ disk t left le now. g.D.Disk.counts_now disk t left d le now)
     g.P.OutputStore.is_known (HasFailedOutput g.P.Output.Sink.failures) c.args.settings.now.on_limit (g.I.Source.held c.args.streams.now.input) (g.D.Disk.held (disk_of c.args.round.now.keeper))
     (option_map g.F.Source.held c.args.streams.now.pages) (disk_of c.args.round.now.keeper) (disk_of c.read.new.self) (c.read.ensures.any_moment d)
     (disk_of c.compact.new.self) c.in_ok-round.field-0 begins (c.compact.ensures.any_moment d) (disk_of c.run_open_kept.new.round.keeper)
-    (of_disk g.D.Disk.moment g.D.Disk.left_since _ _ _ (c.run_open_kept.ensures.any_moment d i o stands))
+    (of_disk g.D.Disk.moment g.D.Disk.left_since _ _ _ (c.run_open_kept.ensures.any_moment d i o held))
+
+pub returns-in-Ok-clause-any_moment : goal.returns-in-Ok-clause-any_moment
+returns-in-Ok-clause-any_moment g c = λ d f i o. moments g (goal.at.returns-in-Ok-clause-any_moment g c).After-run_open_kept d f i o (stands g (goal.at.returns-in-Ok-clause-any_moment g c).In_ok-compact)
 
 pub returns-in-Err-clause-survives : goal.returns-in-Err-clause-survives
 returns-in-Err-clause-survives g c = λ d f i o.
     let begins = c.in_ok-round.ensures.begins f (g.D.Disk.held (disk_of c.args.round.now.keeper)) (c.in_ok-replayed.ensures.read d) (c.in_ok-replayed.ensures.few d) in
-    let stands : g.D.Disk.is_known → IsHeld c.compact.new.self (g.D.Disk.held (disk_of c.compact.new.self))
-    (g.D.Disk.may_leave (disk_of c.compact.new.self)) c.in_ok-round.field-0 × g.D.Disk.is_sound (disk_of c.compact.new.self) = λ known. (
-      held_anew c.compact.new.self (g.D.Disk.held (disk_of c.compact.new.self)) (g.D.Disk.may_leave (disk_of c.compact.new.self)) c.in_ok-round.field-0
-          (c.in_ok-compact.ensures.adds known) (c.in_ok-compact.ensures.measured known) (c.in_ok-compact.ensures.safe known),
-      c.in_ok-compact.ensures.sound known,
-    ) in
-    begun c.in_ok-round.field-0 begins (c.run_open_kept.ensures.survives d i o stands)
+    let held = stands g (goal.at.returns-in-Err-clause-survives g c).In_ok-compact in
+    begun c.in_ok-round.field-0 begins (c.run_open_kept.ensures.survives d i o held)
 
 pub returns-in-Err-clause-any_moment : goal.returns-in-Err-clause-any_moment
-returns-in-Err-clause-any_moment g c = λ d f i o.
-    let begins = c.in_ok-round.ensures.begins f (g.D.Disk.held (disk_of c.args.round.now.keeper)) (c.in_ok-replayed.ensures.read d) (c.in_ok-replayed.ensures.few d) in
-    let stands : g.D.Disk.is_known → IsHeld c.compact.new.self (g.D.Disk.held (disk_of c.compact.new.self))
-    (g.D.Disk.may_leave (disk_of c.compact.new.self)) c.in_ok-round.field-0 × g.D.Disk.is_sound (disk_of c.compact.new.self) = λ known. (
-      held_anew c.compact.new.self (g.D.Disk.held (disk_of c.compact.new.self)) (g.D.Disk.may_leave (disk_of c.compact.new.self)) c.in_ok-round.field-0
-          (c.in_ok-compact.ensures.adds known) (c.in_ok-compact.ensures.measured known) (c.in_ok-compact.ensures.safe known),
-      c.in_ok-compact.ensures.sound known,
-    ) in
-    only_kept g.D.Disk.moment g.D.Disk.left_since g.D.Disk.may_leave (λ disk t left le now. g.D.Disk.counts_now disk t left d le now)
-    g.P.OutputStore.is_known (HasFailedOutput g.P.Output.Sink.failures) c.args.settings.now.on_limit (g.I.Source.held c.args.streams.now.input) (g.D.Disk.held (disk_of c.args.round.now.keeper))
-    (option_map g.F.Source.held c.args.streams.now.pages) (disk_of c.args.round.now.keeper) (disk_of c.read.new.self) (c.read.ensures.any_moment d)
-    (disk_of c.compact.new.self) c.in_ok-round.field-0 begins (c.compact.ensures.any_moment d) (disk_of c.run_open_kept.new.round.keeper)
-    (of_disk g.D.Disk.moment g.D.Disk.left_since _ _ _ (c.run_open_kept.ensures.any_moment d i o stands))
+returns-in-Err-clause-any_moment g c = λ d f i o. moments g (goal.at.returns-in-Err-clause-any_moment g c).After-run_open_kept d f i o (stands g (goal.at.returns-in-Err-clause-any_moment g c).In_ok-compact)
 
 pub returns-in-Err-clause-explained : goal.returns-in-Err-clause-explained
 returns-in-Err-clause-explained g c = λ d f i.
-    let stands : g.D.Disk.is_known → IsHeld c.compact.new.self (g.D.Disk.held (disk_of c.compact.new.self))
-    (g.D.Disk.may_leave (disk_of c.compact.new.self)) c.in_ok-round.field-0 × g.D.Disk.is_sound (disk_of c.compact.new.self) = λ known. (
-      held_anew c.compact.new.self (g.D.Disk.held (disk_of c.compact.new.self)) (g.D.Disk.may_leave (disk_of c.compact.new.self)) c.in_ok-round.field-0
-          (c.in_ok-compact.ensures.adds known) (c.in_ok-compact.ensures.measured known) (c.in_ok-compact.ensures.safe known),
-      c.in_ok-compact.ensures.sound known,
-    ) in
+    let held = stands g (goal.at.returns-in-Err-clause-explained g c).In_ok-compact in
     let same : g.D.Disk.failures (disk_of c.compact.new.self) ≡ g.D.Disk.failures (disk_of c.args.round.now.keeper) =
     c.in_ok-compact.ensures.succeeded d ∙ c.in_ok-replayed.ensures.succeeded d in
     wider _ _ _ _ _ _ c.in-Err.fault (λ cause. inr cause) (λ cause. cause)
     (λ cause. subst (λ (n : ℕ). HasGivenUp journal_limit (g.D.Disk.held (disk_of c.run_open_kept.new.round.keeper)) n
     (g.D.Disk.failures (disk_of c.run_open_kept.new.round.keeper))) same cause)
-    (c.in-Err.ensures.explained i d stands)
+    (c.in-Err.ensures.explained i d held)

@@ -1,51 +1,42 @@
-use Rattle.std.proofs.Common.{inl, ◌≡◌, List, ℕ, [], ◌∷◌, ◌++◌, length, Err, refl, ap, subst, ◌∙◌, append_assoc, append-nil, sym}
-use Rattle.std.specs.Prelude.{Option, None}
+use Rattle.std.proofs.Common.{inl, ◌≡◌, List, ℕ, [], ◌∷◌, ◌++◌, length, Err, refl, ap, ◌∙◌, append_assoc, append-nil, sym}
+use Rattle.std.specs.Prelude.{None}
 use Rattle.csv.specs.Records.{fields_of}
 use Rattle.pocsag_journal.proofs.Moments.{named, started}
-use Rattle.pocsag_journal.specs.Asks.{AsksPlan}
+use Rattle.pocsag_journal.specs.Moments.{LeavesOnly}
 use Rattle.pocsag_decode.specs.PageFiles.{page_file}
-use Rattle.pocsag_journal.specs.declared.refusal.Refusal.TheVariants as refusal
-use Rattle.pocsag_journal.specs.declared.refusal.UndoneFault.TheVariants as undone
-use Rattle.pocsag_open.specs.Answers.{pages_answer, plan_answer}
+use Rattle.pocsag_open.specs.Answers.{pages_answer}
 use Rattle.pocsag_open.specs.Plans.{HasFailedOutput, placed_plan}
-use Rattle.pocsag_open.specs.Replies.{IsEditReply, IsRefusalPrinted, listed, noted, planned, read, refused, unread}
-use Rattle.pocsag_open.specs.Survival.{FrontRepliesAndPlaces, FrontRepliesTo, RepliesAndPlaces, RepliesTo}
+use Rattle.pocsag_open.specs.Replies.{IsEditReply, listed, noted, planned, read, refused, unread}
+use Rattle.pocsag_open.specs.Survival.{FrontRepliesAndPlaces, FrontRepliesTo, ReadsOrReplied, RepliesAndPlaces, RepliesTo}
 use Rattle.pocsag_open.proofs.Sessions.{edit_reply, front_reply, list_due, other_none, plan_due}
-use Rattle.pocsag_open.proofs.Survival.{cut_as, cut_due, cut_front, cut_last, cut_told, on_err, read_as, told_part}
-use Rattle.pocsag_open.proofs.Printed.{on_ok, told_as, told_like, told_more, told_once, told_this}
+use Rattle.pocsag_open.proofs.Survival.{cut_as, cut_due, cut_front, cut_last, on_err, read_as}
+use Rattle.pocsag_open.proofs.Printed.{on_ok, told_as, told_like, told_once, told_this}
 use Rattle.pocsag_journal.specs.Journals.{IsLine}
 use Rattle.pocsag_journal.proofs.FieldLines.{read_line}
 use Rattle.pocsag_open.proofs.Ends.{for_fault, not_answered, text_feedless}
+use Rattle.pocsag_open.proofs.session.answer_line.Goals.{Start}
 use Rattle.pocsag_open.proofs.session.answer_line.Goals as goal
 
 pub returns-in-Err-clause-replied : goal.returns-in-Err-clause-replied
 returns-in-Err-clause-replied g c = λ is_known.
-    told_as c.refuse.result _ _ _ _ _ [] _ _ (λ known. sym (append-nil _)) (λ printed is. unread c.in-Err.refusal c.requires c.in-Err.ensures.refused refl is refl)
-    (told_more c.refuse.result _ _ _ (IsRefusalPrinted c.in-Err.refusal) refl (c.refuse.ensures.printed is_known))
+    told_this c.refuse.result _ _ _ _ _ _ [] _ (unread c.in-Err.refusal c.requires c.in-Err.ensures.refused refl refl refl) (λ known. sym (append-nil _))
+    ((c.refuse.ensures.printed is_known).0)
 
 pub returns-in-Ok-put_plan-clause-replied : goal.returns-in-Ok-put_plan-clause-replied
 returns-in-Ok-put_plan-clause-replied g c = λ is_known.
-    let asks = subst (λ (most : Option ℕ). AsksPlan c.in-Plan.end most c.in-Plan.tx.now c.in-Plan.cert.now (fields_of c.in-Ok.row)) c.in-None.is c.in-Plan.ensures.asks in
+    let asks = rw c.in-None.is at c.in-Plan.ensures.asks in
     let done = c.in-Ok-put_plan.ensures.planned in
-    on_ok c.print_planned.result _ _
-    (λ (printed : g.O.Sink.taken c.print_planned.new.out ≡ g.O.Sink.taken c.args.out.now
-    ++ plan_answer c.in-Ok-put_plan.planned.batches c.in-Ok-put_plan.planned.bound). record {
-      printed = plan_answer c.in-Ok-put_plan.planned.batches c.in-Ok-put_plan.planned.bound;
-      placed = placed_plan c.in-Plan.tx.now c.in-Plan.cert.now done.sent ∷ [];
-      answers = printed;
-      outputs = done.placed;
-      holds = read _ c.requires c.in-Ok.ensures.spelled (planned _ _ _ _ _ _ asks done.planned refl refl refl);
-    })
+    told_this c.print_planned.result _ _ _ _ _ _ (placed_plan c.in-Plan.tx.now c.in-Plan.cert.now done.sent ∷ []) _
+    (read _ c.requires c.in-Ok.ensures.spelled (planned _ _ _ _ _ _ asks done.planned refl refl refl)) done.placed
     ((c.print_planned.ensures.printed is_known).0)
 
 pub returns-in-None-clause-replied : goal.returns-in-None-clause-replied
 returns-in-None-clause-replied g c = λ is_known.
-    let asks = subst (λ (most : Option ℕ). AsksPlan c.in-Plan.end most c.in-Plan.tx.now c.in-Plan.cert.now (fields_of c.in-Ok.row)) c.in-None.is c.in-Plan.ensures.asks in
+    let asks = rw c.in-None.is at c.in-Plan.ensures.asks in
     let un = c.in-Err-put_plan.ensures.unplaced in
-    told_as c.refuse-in-Err-put_plan.result _ _ _ _ _ _ _ _ un.outputs
-    (λ printed is. read _ c.requires c.in-Ok.ensures.spelled
-    (refused _ (plan_due _ _ _ None _ _ _ _ _ _ asks c.in-Plan.ensures.edit c.in-Err-put_plan.ensures.explained un.refused) refl is))
-    (told_more c.refuse-in-Err-put_plan.result _ _ _ (IsRefusalPrinted (refusal.Undone c.in-Err-put_plan.fault)) refl (c.refuse-in-Err-put_plan.ensures.printed is_known))
+    told_this c.refuse-in-Err-put_plan.result _ _ _ _ _ _ un.placed _ (read _ c.requires c.in-Ok.ensures.spelled
+    (refused _ (plan_due _ _ _ None _ _ _ _ _ _ asks c.in-Plan.ensures.edit c.in-Err-put_plan.ensures.explained un.refused) refl refl))
+    un.outputs ((c.refuse-in-Err-put_plan.ensures.printed is_known).0)
 
 pub returns-in-Ok-write_page_file-clause-replied : goal.returns-in-Ok-write_page_file-clause-replied
 returns-in-Ok-write_page_file-clause-replied g c = λ is_known.
@@ -62,15 +53,14 @@ pub returns-in-Err-OutOfMemory-clause-replied : goal.returns-in-Err-OutOfMemory-
 returns-in-Err-OutOfMemory-clause-replied g c = λ is_known.
     let same : g.O.Sink.taken c.write_page_file.new.sink ≡ g.O.Sink.taken c.args.out.now =
     ap g.O.Sink.taken (c.write_page_file.ensures.untouched (c.in-Err-OutOfMemory.is ∙ ap Err c.in-Err-OutOfMemory.field-0-is)) in
-    told_as c.refuse-in-Err-OutOfMemory.result _ _ _ _ _ [] _ _ (λ known. sym (append-nil _))
-    (λ printed is. read _ c.requires c.in-Ok.ensures.spelled
-    (refused _ (list_due _ _ _ _ c.in-List.ensures.asks c.in-List.ensures.edit) refl is))
-    (rw same at (told_more c.refuse-in-Err-OutOfMemory.result _ _ _ (IsRefusalPrinted (refusal.Undone undone.OutOfMemory)) refl (c.refuse-in-Err-OutOfMemory.ensures.printed is_known)))
+    told_this c.refuse-in-Err-OutOfMemory.result _ _ _ _ _ _ [] _
+    (read _ c.requires c.in-Ok.ensures.spelled (refused _ (list_due _ _ _ _ c.in-List.ensures.asks c.in-List.ensures.edit) refl refl))
+    (λ known. sym (append-nil _)) (rw same at ((c.refuse-in-Err-OutOfMemory.ensures.printed is_known).0))
 
 pub returns-in-Journal-clause-replied : goal.returns-in-Journal-clause-replied
 returns-in-Journal-clause-replied g c = λ is_known.
-    told_this c.print_pages-in-Journal.result _ _ _ _ _ _
-    (read _ c.requires c.in-Ok.ensures.spelled (noted c.in-Journal.ensures.asks refl refl refl))
+    told_this c.print_pages-in-Journal.result _ _ _ _ _ _ [] _
+    (read _ c.requires c.in-Ok.ensures.spelled (noted c.in-Journal.ensures.asks refl refl refl)) (λ known. sym (append-nil _))
     ((c.print_pages-in-Journal.ensures.printed is_known).0)
 
 pub returns-clause-replied : goal.returns-clause-replied
@@ -83,74 +73,76 @@ returns-clause-replied g c = λ is_known.
 
 pub returns-in-Err-clause-cut : goal.returns-in-Err-clause-cut
 returns-in-Err-clause-cut g c = λ keeps is_known stands.
-    cut_told c.refuse.result (RepliesAndPlaces g.P.OutputStore.is_known (HasFailedOutput g.P.Output.Sink.failures) c.args.settings.now.on_limit c.args.line.now (g.P.OutputStore.placed c.args.settings.now.store) (g.P.OutputStore.placed c.args.settings.now.store)) c.args.round.now.book (g.O.Sink.taken c.args.out.now) (g.O.Sink.taken c.refuse.new.out)
-    g.K.Keeper.reads_as (g.K.Keeper.may_leave c.args.round.now.keeper) (IsRefusalPrinted c.in-Err.refusal)
-    (λ printed is. ([], unread c.in-Err.refusal c.requires c.in-Err.ensures.refused refl is refl, λ known. sym (append-nil _)))
-    (λ left now. g.K.Keeper.restarts c.args.round.now.keeper c.args.round.now.book left keeps stands now) (told_part c.refuse.result _ _ _ (IsRefusalPrinted c.in-Err.refusal) refl (c.refuse.ensures.printed is_known))
+    on_err c.refuse.result _ _
+    (cut_due _ _ _ _ _ _ _ _ ([], unread c.in-Err.refusal c.requires c.in-Err.ensures.refused refl refl refl, λ known. sym (append-nil _))
+    (λ left now. g.K.Keeper.restarts c.args.round.now.keeper c.args.round.now.book left keeps stands now))
+    ((c.refuse.ensures.printed is_known).1)
 
 pub returns-in-Ok-put_plan-clause-cut : goal.returns-in-Ok-put_plan-clause-cut
 returns-in-Ok-put_plan-clause-cut g c = λ keeps is_known stands.
-    let asks = subst (λ (most : Option ℕ). AsksPlan c.in-Plan.end most c.in-Plan.tx.now c.in-Plan.cert.now (fields_of c.in-Ok.row)) c.in-None.is c.in-Plan.ensures.asks in
+    let asks = rw c.in-None.is at c.in-Plan.ensures.asks in
     let done = c.in-Ok-put_plan.ensures.planned in
-    cut_due c.print_planned.result (RepliesAndPlaces g.P.OutputStore.is_known (HasFailedOutput g.P.Output.Sink.failures) c.args.settings.now.on_limit c.args.line.now (g.P.OutputStore.placed c.args.settings.now.store) (g.P.OutputStore.placed c.put_plan.new.settings.store)) c.args.round.now.book (g.O.Sink.taken c.args.out.now) (g.O.Sink.taken c.print_planned.new.out)
-    (plan_answer c.in-Ok-put_plan.planned.batches c.in-Ok-put_plan.planned.bound) g.K.Keeper.reads_as (g.K.Keeper.may_leave c.args.round.now.keeper) (
+    on_err c.print_planned.result _ _
+    (cut_due _ _ _ _ _ _ _ _ (
       placed_plan c.in-Plan.tx.now c.in-Plan.cert.now done.sent ∷ [],
       read _ c.requires c.in-Ok.ensures.spelled (planned _ _ _ _ _ _ asks done.planned refl refl refl),
       done.placed,
     )
-    (λ left now. g.K.Keeper.restarts c.args.round.now.keeper c.args.round.now.book left keeps stands now) ((c.print_planned.ensures.printed is_known).1)
+    (λ left now. g.K.Keeper.restarts c.args.round.now.keeper c.args.round.now.book left keeps stands now))
+    ((c.print_planned.ensures.printed is_known).1)
 
 pub returns-in-None-clause-cut : goal.returns-in-None-clause-cut
 returns-in-None-clause-cut g c = λ keeps is_known stands.
+    let asks = rw c.in-None.is at c.in-Plan.ensures.asks in
     let un = c.in-Err-put_plan.ensures.unplaced in
-    let asks = subst (λ (most : Option ℕ). AsksPlan c.in-Plan.end most c.in-Plan.tx.now c.in-Plan.cert.now (fields_of c.in-Ok.row)) c.in-None.is c.in-Plan.ensures.asks in
-    cut_told c.refuse-in-Err-put_plan.result (RepliesAndPlaces g.P.OutputStore.is_known (HasFailedOutput g.P.Output.Sink.failures) c.args.settings.now.on_limit c.args.line.now (g.P.OutputStore.placed c.args.settings.now.store) (g.P.OutputStore.placed c.put_plan.new.settings.store)) c.args.round.now.book (g.O.Sink.taken c.args.out.now)
-    (g.O.Sink.taken c.refuse-in-Err-put_plan.new.out) g.K.Keeper.reads_as (g.K.Keeper.may_leave c.args.round.now.keeper) (IsRefusalPrinted (refusal.Undone c.in-Err-put_plan.fault))
-    (λ printed is. (
+    on_err c.refuse-in-Err-put_plan.result _ _
+    (cut_due _ _ _ _ _ _ _ _ (
       un.placed,
       read _ c.requires c.in-Ok.ensures.spelled
-          (refused _ (plan_due _ _ _ None _ _ _ _ _ _ asks c.in-Plan.ensures.edit c.in-Err-put_plan.ensures.explained un.refused) refl is),
+          (refused _ (plan_due _ _ _ None _ _ _ _ _ _ asks c.in-Plan.ensures.edit c.in-Err-put_plan.ensures.explained un.refused) refl refl),
       un.outputs,
-    ))
-    (λ left now. g.K.Keeper.restarts c.args.round.now.keeper c.args.round.now.book left keeps stands now) (told_part c.refuse-in-Err-put_plan.result _ _ _ (IsRefusalPrinted (refusal.Undone c.in-Err-put_plan.fault)) refl (c.refuse-in-Err-put_plan.ensures.printed is_known))
+    )
+    (λ left now. g.K.Keeper.restarts c.args.round.now.keeper c.args.round.now.book left keeps stands now))
+    ((c.refuse-in-Err-put_plan.ensures.printed is_known).1)
 
 pub returns-in-Ok-write_page_file-clause-cut : goal.returns-in-Ok-write_page_file-clause-cut
 returns-in-Ok-write_page_file-clause-cut g c = λ keeps is_known stands.
     let pages = c.args.round.now.book in
     let whole = rw c.pages.ensures.pages at (c.in-Ok-write_page_file.ensures.whole is_known) in
-    cut_last c.print_pages.result (RepliesAndPlaces g.P.OutputStore.is_known (HasFailedOutput g.P.Output.Sink.failures) c.args.settings.now.on_limit c.args.line.now (g.P.OutputStore.placed c.args.settings.now.store) (g.P.OutputStore.placed c.args.settings.now.store)) pages (g.O.Sink.taken c.args.out.now) (g.O.Sink.taken c.write_page_file.new.sink)
-    (g.O.Sink.taken c.print_pages.new.out) (page_file pages) (pages_answer (length pages)) g.K.Keeper.reads_as (g.K.Keeper.may_leave c.args.round.now.keeper) whole
+    on_err c.print_pages.result _ _
+    (cut_last _ _ _ _ _ (page_file pages) (pages_answer (length pages)) _ _ whole
     ([], read _ c.requires c.in-Ok.ensures.spelled (listed c.in-List.ensures.asks refl refl refl), λ known. sym (append-nil _))
-    (λ left now. g.K.Keeper.restarts c.args.round.now.keeper c.args.round.now.book left keeps stands now) ((c.print_pages.ensures.printed is_known).1)
+    (λ left now. g.K.Keeper.restarts c.args.round.now.keeper c.args.round.now.book left keeps stands now))
+    ((c.print_pages.ensures.printed is_known).1)
 
 pub returns-in-Err-OutOfMemory-clause-cut : goal.returns-in-Err-OutOfMemory-clause-cut
 returns-in-Err-OutOfMemory-clause-cut g c = λ keeps is_known stands.
     let same : g.O.Sink.taken c.write_page_file.new.sink ≡ g.O.Sink.taken c.args.out.now =
     ap g.O.Sink.taken (c.write_page_file.ensures.untouched (c.in-Err-OutOfMemory.is ∙ ap Err c.in-Err-OutOfMemory.field-0-is)) in
-    cut_told c.refuse-in-Err-OutOfMemory.result (RepliesAndPlaces g.P.OutputStore.is_known (HasFailedOutput g.P.Output.Sink.failures) c.args.settings.now.on_limit c.args.line.now (g.P.OutputStore.placed c.args.settings.now.store) (g.P.OutputStore.placed c.args.settings.now.store)) c.args.round.now.book (g.O.Sink.taken c.args.out.now)
-    (g.O.Sink.taken c.refuse-in-Err-OutOfMemory.new.out) g.K.Keeper.reads_as (g.K.Keeper.may_leave c.args.round.now.keeper) (IsRefusalPrinted (refusal.Undone undone.OutOfMemory))
-    (λ printed is. (
+    on_err c.refuse-in-Err-OutOfMemory.result _ _
+    (cut_due _ _ _ _ _ _ _ _ (
       [],
-      read _ c.requires c.in-Ok.ensures.spelled (refused _ (list_due _ _ _ _ c.in-List.ensures.asks c.in-List.ensures.edit) refl is),
+      read _ c.requires c.in-Ok.ensures.spelled (refused _ (list_due _ _ _ _ c.in-List.ensures.asks c.in-List.ensures.edit) refl refl),
       λ known. sym (append-nil _),
-    ))
-    (λ left now. g.K.Keeper.restarts c.args.round.now.keeper c.args.round.now.book left keeps stands now) (rw same at (told_part c.refuse-in-Err-OutOfMemory.result _ _ _ (IsRefusalPrinted (refusal.Undone undone.OutOfMemory)) refl (c.refuse-in-Err-OutOfMemory.ensures.printed is_known)))
+    )
+    (λ left now. g.K.Keeper.restarts c.args.round.now.keeper c.args.round.now.book left keeps stands now))
+    (rw same at ((c.refuse-in-Err-OutOfMemory.ensures.printed is_known).1))
 
 pub returns-in-List-clause-cut : goal.returns-in-List-clause-cut
 returns-in-List-clause-cut g c = λ keeps is_known stands.
     let pages = c.args.round.now.book in
-    cut_front (RepliesAndPlaces g.P.OutputStore.is_known (HasFailedOutput g.P.Output.Sink.failures) c.args.settings.now.on_limit c.args.line.now (g.P.OutputStore.placed c.args.settings.now.store) (g.P.OutputStore.placed c.args.settings.now.store)) pages (g.O.Sink.taken c.args.out.now) (g.O.Sink.taken c.write_page_file.new.sink)
-    (page_file pages) (pages_answer (length pages)) g.K.Keeper.reads_as (g.K.Keeper.may_leave c.args.round.now.keeper)
+    cut_front _ _ _ _ (page_file pages) (pages_answer (length pages)) _ _
     ([], read _ c.requires c.in-Ok.ensures.spelled (listed c.in-List.ensures.asks refl refl refl), λ known. sym (append-nil _))
     (λ left now. g.K.Keeper.restarts c.args.round.now.keeper c.args.round.now.book left keeps stands now)
     (rw c.pages.ensures.pages at (c.write_page_file.ensures.part is_known (c.in-Err-WriteFault.is ∙ ap Err c.in-Err-WriteFault.field-0-is)))
 
 pub returns-in-Journal-clause-cut : goal.returns-in-Journal-clause-cut
 returns-in-Journal-clause-cut g c = λ keeps is_known stands.
-    cut_due c.print_pages-in-Journal.result (RepliesAndPlaces g.P.OutputStore.is_known (HasFailedOutput g.P.Output.Sink.failures) c.args.settings.now.on_limit c.args.line.now (g.P.OutputStore.placed c.args.settings.now.store) (g.P.OutputStore.placed c.args.settings.now.store)) c.args.round.now.book (g.O.Sink.taken c.args.out.now)
-    (g.O.Sink.taken c.print_pages-in-Journal.new.out) (pages_answer (length c.args.round.now.book)) g.K.Keeper.reads_as (g.K.Keeper.may_leave c.args.round.now.keeper)
+    on_err c.print_pages-in-Journal.result _ _
+    (cut_due _ _ _ _ _ _ _ _
     ([], read _ c.requires c.in-Ok.ensures.spelled (noted c.in-Journal.ensures.asks refl refl refl), λ known. sym (append-nil _))
-    (λ left now. g.K.Keeper.restarts c.args.round.now.keeper c.args.round.now.book left keeps stands now) ((c.print_pages-in-Journal.ensures.printed is_known).1)
+    (λ left now. g.K.Keeper.restarts c.args.round.now.keeper c.args.round.now.book left keeps stands now))
+    ((c.print_pages-in-Journal.ensures.printed is_known).1)
 
 pub returns-clause-cut : goal.returns-clause-cut
 returns-clause-cut g c = λ keeps is_known stands.
@@ -165,14 +157,14 @@ returns-clause-cut g c = λ keeps is_known stands.
 
 pub returns-in-Plan-clause-replied : goal.returns-in-Plan-clause-replied
 returns-in-Plan-clause-replied g c = λ is_known.
-    let asks = subst (λ (most : Option ℕ). AsksPlan c.in-Plan.end most c.in-Plan.tx.now c.in-Plan.cert.now (fields_of c.in-Ok.row)) c.in-Some.is c.in-Plan.ensures.asks in
+    let asks = rw c.in-Some.is at c.in-Plan.ensures.asks in
     told_like c.answer_front.result _ _ _ _ _ _ _
     (λ printed sent is. read _ c.requires c.in-Ok.ensures.spelled (front_reply _ _ _ _ _ _ _ _ _ _ _ _ asks c.in-Plan.ensures.edit is))
     (c.answer_front.ensures.replied is_known)
 
 pub returns-in-Plan-clause-cut : goal.returns-in-Plan-clause-cut
 returns-in-Plan-clause-cut g c = λ keeps is_known stands.
-    let asks = subst (λ (most : Option ℕ). AsksPlan c.in-Plan.end most c.in-Plan.tx.now c.in-Plan.cert.now (fields_of c.in-Ok.row)) c.in-Some.is c.in-Plan.ensures.asks in
+    let asks = rw c.in-Some.is at c.in-Plan.ensures.asks in
     on_err c.answer_front.result _ _
     (cut_as (FrontRepliesAndPlaces g.P.OutputStore.is_known (HasFailedOutput g.P.Output.Sink.failures) c.args.settings.now.on_limit c.in-Plan.end c.in-Some.batches c.in-Plan.tx.now c.in-Plan.cert.now
     (g.P.OutputStore.placed c.args.settings.now.store) (g.P.OutputStore.placed c.answer_front.new.settings.store))
@@ -187,7 +179,7 @@ returns-in-Plan-clause-cut g c = λ keeps is_known stands.
 
 pub returns-in-Plan-clause-any_moment : goal.returns-in-Plan-clause-any_moment
 returns-in-Plan-clause-any_moment g c = λ keeps stands.
-    let asks = subst (λ (most : Option ℕ). AsksPlan c.in-Plan.end most c.in-Plan.tx.now c.in-Plan.cert.now (fields_of c.in-Ok.row)) c.in-Some.is c.in-Plan.ensures.asks in
+    let asks = rw c.in-Some.is at c.in-Plan.ensures.asks in
     named g.K.Keeper.moment g.K.Keeper.left_since c.args.round.now.keeper c.answer_front.new.round.keeper _ _
     (c.answer_front.ensures.any_moment keeps stands)
     (λ left now.
@@ -208,61 +200,38 @@ returns-clause-any_moment g c = λ keeps stands.
     read_as (IsEditReply (fields_of c.in-Ok.row)) (RepliesTo g.P.OutputStore.is_known (HasFailedOutput g.P.Output.Sink.failures) c.args.settings.now.on_limit c.args.line.now) c.args.round.now.book g.K.Keeper.reads_as left
     (λ after printed is. ([], read _ c.requires c.in-Ok.ensures.spelled (edit_reply _ _ _ _ _ _ _ neither is))) now)
 
-pub returns-in-Err-clause-any_moment : goal.returns-in-Err-clause-any_moment
-returns-in-Err-clause-any_moment g c = λ keeps stands.
+-- where nothing is kept, a crash leaves what it might have left before
+unmoved : (g : _) (c : Start g) → g.K.Keeper.is_known → g.K.Keeper.represents c.args.round.now.keeper c.args.round.now.book →
+    LeavesOnly g.K.Keeper.moment g.K.Keeper.left_since c.args.round.now.keeper c.args.round.now.keeper
+    (ReadsOrReplied g.K.Keeper.reads_as (RepliesTo g.P.OutputStore.is_known (HasFailedOutput g.P.Output.Sink.failures) c.args.settings.now.on_limit c.args.line.now)
+    c.args.round.now.book)
+unmoved g c = λ keeps stands.
     started g.K.Keeper.moment g.K.Keeper.left_since c.args.round.now.keeper _
     (λ left since.
     inl
     (g.K.Keeper.restarts c.args.round.now.keeper c.args.round.now.book left keeps stands
     (g.K.Keeper.only_now c.args.round.now.keeper left keeps since)))
+
+pub returns-in-Err-clause-any_moment : goal.returns-in-Err-clause-any_moment
+returns-in-Err-clause-any_moment g c = unmoved g (goal.at.returns-in-Err-clause-any_moment g c).Start
 
 pub returns-in-Ok-put_plan-clause-any_moment : goal.returns-in-Ok-put_plan-clause-any_moment
-returns-in-Ok-put_plan-clause-any_moment g c = λ keeps stands.
-    started g.K.Keeper.moment g.K.Keeper.left_since c.args.round.now.keeper _
-    (λ left since.
-    inl
-    (g.K.Keeper.restarts c.args.round.now.keeper c.args.round.now.book left keeps stands
-    (g.K.Keeper.only_now c.args.round.now.keeper left keeps since)))
+returns-in-Ok-put_plan-clause-any_moment g c = unmoved g (goal.at.returns-in-Ok-put_plan-clause-any_moment g c).Start
 
 pub returns-in-None-clause-any_moment : goal.returns-in-None-clause-any_moment
-returns-in-None-clause-any_moment g c = λ keeps stands.
-    started g.K.Keeper.moment g.K.Keeper.left_since c.args.round.now.keeper _
-    (λ left since.
-    inl
-    (g.K.Keeper.restarts c.args.round.now.keeper c.args.round.now.book left keeps stands
-    (g.K.Keeper.only_now c.args.round.now.keeper left keeps since)))
+returns-in-None-clause-any_moment g c = unmoved g (goal.at.returns-in-None-clause-any_moment g c).Start
 
 pub returns-in-Ok-write_page_file-clause-any_moment : goal.returns-in-Ok-write_page_file-clause-any_moment
-returns-in-Ok-write_page_file-clause-any_moment g c = λ keeps stands.
-    started g.K.Keeper.moment g.K.Keeper.left_since c.args.round.now.keeper _
-    (λ left since.
-    inl
-    (g.K.Keeper.restarts c.args.round.now.keeper c.args.round.now.book left keeps stands
-    (g.K.Keeper.only_now c.args.round.now.keeper left keeps since)))
+returns-in-Ok-write_page_file-clause-any_moment g c = unmoved g (goal.at.returns-in-Ok-write_page_file-clause-any_moment g c).Start
 
 pub returns-in-Err-OutOfMemory-clause-any_moment : goal.returns-in-Err-OutOfMemory-clause-any_moment
-returns-in-Err-OutOfMemory-clause-any_moment g c = λ keeps stands.
-    started g.K.Keeper.moment g.K.Keeper.left_since c.args.round.now.keeper _
-    (λ left since.
-    inl
-    (g.K.Keeper.restarts c.args.round.now.keeper c.args.round.now.book left keeps stands
-    (g.K.Keeper.only_now c.args.round.now.keeper left keeps since)))
+returns-in-Err-OutOfMemory-clause-any_moment g c = unmoved g (goal.at.returns-in-Err-OutOfMemory-clause-any_moment g c).Start
 
 pub returns-in-List-clause-any_moment : goal.returns-in-List-clause-any_moment
-returns-in-List-clause-any_moment g c = λ keeps stands.
-    started g.K.Keeper.moment g.K.Keeper.left_since c.args.round.now.keeper _
-    (λ left since.
-    inl
-    (g.K.Keeper.restarts c.args.round.now.keeper c.args.round.now.book left keeps stands
-    (g.K.Keeper.only_now c.args.round.now.keeper left keeps since)))
+returns-in-List-clause-any_moment g c = unmoved g (goal.at.returns-in-List-clause-any_moment g c).Start
 
 pub returns-in-Journal-clause-any_moment : goal.returns-in-Journal-clause-any_moment
-returns-in-Journal-clause-any_moment g c = λ keeps stands.
-    started g.K.Keeper.moment g.K.Keeper.left_since c.args.round.now.keeper _
-    (λ left since.
-    inl
-    (g.K.Keeper.restarts c.args.round.now.keeper c.args.round.now.book left keeps stands
-    (g.K.Keeper.only_now c.args.round.now.keeper left keeps since)))
+returns-in-Journal-clause-any_moment g c = unmoved g (goal.at.returns-in-Journal-clause-any_moment g c).Start
 
 pub returns-clause-explained : goal.returns-clause-explained
 returns-clause-explained g c = λ counts stands none.

@@ -1,28 +1,38 @@
-use Rattle.std.proofs.Common.{inl, [], List, ℕ, ◌++◌, ap, arith, refl, sym, append-nil, rules}
+use Rattle.std.proofs.Common.{[], List, ℕ, ◌++◌, ap, arith, refl, sym, append-nil, rules}
 use Rattle.pocsag_journal.specs.Moments.{LeavesOnly}
-use Rattle.pocsag_journal.specs.declared.refusal.Refusal.TheVariants as refusal
 use Rattle.pocsag_journal.proofs.Moments.{started, then_on}
 use Rattle.pocsag_open.specs.Ahead.{ahead_of}
 use Rattle.pocsag_open.specs.Plans.{HasFailedOutput}
-use Rattle.pocsag_open.specs.Replies.{IsRefusalPrinted, too_long}
-use Rattle.pocsag_open.specs.Survival.{ReadsAfterLines, RepliesAndPlaces}
-use Rattle.pocsag_open.proofs.Survival.{Answered, all_answered, cut_part, none_answered, one_answered, read_next, read_now, survives_between, survives_within, took_part}
+use Rattle.pocsag_open.specs.Replies.{too_long}
+use Rattle.pocsag_open.specs.Survival.{ReadsAfterLines}
+use Rattle.pocsag_open.proofs.Survival.{Answered, all_answered, cut_due, none_answered, one_answered, read_next, read_now, survives_between, survives_within}
 use Rattle.pocsag_open.proofs.Printed.{told_once}
-use Rattle.pocsag_open.proofs.session.run_open_kept.Goals.{in-TooLong+in_ok-refuse-in-TooLong, in-Kept+in_ok-answer_line-in-Kept}
+use Rattle.pocsag_open.proofs.session.run_open_kept.Goals.{After-compact_if_due, Start, in-TooLong+in_ok-refuse-in-TooLong, in-Kept+in_ok-answer_line-in-Kept}
 use Rattle.pocsag_open.proofs.Ends.{line_counts}
 use Rattle.pocsag_open.proofs.session.run_open_kept.Goals as goal
 
+-- before the first line
+begins : (g : _) (c : Start g) → Answered g.P.OutputStore.is_known (HasFailedOutput g.P.Output.Sink.failures) c.args.settings.now.on_limit
+    (g.I.Source.held c.args.input.now) (g.I.Source.held c.args.input.now) c.args.round.now.book c.args.round.now.book (g.O.Sink.taken c.args.out.now)
+    (g.O.Sink.taken c.args.out.now) (g.P.OutputStore.placed c.args.settings.now.store) (g.P.OutputStore.placed c.args.settings.now.store)
+begins g c = none_answered _ _ _ _ _ _ _ _ refl
+
+unmoved : (g : _) (c : Start g) → g.K.Keeper.is_known → g.K.Keeper.represents c.args.round.now.keeper c.args.round.now.book →
+    LeavesOnly g.K.Keeper.moment g.K.Keeper.left_since c.args.round.now.keeper c.args.round.now.keeper
+    (ReadsAfterLines g.P.OutputStore.is_known (HasFailedOutput g.P.Output.Sink.failures) c.args.settings.now.on_limit (g.I.Source.held c.args.input.now) c.args.round.now.book g.K.Keeper.reads_as)
+unmoved g c keeps stands =
+    started g.K.Keeper.moment g.K.Keeper.left_since c.args.round.now.keeper _
+    (λ left since.
+    read_now _ _ _ _ _ _ _ _ _ _ _ _ left (begins g c)
+    (g.K.Keeper.restarts c.args.round.now.keeper c.args.round.now.book left keeps stands (g.K.Keeper.only_now c.args.round.now.keeper left keeps since)))
+
 pub returns-in_err-lines-clause-survives : goal.returns-in_err-lines-clause-survives
 returns-in_err-lines-clause-survives g c = λ keeps reads is_known stands.
-    survives_between _ _ _ _ _ _ _ _ _ _ _ _ _ (none_answered g.P.OutputStore.is_known (HasFailedOutput g.P.Output.Sink.failures) c.args.settings.now.on_limit (g.I.Source.held c.args.input.now) (g.I.Source.held c.args.input.now) c.args.round.now.book (g.O.Sink.taken c.args.out.now) (g.P.OutputStore.placed c.args.settings.now.store) refl)
+    survives_between _ _ _ _ _ _ _ _ _ _ _ _ _ (begins g (goal.at.returns-in_err-lines-clause-survives g c).Start)
     (λ left now. g.K.Keeper.restarts c.args.round.now.keeper c.args.round.now.book left keeps stands now)
 
 pub returns-in_err-lines-clause-any_moment : goal.returns-in_err-lines-clause-any_moment
-returns-in_err-lines-clause-any_moment g c = λ keeps reads is_known stands.
-    started g.K.Keeper.moment g.K.Keeper.left_since c.args.round.now.keeper _
-    (λ left since.
-    read_now _ _ _ _ _ _ _ _ _ _ _ _ left (none_answered g.P.OutputStore.is_known (HasFailedOutput g.P.Output.Sink.failures) c.args.settings.now.on_limit (g.I.Source.held c.args.input.now) (g.I.Source.held c.args.input.now) c.args.round.now.book (g.O.Sink.taken c.args.out.now) (g.P.OutputStore.placed c.args.settings.now.store) refl)
-    (g.K.Keeper.restarts c.args.round.now.keeper c.args.round.now.book left keeps stands (g.K.Keeper.only_now c.args.round.now.keeper left keeps since)))
+returns-in_err-lines-clause-any_moment g c = λ keeps reads is_known stands. unmoved g (goal.at.returns-in_err-lines-clause-any_moment g c).Start keeps stands
 
 pub loop-answered-init : goal.loop-answered-init
 loop-answered-init g c = record {
@@ -35,11 +45,7 @@ loop-answered-init g c = record {
   stands = λ stands. stands;
   answered = λ reads is_known.
       none_answered _ _ _ _ _ _ _ _ (ap (λ (l : List ℕ). l ++ g.I.Source.held c.args.input.now) c.in_ok-lines.ensures.ahead);
-  moments = λ keeps reads is_known stands.
-      started g.K.Keeper.moment g.K.Keeper.left_since c.args.round.now.keeper _
-      (λ left since.
-      read_now _ _ _ _ _ _ _ _ _ _ _ _ left (none_answered g.P.OutputStore.is_known (HasFailedOutput g.P.Output.Sink.failures) c.args.settings.now.on_limit (g.I.Source.held c.args.input.now) (g.I.Source.held c.args.input.now) c.args.round.now.book (g.O.Sink.taken c.args.out.now) (g.P.OutputStore.placed c.args.settings.now.store) refl)
-      (g.K.Keeper.restarts c.args.round.now.keeper c.args.round.now.book left keeps stands (g.K.Keeper.only_now c.args.round.now.keeper left keeps since)));
+  moments = λ keeps reads is_known stands. unmoved g (goal.at.loop-answered-init g c).Start keeps stands;
 }
 
 pub returns-in_err-read_line-clause-survives : goal.returns-in_err-read_line-clause-survives
@@ -65,13 +71,10 @@ returns-in-End-clause-session g c = λ reads is_known.
 pub returns-in_err-refuse-in-TooLong-clause-survives : goal.returns-in_err-refuse-in-TooLong-clause-survives
 returns-in_err-refuse-in-TooLong-clause-survives g c = λ keeps reads is_known stands.
     let found = rw c.in-TooLong.is at (c.in_ok-read_line.ensures.found reads) in
-    let kept : (left : List ℕ) → g.K.Keeper.may_leave c.loop-answered.round.keeper left → g.K.Keeper.reads_as left c.loop-answered.round.book = λ left now.
-    g.K.Keeper.restarts c.loop-answered.round.keeper c.loop-answered.round.book left keeps (c.loop-answered.invariant.stands stands) now in
     survives_within _ _ _ _ _ found.0 _ _ _ _ _ _ _ _ _ _ _ (c.loop-answered.invariant.answered reads is_known) found.1
-    (cut_part (RepliesAndPlaces g.P.OutputStore.is_known (HasFailedOutput g.P.Output.Sink.failures) c.args.settings.now.on_limit found.0 (g.P.OutputStore.placed c.loop-answered.settings.store) (g.P.OutputStore.placed c.loop-answered.settings.store)) c.loop-answered.round.book c.loop-answered.round.book
-    (g.O.Sink.taken c.loop-answered.out) (g.O.Sink.taken c.refuse.new.out) g.K.Keeper.reads_as (g.K.Keeper.may_leave c.loop-answered.round.keeper)
-    (IsRefusalPrinted refusal.Unknown) (λ printed is. ([], too_long found.2 refl is refl, λ known. sym (append-nil _))) (λ left now. inl (kept left now)) kept
-    (took_part _ _ _ (IsRefusalPrinted refusal.Unknown) refl (c.in_err-refuse-in-TooLong.ensures.printed is_known).1))
+    (cut_due _ _ _ _ _ _ _ _ ([], too_long found.2 refl refl refl, λ known. sym (append-nil _))
+    (λ left now. g.K.Keeper.restarts c.loop-answered.round.keeper c.loop-answered.round.book left keeps (c.loop-answered.invariant.stands stands) now)
+    (c.in_err-refuse-in-TooLong.ensures.printed is_known).1)
 
 pub returns-in_err-answer_line-in-Kept-clause-survives : goal.returns-in_err-answer_line-in-Kept-clause-survives
 returns-in_err-answer_line-in-Kept-clause-survives g c = λ keeps reads is_known stands.
@@ -88,55 +91,38 @@ returns-in_err-answer_line-in-Kept-clause-any_moment g c = λ keeps reads is_kno
     (c.loop-answered.invariant.moments keeps reads is_known stands) more
     (λ left is. read_next _ _ _ _ _ _ _ _ _ _ _ _ _ _ left (c.loop-answered.invariant.answered reads is_known) found.0 is)
 
-pub returns-in_err-compact_if_due-clause-survives : goal.returns-in_err-compact_if_due-clause-survives
-returns-in_err-compact_if_due-clause-survives g c = λ keeps reads is_known stands.
-    let answered : Answered g.P.OutputStore.is_known (HasFailedOutput g.P.Output.Sink.failures) c.args.settings.now.on_limit (g.I.Source.held c.args.input.now) (ahead_of c.read_line.new.self ++ g.I.Source.held c.read_line.new.source)
+-- what was read is answered before what keeps the edits may put them shorter
+answered : (g : _) (c : After-compact_if_due g) → g.I.Source.is_known → g.O.Sink.is_known →
+    Answered g.P.OutputStore.is_known (HasFailedOutput g.P.Output.Sink.failures) c.args.settings.now.on_limit (g.I.Source.held c.args.input.now) (ahead_of c.read_line.new.self ++ g.I.Source.held c.read_line.new.source)
     c.args.round.now.book c.match-branch-3.round.book (g.O.Sink.taken c.args.out.now) (g.O.Sink.taken c.match-branch-3.out)
-    (g.P.OutputStore.placed c.args.settings.now.store) (g.P.OutputStore.placed c.match-branch-3.settings.store) = elim c.match-branch-3.branch [
-      | in-TooLong+in_ok-refuse-in-TooLong w ↦
-          let found = rw w.in-TooLong.is at (c.in_ok-read_line.ensures.found reads) in
-          let printed = w.in_ok-refuse-in-TooLong.ensures.printed is_known in
-          rw (w.settings-is, w.round-is, w.out-is)
-          (one_answered _ _ _ _ _ found.0 _ _ _ _ _ _ _ _ _ _ (c.loop-answered.invariant.answered reads is_known) found.1
-          (told_once _ _ _ _ _ _ (too_long found.2 refl refl refl) printed.0))
-      | in-Kept+in_ok-answer_line-in-Kept w ↦
-          let found = rw w.in-Kept.is at (c.in_ok-read_line.ensures.found reads) in
-          let reply = rw (w.as_slice.ensures.value, c.loop-answered.invariant.on_limit) at (w.in_ok-answer_line-in-Kept.ensures.replied is_known) in
-          rw (w.settings-is, w.round-is, w.out-is)
-          (one_answered _ _ _ _ _ _ _ _ _ _ _ _ _ _ _ _ (c.loop-answered.invariant.answered reads is_known) found.0 reply)
-    ] in
-    let now_stands : g.K.Keeper.represents c.match-branch-3.round.keeper c.match-branch-3.round.book = elim c.match-branch-3.branch [
-      | in-TooLong+in_ok-refuse-in-TooLong w ↦ rw w.round-is (c.loop-answered.invariant.stands stands)
-      | in-Kept+in_ok-answer_line-in-Kept w ↦
-          rw w.round-is (w.in_ok-answer_line-in-Kept.ensures.stands (c.loop-answered.invariant.stands stands))
-    ] in
-    let settling = c.compact_if_due.ensures.any_moment keeps now_stands in
-    survives_between _ _ _ _ _ _ _ _ _ _ _ _ _ answered
-    (λ left now.
-    settling.each left (g.K.Keeper.counts_now c.compact_if_due.new.self (g.K.Keeper.moment c.match-branch-3.round.keeper) left keeps settling.later now))
+    (g.P.OutputStore.placed c.args.settings.now.store) (g.P.OutputStore.placed c.match-branch-3.settings.store)
+answered g c reads is_known = elim c.match-branch-3.branch [
+  | in-TooLong+in_ok-refuse-in-TooLong w ↦
+      let found = rw w.in-TooLong.is at (c.in_ok-read_line.ensures.found reads) in
+      let printed = w.in_ok-refuse-in-TooLong.ensures.printed is_known in
+      rw (w.settings-is, w.round-is, w.out-is)
+      (one_answered _ _ _ _ _ found.0 _ _ _ _ _ _ _ _ _ _ (c.loop-answered.invariant.answered reads is_known) found.1
+      (told_once _ _ _ _ _ _ (too_long found.2 refl refl refl) printed.0))
+  | in-Kept+in_ok-answer_line-in-Kept w ↦
+      let found = rw w.in-Kept.is at (c.in_ok-read_line.ensures.found reads) in
+      let reply = rw (w.as_slice.ensures.value, c.loop-answered.invariant.on_limit) at (w.in_ok-answer_line-in-Kept.ensures.replied is_known) in
+      rw (w.settings-is, w.round-is, w.out-is)
+      (one_answered _ _ _ _ _ _ _ _ _ _ _ _ _ _ _ _ (c.loop-answered.invariant.answered reads is_known) found.0 reply)
+]
 
-pub returns-in_err-compact_if_due-clause-any_moment : goal.returns-in_err-compact_if_due-clause-any_moment
-returns-in_err-compact_if_due-clause-any_moment g c = λ keeps reads is_known stands.
-    let answered : Answered g.P.OutputStore.is_known (HasFailedOutput g.P.Output.Sink.failures) c.args.settings.now.on_limit (g.I.Source.held c.args.input.now) (ahead_of c.read_line.new.self ++ g.I.Source.held c.read_line.new.source)
-    c.args.round.now.book c.match-branch-3.round.book (g.O.Sink.taken c.args.out.now) (g.O.Sink.taken c.match-branch-3.out)
-    (g.P.OutputStore.placed c.args.settings.now.store) (g.P.OutputStore.placed c.match-branch-3.settings.store) = elim c.match-branch-3.branch [
-      | in-TooLong+in_ok-refuse-in-TooLong w ↦
-          let found = rw w.in-TooLong.is at (c.in_ok-read_line.ensures.found reads) in
-          let printed = w.in_ok-refuse-in-TooLong.ensures.printed is_known in
-          rw (w.settings-is, w.round-is, w.out-is)
-          (one_answered _ _ _ _ _ found.0 _ _ _ _ _ _ _ _ _ _ (c.loop-answered.invariant.answered reads is_known) found.1
-          (told_once _ _ _ _ _ _ (too_long found.2 refl refl refl) printed.0))
-      | in-Kept+in_ok-answer_line-in-Kept w ↦
-          let found = rw w.in-Kept.is at (c.in_ok-read_line.ensures.found reads) in
-          let reply = rw (w.as_slice.ensures.value, c.loop-answered.invariant.on_limit) at (w.in_ok-answer_line-in-Kept.ensures.replied is_known) in
-          rw (w.settings-is, w.round-is, w.out-is)
-          (one_answered _ _ _ _ _ _ _ _ _ _ _ _ _ _ _ _ (c.loop-answered.invariant.answered reads is_known) found.0 reply)
-    ] in
-    let now_stands : g.K.Keeper.represents c.match-branch-3.round.keeper c.match-branch-3.round.book = elim c.match-branch-3.branch [
-      | in-TooLong+in_ok-refuse-in-TooLong w ↦ rw w.round-is (c.loop-answered.invariant.stands stands)
-      | in-Kept+in_ok-answer_line-in-Kept w ↦
-          rw w.round-is (w.in_ok-answer_line-in-Kept.ensures.stands (c.loop-answered.invariant.stands stands))
-    ] in
+now_stands : (g : _) (c : After-compact_if_due g) → g.K.Keeper.represents c.args.round.now.keeper c.args.round.now.book →
+    g.K.Keeper.represents c.match-branch-3.round.keeper c.match-branch-3.round.book
+now_stands g c stands = elim c.match-branch-3.branch [
+  | in-TooLong+in_ok-refuse-in-TooLong w ↦ rw w.round-is (c.loop-answered.invariant.stands stands)
+  | in-Kept+in_ok-answer_line-in-Kept w ↦
+      rw w.round-is (w.in_ok-answer_line-in-Kept.ensures.stands (c.loop-answered.invariant.stands stands))
+]
+
+moments : (g : _) (c : After-compact_if_due g) → g.K.Keeper.is_known → g.I.Source.is_known → g.O.Sink.is_known →
+    g.K.Keeper.represents c.args.round.now.keeper c.args.round.now.book →
+    LeavesOnly g.K.Keeper.moment g.K.Keeper.left_since c.args.round.now.keeper c.compact_if_due.new.self
+    (ReadsAfterLines g.P.OutputStore.is_known (HasFailedOutput g.P.Output.Sink.failures) c.args.settings.now.on_limit (g.I.Source.held c.args.input.now) c.args.round.now.book g.K.Keeper.reads_as)
+moments g c keeps reads is_known stands =
     let so_far : LeavesOnly g.K.Keeper.moment g.K.Keeper.left_since c.args.round.now.keeper c.match-branch-3.round.keeper
     (ReadsAfterLines g.P.OutputStore.is_known (HasFailedOutput g.P.Output.Sink.failures) c.args.settings.now.on_limit (g.I.Source.held c.args.input.now) c.args.round.now.book g.K.Keeper.reads_as) = elim c.match-branch-3.branch [
       | in-TooLong+in_ok-refuse-in-TooLong w ↦ rw w.round-is (c.loop-answered.invariant.moments keeps reads is_known stands)
@@ -149,7 +135,18 @@ returns-in_err-compact_if_due-clause-any_moment g c = λ keeps reads is_known st
           (λ left is. read_next _ _ _ _ _ _ _ _ _ _ _ _ _ _ left (c.loop-answered.invariant.answered reads is_known) found.0 is))
     ] in
     then_on g.K.Keeper.moment g.K.Keeper.left_since _ c.match-branch-3.round.keeper c.compact_if_due.new.self _ _ so_far
-    (c.compact_if_due.ensures.any_moment keeps now_stands) (λ left is. read_now _ _ _ _ _ _ _ _ _ _ _ _ left answered is)
+    (c.compact_if_due.ensures.any_moment keeps (now_stands g c stands)) (λ left is. read_now _ _ _ _ _ _ _ _ _ _ _ _ left (answered g c reads is_known) is)
+
+pub returns-in_err-compact_if_due-clause-survives : goal.returns-in_err-compact_if_due-clause-survives
+returns-in_err-compact_if_due-clause-survives g c = λ keeps reads is_known stands.
+    let settled = (goal.at.returns-in_err-compact_if_due-clause-survives g c).After-compact_if_due in
+    let settling = c.compact_if_due.ensures.any_moment keeps (now_stands g settled stands) in
+    survives_between _ _ _ _ _ _ _ _ _ _ _ _ _ (answered g settled reads is_known)
+    (λ left now.
+    settling.each left (g.K.Keeper.counts_now c.compact_if_due.new.self (g.K.Keeper.moment c.match-branch-3.round.keeper) left keeps settling.later now))
+
+pub returns-in_err-compact_if_due-clause-any_moment : goal.returns-in_err-compact_if_due-clause-any_moment
+returns-in_err-compact_if_due-clause-any_moment g c = moments g (goal.at.returns-in_err-compact_if_due-clause-any_moment g c).After-compact_if_due
 
 pub loop-answered-preserved : goal.loop-answered-preserved
 loop-answered-preserved g c = record {
@@ -170,62 +167,7 @@ loop-answered-preserved g c = record {
             let less = line_counts _ _ _ found.0 in
             omega (arith, was, less)
       ];
-  stands = λ stands.
-      let now_stands : g.K.Keeper.represents c.match-branch-3.round.keeper c.match-branch-3.round.book = elim c.match-branch-3.branch [
-        | in-TooLong+in_ok-refuse-in-TooLong w ↦ rw w.round-is (c.loop-answered.invariant.stands stands)
-        | in-Kept+in_ok-answer_line-in-Kept w ↦
-            rw w.round-is (w.in_ok-answer_line-in-Kept.ensures.stands (c.loop-answered.invariant.stands stands))
-      ] in
-      c.in_ok-compact_if_due.ensures.stands now_stands;
-  answered = λ reads is_known.
-      let answered : Answered g.P.OutputStore.is_known (HasFailedOutput g.P.Output.Sink.failures) c.args.settings.now.on_limit (g.I.Source.held c.args.input.now) (ahead_of c.read_line.new.self ++ g.I.Source.held c.read_line.new.source)
-      c.args.round.now.book c.match-branch-3.round.book (g.O.Sink.taken c.args.out.now) (g.O.Sink.taken c.match-branch-3.out)
-      (g.P.OutputStore.placed c.args.settings.now.store) (g.P.OutputStore.placed c.match-branch-3.settings.store) = elim c.match-branch-3.branch [
-        | in-TooLong+in_ok-refuse-in-TooLong w ↦
-            let found = rw w.in-TooLong.is at (c.in_ok-read_line.ensures.found reads) in
-            let printed = w.in_ok-refuse-in-TooLong.ensures.printed is_known in
-            rw (w.settings-is, w.round-is, w.out-is)
-            (one_answered _ _ _ _ _ found.0 _ _ _ _ _ _ _ _ _ _ (c.loop-answered.invariant.answered reads is_known) found.1
-            (told_once _ _ _ _ _ _ (too_long found.2 refl refl refl) printed.0))
-        | in-Kept+in_ok-answer_line-in-Kept w ↦
-            let found = rw w.in-Kept.is at (c.in_ok-read_line.ensures.found reads) in
-            let reply = rw (w.as_slice.ensures.value, c.loop-answered.invariant.on_limit) at (w.in_ok-answer_line-in-Kept.ensures.replied is_known) in
-            rw (w.settings-is, w.round-is, w.out-is)
-            (one_answered _ _ _ _ _ _ _ _ _ _ _ _ _ _ _ _ (c.loop-answered.invariant.answered reads is_known) found.0 reply)
-      ] in
-      answered;
-  moments = λ keeps reads is_known stands.
-      let answered : Answered g.P.OutputStore.is_known (HasFailedOutput g.P.Output.Sink.failures) c.args.settings.now.on_limit (g.I.Source.held c.args.input.now) (ahead_of c.read_line.new.self ++ g.I.Source.held c.read_line.new.source)
-      c.args.round.now.book c.match-branch-3.round.book (g.O.Sink.taken c.args.out.now) (g.O.Sink.taken c.match-branch-3.out)
-      (g.P.OutputStore.placed c.args.settings.now.store) (g.P.OutputStore.placed c.match-branch-3.settings.store) = elim c.match-branch-3.branch [
-        | in-TooLong+in_ok-refuse-in-TooLong w ↦
-            let found = rw w.in-TooLong.is at (c.in_ok-read_line.ensures.found reads) in
-            let printed = w.in_ok-refuse-in-TooLong.ensures.printed is_known in
-            rw (w.settings-is, w.round-is, w.out-is)
-            (one_answered _ _ _ _ _ found.0 _ _ _ _ _ _ _ _ _ _ (c.loop-answered.invariant.answered reads is_known) found.1
-            (told_once _ _ _ _ _ _ (too_long found.2 refl refl refl) printed.0))
-        | in-Kept+in_ok-answer_line-in-Kept w ↦
-            let found = rw w.in-Kept.is at (c.in_ok-read_line.ensures.found reads) in
-            let reply = rw (w.as_slice.ensures.value, c.loop-answered.invariant.on_limit) at (w.in_ok-answer_line-in-Kept.ensures.replied is_known) in
-            rw (w.settings-is, w.round-is, w.out-is)
-            (one_answered _ _ _ _ _ _ _ _ _ _ _ _ _ _ _ _ (c.loop-answered.invariant.answered reads is_known) found.0 reply)
-      ] in
-      let now_stands : g.K.Keeper.represents c.match-branch-3.round.keeper c.match-branch-3.round.book = elim c.match-branch-3.branch [
-        | in-TooLong+in_ok-refuse-in-TooLong w ↦ rw w.round-is (c.loop-answered.invariant.stands stands)
-        | in-Kept+in_ok-answer_line-in-Kept w ↦
-            rw w.round-is (w.in_ok-answer_line-in-Kept.ensures.stands (c.loop-answered.invariant.stands stands))
-      ] in
-      let so_far : LeavesOnly g.K.Keeper.moment g.K.Keeper.left_since c.args.round.now.keeper c.match-branch-3.round.keeper
-      (ReadsAfterLines g.P.OutputStore.is_known (HasFailedOutput g.P.Output.Sink.failures) c.args.settings.now.on_limit (g.I.Source.held c.args.input.now) c.args.round.now.book g.K.Keeper.reads_as) = elim c.match-branch-3.branch [
-        | in-TooLong+in_ok-refuse-in-TooLong w ↦ rw w.round-is (c.loop-answered.invariant.moments keeps reads is_known stands)
-        | in-Kept+in_ok-answer_line-in-Kept w ↦
-            let found = rw w.in-Kept.is at (c.in_ok-read_line.ensures.found reads) in
-            let more = rw (w.as_slice.ensures.value, c.loop-answered.invariant.on_limit) at (w.answer_line.ensures.any_moment keeps (c.loop-answered.invariant.stands stands)) in
-            rw w.round-is
-            (then_on g.K.Keeper.moment g.K.Keeper.left_since _ c.loop-answered.round.keeper w.answer_line.new.round.keeper _ _
-            (c.loop-answered.invariant.moments keeps reads is_known stands) more
-            (λ left is. read_next _ _ _ _ _ _ _ _ _ _ _ _ _ _ left (c.loop-answered.invariant.answered reads is_known) found.0 is))
-      ] in
-      then_on g.K.Keeper.moment g.K.Keeper.left_since _ c.match-branch-3.round.keeper c.compact_if_due.new.self _ _ so_far
-      (c.compact_if_due.ensures.any_moment keeps now_stands) (λ left is. read_now _ _ _ _ _ _ _ _ _ _ _ _ left answered is);
+  stands = λ stands. c.in_ok-compact_if_due.ensures.stands (now_stands g (goal.at.loop-answered-preserved g c).After-compact_if_due stands);
+  answered = answered g (goal.at.loop-answered-preserved g c).After-compact_if_due;
+  moments = moments g (goal.at.loop-answered-preserved g c).After-compact_if_due;
 }

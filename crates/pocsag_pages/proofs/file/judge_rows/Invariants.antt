@@ -5,12 +5,12 @@ use Rattle.pocsag_pages.proofs.Judgements.{grown}
 use Rattle.pocsag_pages.proofs.file.judge_rows.Given as goal
 
 -- the round is that of the pages so far and of the records that are left
-abbrev pub invariant-loop-builder : goal.invariant-loop-builder
-invariant-loop-builder l = record {
+abbrev pub invariant-loop-row : goal.invariant-loop-row
+invariant-loop-row l = record {
   even : length l.builder ≡ l.earlier;
   few : l.earlier ≤ page_limit;
   rest : round_of_rows l.fn.reader ≡ grown l.builder l.earlier l.reader;
 }
 
-abbrev pub decreases-loop-builder : goal.decreases-loop-builder
-decreases-loop-builder l = page_limit - l.earlier
+abbrev pub decreases-loop-row : goal.decreases-loop-row
+decreases-loop-row l = page_limit - l.earlier

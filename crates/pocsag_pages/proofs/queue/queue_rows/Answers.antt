@@ -6,8 +6,8 @@ use Rattle.pocsag_pages.specs.Pages.{page_fault_of}
 use Rattle.pocsag_pages.proofs.QueueRows.{queue_judged, queued, queued_end, queued_fault, queued_on, no_queue, queue_room, some_queue}
 use Rattle.pocsag_pages.proofs.queue.queue_rows.Goals as goal
 
-pub loop-pages-init : goal.loop-pages-init
-loop-pages-init c = rw c.new-pages.ensures.items (record {
+pub loop-row-init : goal.loop-row-init
+loop-row-init c = rw c.new-pages.ensures.items (record {
   few = omega arith;
   each = All-nil _;
   rest = queue_judged _;
@@ -15,30 +15,30 @@ loop-pages-init c = rw c.new-pages.ensures.items (record {
 
 pub returns-then-is_empty-clause-err : goal.returns-then-is_empty-clause-err
 returns-then-is_empty-clause-err c =
-    let over = c.loop-pages.invariant.rest ∙ rw (c.in_ok-found.ensures.none c.if-not-found.true) (queued_end c.loop-pages.pages.items (length c.loop-pages.pages.items)) in
-    let none : length c.loop-pages.pages.items ≡ 0 = search rules in
-    inr (over ∙ no_queue c.loop-pages.pages.items none)
+    let over = c.loop-row.invariant.rest ∙ rw (c.in_ok-found.ensures.none c.if-not-found.true) (queued_end c.loop-row.pages.items (length c.loop-row.pages.items)) in
+    let none : length c.loop-row.pages.items ≡ 0 = search rules in
+    inr (over ∙ no_queue c.loop-row.pages.items none)
 
 pub returns-then-not-found-clause-ok : goal.returns-then-not-found-clause-ok
 returns-then-not-found-clause-ok c =
-    let over = c.loop-pages.invariant.rest ∙ rw (c.in_ok-found.ensures.none c.if-not-found.true) (queued_end c.loop-pages.pages.items _) in
-    over ∙ some_queue c.loop-pages.pages.items (search rules)
+    let over = c.loop-row.invariant.rest ∙ rw (c.in_ok-found.ensures.none c.if-not-found.true) (queued_end c.loop-row.pages.items _) in
+    over ∙ some_queue c.loop-row.pages.items (search rules)
 
 pub returns-in-Err-clause-err : goal.returns-in-Err-clause-err
 returns-in-Err-clause-err c =
-    let long : c.len.result ≡ length c.loop-pages.pages.items = search rules in
+    let long : c.len.result ≡ length c.loop-row.pages.items = search rules in
     elim c.in-Err.ensures.err [
       | inl e ↦ inl e
       | inr f ↦
           inr
-          (c.loop-pages.invariant.rest
+          (c.loop-row.invariant.rest
           ∙ rw (c.in_ok-found.ensures.found c.if-not-found.false)
-          (queued_fault c.loop-pages.pages.items (length c.loop-pages.pages.items) _ _ f.0 (rw long at f.1) ∙ ap Err (sym (rw long at f.2))))
+          (queued_fault c.loop-row.pages.items (length c.loop-row.pages.items) _ _ f.0 (rw long at f.1) ∙ ap Err (sym (rw long at f.2))))
     ]
 
-pub loop-pages-preserved : goal.loop-pages-preserved
-loop-pages-preserved c =
-    let ps = c.loop-pages.pages.items in
+pub loop-row-preserved : goal.loop-row-preserved
+loop-row-preserved c =
+    let ps = c.loop-row.pages.items in
     let p = c.in-Ok.page in
     let fine = c.in-Ok.ensures in
     let pushed : c.push.new.self.items ≡ ps ++ p ∷ [] = search rules in
@@ -46,9 +46,9 @@ loop-pages-preserved c =
     let few = rw long at fine.few in
     rw pushed (record {
       few = omega (arith, length-append ps (p ∷ []), few);
-      each = All-push (λ q. page_fault_of q ≡ None) ps p c.loop-pages.invariant.each fine.good;
+      each = All-push (λ q. page_fault_of q ≡ None) ps p c.loop-row.invariant.each fine.good;
       rest =
-          c.loop-pages.invariant.rest
+          c.loop-row.invariant.rest
           ∙ rw (c.in_ok-found.ensures.found c.if-not-found.false)
           (queued_on ps (length ps) _ _ p fine.page (queue_room (length ps) p few)
           ∙ ap (λ n. queued (ps ++ p ∷ []) n c.read.new.self) (sym (length-append ps (p ∷ []))));

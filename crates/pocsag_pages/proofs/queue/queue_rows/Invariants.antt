@@ -6,12 +6,12 @@ use Rattle.pocsag_pages.proofs.QueueRows.{queued}
 use Rattle.pocsag_pages.proofs.queue.queue_rows.Given as goal
 
 -- the queue is that of the pages so far and of the records that are left
-abbrev pub invariant-loop-pages : goal.invariant-loop-pages
-invariant-loop-pages l = record {
+abbrev pub invariant-loop-row : goal.invariant-loop-row
+invariant-loop-row l = record {
   few : length l.pages.items ≤ page_limit;
   each : All (λ p. page_fault_of p ≡ None) l.pages.items;
   rest : queue_of_rows l.fn.reader ≡ queued l.pages.items (length l.pages.items) l.reader;
 }
 
-abbrev pub decreases-loop-pages : goal.decreases-loop-pages
-decreases-loop-pages l = page_limit - length l.pages.items
+abbrev pub decreases-loop-row : goal.decreases-loop-row
+decreases-loop-row l = page_limit - length l.pages.items

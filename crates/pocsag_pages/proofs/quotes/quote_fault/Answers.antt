@@ -1,9 +1,8 @@
 use Rattle.std.proofs.Common.{◌≡◌, ℕ, List, ◌∷◌, ◌++◌, ◌+◌, ◌<◌, take, drop, length, get_or, refl, sym, ap, ◌∙◌, subst, arith}
 use Rattle.std.proofs.lemmas.List.{drop_more, take-append-drop, take_all}
-use Rattle.pocsag_pages.specs.declared.fault.QuoteFault.TheVariants.{Unclosed}
 use Rattle.pocsag_pages.specs.QuotePlaces.{HasSeen}
-use Rattle.pocsag_pages.specs.Quotes.{HasQuoteFault}
-use Rattle.pocsag_pages.proofs.QuoteFaults.{not_both}
+use Rattle.pocsag_pages.specs.Quotes.{HasQuoteFault, IsWellQuoted}
+use Rattle.pocsag_pages.proofs.QuoteFaults.{open_is_not}
 use Rattle.pocsag_pages.proofs.QuoteWalks.{left_open, nothing_seen, well_quoted}
 use Rattle.pocsag_pages.proofs.quotes.quote_fault.Goals as goal
 
@@ -13,30 +12,24 @@ split_at bytes i low = ap (λ (l : List ℕ). take i bytes ++ l) (sym (drop_more
 pub loop-byte-init : goal.loop-byte-init
 loop-byte-init c = record { seen = nothing_seen; few_records = omega arith; few_lines = omega arith }
 
-pub returns-in-Err-clause-fault : goal.returns-in-Err-clause-fault
-returns-in-Err-clause-fault c =
-    let bytes = c.behind_mark-byte-items.result.now in
-    subst (λ (l : List ℕ). HasQuoteFault l c.in-Err.fault) (split_at bytes c.loop-byte.byte-index c.loop-byte-test.true ∙ c.behind_mark-byte-items.ensures)
-    (c.in-Err.ensures.fault _ (drop (c.loop-byte.byte-index + 1) bytes) c.loop-byte.invariant.seen)
+pub returns-in-Err : goal.returns-in-Err
+returns-in-Err c =
+    let rest = drop (c.loop-byte.byte-index + 1) c.behind_mark-byte-items.result.now in
+    let whole = split_at c.behind_mark-byte-items.result.now c.loop-byte.byte-index c.loop-byte-test.true ∙ c.behind_mark-byte-items.ensures in
+    let lost = subst (λ (l : List ℕ). IsWellQuoted l → ⊥) whole (c.in-Err.ensures.lost _ rest c.loop-byte.invariant.seen) in
+    record {
+      none = (λ e. cc e, λ w. absurd (lost w));
+      fault = subst (λ (l : List ℕ). HasQuoteFault l c.in-Err.fault) whole (c.in-Err.ensures.fault _ rest c.loop-byte.invariant.seen);
+    }
 
-pub returns-in-Err-clause-none : goal.returns-in-Err-clause-none
-returns-in-Err-clause-none c =
-    let bytes = c.behind_mark-byte-items.result.now in
-    let fault = subst (λ (l : List ℕ). HasQuoteFault l c.in-Err.fault) (split_at bytes c.loop-byte.byte-index c.loop-byte-test.true ∙ c.behind_mark-byte-items.ensures)
-    (c.in-Err.ensures.fault _ (drop (c.loop-byte.byte-index + 1) bytes) c.loop-byte.invariant.seen) in
-    (λ e. cc e, λ w. absurd (not_both _ c.in-Err.fault fault w))
-
-pub returns-in-Open-clause-fault : goal.returns-in-Open-clause-fault
-returns-in-Open-clause-fault c =
+pub returns-in-Open : goal.returns-in-Open
+returns-in-Open c =
     let all = take_all c.loop-byte.byte-index c.behind_mark-byte-items.result.now (omega arith) in
     let seen = subst (HasSeen c.loop-byte.place) (all ∙ c.behind_mark-byte-items.ensures) c.loop-byte.invariant.seen in
-    left_open c.loop-byte.place _ seen c.in-Open.is
-
-pub returns-in-Open-clause-none : goal.returns-in-Open-clause-none
-returns-in-Open-clause-none c =
-    let all = take_all c.loop-byte.byte-index c.behind_mark-byte-items.result.now (omega arith) in
-    let seen = subst (HasSeen c.loop-byte.place) (all ∙ c.behind_mark-byte-items.ensures) c.loop-byte.invariant.seen in
-    (λ e. cc e, λ w. absurd (not_both _ (Unclosed c.loop-byte.place.number c.loop-byte.place.opened) (left_open c.loop-byte.place _ seen c.in-Open.is) w))
+    record {
+      none = (λ e. cc e, λ w. absurd (open_is_not c.loop-byte.place _ seen c.in-Open.is w));
+      fault = left_open c.loop-byte.place _ seen c.in-Open.is;
+    }
 
 pub returns-in_default : goal.returns-in_default
 returns-in_default c =

@@ -1,11 +1,9 @@
-use Rattle.std.proofs.Common.{◌≡◌, ℕ, ◌+◌, ◌-◌, ◌/◌, ◌<◌, ◌≤◌, length, take, arith, inl, inr, refl, subst, slice_index}
+use Rattle.std.proofs.Common.{◌≡◌, ℕ, ◌+◌, ◌-◌, ◌/◌, ◌<◌, ◌≤◌, length, arith, inl, inr, refl, subst}
 use Rattle.std.specs.Prelude.{None}
 use Rattle.std.proofs.lemmas.Result.{err_from_is_err_and}
 use Rattle.pocsag_pages.proofs.FirstPages.{first_round}
 use Rattle.pocsag_plan.specs.Attempts.{IsFit, StopsAt}
-use Rattle.pocsag_plan.proofs.Completed.{some_batch}
 use Rattle.pocsag_plan.proofs.FrontTries.{cut_of, first_has_page, first_needs, front_explained, spare_fits, spare_front}
-use Rattle.pocsag_slots.proofs.Sayable.{tour_worded}
 use Rattle.pocsag_plan.proofs.front.front_cut.Goals as goal
 
 pub outcome_of-requires-clause-pages : goal.outcome_of-requires-clause-pages
@@ -23,15 +21,13 @@ returns-in_err-first-clause-fault c =
 
 pub returns-then-first-batches-clause-fault : goal.returns-then-first-batches-clause-fault
 returns-then-first-batches-clause-fault c =
-    let R = c.args.pages.now in
-    let k = c.recount.new.classes in
-    let search = c.args.search in
-    let first = c.in_ok-first.first in
-    let is = c.in_ok-first.ensures.outcome in
-    let round = first_round 1 R c.requires.round (omega arith) c.requires.round.some in
-    let sent = tour_worded k search.end (slice_index first.found.choice.early) first.found.batches first.found.steps.items
-    (take 1 R) (some_batch k search.end search.limit first.bound first.found is.within) round c.recount.ensures is.within.tour in
-    (c.requires.limited, first_needs k search R c.args.batches first round c.requires.limited c.recount.ensures is c.if-first-batches.true sent.0 sent.2)
+    let R = c.args.pages.now in (
+      c.requires.limited,
+      first_needs c.args.search R c.args.batches c.in_ok-first.first (first_round 1 R c.requires.round (omega arith) c.requires.round.some)
+          c.requires.limited
+          (record { table = c.recount.new.classes; classes = c.recount.ensures; of_classes = c.in_ok-first.ensures.outcome })
+          c.if-first-batches.true,
+    )
 
 pub attempt-requires-clause-pages : goal.attempt-requires-clause-pages
 attempt-requires-clause-pages c =

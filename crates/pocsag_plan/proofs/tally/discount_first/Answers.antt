@@ -1,4 +1,4 @@
-use Rattle.std.proofs.Common.{◌≡◌, ◌+◌, ◌<◌, ◌≤◌, [], ◌∷◌, All, List, drop, length, arith, subst, ◌∙◌}
+use Rattle.std.proofs.Common.{◌≡◌, ◌+◌, ℕ, ◌<◌, ◌≤◌, [], ◌∷◌, All, List, drop, get_or, length, take, arith, subst, ◌∙◌}
 use Rattle.std.proofs.lemmas.List.{get_or-take, length-drop, length-take-le}
 use Rattle.std.proofs.lemmas.List.Elements.{All-drop}
 use Rattle.pocsag_pages.specs.Pages.{IsGoodPage, page_limit}
@@ -8,14 +8,18 @@ use Rattle.pocsag_pages.proofs.PageLists.{left}
 use Rattle.pocsag_slots.specs.Loads.{AreClassesOf}
 use Rattle.pocsag_plan.proofs.tally.discount_first.Goals as goal
 
+-- the pages that are left begin with the next of those that are taken out
+next_left : (R : List Page) (count k : ℕ) (p : Page) → count ≤ length R → k < length (take count R) → p ≡ get_or (take count R) k p →
+    drop k R ≡ p ∷ drop (k + 1) R
+next_left R count k p among low is =
+    let first : k < count = omega (arith, low, length-take-le count R among) in
+    left R k p (omega (arith, first, among)) (is ∙ get_or-take count R k p first)
+
 pub discount_page-requires : goal.discount_page-requires
 discount_page-requires c =
     let R = c.args.pages.now in
     let k = c.loop-page.page-index in
-    let p = c.page-item.result in
-    let first : k < c.args.count = omega (arith, c.loop-page-test.true, length-take-le c.args.count R c.requires.among) in
-    let within : k < length R = omega (arith, first, c.requires.among) in
-    let split : drop k R ≡ p ∷ drop (k + 1) R = left R k p within (c.page-item.is ∙ get_or-take c.args.count R k p first) in
+    let split = next_left R c.args.count k c.page-item.result c.requires.among c.loop-page-test.true c.page-item.is in
     record {
       before = [];
       after = drop (k + 1) R;
@@ -28,9 +32,6 @@ pub loop-page-preserved : goal.loop-page-preserved
 loop-page-preserved c =
     let R = c.args.pages.now in
     let k = c.loop-page.page-index in
-    let p = c.page-item.result in
-    let first : k < c.args.count = omega (arith, c.loop-page-test.true, length-take-le c.args.count R c.requires.among) in
-    let within : k < length R = omega (arith, first, c.requires.among) in
-    let split : drop k R ≡ p ∷ drop (k + 1) R = left R k p within (c.page-item.is ∙ get_or-take c.args.count R k p first) in
     c.discount_page.ensures [] (drop (k + 1) R)
-    (subst (λ (ps : List Page). AreClassesOf c.loop-page.classes c.args.end ps) split c.loop-page.invariant)
+    (subst (λ (ps : List Page). AreClassesOf c.loop-page.classes c.args.end ps)
+    (next_left R c.args.count k c.page-item.result c.requires.among c.loop-page-test.true c.page-item.is) c.loop-page.invariant)

@@ -1,4 +1,4 @@
-use Rattle.std.proofs.Common.{◌≡◌, ◌++◌, Bool, List, ℕ, length, refl, sym, ap, ◌∙◌}
+use Rattle.std.proofs.Common.{◌≡◌, length, refl, sym, ap, ◌∙◌}
 use Rattle.pocsag_receiver.specs.CapturedForms.{captured_line, mark_of}
 use Rattle.pocsag_receiver.proofs.CapturedTexts.{picked_more, picked_past}
 use Rattle.pocsag_receiver.proofs.captured.with_lines.Goals as goal

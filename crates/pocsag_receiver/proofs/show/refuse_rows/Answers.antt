@@ -1,6 +1,6 @@
 use Rattle.std.proofs.Common.{◌≡◌, ◌/◌, ℕ, List, length, drop, ap, refl, sym, ◌∙◌, arith}
 use Rattle.pocsag_pages.specs.Bytes.{Sent, after_preamble, leading}
-use Rattle.pocsag_receiver.proofs.Received.{batches_long}
+use Rattle.pocsag_receiver.proofs.Received.{batches_long, passed_on}
 use Rattle.pocsag_receiver.proofs.show.refuse_rows.Goals as goal
 
 -- how many batches follow the leading bytes AA
@@ -22,7 +22,7 @@ returns-then-rows-batches-clause-rows c =
 
 pub returns-clause-explained : goal.returns-clause-explained
 returns-clause-explained c =
-    let reading = c.in_ok-judge_bytes.ensures.ok in
+    let reading = passed_on _ _ _ _ _ c.map_err.ensures.cases c.map_err.ensures.variant c.in_ok-map_err.was c.judge_bytes.ensures.ok in
     record {
       wanted = sym c.in-Some.ensures;
       reads = record {

@@ -1,5 +1,4 @@
-use Rattle.std.proofs.Common.{◌-◌, length, nat_lt, ◌∙◌, sym, subst, arith, rules}
-use Rattle.std.specs.List.Sorted.{IsNonDecreasingBy}
+use Rattle.std.proofs.Common.{◌-◌, length, nat_lt, ◌∙◌, arith, rules}
 use Rattle.std.proofs.lemmas.List.Sorted.{IsPartitionPoint-from_clause, IsPartitionedBy-ltb}
 use Rattle.pocsag_show.specs.Numbers.{pages_below}
 use Rattle.pocsag_show.proofs.AddressCounts.{number_is, numbers_more, parted_count}

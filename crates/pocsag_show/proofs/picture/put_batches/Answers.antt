@@ -1,7 +1,7 @@
 use Rattle.std.proofs.Common.{slice_index, arith}
-use Rattle.pocsag_show.specs.Picture.{batch_line, batch_lines}
+use Rattle.pocsag_show.specs.Picture.{batch_line}
 use Rattle.pocsag_show.proofs.Puts.{pieces_put}
-use Rattle.pocsag_show.proofs.Ranges.{put_all, put_next}
+use Rattle.pocsag_show.proofs.Ranges.{put_next}
 use Rattle.pocsag_show.proofs.picture.put_batches.Goals as goal
 
 pub loop-batch-preserved : goal.loop-batch-preserved
@@ -12,9 +12,3 @@ loop-batch-preserved c = (
       (pieces_put _ _ _ _ _ _ _ c.in_ok-put_number.ensures c.in_ok-put_frames.ensures c.in_ok-put.ensures),
   omega arith,
 )
-
-pub returns : goal.returns
-unfolding batch_lines
-returns c =
-    put_all (batch_line (slice_index c.args.letters.now)) c.args.low c.loop-batch.batch c.args.high _ _
-    c.loop-batch.auto.batch c.loop-batch.invariant.1 (omega arith) c.loop-batch.invariant.0

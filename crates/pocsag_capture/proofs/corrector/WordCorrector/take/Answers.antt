@@ -1,7 +1,6 @@
 use Rattle.std.proofs.Common.{ℕ, ◌+◌, None, Some, bit_xor, count_ones, refl, sym, ◌∙◌, ap, arith}
 use Rattle.pocsag_words.proofs.KindLemmas.{IsCodeword-idle}
 use Rattle.pocsag_capture.specs.declared.corrector.WordCorrector.{WordCorrector}
-use Rattle.pocsag_capture.proofs.CorrectedWords.{ends_none, stays_as, without_orphans_orphan}
 use Rattle.pocsag_capture.proofs.corrector.WordCorrector.take.Goals as goal
 
 pub returns-in_default : goal.returns-in_default
@@ -22,11 +21,11 @@ returns-then-not-self c = record {
   mended = Some c.in-Some.mended;
   is_mended = c.in-Some.ensures;
   is_codeword = IsCodeword-idle;
-  kind = without_orphans_orphan _ _ c.in-Message.field-0 c.if-not-self.true (sym c.in-Message.ensures.kind);
-  open_after = stays_as _ _ c.in-Message.field-0 (sym c.in-Message.ensures.kind);
-  ends = ends_none _ _ _ c.in-Message.field-0 (sym c.in-Message.ensures.kind);
+  kind = rw (c.if-not-self.true, sym c.in-Message.ensures.kind) refl;
+  open_after = rw (c.if-not-self.true, sym c.in-Message.ensures.kind) refl;
+  ends = rw (sym c.in-Message.ensures.kind) refl;
   bits = ap (λ (n : ℕ). c.args.self.now.corrected + n)
-      (c.from.ensures ∙ ap (λ (n : ℕ). count_ones (bit_xor n c.args.word)) c.raw.ensures.same);
+      (c.from.ensures ∙ ap (λ (n : ℕ). count_ones (bit_xor n c.args.word)) c.raw-codeword.ensures.same);
   beyond = omega arith;
   cuts = omega arith;
 }

@@ -1,9 +1,10 @@
 use Rattle.std.proofs.Common.{◌≡◌, ◌≢◌, [], ◌∷◌, ◌++◌, arith, rules, subst}
 use Rattle.std.proofs.lemmas.List.{length_push}
 use Rattle.csv.specs.Machine.{line_feed}
+use Rattle.pocsag_journal.proofs.Prefixes.{all_more}
 use Rattle.pocsag_open.specs.Lines.{IsSeen}
 use Rattle.pocsag_open.specs.declared.lines.LineRead.TheVariants as found
-use Rattle.pocsag_open.proofs.SeenLines.{byte_passes, no_feed_more, seen_all, seen_kept, seen_long, seen_more}
+use Rattle.pocsag_open.proofs.SeenLines.{byte_passes, seen_all, seen_kept, seen_long, seen_more}
 use Rattle.pocsag_open.proofs.lines.Lines.read_line.Goals as goal
 
 pub loop-seen-preserved : goal.loop-seen-preserved
@@ -16,7 +17,7 @@ loop-seen-preserved g c = record {
       let kept = rw c.next_byte.ensures.kept at c.in_ok-found-in-Some.ensures.kept in
       let other : c.in-Some.byte ≢ line_feed = let t = c.in-Some.byte-test in search (rules, t) in (
         was.0 ++ c.in-Some.byte ∷ [],
-        no_feed_more _ _ was.1 other,
+        all_more (λ b. b ≢ line_feed) was.0 c.in-Some.byte was.1 other,
         seen_more _ _ _ _ _ _ was.2 kept,
         rw c.keep.ensures.ahead (byte_passes _ _ _ _ _ was.3 next),
         omega (arith, length_push was.0 c.in-Some.byte, was.4),

@@ -1,62 +1,67 @@
-use Rattle.std.proofs.Common.{◌+◌, inl, inr, sym, ◌∙◌, ap, subst, refl, arith, ◌++◌, ◌∷◌}
+use Rattle.std.proofs.Common.{◌≡◌, ◌⊎◌, ◌+◌, inl, inr, sym, ◌∙◌, ap, subst, refl, arith, ◌++◌, ◌∷◌}
+use Rattle.pocsag_pages.specs.declared.quote_state.QuoteState.{QuoteState}
+use Rattle.pocsag_pages.specs.declared.quote_state.QuoteState.TheVariants as at
 use Rattle.pocsag_pages.specs.Quotes.{IsLostIn}
+use Rattle.pocsag_pages.specs.QuoteStates.{MayGoOn}
+use Rattle.pocsag_pages.proofs.QuoteFaults.{lost_is_not}
+use Rattle.pocsag_pages.proofs.QuoteStates.{lost_behind}
 use Rattle.pocsag_pages.proofs.QuoteWalks.{ended, few_more, goes, gone_on, lost, opened_before}
-use Rattle.pocsag_pages.proofs.quote_place.QuotePlace.after.Goals.{in-Open, in_default, else-ends_line-via-then-ends_line+else-not-matches, else-ends_line-via-else-ends_line}
 use Rattle.pocsag_pages.proofs.quote_place.QuotePlace.after.Goals as goal
 
-pub returns-then-not-matches-clause-place : goal.returns-then-not-matches-clause-place
-returns-then-not-matches-clause-place c = λ seen h.
-    ended c.args.self c.args.byte _ _ seen h
-    (sym c.ends_line.ensures ∙ c.if-ends_line.true)
-    (λ e. elim c.match-matches.branch [ in-Open w ↦ cc (sym w.matches-is ∙ c.if-not-matches.true) | in_default w ↦ w.in_default.not-Open e ])
-    (ap (λ n. c.args.self.number + n) c.from-then-not-matches.ensures) (ap (λ n. c.args.self.line + n) c.from.ensures)
+dead : (r s : QuoteState) → r ≡ s → (r ≡ at.Broken) ⊎ (r ≡ at.Ended) → MayGoOn s → ⊥
+dead r s is (inl e) on = subst MayGoOn (sym is ∙ e) on
+dead r s is (inr e) on = subst MayGoOn (sym is ∙ e) on
 
-pub returns-then-byte-eq34-clause-fault : goal.returns-then-byte-eq34-clause-fault
-returns-then-byte-eq34-clause-fault c = λ seen rest h.
-    let there = lost c.args.self c.args.byte seen rest h
-    (elim c.else-ends_line.branch [
-      | else-ends_line-via-then-ends_line+else-not-matches w ↦ elim w.match-matches.branch [
-        | in-Open v ↦ inr v.in-Open.is
-        | in_default v ↦ cc (sym v.matches-is ∙ w.if-not-matches.false)
-      ]
-      | else-ends_line-via-else-ends_line w ↦ inl (sym c.ends_line.ensures ∙ w.if-ends_line.false)
-    ])
-    (elim c.in-Broken.is [ inl e ↦ inl (sym c.after.ensures ∙ e) | inr e ↦ inr (sym c.after.ensures ∙ e) ]) in
-    subst (λ b. IsLostIn (seen ++ c.args.byte ∷ rest) c.args.self.number c.args.self.line b) c.if-byte-eq34.true there
+pub returns-then-ends_line-clause-place : goal.returns-then-ends_line-clause-place
+returns-then-ends_line-clause-place c = λ seen h.
+    ended c.args.self c.args.byte _ _ seen h (sym c.ends_line.ensures ∙ c.if-ends_line.true)
+    (lost_behind c.args.self.state c.args.byte (dead _ _ c.after.ensures c.in-Broken.is))
+    (ap (λ n. c.args.self.number + n) c.from-then-ends_line.ensures) (ap (λ n. c.args.self.line + n) c.from.ensures)
 
-pub returns-else-byte-eq34-clause-fault : goal.returns-else-byte-eq34-clause-fault
-returns-else-byte-eq34-clause-fault c = λ seen rest h. (
-  c.args.byte,
-  c.if-byte-eq34.false,
-  lost c.args.self c.args.byte seen rest h
-      (elim c.else-ends_line.branch [
-        | else-ends_line-via-then-ends_line+else-not-matches w ↦ elim w.match-matches.branch [
-          | in-Open v ↦ inr v.in-Open.is
-          | in_default v ↦ cc (sym v.matches-is ∙ w.if-not-matches.false)
-        ]
-        | else-ends_line-via-else-ends_line w ↦ inl (sym c.ends_line.ensures ∙ w.if-ends_line.false)
-      ])
-      (elim c.in-Broken.is [ inl e ↦ inl (sym c.after.ensures ∙ e) | inr e ↦ inr (sym c.after.ensures ∙ e) ]),
-)
+pub returns-then-byte-eq34 : goal.returns-then-byte-eq34
+returns-then-byte-eq34 c =
+    let no_end = sym c.ends_line.ensures ∙ c.if-ends_line.false in
+    let never = dead _ _ c.after.ensures c.in-Broken.is in
+    record {
+      place = tt;
+      records = tt;
+      lines = tt;
+      fault = λ seen rest h.
+          subst (IsLostIn (seen ++ c.args.byte ∷ rest) c.args.self.number c.args.self.line) c.if-byte-eq34.true
+          (lost c.args.self c.args.byte seen rest h no_end never);
+      lost = λ seen rest h. lost_is_not c.args.self c.args.byte seen rest h no_end never;
+    }
+
+pub returns-else-byte-eq34 : goal.returns-else-byte-eq34
+returns-else-byte-eq34 c =
+    let no_end = sym c.ends_line.ensures ∙ c.if-ends_line.false in
+    let never = dead _ _ c.after.ensures c.in-Broken.is in
+    record {
+      place = tt;
+      records = tt;
+      lines = tt;
+      fault = λ seen rest h. (c.args.byte, c.if-byte-eq34.false, lost c.args.self c.args.byte seen rest h no_end never);
+      lost = λ seen rest h. lost_is_not c.args.self c.args.byte seen rest h no_end never;
+    }
 
 pub returns-in-Start : goal.returns-in-Start
 returns-in-Start c = record {
   place = λ seen h.
-      gone_on c.args.self _ c.args.byte _ _ seen h c.after.ensures
-      (goes _ c.in_default-after.not-Broken c.in_default-after.not-Ended)
+      gone_on c.args.self _ c.args.byte _ _ seen h c.after.ensures (goes _ c.in_default.not-Broken c.in_default.not-Ended)
       (ap (λ n. c.args.self.line + n) c.from.ensures) (rw c.in-Start.is refl);
   records = omega arith;
   lines = few_more _ _ _ c.from.ensures;
   fault = tt;
+  lost = tt;
 }
 
-pub returns-in_default-before : goal.returns-in_default-before
-returns-in_default-before c = record {
+pub returns-in_default-state : goal.returns-in_default-state
+returns-in_default-state c = record {
   place = λ seen h.
-      gone_on c.args.self _ c.args.byte _ _ seen h c.after.ensures
-      (goes _ c.in_default-after.not-Broken c.in_default-after.not-Ended)
-      (ap (λ n. c.args.self.line + n) c.from.ensures) (opened_before _ _ _ c.in_default-before.not-Start);
+      gone_on c.args.self _ c.args.byte _ _ seen h c.after.ensures (goes _ c.in_default.not-Broken c.in_default.not-Ended)
+      (ap (λ n. c.args.self.line + n) c.from.ensures) (opened_before _ _ _ c.in_default-state.not-Start);
   records = omega arith;
   lines = few_more _ _ _ c.from.ensures;
   fault = tt;
+  lost = tt;
 }

@@ -2,13 +2,13 @@ use Rattle.std.proofs.Common.{◌+◌, ◌*◌, take}
 use Rattle.pocsag_tree.specs.Views.{bounds_of}
 use Rattle.pocsag_branch.specs.Examined.{AreExamined}
 use Rattle.pocsag_branch.specs.Undecided.{undecided}
-use Rattle.pocsag_branch.proofs.fixed_nodes.+fixed_nodes.Given as goal
+use Rattle.pocsag_branch.proofs.nodes.+nodes.Given as goal
 
-abbrev pub decreases-fixed_node : goal.decreases-fixed_node
-decreases-fixed_node l = 4 * undecided l.node.now.classes.now l.node.now.task.batches l.node.now.limits + 3
+abbrev pub decreases-node_tree : goal.decreases-node_tree
+decreases-node_tree l = 4 * undecided l.node.now.classes.now l.node.now.task.batches l.node.now.limits + 3
 
-abbrev pub decreases-node_of_kind : goal.decreases-node_of_kind
-decreases-node_of_kind l = 4 * undecided l.node.now.classes.now l.node.now.task.batches l.node.now.limits + 2
+abbrev pub decreases-tree_of_kind : goal.decreases-tree_of_kind
+decreases-tree_of_kind l = 4 * undecided l.node.now.classes.now l.node.now.task.batches l.node.now.limits + 2
 
 abbrev pub decreases-cut_node : goal.decreases-cut_node
 decreases-cut_node l = 4 * undecided l.node.now.classes.now l.node.now.task.batches l.node.now.limits + 1
@@ -23,4 +23,5 @@ abbrev pub decreases-child_nodes : goal.decreases-child_nodes
 decreases-child_nodes l = 4 * undecided l.node.now.classes.now l.node.now.task.batches l.node.now.limits
 
 abbrev pub invariant-child_nodes-loop-way : goal.invariant-child_nodes-loop-way
-invariant-child_nodes-loop-way l = AreExamined l.node.classes.now l.node.task l.node.limits l.made l.after (take l.way-index l.ways) (bounds_of l.children.items)
+invariant-child_nodes-loop-way l =
+    AreExamined l.node.classes.now l.node.task l.node.limits l.examined l.after (take l.way-index l.ways) (bounds_of l.children.items)

@@ -1,8 +1,8 @@
-use Rattle.std.proofs.Common.{◌≡◌, ◌++◌, Bool, List, ℕ, length, refl, sym, ap, ◌∙◌}
+use Rattle.std.proofs.Common.{◌≡◌, length, refl, sym, ap, ◌∙◌}
 use Rattle.pocsag_receiver.specs.CapturedForms.{captured_row}
 use Rattle.pocsag_decode.specs.Lines.{text_in}
 use Rattle.pocsag_receiver.proofs.CapturedTexts.{picked_more, picked_past}
-use Rattle.pocsag_receiver.proofs.captured.put_transmission.Goals as goal
+use Rattle.pocsag_receiver.proofs.captured.with_transmission.Goals as goal
 
 pub loop-index-preserved-then-not-is_picked : goal.loop-index-preserved-then-not-is_picked
 loop-index-preserved-then-not-is_picked c =
@@ -11,7 +11,7 @@ loop-index-preserved-then-not-is_picked c =
     record {
       ready = c.loop-index.invariant.ready;
       text = picked_past c.args.picking.only (captured_row c.args.picking.texts) c.as_slice-pages.result.now c.as_slice-cuts.result.now
-          c.loop-index.index long c.index-pages-index.result (text_in c.args.writer.now) (text_in c.loop-index.writer) c.loop-index-test.true
+          c.loop-index.index long c.index-pages-index.result c.args.before.items (text_in c.loop-index.writer) c.loop-index-test.true
           c.index-pages-index.is (sym c.is_picked.ensures ∙ c.if-not-is_picked.true) c.loop-index.invariant.text;
     }
 
@@ -22,7 +22,7 @@ loop-index-preserved c =
     record {
       ready = c.in_ok-put_read.ensures.0;
       text = picked_more c.args.picking.only (captured_row c.args.picking.texts) c.as_slice-pages.result.now c.as_slice-cuts.result.now
-          c.loop-index.index long c.index-pages-index.result _ _ (text_in c.args.writer.now) (text_in c.loop-index.writer) (text_in c.put_read.new.writer)
+          c.loop-index.index long c.index-pages-index.result _ _ c.args.before.items (text_in c.loop-index.writer) (text_in c.put_read.new.writer)
           c.loop-index-test.true c.index-pages-index.is refl (sym c.is_picked.ensures ∙ c.if-not-is_picked.false) c.loop-index.invariant.text
           c.in_ok-put_read.ensures.1;
     }
