@@ -10,6 +10,9 @@ TOP = pathlib.Path(__file__).resolve().parents[1]
 # The program as the gate left it, or another one, and where the C library is taken from, where it is not built.
 PROGRAM = pathlib.Path(os.environ.get("POCSAG_PROGRAM") or TOP / "crates/pocsag_app/out/pocsag_app")
 LIBRARY = os.environ.get("POCSAG_LIBRARY")
+# Whether an emulator runs the program: then options are combined in one of so many ways, and no file is of the largest size.
+ONE_IN = int(os.environ.get("POCSAG_ONE_IN") or 1)
+IS_EMULATED = ONE_IN > 1
 # The words that ask `plan` and `report` for each end.
 ENDS = {"open": ["--end", "open"], "closed": ["--end", "closed"], "idle": ["--idle-last"]}
 

@@ -191,6 +191,7 @@ def try_large_trial(tally, library):
         f"hear_all, decode and list of 20,001 tones: {2 * 1_250 + 1} 20001 {tones_listed}",
         f"first_stream of 2,000 and 20,000 tones, and of one more: {few.tones_in_order} {72 + 68 * few.tones_in_order} "
         f"{many.tones_in_order} {72 + 68 * many.tones_in_order} record 20001: too many pages 0",
+        f"read_round of 268,435,456 bytes, and with first_stream of one more: 1{2 * ' the file is too large'}",
         "read_certificate of 1,000,000 nodes: 1000000 58",
         "search and search_freely of 2,000 and 20,000 tones: 125 2000 1 true 125 2000 1 true 1250 20000 1 true 1250 20000 1 true",
         "search of eight pages to 1,000,000 nodes: 12 13 1000000 true",

@@ -4,7 +4,7 @@ opened, emptied and judged."""
 import os
 import subprocess
 
-from tally import PROGRAM
+from tally import IS_EMULATED, PROGRAM
 
 HEADER = b"address,kind,message\n"
 TONE = HEADER + b"8,tone0,\n"
@@ -12,8 +12,6 @@ APART = HEADER + b"0,numeric," + b"1" * 75 + b"\n3,numeric," + b"1" * 75 + b"\n"
 BAD = HEADER + b"8,tone0,\n9,tone9,\n"
 QUOTE = HEADER + b'8,alpha,"Ward 3\n'
 OLD = b"older"
-# An emulator opens files of its own, which may take the numbers of closed streams.
-IS_EMULATED = bool(os.environ.get("POCSAG_ONE_IN"))
 NOT_TEXT = b"""error: invalid UTF-8 was detected in one or more arguments
 
 Usage: pocsag [OPTIONS] [COMMAND]
@@ -109,6 +107,7 @@ def try_unheard(tally, folder):
     """Each command says that it cannot write, and `plan` has made its files whole."""
     room, made = fresh(folder, "unheard")
     for call in PRINTING:
+        # An emulator opens files of its own, which may take the numbers of closed streams.
         for output in ("unread", "full") if IS_EMULATED else ("closed", "unread", "full"):
             for more in ([],) if "help" in call or "--version" in call else ([], ["--verbose"]):
                 put(room, OLD) if call.startswith("plan") else run(PLAN, room)

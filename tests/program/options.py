@@ -3,13 +3,12 @@ told and written has to be what a brute force of tests/fewest and the other comm
 
 import importlib.util
 import itertools
-import os
 import random
 import subprocess
 import sys
 
 sys.dont_write_bytecode = True
-from tally import PROGRAM, TOP
+from tally import ONE_IN, PROGRAM, TOP
 
 HEADER = b"address,kind,message\n"
 ENDS = ([], ["--end", "open"], ["--end", "closed"], ["--end=closed"], ["--idle-last"], ["--end", "idle"])
@@ -121,7 +120,7 @@ def judged(due, done, limit, is_always):
 
 def combinations(*lists):
     """One of each list, in each way, or where a run takes long, as in an emulator, in one of so many ways."""
-    return itertools.islice(itertools.product(*lists), 0, None, int(os.environ.get("POCSAG_ONE_IN") or 1))
+    return itertools.islice(itertools.product(*lists), 0, None, ONE_IN)
 
 
 def try_plan_options(tally, folder):
