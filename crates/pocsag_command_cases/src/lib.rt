@@ -4,6 +4,7 @@
 
 #[cfg(test)]
 mod capture_tests;
+#[cfg(test)]
 mod centre_tests;
 mod crash_disk;
 #[cfg(test)]
