@@ -52,8 +52,11 @@ unpack_release() {
             rm -rf "$room"
             return 1
         fi
-        [ -e "$folder/$1" ] || rm -rf "$folder"
-        mv -T "$room" "$folder" 2>/dev/null || rm -rf "$room"
+        # What stands there is either whole, as another call left it just now, or the program alone, which is moved away.
+        if ! mv -T "$room" "$folder" 2>/dev/null; then
+            [ -e "$folder/$1" ] || { mv -T "$folder" "$room.older" && mv -T "$room" "$folder"; } 2>/dev/null || true
+            rm -rf "$room" "$room.older"
+        fi
     fi
     ln -sfn "${folder##*/}" out/release/current
     echo "$folder"

@@ -320,6 +320,19 @@ def try_at_once(tally, copy):
     tally.check("six first calls at once", all(it == ("at least 2 batches\n", "", 0) for it in ends), ends)
     tally.check("nothing half unpacked is left", not list((copy.top / "out/release").glob("unpacking*")))
     copy.drop_built()
+    # Another call unpacks it while this one does: what it put there stays.
+    first, link = copy.top.parent / "first", shutil.which("ln")
+    for name in ("mv", "rm"):
+        other = f'[ -n "$OTHER" ] || {{ OTHER=1 ./pocsag {" ".join(command[1:])}; {link} out/release/current/bin/pocsag "{first}"; }} > /dev/null 2>&1'
+        real = (user.commands / name).readlink()
+        (user.commands / name).unlink()
+        (user.commands / name).write_text(f'#!/bin/sh\n{other}\nexec {real} "$@"\n')
+        (user.commands / name).chmod(0o755)
+    tally.check("a call that another overtakes", user.run(*command[1:]) == (0, "at least 2 batches\n", ""))
+    tally.check("the other's program stays", first.samefile(copy.top / "out/release/current/bin/pocsag"))
+    tally.check("nothing else is left", len(list((copy.top / "out/release").iterdir())) == 2)
+    first.unlink()
+    copy.drop_built()
 
 
 def try_installed(tally, copy):
