@@ -1,5 +1,6 @@
 """What the tests of the repository share."""
 
+import itertools
 import os
 import pathlib
 import shutil
@@ -10,11 +11,16 @@ TOP = pathlib.Path(__file__).resolve().parents[1]
 # The program as the gate left it, or another one, and where the C library is taken from, where it is not built.
 PROGRAM = pathlib.Path(os.environ.get("POCSAG_PROGRAM") or TOP / "crates/pocsag_app/out/pocsag_app")
 LIBRARY = os.environ.get("POCSAG_LIBRARY")
-# Whether an emulator runs the program: then options are combined in one of so many ways, and no file is of the largest size.
+# Whether an emulator runs the program: then one of so many cases is tried, and no file is of the largest size.
 ONE_IN = int(os.environ.get("POCSAG_ONE_IN") or 1)
 IS_EMULATED = ONE_IN > 1
 # The words that ask `plan` and `report` for each end.
 ENDS = {"open": ["--end", "open"], "closed": ["--end", "closed"], "idle": ["--idle-last"]}
+
+
+def sampled(cases):
+    """The cases, or in an emulator one of so many."""
+    return itertools.islice(cases, 0, None, ONE_IN)
 
 
 class Tally:

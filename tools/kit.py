@@ -30,7 +30,7 @@ def script():
     loader = importlib.machinery.SourceFileLoader("rt", str(path))
     made = importlib.util.module_from_spec(importlib.util.spec_from_loader("rt", loader))
     loader.exec_module(made)
-    return made if hasattr(made, "share_work") and all(hasattr(made.rtlib, it) for it in STEPS) else None
+    return made if all(hasattr(made.rtlib, it) for it in STEPS) else None
 
 
 def crate_in(folder):
@@ -61,7 +61,8 @@ def main(verb, jobs, *words):
     flags = ["--jobs", jobs]
     if script() is None:
         os.execvp("rt", ["rt", verb, *flags, *(["--", *words] if words else [])])
-    script().share_work(True)
+    if hasattr(script(), "share_work"):  # a kit that hands on what another copy of the repository has proved
+        script().share_work(True)
     crate = crate_in(os.getcwd())
     crate.held = []  # no lock is to be let go before a program is run
     script().rtlib.stop_on_links(crate.folder)

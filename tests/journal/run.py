@@ -17,7 +17,7 @@ import time
 
 sys.dont_write_bytecode = True
 sys.path.insert(0, str(pathlib.Path(__file__).resolve().parents[1]))
-from tally import PROGRAM, as_nobody, run_parts
+from tally import PROGRAM, as_nobody, run_parts, sampled
 
 HEADER = b"address,kind,message\n"
 FIRST_LINE = b"pocsag journal,1\n"
@@ -221,7 +221,7 @@ def try_cuts(tally, folder):
     place.mkdir()
     path = place / "round.journal"
     text = FIRST_LINE + b"".join(line + b"\n" for line in SAMPLE)
-    for length in range(len(text) + 1):
+    for length in sampled(range(len(text) + 1)):
         path.write_bytes(text[:length])
         whole = text[:length].count(b"\n")
         torn = length - (text[:length].rfind(b"\n") + 1)
@@ -340,7 +340,7 @@ def try_bad_lines(tally, folder):
         b"add,5,alpha,Ward 3\r\n",
     ]
     for number in range(len(good)):
-        for line in bad:
+        for line in sampled(bad):
             if number == 0 and line == FIRST_LINE:
                 continue
             text = b"".join(good[:number] + [line] + good[number + 1 :])

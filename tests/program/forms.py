@@ -10,7 +10,7 @@ import sys
 
 sys.dont_write_bytecode = True
 import repair
-from tally import PROGRAM
+from tally import PROGRAM, sampled
 
 HEADER = "address,kind,message\n"
 GENERATOR = 0b11101101001
@@ -154,9 +154,9 @@ def try_forms(tally, folder):
     if not reads:
         print("left out: lines of JSON that jq reads, since there is no jq")
     every = items_of(range(1, 128), 7, 0)
-    for pages in ([(11, function, every) for function in range(4)], [(11, function, [0, 0]) for function in range(4)], []):
+    for pages in sampled(([(11, function, every) for function in range(4)], [(11, function, [0, 0]) for function in range(4)], [])):
         try_pages(tally, folder, source, pages or [(12, 0, [])], reads)
-    for _ in range(6):
+    for _ in sampled(range(6)):
         try_pages(tally, folder, source, random_pages(source), reads)
 
 

@@ -5,7 +5,7 @@ import os
 import random
 import subprocess
 
-from tally import PROGRAM
+from tally import PROGRAM, sampled
 
 HEADER = b"address,kind,message\n"
 LONG = b"1" * 75
@@ -34,7 +34,7 @@ def said(done):
 def try_options(tally, folder):
     """Each option of a plan beside each other one, and the files that they leave."""
     flags = (["--always"], ["--verify"], ["--keep"], ["--strict"], ["--expect", "3"], ["--limit", "1000"], ["--end", "open"])
-    for number, chosen in enumerate(itertools.product((False, True), repeat=len(flags))):
+    for number, chosen in sampled(enumerate(itertools.product((False, True), repeat=len(flags)))):
         room = fresh(folder, f"options {number}")
         words = [word for is_chosen, flag in zip(chosen, flags) if is_chosen for word in flag]
         done = run(["plan", "pages.csv", "tx.bin", "cert.bin", "--at-most", "2", "--rest", "rest.csv", "--why", "why.bin", *words], room)

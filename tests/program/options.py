@@ -8,7 +8,7 @@ import subprocess
 import sys
 
 sys.dont_write_bytecode = True
-from tally import ONE_IN, PROGRAM, TOP
+from tally import PROGRAM, TOP, sampled
 
 HEADER = b"address,kind,message\n"
 ENDS = ([], ["--end", "open"], ["--end", "closed"], ["--end=closed"], ["--idle-last"], ["--end", "idle"])
@@ -119,8 +119,8 @@ def judged(due, done, limit, is_always):
 
 
 def combinations(*lists):
-    """One of each list, in each way, or where a run takes long, as in an emulator, in one of so many ways."""
-    return itertools.islice(itertools.product(*lists), 0, None, ONE_IN)
+    """One of each list, in each way."""
+    return sampled(itertools.product(*lists))
 
 
 def try_plan_options(tally, folder):
@@ -191,7 +191,7 @@ def try_bad_numbers(tally, folder):
     """Rates and limits that are none, beside each other option: status 1, and nothing told."""
     (folder / "pages.csv").write_bytes(Due(ROUNDS[0], "open").text)
     no_rate, no_limit = b"pocsag: the rate must be 512, 1200 or 2400\n", b"pocsag: the limit must be 1 to 1000000\n"
-    for end, always, verbose in itertools.product(ENDS, ([], ["--always"]), VERBOSE):
+    for end, always, verbose in combinations(ENDS, ([], ["--always"]), VERBOSE):
         always = always + verbose
         for rate in ("0", "511", "1201", "4294967295"):
             done = run(["report", "pages.csv", "--rate", rate, *end, *always], folder)

@@ -6,7 +6,7 @@ import subprocess
 import sys
 
 sys.dont_write_bytecode = True
-from tally import PROGRAM
+from tally import PROGRAM, sampled
 
 HEADER = b"address,kind,message\n"
 FRONT, WORD = 72, 4
@@ -83,7 +83,7 @@ def try_beyond(tally, folder, source, sent):
 
 def try_repair(tally, folder):
     source = random.Random(584)
-    for _ in range(12):
+    for _ in sampled(range(12)):
         try_transmission(tally, folder, source)
     by_pager = run(["hear", "8", "rx.bin"], folder)
     tally.check("hear of the same", by_pager.returncode == 0, by_pager)

@@ -11,7 +11,7 @@ import shlex
 import shutil
 import subprocess
 
-from tally import PROGRAM, TOP
+from tally import PROGRAM, TOP, sampled
 
 TEXTS = pathlib.Path(__file__).resolve().parent / "texts"
 VERSION = (TOP / "VERSION").read_text().split()[0]
@@ -37,7 +37,7 @@ def try_texts(tally, folder):
     room = folder / "usage"
     room.mkdir()
     for path in sorted(TEXTS.glob("*.txt")):
-        for words, text in shown(path):
+        for words, text in sampled(shown(path)):
             done = subprocess.run([str(PROGRAM), *words], stdin=subprocess.DEVNULL, capture_output=True, cwd=room, timeout=60)
             told = done.returncode, done.stdout.decode(), done.stderr.decode()
             due = due_of(text, told[1])

@@ -6,7 +6,7 @@ import subprocess
 import sys
 
 sys.dont_write_bytecode = True
-from tally import PROGRAM
+from tally import PROGRAM, sampled
 
 HEADER = b"address,kind,message\n"
 APART = HEADER + b"0,numeric," + b"1" * 75 + b"\n3,numeric," + b"1" * 75 + b"\n"
@@ -166,11 +166,11 @@ def try_case(tally, folder, case):
 
 
 def try_verbose(tally, folder):
-    for file, fault, record in PAGE_FILES:
+    for file, fault, record in sampled(PAGE_FILES):
         named, unnamed = ([f"page file {name}: {record}" if record else f"page file {name}"] for name in ("p.csv", "-"))
         try_case(tally, folder, (file, PLAN, b"", 1, "", fault, named))
         try_case(tally, folder, (APART, ["report", "-", "--rate", "512", "--always"], file, 1, "", fault, unnamed))
-    for case in CASES:
+    for case in sampled(CASES):
         try_case(tally, folder, case)
     (folder / "p.csv").write_bytes(APART)
     before = run(["--verbose", "plan", "none.csv", "t", "c"], folder)

@@ -100,7 +100,7 @@ def try_library(tally, folder, archive, memory):
 
 def try_scripts(tally, program):
     """The scripts that run the program, with this one."""
-    os.environ.update(POCSAG_PROGRAM=str(program), POCSAG_ONE_IN="7")
+    os.environ.update(POCSAG_PROGRAM=str(program), POCSAG_ONE_IN="31")
     for it in lanes.Lanes([lanes.Task(script, [sys.executable, script], TOP) for script in SCRIPTS]).run():
         counts = re.findall(r"^(\d+) passed, (\d+) failed$", it.text, re.M)
         passed, failed = map(int, counts[-1]) if counts else (0, 1)

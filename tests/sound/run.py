@@ -18,7 +18,7 @@ import wave
 
 sys.dont_write_bytecode = True
 sys.path.insert(0, str(pathlib.Path(__file__).resolve().parents[1]))
-from tally import ENDS, PROGRAM, run_parts
+from tally import ENDS, PROGRAM, run_parts, sampled
 
 HEADER = b"address,kind,message\n"
 RATES = (512, 1200, 2400)
@@ -87,7 +87,7 @@ def try_by_hand(tally, folder):
 
 def try_rounds(tally, folder):
     """Each round at each rate and number of samples."""
-    for (name, records), end in itertools.product(ROUNDS.items(), ENDS):
+    for (name, records), end in sampled(itertools.product(ROUNDS.items(), ENDS)):
         sent = planned(folder, records, end)
         for rate, a_second in itertools.product(RATES, {*SAMPLES}):
             done = run(["tx.bin", "--rate", rate, "--samples", a_second], folder)
@@ -100,7 +100,7 @@ def try_odd_numbers(tally, folder):
     chance = random.Random(20261126)
     (folder / "tx.bin").write_bytes(SENT)
     for rate in RATES:
-        for a_second in (rate, rate + 1, 2 * rate - 1, 191_999, *(chance.randint(rate, 192_000) for _ in range(20))):
+        for a_second in sampled([rate, rate + 1, 2 * rate - 1, 191_999, *(chance.randint(rate, 192_000) for _ in range(20))]):
             done = run(["tx.bin", "--rate", rate, "--samples", a_second], folder)
             tally.check(f"{rate} bit/s, {a_second} samples", is_sound(done.stdout, samples_of(SENT, rate, a_second), a_second), done.stderr)
 
@@ -108,9 +108,8 @@ def try_odd_numbers(tally, folder):
 def try_options(tally, folder):
     """Each option with each other, of a file and of standard input, and of transmissions with longer preambles."""
     sent = {length: b"\xaa" * length + SENT[72:] for length in (72, 73, 200)}
-    for length, rate, a_second, inverted, preamble, is_piped, is_verbose in itertools.product(
-        sent, RATES, (22_050, 48_000), (False, True), (None, 576, 1_000, 4_096), (False, True), (False, True)
-    ):
+    lists = sent, RATES, (22_050, 48_000), (False, True), (None, 576, 1_000, 4_096), (False, True), (False, True)
+    for length, rate, a_second, inverted, preamble, is_piped, is_verbose in sampled(itertools.product(*lists)):
         (folder / "tx.bin").write_bytes(sent[length])
         words = ["-" if is_piped else "tx.bin", "--rate", rate, "--samples", a_second]
         words += ["--invert"] * inverted + (["--preamble", preamble] if preamble else []) + ["--verbose"] * is_verbose

@@ -3,7 +3,7 @@
 import re
 
 from source import REQUIRES, hollow, outside_its_cycle, with_one_clause
-from sources import CYCLE, all_functions, constant_at, function_at, functions_of, homes_of, joined, module_of, own_name
+from sources import CYCLE, all_functions, block_of, constant_at, function_at, functions_of, homes_of, joined, module_of, own_name, type_of
 
 UNOFFERED = "\npub unoffered : Unoffered\nunoffered = Unoffered\n"  # fits nothing
 HOLE = "pub anything {ℓ} : {A : Type ℓ} → A\nanything = ?\n"  # stands for each proof that a check takes as given
@@ -73,11 +73,10 @@ class Edit:
         return self
 
     def copied(self, texts, mark):
-        """Plants the edit in a copy of its function that stands behind it, under a name with this mark, so that any number
-        of edits of one function can be tried side by side; one of a constant in a copy of the constant, for a copy of the function
-        that must be refused. A copy of a function in a cycle of calls is in none, since it calls the right ones. The edit stays in
-        its place where a copy would not do: in the method of a trait, in a function that has a proof of its own, where it changes
-        more than one function, and where the function does not name the constant."""
+        """Plants the edit in a copy of its function, under a name with this mark, so that any number of edits of one function can be
+        tried side by side; one of a constant in a copy of the constant, for a copy of the function that must be refused. A copy of a
+        function in a cycle of calls is in none, since it calls the right ones. The edit stays in its place where a copy would not do: in
+        a trait's method, in a function with a `Proof.antt`, where it changes several functions, or where none names the constant."""
         if len(self.functions) == 1 and not self.is_alone and self.function in (None, self.functions[0].name):
             self.copy(texts, mark, self.pairs[0][0], self.functions[0], [(old, new) for _, old, new in self.pairs])
         elif len(self.pairs) == 1 and not self.functions:
@@ -113,9 +112,7 @@ class Edit:
 
     def names(self):
         """The functions that have to be checked, or none where those are that rest on what is changed."""
-        if self.function:
-            return [self.function]
-        return [] if self.is_alone else [it.name for it in self.functions]
+        return [self.function] if self.function else [] if self.is_alone else [it.name for it in self.functions]
 
 
 def narrowed(texts, edits):
@@ -189,7 +186,7 @@ def rounds_of(edits, texts):
             rounds.append(Round(texts))
             rounds[-1].take(edit)
     for it in rounds:
-        right = not it.edits[0].is_alone and right_change(texts, it.units)
+        right = not it.edits[0].is_alone and right_change(texts, it)
         if right:
             right.copied(texts, "right")
             it.take(right)
@@ -210,24 +207,24 @@ def read_edits(files, texts):
     return good, bad
 
 
-def right_change(texts, taken):
-    """An edit that leaves a function right: a statement more in one that is not among the units taken and calls no
-    other of the crate, so that nothing but its own goals can be refused. None where there is no such function."""
+def right_change(texts, beside):
+    """An edit for a round that leaves a function right: a statement more in one that the round leaves as it is, that calls no other of the
+    crate and names no type of which the round changes a method in its place. So nothing but its own goals can be refused."""
     functions = all_functions(texts)
-    names = {own_name(name) for name in functions}
+    in_place = [(texts[it.pairs[0][0]].split("\n"), it.functions) for it in beside.edits if not it.is_copied]
+    changed = {type_of(block_of(lines, it)) for lines, functions in in_place for it in functions}
     answered = sorted(functions.items(), key=lambda it: f"{proof_folder(it[1][1].unit)}/Answers.antt" not in texts)
     # first of those with a contract, whose body begins on a line of its own
     for opening in (r"\s*\{", r".*(?:\) |-> .* )\{"):
         for name, (path, function) in answered:
             lines = texts[path].split("\n")[function.first:function.last + 1]
             opens = next((at for at, line in enumerate(lines) if re.fullmatch(opening, line)), None)
-            if opens is None or function.unit in taken or name.startswith("tests::"):
+            if opens is None or function.unit in beside.units or name.startswith("tests::") or changed & {*re.findall(r"\w+", "\n".join(lines))}:
                 continue
             old = "\n".join(lines[:opens + 1])
-            if names & {*re.findall(r"\w+(?=\()", "\n".join(lines[opens + 1:]))} or texts[path].count(old) > 1:
+            if {*map(own_name, functions)} & {*re.findall(r"\w+(?=\()", "\n".join(lines[opens + 1:]))} or texts[path].count(old) > 1:
                 continue
             edit = Edit("a change that is right", "")
             edit.pairs = [(path, old, old + "\n    let _right = 0_u8;")]
             edit.functions, edit.is_right = [function], True
             return edit
-    return None

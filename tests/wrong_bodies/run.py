@@ -15,11 +15,10 @@ the whole contract.
 
 The verdict on a function rests on its own body and on the contracts of what it calls (basis.py). So nearly all wrong
 bodies of a crate are tried in one check of a copy of the crate, a round, each in a copy of its function beside the right
-one, where all other functions have an empty body and a hole for a proof. The copy of a function in a cycle of calls calls
-the right ones, so that it is in none. A method of a trait is changed in its place, and holds one in a round. What others
-may see, and no named function is refused for, has a round of its own. A wrong body counts as refused where a goal of its
-own function stays open, and not because a proof file no longer fits. What is not refused in its round is tried alone, in
-the crate as it is. A round also holds a change that is right, which must be proved.
+one, where all other functions have an empty body and a hole for a proof. A method of a trait is changed in its place, and
+holds one in a round. What others may see, and no named function is refused for, has a round of its own. A wrong body counts
+as refused where a goal of its own function stays open, and not because a proof file no longer fits. What is not refused in
+its round is tried alone, at last in the crate as it is. A round also holds a change that is right, which must be proved.
 
 The last line is 'N passed, M failed'; the status is 0 where M is 0.
 """
@@ -27,6 +26,7 @@ The last line is 'N passed, M failed'; the status is 0 where M is 0.
 import functools
 import hashlib
 import inspect
+import itertools
 import pathlib
 import re
 import subprocess
@@ -63,9 +63,9 @@ class Verdicts:
     """What refused the wrong bodies of a crate, as the file of its verdicts has it: a line for each, with its name, a sum of all that
     the verdict rests on, and the goal that was not proved, or `-` where that is of no clause of this repository."""
 
-    def __init__(self, crate, basis, files, choose=lambda name: False):
+    def __init__(self, crate, basis, files, chosen=()):
         """Reads a crate's edits and its file of verdicts. Those whose names are chosen are tried whatever the file says."""
-        self.crate, self.file, self.choose = crate, TOP / "tests/wrong_bodies" / crate.name / FILE, choose
+        self.crate, self.file, self.chosen = crate, TOP / "tests/wrong_bodies" / crate.name / FILE, chosen
         self.texts = texts_of(crate)
         self.good, self.bad = read_edits(files, self.texts)
         self.rests = {it.name: basis.texts(crate, it, self.texts) for it in self.good}
@@ -110,8 +110,8 @@ def printed(command):
 
 @functools.cache
 def toolchain():
-    """What each verdict rests on beside sources: the toolchain and these scripts."""
-    return printed("rt version"), workspace.digest(SCRIPTS), inspect.getsource(kit.check_words)
+    """What each verdict rests on beside sources: the toolchain's logic, which several of its versions share, and these scripts."""
+    return printed("rt version | sed 's/.* logic/logic/'"), workspace.digest(SCRIPTS), inspect.getsource(kit.check_words)
 
 
 def turn():
@@ -124,8 +124,11 @@ def turn():
     return int(name, 16) % 10 if name else None
 
 
-def is_in_turn(crate, number, name):
-    return number is None or int(hashlib.sha256(f"{crate.name}/{name}".encode()).hexdigest(), 16) % 10 == number
+def tenths(crates):
+    """The number of the tenth that each wrong body is in, by its crate and its name. A tenth is of few crates, since most of the time of a
+    check goes into what stands below its crate."""
+    costs = {(crate.name, it.stem): 5 + len(workspace.below(crates, crate.name)) for crate in crates.values() for it in crate.edits()}
+    return {it: 10 * (total - 1) // sum(costs.values()) for it, total in zip(costs, itertools.accumulate(costs.values()))}
 
 
 def judged(seen, edit, is_alone):
@@ -172,19 +175,18 @@ def tried(room, edits, texts, is_whole=False):
     wrong = [it for it in edits if at_errors & {function.unit for function in it.functions}]
     others, half = [it for it in edits if it not in wrong], len(edits) // 2
     parts = [*([it] for it in wrong), others] if wrong and others else [edits[:half], edits[half:]]
-    found = {}
-    for part in parts:
-        found.update(tried(room, part, texts))
-    return found
+    return {edit: verdict for part in parts for edit, verdict in tried(room, part, texts).items()}
 
 
 def verdicts(room, edits, texts):
-    """The verdict on each edit of a round. What did not do as it must is tried alone, by a check of the whole crate; and
-    what another edit's function may have been refused for is tried again without it."""
+    """The verdict on each edit of a round. What did not do as it must is tried alone, against the whole contract and then by a check of
+    the whole crate; and what another edit's function may have been refused for is tried again without it."""
     found, reached = tried(room, edits, texts), set()
-    for edit in [it for it in edits if not found[it].holds]:
-        found.update(tried(room, [edit], texts, is_whole=True))
-        reached |= found[edit].elsewhere
+    for is_whole in (False, True):
+        for edit in [it for it in edits if not found[it].holds and (is_whole or it.clause)]:
+            edit.clause = None
+            found.update(tried(room, [edit], texts, is_whole))
+            reached |= found[edit].elsewhere
     again = [it for it in edits if found[it].holds and reached & {function.unit for function in it.functions}]
     if again:
         found.update(tried(room, again, texts))
@@ -194,7 +196,7 @@ def verdicts(room, edits, texts):
 def try_crate(known, below, writes=False):
     """Tries a crate's edits. Yields a name, whether it holds and what to say, for each of them and for the change that is right."""
     yield from ((name, False, f"BAD EDIT: {why}") for name, why in known.bad.items())
-    left = [it for it in known.good if it.name not in known.known or known.choose(it.name)]
+    left = [it for it in known.good if it.name not in known.known or it.name in known.chosen]
     yield from ((it.name, True, "was refused before") for it in known.good if it not in left)
     plan = rounds_of(left, known.texts)
     if plan and not any(it.is_right for edits in plan for it in edits) and any(not edits[0].is_alone for edits in plan):
@@ -218,15 +220,16 @@ def main(words):
     if not crates.keys() >= {*names} or bool(names) == (option == "--files"):
         print(__doc__, file=sys.stderr)
         return 2
-    number, basis = turn() if option == "--gate" else None, Basis(crates) if option == "--files" else None
-    for crate in crates.values() if option == "--files" else []:
-        wrong = Verdicts(crate, basis, crate.edits()).wrong()
+    number, turns = (turn(), tenths(crates)) if option == "--gate" else (None, {})
+    every = Basis(crates) if option == "--files" else None
+    for crate in crates.values() if every else []:
+        wrong = Verdicts(crate, every, crate.edits()).wrong()
         told = f"lines that no run with these sources wrote: {len(wrong)} ({'; '.join(wrong[:3])}). Run ./test --mutations {crate.name}"
         tally.check(f"tests/wrong_bodies/{crate.name}/{FILE}", not wrong, told)
     for crate in map(crates.get, names):
         below = workspace.below(crates, crate.name)
-        choose = functools.partial(is_in_turn, crate, number) if option else lambda name: False
-        known = Verdicts(crate, Basis(below), crate.edits(), choose)
+        chosen = [it.stem for it in crate.edits() if option and number in (None, turns.get((crate.name, it.stem)))]
+        known = Verdicts(crate, Basis(below), crate.edits(), chosen)
         for edit, holds, told in try_crate(known, [it for it in below.values() if it is not crate], not option):
             tally.check(f"wrong body {crate.name}/{edit}", holds, told)
             if holds and told.startswith("refused"):

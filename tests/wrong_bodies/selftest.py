@@ -1,9 +1,8 @@
 #!/usr/bin/env python3
 """Tries the script that tries wrong bodies.
 
-  selftest.py             without the prover: each wrong body can be planted; with a prover that is played, a body that spoils
-                          its round is found, and what was refused is kept until what its verdict rests on changes; contracts
-                          are narrowed to the clause that is to be refused, and what need not be refused is emptied
+  selftest.py             without the prover: each wrong body can be planted; a body that spoils its round is found; what was refused
+                          is kept until what its verdict rests on changes; contracts are narrowed, and other bodies emptied
   selftest.py --prover    with the prover: among wrong bodies of pocsag_text stand a body that is right, one that does not
                           compile and one that only no longer fits its proof file, and are reported by name
 
@@ -45,7 +44,8 @@ def test_rounds(tally, folder):
         text = "".join(f"old: {old}\nnew: {new}\n" for old, new in pairs)
         (folder / f"{name}.edit").write_text(f"file: {path}\n{text}")
     wrong = crate.edits()[::4]
-    verdicts = run.Verdicts(crate, Basis(below(read_crates(), CRATE)), [*wrong, *folder.glob("*.edit")], lambda name: True)
+    edits = [*wrong, *folder.glob("*.edit")]
+    verdicts = run.Verdicts(crate, Basis(below(read_crates(), CRATE)), edits, {it.stem for it in edits})
     found = {name: (holds, told) for name, holds, told in run.try_crate(verdicts, lower)}
     for name in ("a change that is right", *(it.stem for it in wrong)):
         tally.check(name, found.get(name, (False,))[0], found.get(name))
@@ -161,7 +161,7 @@ def test_kept(tally, folder):
         if path:
             path.write_text(text)
         tried(name, checks, passed)
-    tried("one that is chosen is tried", True, 3, choose=lambda name: name == "one")
+    tried("one that is chosen is tried", True, 3, chosen=["one"])
     file, lines = edits / run.FILE, (edits / run.FILE).read_text()
     told = lambda: verdicts_of(top, "high")[1].wrong()
     tally.check("the file is of these sources", not told() and lines.count("\n") == 2, lines)
@@ -182,9 +182,9 @@ def test_kept(tally, folder):
     tried("one that is gone", False, 1)
     tally.check("has no line", file.read_text().count("\n") == 1, file.read_text())
     tally.check("all are chosen where there is no history", run.turn() is None)
-    crate = read_crates(top)["low"]
-    found = {number: sum(run.is_in_turn(crate, number, f"e{it}") for it in range(1000)) for number in range(10)}
-    tally.check("each tenth is about a tenth, and ten are all", sum(found.values()) == 1000 and min(found.values()) > 60, found)
+    found, edits = run.tenths(read_crates()), {(crate.name, it.stem) for crate in read_crates().values() for it in crate.edits()}
+    parts = [[crate for (crate, _), number in found.items() if number == wanted] for wanted in range(10)]
+    tally.check("ten tenths are all, each of few crates", found.keys() == edits and all(1 <= len({*it}) < 9 for it in parts), parts)
 
 
 SMALL = sections("small.txt")
