@@ -1,6 +1,7 @@
 //! `decode`, `hear` and `show` of captures that are worked out by hand: a tone, inverted and one bit late, and one behind a
 //! synchronisation codeword that cannot be recognised; and calls that are cut.
 
+use crate::same;
 use pocsag_capture::{CaptureFault, Polarity, Reception, ReceptionStats};
 use pocsag_receiver::{
     CaptureListing, Picking, ReceiverFault, Viewing, run_list_capture, run_show_capture,
@@ -38,8 +39,8 @@ fn expect_listing(
     let mut out = MemorySink::<4000>::new(1000, 4000);
     let tx = &mut SliceSource::new(capture);
     let status = run_list_capture(alloc, &mut asked, tx, &mut out, &mut errors());
-    assert_eq!(rt; status, 0);
-    assert_eq!(rt; out.bytes(), due.as_bytes());
+    same!(rt; status, 0);
+    same!(rt; out.bytes(), due.as_bytes());
     asked.heard
 }
 
@@ -79,7 +80,7 @@ fn a_late_tone_is_captured(rt: HostRuntime) {
     };
     let alloc = rt.alloc();
     let heard = expect_listing(&rt, alloc, &capture, LISTED, WHOLE_TONE);
-    assert_eq!(rt; heard.as_slice(), [due].as_slice());
+    same!(rt; heard.as_slice(), [due].as_slice());
     let none = "address,kind,message,state\n";
     expect_listing(&rt, alloc, &capture, (Some(16), false), none);
     let line =
@@ -95,7 +96,7 @@ fn a_late_tone_is_captured(rt: HostRuntime) {
         };
         let tx = &mut SliceSource::new(&capture);
         let told = run_show_capture(alloc, &mut viewing, tx, &mut grid, &mut err);
-        assert_eq!(rt; told, status);
+        same!(rt; told, status);
     }
     let is_none = matches!(
         err.fault(),
@@ -134,7 +135,7 @@ fn a_bridged_tone_is_captured(rt: HostRuntime) {
         cut: 0,
     };
     let heard = expect_listing(&rt, rt.alloc(), &capture, LISTED, WHOLE_TONE);
-    assert_eq!(rt; heard.as_slice(), [due].as_slice());
+    same!(rt; heard.as_slice(), [due].as_slice());
 }
 
 // A batch with a tone of address 8, directly before a word past repair, one of address 9, and one of address 15 in its last

@@ -1,5 +1,6 @@
 //! The commands of a paging centre over memory: what each reports, what it leaves, and its exit status.
 
+use crate::same;
 use pocsag_centre::{
     CentreFault, FrontAsked, FrontFiles, PlanFiles, ReportAsked, expected_file, first_file,
     part_file, run_check, run_front, run_input, run_plan, run_report, run_verify, strict_file,
@@ -207,11 +208,11 @@ fn plans_are_told(rt: HostRuntime) -> Result<(), Fail> {
     ];
     for case in cases {
         let planned = plan(rt.alloc(), case.search, case.file, case.faults);
-        assert_eq!(rt; planned.told.status, case.status);
-        assert_eq!(rt; planned.told.out.bytes(), case.out.as_bytes());
-        assert_eq!(rt; planned.told.err.stream().bytes(), case.err.as_bytes());
-        assert_eq!(rt; planned.tx.bytes().len(), case.sent);
-        assert_eq!(rt; planned.cert.bytes().get(8).copied(), case.bound);
+        same!(rt; planned.told.status, case.status);
+        same!(rt; planned.told.out.bytes(), case.out.as_bytes());
+        same!(rt; planned.told.err.stream().bytes(), case.err.as_bytes());
+        same!(rt; planned.tx.bytes().len(), case.sent);
+        same!(rt; planned.cert.bytes().get(8).copied(), case.bound);
     }
     Ok(())
 }
@@ -304,12 +305,12 @@ fn expect_read(
 ) {
     let (planned_file, search) = planned;
     let planned = plan(alloc, search, planned_file, SOUND);
-    assert_eq!(rt; planned.told.status, 0);
+    same!(rt; planned.told.status, 0);
     for (command, (status, out, err)) in cases {
         let told = run(alloc, *command, file, &planned);
-        assert_eq!(rt; told.status, *status);
-        assert_eq!(rt; told.out.bytes(), out.as_bytes());
-        assert_eq!(rt; told.err.stream().bytes(), err.as_bytes());
+        same!(rt; told.status, *status);
+        same!(rt; told.out.bytes(), out.as_bytes());
+        same!(rt; told.err.stream().bytes(), err.as_bytes());
     }
 }
 
@@ -406,20 +407,20 @@ fn lent_files_are_planned(rt: HostRuntime) -> Result<(), Fail> {
             cert: GrowingSink::new(alloc),
         };
         let (mut out, mut err) = (MemorySink::<500>::new(1, 1000), errors());
-        assert_eq!(rt; run_plan(alloc, search, &mut files, &mut out, &mut err), 0);
-        assert_eq!(rt; err.fault(), None);
-        assert_eq!(rt; out.bytes(), lines.as_bytes());
-        assert_eq!(rt; files.pages.lent().map(|rest| rest.len()), Some(file.len()));
+        same!(rt; run_plan(alloc, search, &mut files, &mut out, &mut err), 0);
+        same!(rt; err.fault(), None);
+        same!(rt; out.bytes(), lines.as_bytes());
+        same!(rt; files.pages.lent().map(|rest| rest.len()), Some(file.len()));
         let (tx, cert) = (files.tx.into_bytes(), files.cert.into_bytes());
-        assert_eq!(rt; tx.len(), sent);
-        assert_eq!(rt; tx.as_slice(), read.tx.bytes());
-        assert_eq!(rt; cert.as_slice(), read.cert.bytes());
+        same!(rt; tx.len(), sent);
+        same!(rt; tx.as_slice(), read.tx.bytes());
+        same!(rt; cert.as_slice(), read.cert.bytes());
         let mut back = PlanFiles {
             pages: SliceSource::new(file),
             tx: SliceSource::new(tx.as_slice()),
             cert: SliceSource::new(cert.as_slice()),
         };
-        assert_eq!(rt; run_verify(alloc, search, &mut back, &mut out, &mut err), 0);
+        same!(rt; run_verify(alloc, search, &mut back, &mut out, &mut err), 0);
     }
     Ok(())
 }
@@ -432,15 +433,15 @@ fn cut_files_are_refused(rt: HostRuntime) -> Result<(), Fail> {
         let mut pages = Loaded::new(alloc, LONE_TONE.to_vec(alloc)?, is_cut);
         let (mut out, mut err) = (MemorySink::<500>::new(1, 1000), errors());
         let status = run_input(alloc, &mut pages, &mut out, &mut err);
-        assert_eq!(rt; status, if is_cut { 3 } else { 0 });
+        same!(rt; status, if is_cut { 3 } else { 0 });
         let due = is_cut.then_some(CentreFault::Round(RoundFault::ReadFault));
-        assert_eq!(rt; err.fault(), due);
+        same!(rt; err.fault(), due);
     }
     let mut pages = Loaded::new(alloc, LONE_TONE.to_vec(alloc)?, true);
     let mut piece = [0u8; 40];
-    assert_eq!(rt; pages.read(&mut piece).ok(), Some(30));
-    assert_eq!(rt; &piece[..30], LONE_TONE);
-    assert_eq!(rt; pages.read(&mut piece).ok(), None);
+    same!(rt; pages.read(&mut piece).ok(), Some(30));
+    same!(rt; piece.get(..30), Some(LONE_TONE));
+    same!(rt; pages.read(&mut piece).ok(), None);
     Ok(())
 }
 
@@ -487,16 +488,16 @@ fn fronts_are_written(rt: HostRuntime) -> Result<(), Fail> {
         let mut files = front_files(alloc, SliceSource::new(LOOPS_APART));
         let (mut out, mut err) = (MemorySink::<500>::new(1, 1000), errors());
         let done = run_front(alloc, front_of(batches), &mut files, &mut out, &mut err);
-        assert_eq!(rt; done, 0);
-        assert_eq!(rt; out.bytes(), lines.as_bytes());
-        assert_eq!(rt; files.tx.into_bytes().len(), sent);
-        assert_eq!(rt; files.why.into_bytes().is_empty(), is_all);
+        same!(rt; done, 0);
+        same!(rt; out.bytes(), lines.as_bytes());
+        same!(rt; files.tx.into_bytes().len(), sent);
+        same!(rt; files.why.into_bytes().is_empty(), is_all);
         let rest = files.rest.into_bytes();
         let mut left = SliceSource::new(rest.as_slice());
         let mut told = MemorySink::<100>::new(1, 1000);
         let done = run_input(alloc, &mut left, &mut told, &mut err);
-        assert_eq!(rt; done, status);
-        assert_eq!(rt; told.bytes(), second.as_bytes());
+        same!(rt; done, status);
+        same!(rt; told.bytes(), second.as_bytes());
     }
     Ok(())
 }
@@ -507,11 +508,11 @@ fn a_front_without_room_is_refused(rt: HostRuntime) -> Result<(), Fail> {
     let mut files = front_files(alloc, SliceSource::new(LOOPS_APART));
     let (mut out, mut err) = (MemorySink::<500>::new(1, 1000), errors());
     let done = run_front(alloc, front_of(0), &mut files, &mut out, &mut err);
-    assert_eq!(rt; done, 1);
+    same!(rt; done, 1);
     let due = b"pocsag: page 1 needs 1 batches\n".as_slice();
-    assert_eq!(rt; err.stream().bytes(), due);
-    assert_eq!(rt; files.tx.into_bytes().len(), 0);
-    assert_eq!(rt; files.rest.into_bytes().len(), 0);
+    same!(rt; err.stream().bytes(), due);
+    same!(rt; files.tx.into_bytes().len(), 0);
+    same!(rt; files.rest.into_bytes().len(), 0);
     Ok(())
 }
 
@@ -529,15 +530,15 @@ fn later_pages_wait(rt: HostRuntime) -> Result<(), Fail> {
     };
     let (mut out, mut err) = (MemorySink::<500>::new(1, 1000), errors());
     let done = run_front(alloc, asked, &mut files, &mut out, &mut err);
-    assert_eq!(rt; done, 0);
-    assert_eq!(rt; out.bytes(), b"pages 2\nbatches 1\nleft 1\n".as_slice());
+    same!(rt; done, 0);
+    same!(rt; out.bytes(), b"pages 2\nbatches 1\nleft 1\n".as_slice());
     let rest = b"address,kind,message\n8,tone1,\n".as_slice();
-    assert_eq!(rt; files.rest.into_bytes().as_slice(), rest);
+    same!(rt; files.rest.into_bytes().as_slice(), rest);
     let again = CentreFault::Round(RoundFault::Record(2, RecordFault::DuplicateAddress));
-    assert_eq!(rt; expected_file(alloc, true, QUEUE, 3), Ok(()));
-    assert_eq!(rt; expected_file(alloc, false, QUEUE, 3), Err(again));
+    same!(rt; expected_file(alloc, true, QUEUE, 3), Ok(()));
+    same!(rt; expected_file(alloc, false, QUEUE, 3), Err(again));
     let first = first_file(alloc, true, QUEUE, 1).expect(&rt, "a first page");
-    assert_eq!(rt; first.as_slice(), LONE_TONE);
+    same!(rt; first.as_slice(), LONE_TONE);
     Ok(())
 }
 
@@ -547,14 +548,14 @@ fn oversized_pages_are_set_aside(rt: HostRuntime) -> Result<(), Fail> {
     let alloc = rt.alloc();
     let file = b"address,kind,message\n15,numeric,1234567890\n8,tone0,\n".as_slice();
     let parted = part_file(alloc, front_of(1), file).expect(&rt, "a page that fits");
-    assert_eq!(rt; parted.count, 1);
-    assert_eq!(rt; parted.planned.as_slice(), LONE_TONE);
+    same!(rt; parted.count, 1);
+    same!(rt; parted.planned.as_slice(), LONE_TONE);
     let aside = b"address,kind,message\n15,numeric,1234567890\n".as_slice();
-    assert_eq!(rt; parted.aside.as_slice(), aside);
+    same!(rt; parted.aside.as_slice(), aside);
     for (batches, asked) in [(0, front_of(0)), (2, front_of(2))] {
         let parted = part_file(alloc, asked, file).expect(&rt, "no page is set aside");
-        assert_eq!(rt; parted.count, 0, "{batches} batches");
-        assert_eq!(rt; parted.planned.as_slice(), file);
+        same!(rt; parted.count, 0, batches);
+        same!(rt; parted.planned.as_slice(), file);
     }
     Ok(())
 }
@@ -567,8 +568,8 @@ fn page_files_are_refused(rt: HostRuntime) -> Result<(), Fail> {
     let unclosed_quote = CentreFault::Quotes(QuoteFault::Unclosed { number: 1, line: 2 });
     let bad_field = RecordFault::Field(FieldFault::BadCharacter(2));
     let bad_character = CentreFault::Round(RoundFault::Record(1, bad_field));
-    assert_eq!(rt; strict_file(LONE_TONE), Ok(()));
-    assert_eq!(rt; strict_file(unclosed), Err(unclosed_quote));
+    same!(rt; strict_file(LONE_TONE), Ok(()));
+    same!(rt; strict_file(unclosed), Err(unclosed_quote));
     let cases = [
         (LONE_TONE, 1, Ok(())),
         (LONE_TONE, 3, Err(CentreFault::Unexpected(1, 3))),
@@ -576,7 +577,7 @@ fn page_files_are_refused(rt: HostRuntime) -> Result<(), Fail> {
         (BAD_FILE, 1, Err(bad_character)),
     ];
     for (file, expected, due) in cases {
-        assert_eq!(rt; expected_file(alloc, false, file, expected), due);
+        same!(rt; expected_file(alloc, false, file, expected), due);
     }
     Ok(())
 }

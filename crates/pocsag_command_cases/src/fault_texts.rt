@@ -1,5 +1,6 @@
 //! The text of every fault of a command, and the exit status behind it: 1 for what was refused, 3 for a device or memory.
 
+use crate::same;
 use pocsag_capture::CaptureFault;
 use pocsag_centre::CentreFault;
 use pocsag_decode::DecodeFault;
@@ -21,7 +22,7 @@ use std::process::Abort;
 fn expect_texts<D: Display>(rt: &impl Abort, alloc: Global, rows: &[(D, &str)]) {
     for (fault, text) in rows {
         let told = format!(in alloc; "{fault}").expect(rt, "memory");
-        assert_eq!(rt; told.as_str(), *text);
+        same!(rt; told.as_str(), *text);
     }
 }
 
@@ -31,7 +32,7 @@ fn expect_lines(rt: &impl Abort, alloc: Global, rows: &[(Refusal, &str)]) {
         let line = format!(in alloc; "refused: {text}\n").expect(rt, "memory");
         let mut told = MemorySink::<200>::new(200, u64::MAX);
         assert!(rt; refuse(*why, &mut told).is_ok());
-        assert_eq!(rt; told.bytes(), line.as_bytes());
+        same!(rt; told.bytes(), line.as_bytes());
     }
 }
 
@@ -45,7 +46,7 @@ fn expect_failures<F: Failure>(
     for (status, rows) in [(1, refused), (3, failed)] {
         expect_texts(rt, alloc, rows);
         for (fault, _) in rows {
-            assert_eq!(rt; fault.status(), status);
+            same!(rt; fault.status(), status);
         }
     }
 }

@@ -6,6 +6,7 @@ ghost use Rattle.pocsag_words.specs.MemorySink.{taken_of};
 ghost use Rattle.pocsag_open.specs.Plans.{failed_plan, no_names, no_plans, placed_plan};
 
 use crate::crash_disk::CrashDisk;
+use crate::same;
 use pocsag_core_cases::given::{Records, round_of_file};
 use pocsag_journal::{Journal, JournalFault, Replayed, first_line, read_journal, text_of_pages};
 use pocsag_open::{KeptRound, KeptStreams, OpenFault, OutputStore, PlanSettings, open_kept};
@@ -184,15 +185,15 @@ fn edits_are_kept_before_they_are_answered(rt: HostRuntime) -> Result<(), Fail> 
         let due = due_of(alloc, *takes, *compacts)?;
         let disk = CrashDisk::of(alloc, b"", *takes, compacts.saturating_add(1))?;
         let left = keep(alloc, disk, lines.as_slice());
-        assert_eq!(rt; is_ended(&left), due.is_all);
-        assert_eq!(rt; left.answers.bytes(), due.answers.as_slice());
+        same!(rt; is_ended(&left), due.is_all);
+        same!(rt; left.answers.bytes(), due.answers.as_slice());
         let safe = left.disk.left(0)?;
-        assert_eq!(rt; safe.as_slice(), due.safe.as_slice());
-        assert_eq!(rt; left.disk.syncs, due.syncs);
+        same!(rt; safe.as_slice(), due.safe.as_slice());
+        same!(rt; left.disk.syncs, due.syncs);
     }
     let none = keep(alloc, CrashDisk::of(alloc, b"", 1000, 0)?, lines.as_slice());
-    assert_eq!(rt; is_ended(&none), false);
-    assert_eq!(rt; none.answers.bytes().len(), 0);
+    same!(rt; is_ended(&none), false);
+    same!(rt; none.answers.bytes().len(), 0);
     Ok(())
 }
 
@@ -233,9 +234,9 @@ fn journals_are_read(rt: HostRuntime) -> Result<(), Fail> {
         let mut bytes = first_line().to_vec(alloc)?;
         bytes.extend_from_slice(lines.as_bytes())?;
         let mut source = MemorySource::new(bytes.as_slice(), 7, u64::MAX);
-        assert_eq!(rt; told(read_journal(alloc, &mut source)), *due);
+        same!(rt; told(read_journal(alloc, &mut source)), *due);
         let mut cut = MemorySource::new(bytes.as_slice(), 7, 9);
-        assert_eq!(rt;
+        same!(rt;
             told(read_journal(alloc, &mut cut)),
             Err(JournalFault::ReadFault)
         );
@@ -253,7 +254,7 @@ fn journals_are_read(rt: HostRuntime) -> Result<(), Fail> {
     ];
     for (bytes, due) in others {
         let mut source = MemorySource::new(bytes, 7, u64::MAX);
-        assert_eq!(rt; told(read_journal(alloc, &mut source)), due);
+        same!(rt; told(read_journal(alloc, &mut source)), due);
     }
     Ok(())
 }
@@ -285,12 +286,12 @@ fn journals_are_written_anew(rt: HostRuntime) -> Result<(), Fail> {
         let book = Book::of_round(alloc, &round_of_file(alloc, records)?)?;
         match text_of_pages(alloc, book.pages()) {
             Ok(text) => {
-                assert_eq!(rt; due.is_ok(), true);
+                same!(rt; due.is_ok(), true);
                 let (front, lines) = text.as_slice().split_at(first_line().len());
-                assert_eq!(rt; front, first_line());
-                assert_eq!(rt; lines, due.unwrap_or("").as_bytes());
+                same!(rt; front, first_line());
+                same!(rt; lines, due.unwrap_or("").as_bytes());
             }
-            Err(fault) => assert_eq!(rt; Some(fault), due.err()),
+            Err(fault) => same!(rt; Some(fault), due.err()),
         }
     }
     Ok(())
@@ -314,12 +315,12 @@ fn long_journals_are_written_anew(rt: HostRuntime) -> Result<(), Fail> {
     for (compacts, done, syncs, bytes, read) in cases {
         let disk = CrashDisk::of(alloc, b"", usize::MAX, compacts)?;
         let left = keep(alloc, disk, lines.as_slice());
-        assert_eq!(rt; is_ended(&left), done);
-        assert_eq!(rt; left.disk.syncs, syncs);
+        same!(rt; is_ended(&left), done);
+        same!(rt; left.disk.syncs, syncs);
         let held = left.disk.left(usize::MAX)?;
-        assert_eq!(rt; held.len(), bytes);
+        same!(rt; held.len(), bytes);
         let mut source = MemorySource::new(held.as_slice(), 4096, u64::MAX);
-        assert_eq!(rt; told(read_journal(alloc, &mut source)), Ok(read));
+        same!(rt; told(read_journal(alloc, &mut source)), Ok(read));
     }
     Ok(())
 }
@@ -409,7 +410,7 @@ fn cut_last<R: Abort>(
             CrashDisk::of(alloc, b"", takes, compacts)?,
             lines.as_bytes(),
         );
-        assert_eq!(rt; is_ended(&cut), false);
+        same!(rt; is_ended(&cut), false);
         for more in (0..line.len().saturating_add(SECTOR)).step_by(SECTOR) {
             let bytes = cut.disk.left(more)?;
             let disk = CrashDisk::of(alloc, bytes.as_slice(), usize::MAX, u64::MAX)?;

@@ -6,6 +6,8 @@
 mod capture_tests;
 #[cfg(test)]
 mod centre_tests;
+#[cfg(test)]
+pub mod comparison;
 mod crash_disk;
 #[cfg(test)]
 mod fault_texts;

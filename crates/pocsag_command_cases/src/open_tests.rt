@@ -4,6 +4,7 @@ ghost use Rattle.std.specs.Prelude.{◌≡◌, [], ◌∷◌, ◌++◌, None, If
 ghost use Rattle.pocsag_words.specs.MemorySink.{taken_of};
 ghost use Rattle.pocsag_open.specs.Plans.{failed_plan, no_names, no_plans, placed_plan};
 
+use crate::same;
 use pocsag_open::{LINE_LIMIT, OutputStore, PlanSettings, run_open, run_open_pages};
 use pocsag_plan::OnLimit;
 use pocsag_shell::{Failure, FileFault, Outputs, print_fault};
@@ -126,9 +127,9 @@ fn assert_answers<R: Abort>(
         None => status_after(run_open(alloc, settings, &mut input, &mut out), &mut err),
     };
     let (ended, answers, told) = due;
-    assert_eq!(rt; out.bytes(), answers);
-    assert_eq!(rt; err.bytes(), told);
-    assert_eq!(rt; status, ended);
+    same!(rt; out.bytes(), answers);
+    same!(rt; err.bytes(), told);
+    same!(rt; status, ended);
     Ok(())
 }
 

@@ -1,5 +1,6 @@
 //! The commands for transmissions and `explain`, over memory: what each reports, and its exit status.
 
+use crate::same;
 use pocsag_centre::{ExplainFiles, run_explain};
 use pocsag_decode::Repaired;
 use pocsag_findings::Format;
@@ -230,9 +231,9 @@ fn transmissions_are_read(rt: HostRuntime) -> Result<(), Fail> {
     ];
     for (command, faults, status, out, err) in cases {
         let told = run(&rt, rt.alloc(), command, faults)?;
-        assert_eq!(rt; told.status, status);
-        assert_eq!(rt; told.out.bytes(), out.as_bytes());
-        assert_eq!(rt; told.line.get(..told.length), Some(err.as_bytes()));
+        same!(rt; told.status, status);
+        same!(rt; told.out.bytes(), out.as_bytes());
+        same!(rt; told.line.get(..told.length), Some(err.as_bytes()));
     }
     Ok(())
 }
@@ -249,8 +250,8 @@ fn repairs_are_counted(rt: HostRuntime) -> Result<(), Fail> {
         let (form, repairing, mut err) = (ListForm::Listing, Repairing::new(true), errors());
         let mut decoding = Decoding { form, repairing };
         let status = run_decode(rt.alloc(), &mut decoding, &mut tx, &mut out, &mut err);
-        assert_eq!(rt; status, 0);
-        assert_eq!(rt; decoding.repairing.corrected, Repaired { words, bits });
+        same!(rt; status, 0);
+        same!(rt; decoding.repairing.corrected, Repaired { words, bits });
     }
     Ok(())
 }

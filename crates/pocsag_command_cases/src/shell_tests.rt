@@ -1,5 +1,6 @@
 //! What the commands share, over memory: what names a file, and how a line is reported.
 
+use crate::same;
 use pocsag_shell::{FileFault, NamedFile, Names, Role, equal_paths, print, print_fault};
 use pocsag_words::MemorySink;
 use std::test::Fail;
@@ -25,7 +26,7 @@ fn files_are_named(rt: HostRuntime) -> Result<(), Fail> {
     for (role, due) in NAMED {
         let place: NamedFile<'_> = names.place(role);
         let told = format!(in rt.alloc(); "{place}").expect(&rt, "memory");
-        assert_eq!(rt; told.as_str(), due);
+        same!(rt; told.as_str(), due);
     }
     Ok(())
 }
@@ -44,8 +45,8 @@ fn long_texts_are_refused(rt: HostRuntime) -> Result<(), Fail> {
             text.push('a')?;
         }
         let mut out = MemorySink::<300>::new(7, 1000);
-        assert_eq!(rt; print(&mut out, text.as_str()), done);
-        assert_eq!(rt; out.bytes().len(), taken);
+        same!(rt; print(&mut out, text.as_str()), done);
+        same!(rt; out.bytes().len(), taken);
     }
     Ok(())
 }
@@ -61,8 +62,8 @@ fn faults_are_told(rt: HostRuntime) -> Result<(), Fail> {
     ];
     for (fault, fails_at, status, due) in cases {
         let mut err = MemorySink::<100>::new(7, fails_at);
-        assert_eq!(rt; print_fault(&mut err, fault), status);
-        assert_eq!(rt; err.bytes(), due.as_bytes());
+        same!(rt; print_fault(&mut err, fault), status);
+        same!(rt; err.bytes(), due.as_bytes());
     }
     Ok(())
 }
@@ -78,6 +79,6 @@ fn equal_paths_are_found(rt: HostRuntime) {
         (&["a", "b", "b"], true),
     ];
     for (paths, equal) in cases {
-        assert_eq!(rt; equal_paths(paths), equal);
+        same!(rt; equal_paths(paths), equal);
     }
 }

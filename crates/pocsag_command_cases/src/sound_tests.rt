@@ -1,5 +1,6 @@
 //! `wav` over memory: the header and samples of a lone tone, worked out by hand, and its faults.
 
+use crate::same;
 use pocsag_shell::{ErrorStream, Failure};
 use pocsag_sound::{Keying, SoundFault, run_wav};
 use pocsag_words::{MemorySink, MemorySource};
@@ -63,9 +64,9 @@ fn a_lone_tone_is_keyed(rt: HostRuntime) -> Result<(), Fail> {
         let (fault, out) = keyed(&rt, rt.alloc(), is_inverted, 4000);
         assert!(rt; fault.is_none());
         let file = out.bytes();
-        assert_eq!(rt; file.len(), 3372);
-        assert_eq!(rt; file.get(..44), Some(&HEADER[..]));
-        assert_eq!(rt; file.get(1196..1212), Some(&first[..]));
+        same!(rt; file.len(), 3372);
+        same!(rt; file.get(..44), Some(&HEADER[..]));
+        same!(rt; file.get(1196..1212), Some(&first[..]));
         assert!(rt;
             file.get(2284..)
                 .ok_or("silence")?
@@ -82,8 +83,8 @@ fn a_failed_write_leaves_a_front(rt: HostRuntime) -> Result<(), Fail> {
     for most in [0, 43, 44, 2000, 3371] {
         let (fault, out) = keyed(&rt, rt.alloc(), false, most);
         let fault = fault.ok_or("a fault")?;
-        assert_eq!(rt; fault.status(), 3);
-        assert_eq!(rt;
+        same!(rt; fault.status(), 3);
+        same!(rt;
             out.bytes(),
             whole.bytes().get(..most as usize).ok_or("a front")?
         );
