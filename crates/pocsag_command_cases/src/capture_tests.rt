@@ -86,16 +86,21 @@ fn a_late_tone_is_captured(rt: HostRuntime) {
     let line =
         "{\"address\":8,\"function\":0,\"kind\":\"tone0\",\"message\":\"\",\"state\":\"whole\",\"transmission\":1,\"inverted\":true,\"bit\":1}\n";
     expect_listing(&rt, alloc, &capture, (Some(8), true), line);
+}
+
+#[test]
+fn a_captured_tone_is_shown(rt: HostRuntime) {
+    let capture = late_tone();
     let mut err = errors();
     for (nth, status) in [(1, 0), (2, 1)] {
         let mut grid = MemorySink::<4000>::new(1000, 4000);
         let mut viewing = Viewing {
             view: View::Grid(Rows::all()),
             nth,
-            heard: Vec::new(alloc),
+            heard: Vec::new(rt.alloc()),
         };
         let tx = &mut SliceSource::new(&capture);
-        let told = run_show_capture(alloc, &mut viewing, tx, &mut grid, &mut err);
+        let told = run_show_capture(rt.alloc(), &mut viewing, tx, &mut grid, &mut err);
         same!(rt; told, status);
     }
     let is_none = matches!(

@@ -147,66 +147,83 @@ const LONE_PLAN: PlanCase = PlanCase {
     bound: Some(1),
 };
 
-// The worked example at a limit, answered in any case.
-const fn apart_plan(limit: u32, out: &'static str, bound: u8) -> PlanCase {
-    PlanCase {
-        file: LOOPS_APART,
-        search: Search {
-            limit,
-            ..OPEN_ALWAYS
-        },
-        faults: SOUND,
-        status: 0,
-        out,
-        err: "",
-        sent: 72 + 3 * 68,
-        bound: Some(bound),
-    }
-}
+// The worked example, answered in any case.
+const APART_PLAN: PlanCase = PlanCase {
+    file: LOOPS_APART,
+    sent: 72 + 3 * 68,
+    ..LONE_PLAN
+};
 
-const fn refused_plan(
-    search: Search,
-    faults: Faults,
-    status: u8,
-    err: &'static str,
-    sent: usize,
-) -> PlanCase {
+const REFUSED_PLAN: PlanCase = PlanCase {
+    search: TO_NINE,
+    status: 3,
+    out: "",
+    err: NO_WRITE,
+    bound: None,
+    ..LONE_PLAN
+};
+
+const NO_PAGE: Faults = Faults { pages: 10, ..SOUND };
+
+const CUT_SENDING: Faults = Faults { tx: 100, ..SOUND };
+
+const CUT_CERTIFICATE: Faults = Faults { cert: 5, ..SOUND };
+
+const TO_NONE: Search = Search { limit: 0, ..OPEN };
+
+const TO_NINE: Search = Search { limit: 9, ..OPEN };
+
+const NO_READ: &str = "pocsag: cannot read or open a file\n";
+
+const NO_WRITE: &str = "pocsag: cannot write\n";
+
+const BAD_LIMIT: &str = "pocsag: the limit must be 1 to 1000000\n";
+
+const PLANS: &[PlanCase] = &[
+    LONE_PLAN,
     PlanCase {
-        file: LONE_TONE,
-        search,
-        faults,
-        status,
-        out: "",
-        err,
-        sent,
-        bound: None,
-    }
-}
+        search: CLOSED,
+        ..LONE_PLAN
+    },
+    PlanCase {
+        search: TO_ONE,
+        out: "pages 2\nbatches 3\nat least 2 batches\n",
+        bound: Some(2),
+        ..APART_PLAN
+    },
+    PlanCase {
+        search: TO_THREE,
+        out: "pages 2\nbatches 3\n",
+        bound: Some(3),
+        ..APART_PLAN
+    },
+    PlanCase {
+        search: TO_NONE,
+        status: 1,
+        err: BAD_LIMIT,
+        sent: 0,
+        ..REFUSED_PLAN
+    },
+    PlanCase {
+        faults: NO_PAGE,
+        err: NO_READ,
+        sent: 0,
+        ..REFUSED_PLAN
+    },
+    PlanCase {
+        faults: CUT_SENDING,
+        sent: 100,
+        ..REFUSED_PLAN
+    },
+    PlanCase {
+        faults: CUT_CERTIFICATE,
+        ..REFUSED_PLAN
+    },
+];
 
 #[test]
-fn plans_are_told(rt: HostRuntime) -> Result<(), Fail> {
-    let no_page = Faults { pages: 10, ..SOUND };
-    let cut_sending = Faults { tx: 100, ..SOUND };
-    let cut_certificate = Faults { cert: 5, ..SOUND };
-    let to_none = Search { limit: 0, ..OPEN };
-    let to_nine = Search { limit: 9, ..OPEN };
-    let bad_limit = "pocsag: the limit must be 1 to 1000000\n";
-    let no_read = "pocsag: cannot read or open a file\n";
-    let no_write = "pocsag: cannot write\n";
-    let cases = [
-        LONE_PLAN,
-        PlanCase {
-            search: CLOSED,
-            ..LONE_PLAN
-        },
-        apart_plan(1, "pages 2\nbatches 3\nat least 2 batches\n", 2),
-        apart_plan(3, "pages 2\nbatches 3\n", 3),
-        refused_plan(to_none, SOUND, 1, bad_limit, 0),
-        refused_plan(to_nine, no_page, 3, no_read, 0),
-        refused_plan(to_nine, cut_sending, 3, no_write, 100),
-        refused_plan(to_nine, cut_certificate, 3, no_write, 140),
-    ];
-    for case in cases {
+fn plans_are_told(rt: HostRuntime) {
+    for case in PLANS {
         let planned = plan(rt.alloc(), case.search, case.file, case.faults);
         same!(rt; planned.told.status, case.status);
         same!(rt; planned.told.out.bytes(), case.out.as_bytes());
@@ -214,25 +231,15 @@ fn plans_are_told(rt: HostRuntime) -> Result<(), Fail> {
         same!(rt; planned.tx.bytes().len(), case.sent);
         same!(rt; planned.cert.bytes().get(8).copied(), case.bound);
     }
-    Ok(())
 }
 
-// A command that reads files, and what its words ask for.
+// A command that reads files, and what its words ask for: of a report the rate, the search, and whether it lists the frames.
 #[derive(Clone, Copy)]
 enum Command {
     Input,
     Check,
     Verify(Search),
-    Report(ReportAsked),
-}
-
-// A report, with the frames or without.
-const fn report(rate: u32, search: Search, frames: bool) -> Command {
-    Command::Report(ReportAsked {
-        rate,
-        search,
-        frames,
-    })
+    Report(u32, Search, bool),
 }
 
 // Runs a command on the page file and on what was planned.
@@ -249,7 +256,14 @@ fn run(alloc: Global, command: Command, file: &[u8], planned: &Planned) -> Print
             let mut files = PlanFiles { pages, tx, cert };
             run_verify(alloc, search, &mut files, &mut out, &mut err)
         }
-        Command::Report(asked) => run_report(alloc, asked, &mut pages, &mut out, &mut err),
+        Command::Report(rate, search, frames) => {
+            let asked = ReportAsked {
+                rate,
+                search,
+                frames,
+            };
+            run_report(alloc, asked, &mut pages, &mut out, &mut err)
+        }
     };
     Printed { status, out, err }
 }
@@ -314,129 +328,214 @@ fn expect_read(
     }
 }
 
+// A page file and how it is planned; the page file that the commands are given, and what they report.
+type PlannedCase = (&'static [u8], Search, &'static [u8], &'static [ReadCase]);
+
+// A certificate for one end is none for the other.
+const TONES_READ: &[PlannedCase] = &[
+    (
+        LONE_TONE,
+        OPEN,
+        LONE_TONE,
+        &[
+            (Command::Input, (0, "pages 1\nbatches 1\n", "")),
+            (Command::Check, (0, "at least 1 batches\n", "")),
+            (Command::Report(1200, CLOSED, false), (0, LONE_REPORT, "")),
+            (Command::Report(1201, OPEN, false), (1, "", BAD_RATE)),
+            (Command::Report(1200, OPEN, true), (0, LONE_FRAMES, "")),
+            (Command::Report(1201, OPEN, true), (1, "", BAD_RATE)),
+            (Command::Verify(OPEN), (0, VERIFIED, "")),
+            (Command::Verify(CLOSED_ALWAYS), (1, "", NOT_THE_BOUND)),
+        ],
+    ),
+    (
+        LONE_TONE,
+        CLOSED,
+        LONE_TONE,
+        &[
+            (Command::Check, (0, CLOSED_BATCH, "")),
+            (Command::Verify(CLOSED), (0, VERIFIED, "")),
+            (Command::Verify(OPEN), (1, "", NOT_THE_BOUND)),
+            (Command::Verify(IDLE_LAST), (1, "", NOT_THE_BOUND)),
+        ],
+    ),
+    (
+        LONE_TONE,
+        IDLE_LAST,
+        LONE_TONE,
+        &[(Command::Check, (0, IDLE_BATCH, ""))],
+    ),
+    (
+        LONE_TONE,
+        OPEN,
+        BAD_FILE,
+        &[(Command::Input, (1, "", BAD_CHARACTER))],
+    ),
+    (
+        LONE_TONE,
+        OPEN,
+        OTHER_TONE,
+        &[(Command::Verify(OPEN), (1, "", NOT_THE_PAGES))],
+    ),
+];
+
+// With `--always` alone may the certificate be for one batch less than those that were sent. A lone tone stands in one batch, so
+// three are not shown.
+const ROUNDS_READ: &[PlannedCase] = &[
+    (
+        ONE_FULL_BATCH,
+        OPEN,
+        ONE_FULL_BATCH,
+        &[(Command::Verify(CLOSED), (1, "", NOT_THE_END))],
+    ),
+    (
+        SIXTEEN_TONES,
+        IDLE_LAST,
+        SIXTEEN_TONES,
+        &[(Command::Verify(IDLE_LAST), (0, VERIFIED, ""))],
+    ),
+    (
+        SIXTEEN_TONES,
+        CLOSED,
+        SIXTEEN_TONES,
+        &[(Command::Verify(IDLE_LAST), (1, "", NOT_THE_END))],
+    ),
+    (
+        LOOPS_APART,
+        TO_ONE,
+        LOOPS_APART,
+        &[
+            (
+                Command::Report(1200, TO_ONE, false),
+                (0, APART_REPORT_BELOW, ""),
+            ),
+            (Command::Verify(OPEN), (1, "", NOT_THE_BOUND)),
+            (Command::Verify(OPEN_ALWAYS), (0, VERIFIED, "")),
+        ],
+    ),
+    (
+        LOOPS_APART,
+        TO_THREE,
+        LOOPS_APART,
+        &[
+            (
+                Command::Report(1200, TO_THREE, false),
+                (0, APART_REPORT, ""),
+            ),
+            (Command::Verify(OPEN), (0, VERIFIED, "")),
+            (Command::Verify(OPEN_ALWAYS), (0, VERIFIED, "")),
+        ],
+    ),
+    (
+        LOOPS_APART,
+        TO_THREE,
+        LONE_TONE,
+        &[(Command::Check, (1, "not shown\n", ""))],
+    ),
+];
+
 #[test]
 fn a_planned_tone_is_read(rt: HostRuntime) {
-    let of_open = [
-        (Command::Input, (0, "pages 1\nbatches 1\n", "")),
-        (Command::Check, (0, "at least 1 batches\n", "")),
-        (report(1200, CLOSED, false), (0, LONE_REPORT, "")),
-        (report(1201, OPEN, false), (1, "", BAD_RATE)),
-        (report(1200, OPEN, true), (0, LONE_FRAMES, "")),
-        (report(1201, OPEN, true), (1, "", BAD_RATE)),
-        (Command::Verify(OPEN), (0, VERIFIED, "")),
-        (Command::Verify(CLOSED_ALWAYS), (1, "", NOT_THE_BOUND)),
-    ];
-    // A certificate for one end is none for the other.
-    let of_closed = [
-        (Command::Check, (0, CLOSED_BATCH, "")),
-        (Command::Verify(CLOSED), (0, VERIFIED, "")),
-        (Command::Verify(OPEN), (1, "", NOT_THE_BOUND)),
-        (Command::Verify(IDLE_LAST), (1, "", NOT_THE_BOUND)),
-    ];
-    let of_idle = [(Command::Check, (0, IDLE_BATCH, ""))];
-    let of_bad_file = [(Command::Input, (1, "", BAD_CHARACTER))];
-    let of_other_tone = [(Command::Verify(OPEN), (1, "", NOT_THE_PAGES))];
-    let alloc = rt.alloc();
-    expect_read(&rt, alloc, (LONE_TONE, OPEN), LONE_TONE, &of_open);
-    expect_read(&rt, alloc, (LONE_TONE, CLOSED), LONE_TONE, &of_closed);
-    expect_read(&rt, alloc, (LONE_TONE, IDLE_LAST), LONE_TONE, &of_idle);
-    expect_read(&rt, alloc, (LONE_TONE, OPEN), BAD_FILE, &of_bad_file);
-    expect_read(&rt, alloc, (LONE_TONE, OPEN), OTHER_TONE, &of_other_tone);
+    for (planned, search, file, cases) in TONES_READ {
+        expect_read(&rt, rt.alloc(), (*planned, *search), file, cases);
+    }
 }
 
 #[test]
 fn what_was_planned_is_read(rt: HostRuntime) {
-    let not_the_end = [(Command::Verify(CLOSED), (1, "", NOT_THE_END))];
-    let of_idle = [(Command::Verify(IDLE_LAST), (0, VERIFIED, ""))];
-    let of_closed = [(Command::Verify(IDLE_LAST), (1, "", NOT_THE_END))];
-    // With `--always` alone may the certificate be for one batch less than those that were sent.
-    let to_one = [
-        (report(1200, TO_ONE, false), (0, APART_REPORT_BELOW, "")),
-        (Command::Verify(OPEN), (1, "", NOT_THE_BOUND)),
-        (Command::Verify(OPEN_ALWAYS), (0, VERIFIED, "")),
-    ];
-    let to_three = [
-        (report(1200, TO_THREE, false), (0, APART_REPORT, "")),
-        (Command::Verify(OPEN), (0, VERIFIED, "")),
-        (Command::Verify(OPEN_ALWAYS), (0, VERIFIED, "")),
-    ];
-    // A lone tone stands in one batch, so three are not shown.
-    let of_lone_tone = [(Command::Check, (1, "not shown\n", ""))];
-    let alloc = rt.alloc();
-    for (file, search, read, cases) in [
-        (ONE_FULL_BATCH, OPEN, ONE_FULL_BATCH, not_the_end.as_slice()),
-        (SIXTEEN_TONES, IDLE_LAST, SIXTEEN_TONES, &of_idle),
-        (SIXTEEN_TONES, CLOSED, SIXTEEN_TONES, &of_closed),
-        (LOOPS_APART, TO_ONE, LOOPS_APART, &to_one),
-        (LOOPS_APART, TO_THREE, LOOPS_APART, &to_three),
-        (LOOPS_APART, TO_THREE, LONE_TONE, &of_lone_tone),
-    ] {
-        expect_read(&rt, alloc, (file, search), read, cases);
+    for (planned, search, file, cases) in ROUNDS_READ {
+        expect_read(&rt, rt.alloc(), (*planned, *search), file, cases);
     }
 }
 
 // A round, how it is planned, how many bytes its transmission has, and what is reported.
 type LentCase = (&'static [u8], Search, usize, &'static str);
 
+const LENT: &[LentCase] = &[
+    (LONE_TONE, OPEN, 72 + 68, "pages 1\nbatches 1\n"),
+    (SIXTEEN_TONES, CLOSED, 72 + 68, "pages 16\nbatches 1\n"),
+    // An idle codeword behind sixteen others needs a second batch.
+    (
+        SIXTEEN_TONES,
+        IDLE_LAST,
+        72 + 2 * 68,
+        "pages 16\nbatches 2\n",
+    ),
+    (
+        LOOPS_APART,
+        TO_ONE,
+        72 + 3 * 68,
+        "pages 2\nbatches 3\nat least 2 batches\n",
+    ),
+];
+
+// The transmission and the certificate of a file that is lent, whose plan is reported so.
+fn lent_plan(
+    rt: &impl Abort,
+    alloc: Global,
+    file: &[u8],
+    search: Search,
+    lines: &[u8],
+) -> (Vec<u8>, Vec<u8>) {
+    let mut files = PlanFiles {
+        pages: SliceSource::new(file),
+        tx: GrowingSink::new(alloc),
+        cert: GrowingSink::new(alloc),
+    };
+    let (mut out, mut err) = (MemorySink::<500>::new(1, 1000), errors());
+    same!(rt; run_plan(alloc, search, &mut files, &mut out, &mut err), 0);
+    same!(rt; err.fault(), None);
+    same!(rt; out.bytes(), lines);
+    let left = files.pages.lent().map(|rest| rest.len());
+    same!(rt; left, Some(file.len()));
+    (files.tx.into_bytes(), files.cert.into_bytes())
+}
+
 // A source that lends its bytes is judged where it stands, and the outputs are those of one that is read piece by piece.
 #[test]
-fn lent_files_are_planned(rt: HostRuntime) -> Result<(), Fail> {
-    let alloc = rt.alloc();
-    let cases: [LentCase; 4] = [
-        (LONE_TONE, OPEN, 72 + 68, "pages 1\nbatches 1\n"),
-        (SIXTEEN_TONES, CLOSED, 72 + 68, "pages 16\nbatches 1\n"),
-        // An idle codeword behind sixteen others needs a second batch.
-        (
-            SIXTEEN_TONES,
-            IDLE_LAST,
-            72 + 2 * 68,
-            "pages 16\nbatches 2\n",
-        ),
-        (
-            LOOPS_APART,
-            TO_ONE,
-            72 + 3 * 68,
-            "pages 2\nbatches 3\nat least 2 batches\n",
-        ),
-    ];
-    for (file, search, sent, lines) in cases {
-        let read = plan(alloc, search, file, SOUND);
-        let mut files = PlanFiles {
-            pages: SliceSource::new(file),
-            tx: GrowingSink::new(alloc),
-            cert: GrowingSink::new(alloc),
-        };
-        let (mut out, mut err) = (MemorySink::<500>::new(1, 1000), errors());
-        same!(rt; run_plan(alloc, search, &mut files, &mut out, &mut err), 0);
-        same!(rt; err.fault(), None);
-        same!(rt; out.bytes(), lines.as_bytes());
-        same!(rt; files.pages.lent().map(|rest| rest.len()), Some(file.len()));
-        let (tx, cert) = (files.tx.into_bytes(), files.cert.into_bytes());
-        same!(rt; tx.len(), sent);
+fn lent_files_are_planned(rt: HostRuntime) {
+    for (file, search, sent, lines) in LENT {
+        let (tx, cert) = lent_plan(&rt, rt.alloc(), file, *search, lines.as_bytes());
+        let read = plan(rt.alloc(), *search, file, SOUND);
+        same!(rt; tx.len(), *sent);
         same!(rt; tx.as_slice(), read.tx.bytes());
         same!(rt; cert.as_slice(), read.cert.bytes());
+    }
+}
+
+#[test]
+fn lent_plans_are_verified(rt: HostRuntime) {
+    for (file, search, _, lines) in LENT {
+        let (tx, cert) = lent_plan(&rt, rt.alloc(), file, *search, lines.as_bytes());
         let mut back = PlanFiles {
             pages: SliceSource::new(file),
             tx: SliceSource::new(tx.as_slice()),
             cert: SliceSource::new(cert.as_slice()),
         };
-        same!(rt; run_verify(alloc, search, &mut back, &mut out, &mut err), 0);
+        let (mut out, mut err) = (MemorySink::<500>::new(1, 1000), errors());
+        let status = run_verify(rt.alloc(), *search, &mut back, &mut out, &mut err);
+        same!(rt; status, 0);
     }
-    Ok(())
 }
 
 // A file behind whose first bytes the system refused to read on fails there, and is not planned as if it ended there.
 #[test]
 fn cut_files_are_refused(rt: HostRuntime) -> Result<(), Fail> {
     let alloc = rt.alloc();
-    for is_cut in [true, false] {
+    let read_fault = CentreFault::Round(RoundFault::ReadFault);
+    for (is_cut, status, fault) in [(true, 3, Some(read_fault)), (false, 0, None)] {
         let mut pages = Loaded::new(alloc, LONE_TONE.to_vec(alloc)?, is_cut);
         let (mut out, mut err) = (MemorySink::<500>::new(1, 1000), errors());
-        let status = run_input(alloc, &mut pages, &mut out, &mut err);
-        same!(rt; status, if is_cut { 3 } else { 0 });
-        let due = is_cut.then_some(CentreFault::Round(RoundFault::ReadFault));
-        same!(rt; err.fault(), due);
+        let done = run_input(alloc, &mut pages, &mut out, &mut err);
+        same!(rt; done, status);
+        same!(rt; err.fault(), fault);
     }
+    Ok(())
+}
+
+#[test]
+fn cut_files_are_read_to_the_cut(rt: HostRuntime) -> Result<(), Fail> {
+    let alloc = rt.alloc();
     let mut pages = Loaded::new(alloc, LONE_TONE.to_vec(alloc)?, true);
     let mut piece = [0u8; 40];
     same!(rt; pages.read(&mut piece).ok(), Some(30));
@@ -468,38 +567,44 @@ const fn front_of(batches: u32) -> FrontAsked {
     }
 }
 
+const FRONTS: &[FrontCase] = &[
+    (
+        2,
+        "pages 1\nbatches 1\nleft 1\n",
+        72 + 68,
+        false,
+        0,
+        "pages 1\nbatches 2\n",
+    ),
+    (3, "pages 2\nbatches 3\nleft 0\n", 72 + 3 * 68, true, 1, ""),
+];
+
+// The pages that are left.
+fn expect_front(rt: &impl Abort, alloc: Global, case: &FrontCase) -> Vec<u8> {
+    let (batches, lines, sent, is_all, _, _) = *case;
+    let mut files = front_files(alloc, SliceSource::new(LOOPS_APART));
+    let (mut out, mut err) = (MemorySink::<500>::new(1, 1000), errors());
+    let done = run_front(alloc, front_of(batches), &mut files, &mut out, &mut err);
+    same!(rt; done, 0);
+    same!(rt; out.bytes(), lines.as_bytes());
+    same!(rt; files.tx.into_bytes().len(), sent);
+    same!(rt; files.why.into_bytes().is_empty(), is_all);
+    files.rest.into_bytes()
+}
+
 // The first page of `loops-apart` alone takes a batch, and both take three. Sixteen codewords from slot 6 on end in a second
 // batch.
 #[test]
-fn fronts_are_written(rt: HostRuntime) -> Result<(), Fail> {
-    let alloc = rt.alloc();
-    let cases: [FrontCase; 2] = [
-        (
-            2,
-            "pages 1\nbatches 1\nleft 1\n",
-            72 + 68,
-            false,
-            0,
-            "pages 1\nbatches 2\n",
-        ),
-        (3, "pages 2\nbatches 3\nleft 0\n", 72 + 3 * 68, true, 1, ""),
-    ];
-    for (batches, lines, sent, is_all, status, second) in cases {
-        let mut files = front_files(alloc, SliceSource::new(LOOPS_APART));
-        let (mut out, mut err) = (MemorySink::<500>::new(1, 1000), errors());
-        let done = run_front(alloc, front_of(batches), &mut files, &mut out, &mut err);
-        same!(rt; done, 0);
-        same!(rt; out.bytes(), lines.as_bytes());
-        same!(rt; files.tx.into_bytes().len(), sent);
-        same!(rt; files.why.into_bytes().is_empty(), is_all);
-        let rest = files.rest.into_bytes();
+fn fronts_are_written(rt: HostRuntime) {
+    for case in FRONTS {
+        let rest = expect_front(&rt, rt.alloc(), case);
+        let (_, _, _, _, status, second) = *case;
         let mut left = SliceSource::new(rest.as_slice());
-        let mut told = MemorySink::<100>::new(1, 1000);
-        let done = run_input(alloc, &mut left, &mut told, &mut err);
+        let (mut told, mut err) = (MemorySink::<100>::new(1, 1000), errors());
+        let done = run_input(rt.alloc(), &mut left, &mut told, &mut err);
         same!(rt; done, status);
         same!(rt; told.bytes(), second.as_bytes());
     }
-    Ok(())
 }
 
 #[test]

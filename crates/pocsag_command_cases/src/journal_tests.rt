@@ -168,29 +168,32 @@ fn is_ended(left: &Left) -> bool {
     }
 }
 
+// Keeps the lines on a disk that takes so many bytes of lines and serves so many calls of `sync`, and compares what is due.
+fn expect_due(rt: &impl Abort, alloc: Global, takes: usize, compacts: u64) -> Result<(), Fail> {
+    let lines = joined(alloc, LINES)?;
+    let due = due_of(alloc, takes, compacts)?;
+    let disk = CrashDisk::of(alloc, b"", takes, compacts.saturating_add(1))?;
+    let left = keep(alloc, disk, lines.as_slice());
+    same!(rt; is_ended(&left), due.is_all);
+    same!(rt; left.answers.bytes(), due.answers.as_slice());
+    same!(rt; left.disk.left(0)?.as_slice(), due.safe.as_slice());
+    same!(rt; left.disk.syncs, due.syncs);
+    Ok(())
+}
+
 // Each edit that is answered `ok` was written whole and synchronised once, and a refused line never; where the disk
 // takes no more bytes, or serves no further call, the round ends without an answer.
 #[test]
 fn edits_are_kept_before_they_are_answered(rt: HostRuntime) -> Result<(), Fail> {
     let alloc = rt.alloc();
-    let lines = joined(alloc, LINES)?;
-    let mut limits = vec![in alloc; (usize::MAX, u64::MAX); 1]?;
+    expect_due(&rt, alloc, usize::MAX, u64::MAX)?;
     for takes in 0..100 {
-        limits.push((takes, u64::MAX))?;
+        expect_due(&rt, alloc, takes, u64::MAX)?;
     }
     for compacts in 0..7 {
-        limits.push((usize::MAX, compacts))?;
+        expect_due(&rt, alloc, usize::MAX, compacts)?;
     }
-    for (takes, compacts) in limits.as_slice() {
-        let due = due_of(alloc, *takes, *compacts)?;
-        let disk = CrashDisk::of(alloc, b"", *takes, compacts.saturating_add(1))?;
-        let left = keep(alloc, disk, lines.as_slice());
-        same!(rt; is_ended(&left), due.is_all);
-        same!(rt; left.answers.bytes(), due.answers.as_slice());
-        let safe = left.disk.left(0)?;
-        same!(rt; safe.as_slice(), due.safe.as_slice());
-        same!(rt; left.disk.syncs, due.syncs);
-    }
+    let lines = joined(alloc, LINES)?;
     let none = keep(alloc, CrashDisk::of(alloc, b"", 1000, 0)?, lines.as_slice());
     same!(rt; is_ended(&none), false);
     same!(rt; none.answers.bytes().len(), 0);
@@ -226,6 +229,19 @@ fn told(read: Result<Replayed, JournalFault>) -> Result<(usize, usize, usize), J
     Ok((replayed.edits, replayed.book.len(), replayed.torn))
 }
 
+// The same of whole journals.
+const WHOLE: &[(&[u8], Result<(usize, usize, usize), JournalFault>)] = &[
+    (b"", Ok((0, 0, 0))),
+    (b"pocsag journal", Ok((0, 0, 14))),
+    (b"pocsag journal,1", Ok((0, 0, 16))),
+    (b"pocsag journal,2\n", Err(JournalFault::OtherVersion)),
+    (b"pocsag journal,2", Err(JournalFault::OtherVersion)),
+    (b"pocsag journal,12", Err(JournalFault::OtherVersion)),
+    (b"hello world", Err(JournalFault::NotJournal)),
+    (b"pocsag journals", Err(JournalFault::NotJournal)),
+    (b"add,8,tone0,\n", Err(JournalFault::NotJournal)),
+];
+
 // A torn end is passed over, the first bad line reported, and a first line that is another or torn.
 #[test]
 fn journals_are_read(rt: HostRuntime) -> Result<(), Fail> {
@@ -241,22 +257,15 @@ fn journals_are_read(rt: HostRuntime) -> Result<(), Fail> {
             Err(JournalFault::ReadFault)
         );
     }
-    let others: [(&[u8], Result<(usize, usize, usize), JournalFault>); 9] = [
-        (b"", Ok((0, 0, 0))),
-        (b"pocsag journal", Ok((0, 0, 14))),
-        (b"pocsag journal,1", Ok((0, 0, 16))),
-        (b"pocsag journal,2\n", Err(JournalFault::OtherVersion)),
-        (b"pocsag journal,2", Err(JournalFault::OtherVersion)),
-        (b"pocsag journal,12", Err(JournalFault::OtherVersion)),
-        (b"hello world", Err(JournalFault::NotJournal)),
-        (b"pocsag journals", Err(JournalFault::NotJournal)),
-        (b"add,8,tone0,\n", Err(JournalFault::NotJournal)),
-    ];
-    for (bytes, due) in others {
-        let mut source = MemorySource::new(bytes, 7, u64::MAX);
-        same!(rt; told(read_journal(alloc, &mut source)), due);
-    }
     Ok(())
+}
+
+#[test]
+fn first_lines_are_read(rt: HostRuntime) {
+    for (bytes, due) in WHOLE {
+        let mut source = MemorySource::new(bytes, 7, u64::MAX);
+        same!(rt; told(read_journal(rt.alloc(), &mut source)), *due);
+    }
 }
 
 // The records of a page file, and the journal that is written anew of its pages, or the fault.
@@ -279,50 +288,69 @@ const ANEW: &[(Records, Result<&str, JournalFault>)] = &[
     ),
 ];
 
+fn expect_anew(
+    rt: &impl Abort,
+    alloc: Global,
+    book: &Book,
+    due: &Result<&str, JournalFault>,
+) -> Result<(), Fail> {
+    match text_of_pages(alloc, book.pages()) {
+        Ok(text) => {
+            let (front, lines) = text.as_slice().split_at(first_line().len());
+            same!(rt; front, first_line());
+            same!(rt; Some(lines), due.ok().map(|it| it.as_bytes()));
+        }
+        Err(fault) => same!(rt; Some(fault), due.err()),
+    }
+    Ok(())
+}
+
 #[test]
 fn journals_are_written_anew(rt: HostRuntime) -> Result<(), Fail> {
     let alloc = rt.alloc();
     for (records, due) in ANEW {
         let book = Book::of_round(alloc, &round_of_file(alloc, records)?)?;
-        match text_of_pages(alloc, book.pages()) {
-            Ok(text) => {
-                same!(rt; due.is_ok(), true);
-                let (front, lines) = text.as_slice().split_at(first_line().len());
-                same!(rt; front, first_line());
-                same!(rt; lines, due.unwrap_or("").as_bytes());
-            }
-            Err(fault) => same!(rt; Some(fault), due.err()),
-        }
+        expect_anew(&rt, alloc, &book, due)?;
     }
     Ok(())
 }
 
-// A page of 4,000 letters comes and goes. Each two lines are 4,022 bytes, so that the journal has more than a megabyte
-// once line 521 is kept, and is written anew; where that fails the round ends, and what was kept is there.
-#[test]
-fn long_journals_are_written_anew(rt: HostRuntime) -> Result<(), Fail> {
-    let alloc = rt.alloc();
+// So often come and go pages of 4,000 letters, in two lines of 4,022 bytes.
+fn long_lines(alloc: Global, times: u32) -> Result<Vec<u8>, Fail> {
     let mut lines = Vec::new(alloc);
-    for _ in 0..300 {
+    for _ in 0..times {
         lines.extend_from_slice(b"add,8,alpha,")?;
         lines.extend_from_slice(vec![in alloc; b'A'; 4000]?.as_slice())?;
         lines.extend_from_slice(b"\ncancel,8\n")?;
     }
-    let cases = [
-        (u64::MAX, true, 600, 160_897, (80, 0, 0)),
-        (522, false, 521, 1_049_750, (521, 1, 0)),
-    ];
-    for (compacts, done, syncs, bytes, read) in cases {
-        let disk = CrashDisk::of(alloc, b"", usize::MAX, compacts)?;
-        let left = keep(alloc, disk, lines.as_slice());
-        same!(rt; is_ended(&left), done);
-        same!(rt; left.disk.syncs, syncs);
-        let held = left.disk.left(usize::MAX)?;
-        same!(rt; held.len(), bytes);
-        let mut source = MemorySource::new(held.as_slice(), 4096, u64::MAX);
-        same!(rt; told(read_journal(alloc, &mut source)), Ok(read));
-    }
+    Ok(lines)
+}
+
+// How many calls of `sync` the disk serves; whether the round ends with its input, the calls, and the bytes and what is read
+// of the journal.
+type LongCase = (u64, bool, u64, usize, (usize, usize, usize));
+
+fn expect_long(rt: &impl Abort, alloc: Global, case: LongCase) -> Result<(), Fail> {
+    let (compacts, done, syncs, bytes, read) = case;
+    let lines = long_lines(alloc, 300)?;
+    let disk = CrashDisk::of(alloc, b"", usize::MAX, compacts)?;
+    let left = keep(alloc, disk, lines.as_slice());
+    same!(rt; is_ended(&left), done);
+    same!(rt; left.disk.syncs, syncs);
+    let held = left.disk.left(usize::MAX)?;
+    same!(rt; held.len(), bytes);
+    let mut source = MemorySource::new(held.as_slice(), 4096, u64::MAX);
+    same!(rt; told(read_journal(alloc, &mut source)), Ok(read));
     Ok(())
+}
+
+// The journal has more than a megabyte once line 521 is kept, and is written anew; where that fails the round ends, and what
+// was kept is there.
+#[test]
+fn long_journals_are_written_anew(rt: HostRuntime) -> Result<(), Fail> {
+    let alloc = rt.alloc();
+    expect_long(&rt, alloc, (u64::MAX, true, 600, 160_897, (80, 0, 0)))?;
+    expect_long(&rt, alloc, (522, false, 521, 1_049_750, (521, 1, 0)))
 }
 
 // A crash leaves whole sectors of so many bytes.
@@ -386,6 +414,23 @@ struct Edited {
     edits: u64,
 }
 
+// What a crash leaves of the disk, with so many bytes behind those that are safe, is read as one of two listings, and as the
+// first where no byte is left behind them.
+fn expect_listed(
+    rt: &impl Abort,
+    alloc: Global,
+    disk: &CrashDisk,
+    more: usize,
+    (first, second): (&[u8], &[u8]),
+) -> Result<(), Fail> {
+    let bytes = disk.left(more)?;
+    let disk = CrashDisk::of(alloc, bytes.as_slice(), usize::MAX, u64::MAX)?;
+    let next = keep(alloc, disk, b"list\n");
+    let told = next.answers.bytes();
+    assert!(rt; told == first || more > 0 && told == second);
+    Ok(())
+}
+
 // Cuts the last of these edits at each write, and compares what each crash leaves.
 fn cut_last<R: Abort>(
     rt: &R,
@@ -398,29 +443,58 @@ fn cut_last<R: Abort>(
     lines.push_str(line)?;
     let first = listing(alloc, before.pages.as_slice())?;
     let second = listing(alloc, later)?;
+    let listed = (first.as_bytes(), second.as_bytes());
     let written = before.lines.len();
-    let cuts = [
+    for (takes, compacts) in [
         (written, u64::MAX),
         (written.saturating_add(line.len() / 2), u64::MAX),
         (usize::MAX, before.edits.saturating_add(1)),
-    ];
-    for (takes, compacts) in cuts {
-        let cut = keep(
-            alloc,
-            CrashDisk::of(alloc, b"", takes, compacts)?,
-            lines.as_bytes(),
-        );
+    ] {
+        let disk = CrashDisk::of(alloc, b"", takes, compacts)?;
+        let cut = keep(alloc, disk, lines.as_bytes());
         same!(rt; is_ended(&cut), false);
         for more in (0..line.len().saturating_add(SECTOR)).step_by(SECTOR) {
-            let bytes = cut.disk.left(more)?;
-            let disk = CrashDisk::of(alloc, bytes.as_slice(), usize::MAX, u64::MAX)?;
-            let next = keep(alloc, disk, b"list\n");
-            let told = next.answers.bytes();
-            assert!(rt; told == first.as_bytes() || told == second.as_bytes());
-            assert!(rt; more > 0 || told == first.as_bytes());
+            expect_listed(rt, alloc, &cut.disk, more, listed)?;
         }
     }
     Ok(())
+}
+
+// Cuts each edit that is accepted after these, and adds the runs with it to the longer ones.
+fn cut_next<R: Abort>(
+    rt: &R,
+    alloc: Global,
+    before: &Edited,
+    longer: &mut Vec<Edited>,
+) -> Result<(), Fail> {
+    for (edit, line) in EDITS.iter().enumerate() {
+        if let Some(pages) = after(alloc, before.pages.as_slice(), edit)? {
+            cut_last(rt, alloc, before, line, pages.as_slice())?;
+            let mut lines = before.lines.clone()?;
+            lines.push_str(line)?;
+            let edits = before.edits.saturating_add(1);
+            longer.push(Edited {
+                lines,
+                pages,
+                edits,
+            })?;
+        }
+    }
+    Ok(())
+}
+
+// The run of this edit alone, by which one page is there.
+fn first_run(alloc: Global, line: &str, address: u32) -> Result<Edited, Fail> {
+    let mut lines = String::new(alloc);
+    lines.push_str(line)?;
+    let mut pages = Vec::new(alloc);
+    pages.push(address)?;
+    let edits = 1;
+    Ok(Edited {
+        lines,
+        pages,
+        edits,
+    })
 }
 
 // Every run of up to six of the edits that begins with this line, by which one page is there. The last edit of each is cut at each
@@ -431,31 +505,13 @@ fn cut_runs<R: Abort>(rt: &R, alloc: Global, line: &str, address: u32) -> Result
         pages: Vec::new(alloc),
         edits: 0,
     };
-    let mut first = Edited {
-        lines: String::new(alloc),
-        pages: Vec::new(alloc),
-        edits: 1,
-    };
-    first.lines.push_str(line)?;
-    first.pages.push(address)?;
-    cut_last(rt, alloc, &none, line, first.pages.as_slice())?;
+    cut_last(rt, alloc, &none, line, &[address])?;
     let mut runs = Vec::new(alloc);
-    runs.push(first)?;
+    runs.push(first_run(alloc, line, address)?)?;
     for _ in 0..5 {
         let mut longer = Vec::new(alloc);
         for before in &runs {
-            for (edit, line) in EDITS.iter().enumerate() {
-                if let Some(pages) = after(alloc, before.pages.as_slice(), edit)? {
-                    cut_last(rt, alloc, before, line, pages.as_slice())?;
-                    let mut lines = before.lines.clone()?;
-                    lines.push_str(line)?;
-                    longer.push(Edited {
-                        lines,
-                        pages,
-                        edits: before.edits.saturating_add(1),
-                    })?;
-                }
-            }
+            cut_next(rt, alloc, before, &mut longer)?;
         }
         runs = longer;
     }

@@ -262,32 +262,40 @@ const AFTER_PAGES: Lines = &[
     ("list", "address,kind,message\n16,numeric,12\nok 1"),
 ];
 
+const ALWAYS: Beginning = Beginning {
+    on_limit: OnLimit::Always,
+    ..TWO_PAGES
+};
+
+const ROUNDS: &[(Beginning, Lines)] = &[
+    (EMPTY, EDITS),
+    (EMPTY, SPACES),
+    (EMPTY, REFUSALS),
+    (EMPTY, PLANS),
+    (TWO_PAGES, AFTER_PAGES),
+    (ALWAYS, AFTER_PAGES),
+];
+
+// The lines, and their answers.
+fn parted(alloc: Global, cases: Lines) -> Result<(Vec<u8>, Vec<u8>), Fail> {
+    let mut lines = Vec::new(alloc);
+    let mut answers = Vec::new(alloc);
+    for (line, answer) in cases {
+        lines.extend_from_slice(line.as_bytes())?;
+        lines.push(b'\n')?;
+        answers.extend_from_slice(answer.as_bytes())?;
+        answers.push(b'\n')?;
+    }
+    Ok((lines, answers))
+}
+
 #[test]
 fn lines_are_answered_one_by_one(rt: HostRuntime) -> Result<(), Fail> {
     let alloc = rt.alloc();
-    let always = Beginning {
-        on_limit: OnLimit::Always,
-        ..TWO_PAGES
-    };
-    let rounds = [
-        (EMPTY, EDITS),
-        (EMPTY, SPACES),
-        (EMPTY, REFUSALS),
-        (EMPTY, PLANS),
-        (TWO_PAGES, AFTER_PAGES),
-        (always, AFTER_PAGES),
-    ];
-    for (beginning, cases) in rounds {
-        let mut lines = Vec::new(alloc);
-        let mut answers = Vec::new(alloc);
-        for (line, answer) in cases {
-            lines.extend_from_slice(line.as_bytes())?;
-            lines.push(b'\n')?;
-            answers.extend_from_slice(answer.as_bytes())?;
-            answers.push(b'\n')?;
-        }
+    for (beginning, cases) in ROUNDS {
+        let (lines, answers) = parted(alloc, cases)?;
         let due = (0, answers.as_slice(), b"".as_slice());
-        assert_answers(&rt, alloc, beginning, lines.as_slice(), due)?;
+        assert_answers(&rt, alloc, *beginning, lines.as_slice(), due)?;
     }
     Ok(())
 }

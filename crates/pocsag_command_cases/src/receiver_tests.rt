@@ -37,12 +37,20 @@ node 1: all slots: 1 codeword, room for 0
 so 0 batches do not suffice
 ";
 
-// A command, and what its words ask for.
+// What `show` is asked for: the places of the pages, the grid, or rows of it that the transmission does not have.
+#[derive(Clone, Copy)]
+enum Picture {
+    Places,
+    Grid,
+    Behind,
+}
+
+// A command, and what its words ask for; of `show` also whether it repairs.
 #[derive(Clone, Copy)]
 enum Command {
     Decode { form: ListForm, repair: bool },
-    Hear(Hearing),
-    Show { view: View, repair: bool },
+    Hear(ListForm, u32),
+    Show(Picture, bool),
     Explain,
 }
 
@@ -62,6 +70,27 @@ const SOUND: Faults = Faults {
     tx: 1000,
     out: 1000,
 };
+
+const FLIPPED: Faults = Faults {
+    flipped: [1, 0, 3],
+    ..SOUND
+};
+
+const CUT: Faults = Faults { len: 139, ..SOUND };
+
+const UNREAD: Faults = Faults { tx: 20, ..SOUND };
+
+const UNWRITTEN: Faults = Faults { out: 5, ..SOUND };
+
+const CUT_SHORT: &str = "pocsag: the transmission is cut short\n";
+
+const NO_READ: &str = "pocsag: cannot read or open a file\n";
+
+const NO_WRITE: &str = "pocsag: cannot write\n";
+
+const NO_ROWS: &str = "pocsag: rows 3-7: the transmission has 1 batch\n";
+
+const NO_SYNC: &str = "pocsag: batch 0: no synchronisation codeword\n";
 
 // What a command reported.
 #[derive(Drop)]
@@ -135,12 +164,20 @@ fn run(rt: &impl Abort, alloc: Global, command: Command, faults: Faults) -> Resu
             let mut decoding = Decoding { form, repairing };
             run_decode(alloc, &mut decoding, &mut tx, &mut out, &mut err)
         }
-        Command::Show { view, repair } => {
+        Command::Show(picture, repair) => {
+            let view = match picture {
+                Picture::Places => View::Places,
+                Picture::Grid => View::Grid(Rows::all()),
+                Picture::Behind => View::Grid(Rows::new(3, 7).expect(rt, "rows")),
+            };
             let repairing = Repairing::new(repair);
             let mut showing = Showing { view, repairing };
             run_show(alloc, &mut showing, &mut tx, &mut out, &mut err)
         }
-        Command::Hear(hearing) => run_hear(alloc, hearing, &mut tx, &mut out, &mut err),
+        Command::Hear(form, address) => {
+            let hearing = Hearing { form, address };
+            run_hear(alloc, hearing, &mut tx, &mut out, &mut err)
+        }
         Command::Explain => 255,
     };
     Ok(outcome(status, out, &err))
@@ -166,74 +203,60 @@ const DECODE_TEXTS: Command = Command::Decode {
     repair: false,
 };
 
-// `hear` of an address, with the listing.
-fn heard_of(address: u32) -> Command {
-    let form = ListForm::Listing;
-    Command::Hear(Hearing { form, address })
-}
+const HEAR_8: Command = Command::Hear(ListForm::Listing, 8);
 
-const SHOW_REPAIRED: Command = Command::Show {
-    view: View::Places,
-    repair: true,
-};
+const HEAR_9: Command = Command::Hear(ListForm::Listing, 9);
+
+const HEAR_NONE: Command = Command::Hear(ListForm::Listing, 2_097_152);
+
+const HEAR_JSON: Command = Command::Hear(ListForm::Json([false; 3]), 8);
+
+const SHOW_REPAIRED: Command = Command::Show(Picture::Places, true);
+
+const GRID_SHOWN: Command = Command::Show(Picture::Grid, false);
+
+const BEHIND_SHOWN: Command = Command::Show(Picture::Behind, false);
 
 // A command, what is wrong, its status, and what it reports.
 type Case = (Command, Faults, u8, &'static str, &'static str);
 
+const CASES: &[Case] = &[
+    (DECODE, SOUND, 0, LISTED, ""),
+    (DECODE, FLIPPED, 1, "", NO_SYNC),
+    (DECODE, CUT, 1, "", CUT_SHORT),
+    (DECODE, UNREAD, 3, "", NO_READ),
+    (DECODE, UNWRITTEN, 3, "addre", NO_WRITE),
+    (DECODE_REPAIRED, FLIPPED, 0, LISTED, ""),
+    (HEAR_8, FLIPPED, 0, LISTED, ""),
+    (HEAR_9, SOUND, 0, NONE_HEARD, ""),
+    (HEAR_NONE, SOUND, 1, "", "pocsag: bad address\n"),
+    (DECODE_JSON, FLIPPED, 0, LINE, ""),
+    (DECODE_JSON, CUT, 1, "", CUT_SHORT),
+    (DECODE_JSON, UNWRITTEN, 3, "{\"add", NO_WRITE),
+    (DECODE_TEXTS, SOUND, 0, LISTED, ""),
+    (DECODE_TEXTS, UNWRITTEN, 3, "addre", NO_WRITE),
+    (HEAR_JSON, FLIPPED, 0, LINE, ""),
+    (GRID_SHOWN, SOUND, 0, GRID, ""),
+    (GRID_SHOWN, FLIPPED, 1, "", NO_SYNC),
+    (SHOW_REPAIRED, FLIPPED, 0, PLACES, ""),
+    (BEHIND_SHOWN, SOUND, 1, "", NO_ROWS),
+    (Command::Explain, SOUND, 0, EXPLAINED, ""),
+    (Command::Explain, UNWRITTEN, 3, "at le", NO_WRITE),
+];
+
+fn expect_case(rt: &impl Abort, alloc: Global, case: &Case) -> Result<(), Fail> {
+    let (command, faults, status, out, err) = *case;
+    let told = run(rt, alloc, command, faults)?;
+    same!(rt; told.status, status);
+    same!(rt; told.out.bytes(), out.as_bytes());
+    same!(rt; told.line.get(..told.length), Some(err.as_bytes()));
+    Ok(())
+}
+
 #[test]
 fn transmissions_are_read(rt: HostRuntime) -> Result<(), Fail> {
-    let grid = Command::Show {
-        view: View::Grid(Rows::all()),
-        repair: false,
-    };
-    let behind = Command::Show {
-        view: View::Grid(Rows::new(3, 7).expect(&rt, "rows")),
-        repair: false,
-    };
-    let heard_json = Command::Hear(Hearing {
-        form: ListForm::Json([false; 3]),
-        address: 8,
-    });
-    let flipped = Faults {
-        flipped: [1, 0, 3],
-        ..SOUND
-    };
-    let cut = Faults { len: 139, ..SOUND };
-    let unread = Faults { tx: 20, ..SOUND };
-    let unwritten = Faults { out: 5, ..SOUND };
-    let cut_short = "pocsag: the transmission is cut short\n";
-    let no_read = "pocsag: cannot read or open a file\n";
-    let no_write = "pocsag: cannot write\n";
-    let no_rows = "pocsag: rows 3-7: the transmission has 1 batch\n";
-    let no_sync = "pocsag: batch 0: no synchronisation codeword\n";
-    let cases: [Case; 21] = [
-        (DECODE, SOUND, 0, LISTED, ""),
-        (DECODE, flipped, 1, "", no_sync),
-        (DECODE, cut, 1, "", cut_short),
-        (DECODE, unread, 3, "", no_read),
-        (DECODE, unwritten, 3, "addre", no_write),
-        (DECODE_REPAIRED, flipped, 0, LISTED, ""),
-        (heard_of(8), flipped, 0, LISTED, ""),
-        (heard_of(9), SOUND, 0, NONE_HEARD, ""),
-        (heard_of(2_097_152), SOUND, 1, "", "pocsag: bad address\n"),
-        (DECODE_JSON, flipped, 0, LINE, ""),
-        (DECODE_JSON, cut, 1, "", cut_short),
-        (DECODE_JSON, unwritten, 3, "{\"add", no_write),
-        (DECODE_TEXTS, SOUND, 0, LISTED, ""),
-        (DECODE_TEXTS, unwritten, 3, "addre", no_write),
-        (heard_json, flipped, 0, LINE, ""),
-        (grid, SOUND, 0, GRID, ""),
-        (grid, flipped, 1, "", no_sync),
-        (SHOW_REPAIRED, flipped, 0, PLACES, ""),
-        (behind, SOUND, 1, "", no_rows),
-        (Command::Explain, SOUND, 0, EXPLAINED, ""),
-        (Command::Explain, unwritten, 3, "at le", no_write),
-    ];
-    for (command, faults, status, out, err) in cases {
-        let told = run(&rt, rt.alloc(), command, faults)?;
-        same!(rt; told.status, status);
-        same!(rt; told.out.bytes(), out.as_bytes());
-        same!(rt; told.line.get(..told.length), Some(err.as_bytes()));
+    for case in CASES {
+        expect_case(&rt, rt.alloc(), case)?;
     }
     Ok(())
 }

@@ -28,7 +28,7 @@ const LATE_TONE: Sent = (16, IDLE, &[(1, SECOND)]);
 
 // Rounds by address and number of items, with their codewords in file order. The last two, which are `closed-mixed` and
 // `closed-both-ways`, end in a message codeword.
-const IN_ORDER: [(&[(u32, usize)], Sent); 4] = [
+const IN_ORDER: &[(&[(u32, usize)], Sent)] = &[
     (
         &[(5, 0), (13, 0), (21, 0)],
         (32, IDLE, &[(10, 0), (11, SECOND), (26, 0x430b)]),
@@ -85,7 +85,7 @@ fn layouts_in_file_order(rt: HostRuntime) -> Result<(), Fail> {
     for (pages, sent) in IN_ORDER {
         let round = round_of(alloc, pages)?;
         let batches = lay_in_order(alloc, &round)?;
-        let due = words(alloc, sent)?;
+        let due = words(alloc, *sent)?;
         let told = raws(alloc, batches.words())?;
         same!(rt; told.as_slice(), due.as_slice(), pages);
         same!(rt; 16 * in_order_batches(&round) as usize, due.len(), pages);
