@@ -55,6 +55,12 @@ def width():
     return given or max(1, min(len(os.sched_getaffinity(0)), free_memory() // MEMORY))
 
 
+def width_of_gate():
+    """The same for the gate. Where none is given, one processor of four stays idle: a fourth proof slows each of the other three by a
+    seventh, and the longest chain of crates, for which the clock waits, with them."""
+    return width() - width() // 4 * (not os.environ.get("RT_JOBS"))
+
+
 def minutes(seconds):
     return f"{int(seconds) // 60}:{int(seconds) % 60:02}"
 

@@ -14,6 +14,7 @@ sys.dont_write_bytecode = True
 TOP = pathlib.Path(__file__).resolve().parents[2]
 sys.path[:0] = [str(TOP / "tests"), str(TOP / "tools")]
 import kit
+import lanes
 from gate import Gate
 from lanes import Lanes, Task
 from spent import watched
@@ -155,6 +156,16 @@ def try_lanes(tally):
     tally.check("what still runs is ended", it.name == "quick" and time.monotonic() - began < 5, it)
 
 
+def try_width(tally):
+    """How many tasks the gate runs side by side."""
+    given, found = os.environ.pop("RT_JOBS"), lanes.width()
+    tally.check("one processor of four is idle", lanes.width_of_gate() == found - found // 4 >= 1, (found, lanes.width_of_gate()))
+    for jobs in ("1", "4"):
+        os.environ["RT_JOBS"] = jobs
+        tally.check(f"the gate takes the {jobs} jobs that are given", lanes.width_of_gate() == int(jobs), lanes.width_of_gate())
+    os.environ["RT_JOBS"] = given
+
+
 def try_layout(tally):
     """A crate with a file that `rt fmt` would change; without the toolchain all pass."""
     with tempfile.TemporaryDirectory() as folder:
@@ -174,6 +185,7 @@ def main():
     try_notes(tally)
     try_beside(tally)
     try_lanes(tally)
+    try_width(tally)
     try_last(tally)
     try_bill(tally)
     try_spent(tally)
