@@ -18,9 +18,9 @@ IS_EMULATED = ONE_IN > 1
 ENDS = {"open": ["--end", "open"], "closed": ["--end", "closed"], "idle": ["--idle-last"]}
 
 
-def sampled(cases):
+def sampled(cases, one_in=ONE_IN):
     """The cases, or in an emulator one of so many."""
-    return itertools.islice(cases, 0, None, ONE_IN)
+    return itertools.islice(cases, 0, None, one_in if IS_EMULATED else 1)
 
 
 class Tally:

@@ -17,12 +17,11 @@ import time
 
 sys.dont_write_bytecode = True
 sys.path.insert(0, str(pathlib.Path(__file__).resolve().parents[1]))
-from tally import PROGRAM, as_nobody, run_parts, sampled
+from tally import IS_EMULATED, PROGRAM, as_nobody, run_parts, sampled
 
 HEADER = b"address,kind,message\n"
 FIRST_LINE = b"pocsag journal,1\n"
-EDITS = 5000
-KILLS = 300
+EDITS, KILLS = (500, 30) if IS_EMULATED else (5_000, 300)
 SEED = 20261123
 LEAST = 1 << 20  # the least size at which a journal is written anew
 

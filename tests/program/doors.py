@@ -4,7 +4,7 @@ opened, emptied and judged."""
 import os
 import subprocess
 
-from tally import IS_EMULATED, PROGRAM
+from tally import IS_EMULATED, PROGRAM, sampled
 
 HEADER = b"address,kind,message\n"
 TONE = HEADER + b"8,tone0,\n"
@@ -106,7 +106,7 @@ def unheard(words, room, stdin, output):
 def try_unheard(tally, folder):
     """Each command says that it cannot write, and `plan` has made its files whole."""
     room, made = fresh(folder, "unheard")
-    for call in PRINTING:
+    for call in sampled(PRINTING, 5):
         # An emulator opens files of its own, which may take the numbers of closed streams.
         for output in ("unread", "full") if IS_EMULATED else ("closed", "unread", "full"):
             for more in ([],) if "help" in call or "--version" in call else ([], ["--verbose"]):

@@ -126,7 +126,7 @@ def try_pages(tally, folder, source, pages, reads):
     (folder / "rx.bin").write_bytes(rx)
     heard = [page for page in pages if page[0] == 11]
     count = f"pocsag: transmission rx.bin: corrected bits {bits}, words {words}\n"
-    for (word, texts), is_json in itertools.product(TEXTS.items(), (False, True)):
+    for (word, texts), is_json in sampled(itertools.product(TEXTS.items(), (False, True)), 5):
         asked = (["--text", word] if word else []) + (["--json"] if is_json else [])
         due, objects = due_of(pages, texts, is_json)
         for call, stdin, told in (

@@ -20,7 +20,7 @@ import options
 import repair
 import usage
 import verbose
-from tally import ENDS, PROGRAM, run_parts
+from tally import ENDS, PROGRAM, run_parts, sampled
 
 HEADER = b"address,kind,message\n"
 PREAMBLE = b"\xaa" * 72
@@ -246,7 +246,7 @@ def try_always(tally, folder):
         tally.check(f"its pages, {end}", sorted(done.stdout.splitlines()) == sorted(pages.read_bytes().splitlines()), done)
         done = run([*plan, *ENDS[end], "--verify"], folder)
         tally.check(f"the fewest at the default limit, {end}", done.stdout == b"pages 2\nbatches 3\nverified\n", done)
-        for name, shape, batches in HARD:
+        for name, shape, batches in sampled(HARD):
             pages.write_bytes(hard_round(shape))
             done = run([*plan[:-1], *ENDS[end]], folder)
             refused = done.returncode == 1 and b"search limit reached" in done.stderr and done.stdout == b""

@@ -23,7 +23,7 @@ from tally import PROGRAM, Tally
 
 EMULATOR = "qemu-aarch64"
 SCRIPTS = ("tests/program/run.py", "tests/program/open.py", "tests/journal/run.py", "tests/sound/run.py", "tests/vectors/run.py")
-ROUNDS = 40
+ROUNDS = 10
 HEADER = "address,kind,message\n"
 
 
@@ -60,8 +60,9 @@ def page_file(chance):
 # What is run of each round, one command after the other in one folder.
 COMMANDS = [
     ["plan", "p.csv", "t.bin", "c.cert"], ["plan", "p.csv", "idle.bin", "idle.cert", "--idle-last", "--always"], ["check", "p.csv", "c.cert"],
-    ["explain", "p.csv", "c.cert", "--json"], ["decode", "t.bin"], ["decode", "t.bin", "--capture"], ["show", "t.bin"], ["show", "t.bin", "--svg"],
-    ["hear", "8", "t.bin"], ["wav", "t.bin", "--rate", "1200"], ["report", "p.csv", "--rate", "512"], ["check", "p.csv", "t.bin"], ["plan", "none", "t", "c", "--verbose"],
+    ["explain", "p.csv", "c.cert", "--json"], ["decode", "t.bin"], ["decode", "t.bin", "--json"], ["decode", "t.bin", "--text", "0,3"],
+    ["decode", "t.bin", "--capture"], ["show", "t.bin"], ["show", "t.bin", "--svg"], ["hear", "8", "t.bin"], ["wav", "t.bin", "--rate", "1200"],
+    ["report", "p.csv", "--rate", "512"], ["check", "p.csv", "t.bin"], ["plan", "none", "t", "c", "--verbose"],
 ]
 
 
@@ -100,7 +101,7 @@ def try_library(tally, folder, archive, memory):
 
 def try_scripts(tally, program):
     """The scripts that run the program, with this one."""
-    os.environ.update(POCSAG_PROGRAM=str(program), POCSAG_ONE_IN="31")
+    os.environ.update(POCSAG_PROGRAM=str(program), POCSAG_ONE_IN="101")
     for it in lanes.Lanes([lanes.Task(script, [sys.executable, script], TOP) for script in SCRIPTS]).run():
         counts = re.findall(r"^(\d+) passed, (\d+) failed$", it.text, re.M)
         passed, failed = map(int, counts[-1]) if counts else (0, 1)

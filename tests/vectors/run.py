@@ -18,7 +18,7 @@ VECTORS = TOP / "vectors"
 sys.path[:0] = [str(TOP / "tests"), str(TOP / "tests/certificates"), str(VECTORS)]
 import checker
 import make
-from tally import PROGRAM, run_parts
+from tally import PROGRAM, run_parts, sampled
 
 IDLE = bytes.fromhex("7A89C197")
 FAULT = "pocsag: "
@@ -54,7 +54,7 @@ def try_files(tally, folder):
 
 def try_verdicts(tally, folder):
     """Both checkers and `explain` over each row."""
-    for row in rows():
+    for row in sampled(rows(), 5):
         due = int(row["status"]), row["line"]
         told = run(folder, "check", row["pages"], row["cert"])
         tally.check(f"check: {row['name']}", told == due, told)
