@@ -2,9 +2,9 @@
 
 use crate::given::{IDLE, LONE_TONE, PageRow, SECOND, Sent, page, transmission};
 use crate::{round_of, same};
-use pocsag_pages::{PageFault, RoundFault};
+use pocsag_pages::{Page, PageFault, RoundFault};
 use pocsag_plan::{AddFault, Book, BookFault, NotThere, OnLimit, PlanFault, Search, StreamFault};
-use pocsag_words::{End, MemorySink};
+use pocsag_words::{End, MemorySink, OutOfMemory};
 use std::alloc::Global;
 use std::process::Abort;
 use std::test::Fail;
@@ -32,20 +32,37 @@ const ADDED: &[&[(PageRow, Option<AddFault>)]] = &[
     ],
 ];
 
+fn expect_page(rt: &impl Abort, found: &Page, due: PageRow) {
+    same!(rt; (found.address, found.function, found.payload.as_slice()), due);
+}
+
 // A page that is refused is handed back.
+fn expect_added(
+    rt: &impl Abort,
+    alloc: Global,
+    book: &mut Book,
+    row: PageRow,
+    due: Option<AddFault>,
+) -> Result<(), OutOfMemory> {
+    let (address, function, items) = row;
+    let count = book.len();
+    match book.add(page(alloc, address, function, items)?) {
+        Ok(()) => same!(rt; (book.len(), due), (count.saturating_add(1), None)),
+        Err(refused) => {
+            same!(rt; (book.len(), due), (count, Some(refused.fault)));
+            expect_page(rt, &refused.page, row);
+        }
+    }
+    Ok(())
+}
+
 #[test]
 fn pages_added(rt: HostRuntime) -> Result<(), Fail> {
+    let alloc = rt.alloc();
     for rows in ADDED {
-        let mut book = Book::new(rt.alloc());
-        for ((address, function, items), due) in *rows {
-            let count = book.len();
-            match book.add(page(rt.alloc(), *address, *function, items)?) {
-                Ok(()) => same!(rt; (book.len(), *due), (count.saturating_add(1), None)),
-                Err(refused) => {
-                    same!(rt; (book.len(), *due), (count, Some(refused.fault)));
-                    same!(rt; refused.page, page(rt.alloc(), *address, *function, items)?);
-                }
-            }
+        let mut book = Book::new(alloc);
+        for (row, due) in *rows {
+            expect_added(&rt, alloc, &mut book, *row, *due)?;
         }
     }
     Ok(())
@@ -61,122 +78,183 @@ const CANCELLED: &[(&[u32], &[(u32, bool)], &[u32], [u32; 2], Option<u32>)] = &[
     (&[5, 13, 21], &[(5, true)], &[13, 21], [2, 2], Some(1)),
 ];
 
-fn tones(alloc: Global, addresses: &[u32]) -> Result<Book, Fail> {
+fn book_of_tones(rt: &impl Abort, alloc: Global, addresses: &[u32]) -> Result<Book, OutOfMemory> {
     let mut book = Book::new(alloc);
     for address in addresses {
-        book.add(page(alloc, *address, 0, &[])?)?;
+        expect_added(rt, alloc, &mut book, (*address, 0, &[]), None)?;
     }
     Ok(book)
 }
 
+// So many batches with all pages, or no plan where there are none.
 fn expect_batches(rt: &impl Abort, book: &Book, batches: Option<u32>) {
-    match (book.plan(100_000, End::Open), batches) {
-        (Ok(plan), Some(batches)) => {
-            same!(rt; (plan.batches, plan.pages as usize), (batches, book.len()));
+    match book.plan(100_000, End::Open) {
+        Ok(plan) => {
+            same!(rt; (Some(plan.batches), plan.pages as usize), (batches, book.len()));
         }
-        (Err(BookFault::NoPages), None) => {}
-        _ => assert!(rt; false, "another plan"),
+        Err(fault) => {
+            assert!(rt;
+                batches.is_none() && matches!(fault, BookFault::NoPages),
+                "another plan"
+            );
+        }
     }
+}
+
+fn expect_cancelled(rt: &impl Abort, book: &mut Book, address: u32, is_there: bool) {
+    match book.cancel(address) {
+        Ok(taken) => {
+            same!(rt; is_there, true, address);
+            expect_page(rt, &taken, (address, 0, &[]));
+        }
+        Err(NotThere) => same!(rt; is_there, false, address),
+    }
+}
+
+fn expect_left(rt: &impl Abort, book: &Book, left: &[u32]) {
+    same!(rt; (book.len(), book.is_empty()), (left.len(), left.is_empty()));
+    for (place, address) in left.iter().enumerate() {
+        let page = book.page(place).expect(rt, "an answer");
+        same!(rt; page.address, *address);
+    }
+    assert!(rt; book.page(left.len()).is_none());
+}
+
+fn expect_counts(rt: &impl Abort, book: &Book, [open, closed]: [u32; 2]) {
+    same!(rt; book.classes(End::Open).count[81], open);
+    same!(rt; book.classes(End::Idle).count[81], open);
+    same!(rt; book.classes(End::Closed).count[133], closed);
+    same!(rt; book.classes(End::Closed).count[81], 0);
 }
 
 #[test]
 fn pages_cancelled(rt: HostRuntime) -> Result<(), Fail> {
     for (added, cancelled, left, counts, batches) in CANCELLED {
-        let mut book = tones(rt.alloc(), added)?;
+        let mut book = book_of_tones(&rt, rt.alloc(), added)?;
         for (address, is_there) in *cancelled {
-            match book.cancel(*address) {
-                Ok(taken) => {
-                    assert!(rt; *is_there && taken == page(rt.alloc(), *address, 0, &[])?);
-                }
-                Err(NotThere) => same!(rt; *is_there, false, address),
-            }
+            expect_cancelled(&rt, &mut book, *address, *is_there);
         }
-        same!(rt; (book.len(), book.is_empty()), (left.len(), left.is_empty()));
-        for (place, address) in left.iter().enumerate() {
-            let page = book.page(place).expect(&rt, "an answer");
-            same!(rt; page.address, *address);
-        }
-        assert!(rt; book.page(left.len()).is_none());
-        let (open, closed) = (book.classes(End::Open), book.classes(End::Closed));
-        same!(rt; [open.count[81], closed.count[133]], *counts, left);
-        same!(rt; book.classes(End::Idle).count[81], open.count[81]);
-        same!(rt; closed.count[81], 0);
+        expect_left(&rt, &book, left);
+        expect_counts(&rt, &book, *counts);
         expect_batches(&rt, &book, *batches);
     }
     Ok(())
 }
 
-fn fewest(end: End) -> Search {
+// A book of the pages of a round.
+fn book_of(rt: &impl Abort, alloc: Global, pages: &[(u32, usize)]) -> Result<Book, Fail> {
+    let round = round_of(alloc, pages)?;
+    let book = Book::of_round(alloc, &round)?;
+    same!(rt; book.pages(), round.pages());
+    Ok(book)
+}
+
+// Sends the book, and returns its batches and the bound.
+fn send(
+    book: &Book,
+    search: Search,
+    tx: &mut MemorySink<400>,
+    cert: &mut MemorySink<100>,
+) -> Result<(u32, u32), StreamFault> {
+    let sent = book.bounded_stream(tx, cert, search)?;
+    Ok((sent.plan.batches, sent.bound))
+}
+
+fn search(limit: u32, end: End, on_limit: OnLimit) -> Search {
     Search {
-        limit: 100_000,
+        limit,
         end,
-        on_limit: OnLimit::Fewest,
+        on_limit,
     }
 }
 
-// The round of `lone-tone` is sent as one batch, its page early or late.
-const TONE_SENT: [Sent; 2] = [LONE_TONE, (16, IDLE, &[(1, SECOND)])];
+// Rounds that are sent as one batch, with the end, what the certificate begins with, and the codewords, of which there may
+// be two choices: a tone starts early or late. A page of the last frame starts early, so that an idle stands behind it.
+const REOPENED: &[(&[(u32, usize)], End, &[u8], &[Sent])] = &[
+    (
+        &[(8, 0)],
+        End::Open,
+        b"PCB2\0\0\0\0\x01\0",
+        &[LONE_TONE, (16, IDLE, &[(1, SECOND)])],
+    ),
+    (
+        &[(7, 0)],
+        End::Idle,
+        b"PCB4\0\0\0\x01\0",
+        &[(16, IDLE, &[(14, 0)])],
+    ),
+];
+
+// Whether the bytes are one of these transmissions.
+fn is_sent(alloc: Global, bytes: &[u8], choices: &[Sent]) -> Result<bool, OutOfMemory> {
+    for sent in choices {
+        if bytes == transmission(alloc, *sent)?.as_slice() {
+            return Ok(true);
+        }
+    }
+    Ok(false)
+}
 
 #[test]
 fn rounds_reopened(rt: HostRuntime) -> Result<(), Fail> {
-    let alloc = rt.alloc();
-    let round = round_of(alloc, &[(8, 0)])?;
-    let book = Book::of_round(alloc, &round)?;
-    same!(rt; book.pages(), round.pages());
-    let mut tx = MemorySink::<400>::new(64, u64::MAX);
-    let mut cert = MemorySink::<100>::new(64, u64::MAX);
-    let sent = book.bounded_stream(&mut tx, &mut cert, fewest(End::Open));
-    same!(rt; sent?.plan.batches, 1);
-    let mut is_due = false;
-    for sent in TONE_SENT {
-        let due = transmission(alloc, sent)?;
-        is_due |= tx.bytes() == due.as_slice();
+    for (pages, end, begins, choices) in REOPENED {
+        let mut tx = MemorySink::<400>::new(64, u64::MAX);
+        let mut cert = MemorySink::<100>::new(64, u64::MAX);
+        let book = book_of(&rt, rt.alloc(), pages)?;
+        let sent = send(
+            &book,
+            search(100_000, *end, OnLimit::Fewest),
+            &mut tx,
+            &mut cert,
+        )?;
+        same!(rt; sent.0, 1, pages);
+        same!(rt; is_sent(rt.alloc(), tx.bytes(), choices)?, true, pages);
+        same!(rt; cert.bytes().starts_with(begins), true, pages);
     }
-    same!(rt; is_due, true);
-    same!(rt; cert.bytes().starts_with(b"PCB2\0\0\0\0\x01\0"), true);
     Ok(())
 }
 
-// A page of the last frame starts early, so that an idle stands behind it, and the certificate is a PCB4.
-#[test]
-fn idle_last(rt: HostRuntime) -> Result<(), Fail> {
-    let alloc = rt.alloc();
-    let round = round_of(alloc, &[(7, 0)])?;
-    let book = Book::of_round(alloc, &round)?;
+// Sends a book within so many nodes in any case, and returns its batches and the bound.
+fn answer(book: &Book, limit: u32) -> Result<(u32, u32), StreamFault> {
     let mut tx = MemorySink::<400>::new(64, u64::MAX);
     let mut cert = MemorySink::<100>::new(64, u64::MAX);
-    let sent = book.bounded_stream(&mut tx, &mut cert, fewest(End::Idle));
-    same!(rt; sent?.plan.batches, 1);
-    let due = transmission(alloc, (16, IDLE, &[(14, 0)]))?;
-    same!(rt; tx.bytes(), due.as_slice());
-    same!(rt; cert.bytes().starts_with(b"PCB4\0\0\0\x01\0"), true);
-    Ok(())
+    let wanted = search(limit, End::Open, OnLimit::Always);
+    send(book, wanted, &mut tx, &mut cert)
+}
+
+// A limit of no nodes is refused before the book is found to be empty.
+fn expect_no_pages(rt: &impl Abort, empty: &Book) {
+    assert!(rt;
+        matches!(
+            answer(empty, 1),
+            Err(StreamFault::Round(RoundFault::NoPages))
+        )
+    );
+    assert!(rt;
+        matches!(
+            answer(empty, 0),
+            Err(StreamFault::Plan(PlanFault::BadLimit))
+        )
+    );
+    let none = empty.plan(0, End::Open);
+    assert!(rt; matches!(none, Err(BookFault::Plan(PlanFault::BadLimit))));
 }
 
 #[test]
 fn loops_apart_within_one_batch(rt: HostRuntime) -> Result<(), Fail> {
-    let alloc = rt.alloc();
-    let round = round_of(alloc, &[(0, 15), (3, 15)])?;
-    let book = Book::of_round(alloc, &round)?;
     let mut tx = MemorySink::<400>::new(64, u64::MAX);
     let mut cert = MemorySink::<100>::new(64, u64::MAX);
-    let always = Search {
-        limit: 1,
-        end: End::Open,
-        on_limit: OnLimit::Always,
-    };
-    let bounded = book.bounded_stream(&mut tx, &mut cert, always)?;
-    same!(rt; (bounded.plan.batches, bounded.bound), (3, 2));
+    let book = book_of(&rt, rt.alloc(), &[(0, 15), (3, 15)])?;
+    let sent = send(
+        &book,
+        search(1, End::Open, OnLimit::Always),
+        &mut tx,
+        &mut cert,
+    )?;
+    same!(rt; sent, (3, 2));
     same!(rt; tx.bytes().len(), 72 + 3 * 68);
     same!(rt; cert.bytes().starts_with(b"PCB2\0\0\0\0\x02\0"), true);
-    let empty = Book::new(alloc);
-    let none = empty.bounded_stream(&mut tx, &mut cert, always);
-    assert!(rt; matches!(none, Err(StreamFault::Round(RoundFault::NoPages))));
-    let unlimited = Search { limit: 0, ..always };
-    let none = empty.bounded_stream(&mut tx, &mut cert, unlimited);
-    assert!(rt; matches!(none, Err(StreamFault::Plan(PlanFault::BadLimit))));
-    let none = empty.plan(0, End::Open);
-    assert!(rt; matches!(none, Err(BookFault::Plan(PlanFault::BadLimit))));
+    expect_no_pages(&rt, &Book::new(rt.alloc()));
     Ok(())
 }
 
@@ -185,17 +263,11 @@ fn full_books(rt: HostRuntime) -> Result<(), Fail> {
     let alloc = rt.alloc();
     let mut book = Book::new(alloc);
     for address in 0..20_000 {
-        book.add(page(alloc, address, 0, &[])?)?;
+        expect_added(&rt, alloc, &mut book, (address, 0, &[]), None)?;
     }
     same!(rt; book.len(), 20_000);
-    for (address, due) in [
-        (20_000, AddFault::Full),
-        (19_999, AddFault::DuplicateAddress),
-    ] {
-        match book.add(page(alloc, address, 0, &[])?) {
-            Ok(()) => assert!(rt; false, "{address} is added"),
-            Err(refused) => same!(rt; refused.fault, due),
-        }
-    }
+    let (full, twice) = (AddFault::Full, AddFault::DuplicateAddress);
+    expect_added(&rt, alloc, &mut book, (20_000, 0, &[]), Some(full))?;
+    expect_added(&rt, alloc, &mut book, (19_999, 0, &[]), Some(twice))?;
     Ok(())
 }

@@ -1,14 +1,15 @@
 //! The decoder and the listing.
 
 use crate::given::{
-    ACROSS, DIGITS, IDLE, LONE_TONE, ONES, PageRow, SECOND, SYNC, Sent, TIGHT, bytes_of, cut,
-    pages, transmission,
+    ACROSS, DIGITS, IDLE, LONE_TONE, ONES, PageRow, SECOND, SYNC, Sent, TIGHT, cut, pages,
+    transmission,
 };
 use crate::same;
 use pocsag_decode::{DecodeFault, Decoder, ListFault, decode, list, repair_all};
-use pocsag_text::pack_alpha;
-use pocsag_words::{MemorySink, OutOfMemory, address_word, message_word};
+use pocsag_pages::Page;
+use pocsag_words::{MemorySink, OutOfMemory};
 use std::alloc::Global;
+use std::process::Abort;
 use std::test::Fail;
 
 const FIRST_ORPHAN: Sent = (16, IDLE, &[(1, DIGITS)]);
@@ -31,8 +32,10 @@ const LAST_FRAME: &[PageRow] = &[(7, 0, &[0x84C2A]), (15, 0, &[0x84C2A])];
 // The numeric text `12`, filled with spaces.
 const TWO_DIGITS: Sent = (16, IDLE, &[(0, 0), (1, 0xC219_9DEA)]);
 
+type Wanted = Result<&'static [PageRow], DecodeFault>;
+
 // Codewords, the first so many of their bytes, and the pages or the first fault.
-const DECODED: &[(Sent, usize, Result<&[PageRow], DecodeFault>)] = &[
+const DECODED: &[(Sent, usize, Wanted)] = &[
     (LONE_TONE, 140, Ok(&[(8, 0, &[])])),
     (LONE_TONE, 139, Err(DecodeFault::Truncated)),
     (LONE_TONE, 72, Err(DecodeFault::NoBatch)),
@@ -54,20 +57,42 @@ const DECODED: &[(Sent, usize, Result<&[PageRow], DecodeFault>)] = &[
     ),
 ];
 
-#[test]
-fn transmissions(rt: HostRuntime) -> Result<(), Fail> {
-    let alloc = rt.alloc();
-    for (sent, len, wanted) in DECODED {
-        let bytes = transmission(alloc, *sent)?;
-        match (decode(alloc, cut(bytes.as_slice(), *len)), wanted) {
-            (Ok(told), Ok(rows)) => {
-                let due = pages(alloc, rows)?;
-                same!(rt; told.as_slice(), due.as_slice(), sent);
-            }
-            (told, wanted) => same!(rt; told.err(), wanted.err(), (sent, len)),
-        }
+// The bytes of `LONE_TONE`.
+fn lone_tone(alloc: Global) -> Result<Vec<u8>, OutOfMemory> {
+    transmission(alloc, LONE_TONE)
+}
+
+// Decodes bytes one by one, with an empty piece behind each.
+fn decode_by_byte(alloc: Global, bytes: &[u8]) -> Result<Vec<Page>, DecodeFault> {
+    let mut decoder = Decoder::new(alloc);
+    for byte in bytes {
+        decoder.feed(&[*byte])?;
+        decoder.feed(&[])?;
     }
-    let bytes = transmission(alloc, TIGHT)?;
+    decoder.finish()
+}
+
+fn expect_decoded(
+    rt: &impl Abort,
+    alloc: Global,
+    bytes: &[u8],
+    wanted: &Wanted,
+    sent: &Sent,
+) -> Result<(), OutOfMemory> {
+    let due = match wanted {
+        Ok(rows) => Ok(pages(alloc, rows)?),
+        Err(fault) => Err(*fault),
+    };
+    same!(rt; decode(alloc, bytes), due, sent);
+    same!(rt; decode_by_byte(alloc, bytes), due, sent);
+    Ok(())
+}
+
+fn fault_of(alloc: Global, bytes: &[u8]) -> Option<DecodeFault> {
+    decode(alloc, bytes).err()
+}
+
+fn expect_cuts(rt: &impl Abort, alloc: Global, bytes: &[u8]) {
     same!(rt; bytes.len(), 208);
     for n in 0..208 {
         let due = match n {
@@ -76,17 +101,38 @@ fn transmissions(rt: HostRuntime) -> Result<(), Fail> {
             140 => None,
             _ => Some(DecodeFault::Truncated),
         };
-        same!(rt; decode(alloc, cut(bytes.as_slice(), n)).err(), due, n);
+        same!(rt; fault_of(alloc, cut(bytes, n)), due, n);
     }
+}
+
+#[test]
+fn transmissions(rt: HostRuntime) -> Result<(), Fail> {
+    let alloc = rt.alloc();
+    for (sent, len, wanted) in DECODED {
+        let bytes = transmission(alloc, *sent)?;
+        expect_decoded(&rt, alloc, cut(bytes.as_slice(), *len), wanted, sent)?;
+    }
+    let bytes = transmission(alloc, TIGHT)?;
+    expect_cuts(&rt, alloc, bytes.as_slice());
     Ok(())
+}
+
+fn fault_of_wrong_bit(
+    alloc: Global,
+    place: usize,
+    bit: u32,
+) -> Result<Option<DecodeFault>, OutOfMemory> {
+    let mut bytes = lone_tone(alloc)?;
+    if let Some(byte) = bytes.get_mut(place) {
+        *byte ^= 1u8 << bit % 8;
+    }
+    Ok(fault_of(alloc, bytes.as_slice()))
 }
 
 // One wrong bit in each byte of a transmission.
 #[test]
 fn wrong_bits(rt: HostRuntime) -> Result<(), Fail> {
     let alloc = rt.alloc();
-    let mut bytes = transmission(alloc, LONE_TONE)?;
-    assert!(rt; bytes.len() == 140);
     for place in 0..140usize {
         let due = match place {
             0..=71 => DecodeFault::ShortPreamble,
@@ -95,68 +141,63 @@ fn wrong_bits(rt: HostRuntime) -> Result<(), Fail> {
         };
         // The synchronisation codeword is tried with its last bit wrong too.
         for bit in [place as u32 % 8, 0] {
-            let right = bytes[place];
-            bytes[place] = right ^ 1u8 << bit;
-            same!(rt; decode(alloc, bytes.as_slice()).err(), Some(due), place);
-            bytes[place] = right;
+            same!(rt; fault_of_wrong_bit(alloc, place, bit)?, Some(due), place);
         }
     }
     Ok(())
 }
 
 // What is wrong in each of the first words behind the preamble, what is repaired of it, and the fault that is left.
-const REPAIRED: [([u32; 5], u64, u64, Option<DecodeFault>); 5] = [
-    ([0, 0, 0, 0, 0], 0, 0, None),
-    ([0x8000_0001, 0x4000_0000, 3, 0, 1], 4, 6, None),
-    ([7, 0, 0, 0, 0], 0, 0, Some(DecodeFault::NoSync(0))),
-    ([1, 7, 0, 1, 0], 2, 2, Some(DecodeFault::BadWord(0))),
+type Repair = (&'static [u32], u64, u64, Option<DecodeFault>);
+
+const REPAIRED: &[Repair] = &[
+    (&[], 0, 0, None),
+    (&[0x8000_0001, 0x4000_0000, 3, 0, 1], 4, 6, None),
+    (&[7], 0, 0, Some(DecodeFault::NoSync(0))),
+    (&[1, 7, 0, 1], 2, 2, Some(DecodeFault::BadWord(0))),
     // An idle codeword, with one bit wrong, in place of the synchronisation codeword.
-    (
-        [SYNC ^ IDLE ^ 1, 0, 0, 0, 0],
-        0,
-        0,
-        Some(DecodeFault::NoSync(0)),
-    ),
+    (&[SYNC ^ IDLE ^ 1], 0, 0, Some(DecodeFault::NoSync(0))),
 ];
 
-#[test]
-fn repairs(rt: HostRuntime) -> Result<(), Fail> {
-    let alloc = rt.alloc();
-    for (wrong, words, bits, fault) in REPAIRED {
-        let right = transmission(alloc, LONE_TONE)?;
-        let mut bytes = transmission(alloc, LONE_TONE)?;
-        // Bytes that are no whole word stay.
-        bytes.extend_from_slice(b"end")?;
-        for (place, flipped) in wrong.iter().enumerate() {
-            for (byte, bits) in flipped.to_be_bytes().iter().enumerate() {
-                if let Some(sent) = bytes.get_mut(72 + 4 * place + byte) {
-                    *sent ^= *bits;
-                }
+// Makes these bits wrong in the words behind the preamble.
+fn flip(bytes: &mut [u8], wrong: &[u32]) {
+    for (place, bits) in wrong.iter().enumerate() {
+        for (byte, flipped) in bits.to_be_bytes().iter().enumerate() {
+            if let Some(sent) = bytes.get_mut(72 + 4 * place.min(100) + byte) {
+                *sent ^= *flipped;
             }
         }
-        let told = repair_all(bytes.as_mut_slice());
-        same!(rt; (told.words, told.bits), (words, bits), wrong);
-        same!(rt; decode(alloc, cut(bytes.as_slice(), 140)).err(), fault, wrong);
-        if fault.is_none() {
-            same!(rt; cut(bytes.as_slice(), 140), right.as_slice(), wrong);
-        }
-        same!(rt; bytes.as_slice().ends_with(b"end"), true, wrong);
+    }
+}
+
+// Repairs a lone tone with bits that are wrong, behind which are bytes that are no whole word.
+fn expect_repaired(
+    rt: &impl Abort,
+    alloc: Global,
+    bytes: &mut [u8],
+    repair: &Repair,
+) -> Result<(), Fail> {
+    let (wrong, words, bits, fault) = repair;
+    let told = repair_all(bytes);
+    let found = (told.words, told.bits, fault_of(alloc, cut(bytes, 140)));
+    same!(rt; found, (*words, *bits, *fault), wrong);
+    same!(rt; bytes.ends_with(b"end"), true, wrong);
+    if fault.is_none() {
+        let right = lone_tone(alloc)?;
+        same!(rt; cut(bytes, 140), right.as_slice(), wrong);
     }
     Ok(())
 }
 
 #[test]
-fn bytes_one_by_one(rt: HostRuntime) -> Result<(), Fail> {
+fn repairs(rt: HostRuntime) -> Result<(), Fail> {
     let alloc = rt.alloc();
-    let bytes = transmission(alloc, ACROSS)?;
-    let mut decoder = Decoder::new(alloc);
-    for byte in bytes.as_slice() {
-        decoder.feed(&[*byte])?;
-        decoder.feed(&[])?;
+    for repair in REPAIRED {
+        let mut bytes = lone_tone(alloc)?;
+        flip(bytes.as_mut_slice(), repair.0);
+        bytes.extend_from_slice(b"end")?;
+        expect_repaired(&rt, alloc, bytes.as_mut_slice(), repair)?;
     }
-    let told = decoder.finish()?;
-    let due = pages(alloc, &[(7, 0, &[0x84C2A])])?;
-    same!(rt; told.as_slice(), due.as_slice());
     Ok(())
 }
 
@@ -180,66 +221,78 @@ fn an_orphan_in_pieces(rt: HostRuntime) -> Result<(), Fail> {
 #[test]
 fn a_short_transmission_in_pieces(rt: HostRuntime) -> Result<(), Fail> {
     let alloc = rt.alloc();
-    let bytes = transmission(alloc, LONE_TONE)?;
+    let bytes = lone_tone(alloc)?;
     let short = cut(bytes.as_slice(), 139);
     let (first, second) = short.split_at(short.len().min(79));
     let mut decoder = Decoder::new(alloc);
-    decoder.feed(first)?;
-    decoder.feed(second)?;
-    same!(rt; decoder.finish().err(), Some(DecodeFault::Truncated));
-    same!(rt; decoder.finish().err(), Some(DecodeFault::Failed));
-    same!(rt; decoder.feed(&[]).err(), Some(DecodeFault::Failed));
+    let told = [
+        decoder.feed(first).err(),
+        decoder.feed(second).err(),
+        decoder.finish().err(),
+        decoder.finish().err(),
+        decoder.feed(&[]).err(),
+    ];
+    let failed = Some(DecodeFault::Failed);
+    same!(rt; told, [None, None, Some(DecodeFault::Truncated), failed, failed]);
     Ok(())
 }
 
 // Pages of functions 1 to 3: the message of the second goes across a batch, the third is `a,b`.
-fn kinds(alloc: Global, letters: &[u32]) -> Result<Vec<u8>, OutOfMemory> {
-    let mut words = [IDLE; 32];
-    words[0] = address_word(1, 2).raw();
-    words[14] = address_word(262_143, 1).raw();
-    words[15] = DIGITS;
-    words[16] = message_word(0xF).raw();
-    words[18] = address_word(0, 3).raw();
-    for (place, item) in letters.iter().enumerate() {
-        if place < 2 {
-            words[19 + place] = message_word(*item % 1_048_576).raw();
-        }
-    }
-    bytes_of(alloc, &words)
-}
+const KINDS: Sent = (
+    32,
+    IDLE,
+    &[
+        (0, 0x0000_359A),
+        (14, 0x7FFF_EBE0),
+        (15, DIGITS),
+        (16, 0x8000_7F2B),
+        (18, 0x0000_1DA5),
+        (19, 0xC334_8DB6),
+        (20, 0xC000_04DC),
+    ],
+);
 
 const KINDS_LISTED: &[u8] =
     b"address,kind,message\n8,tone2,\n2097151,data1,84C2A0000F\n1,alpha,\"a,b\"\n";
 
 const ACROSS_LISTED: &[u8] = b"address,kind,message\n7,numeric,12345\n";
 
+// Codewords and the listing of their pages.
+const LISTED: &[(Sent, &[u8])] = &[
+    (TWO_DIGITS, b"address,kind,message\n0,numeric,12\n"),
+    (ACROSS, ACROSS_LISTED),
+    (KINDS, KINDS_LISTED),
+];
+
+// Lists pages to sinks that take all of the listing, or its first so many bytes and then fail.
+fn expect_listed(
+    rt: &impl Abort,
+    alloc: Global,
+    bytes: &[u8],
+    listing: &[u8],
+) -> Result<(), DecodeFault> {
+    let pages = decode(alloc, bytes)?;
+    for step in [1, 3, 64] {
+        for k in 0..128 {
+            let mut sink = MemorySink::<128>::new(step, k as u64);
+            let due = if k < listing.len() {
+                Some(ListFault::WriteFault)
+            } else {
+                None
+            };
+            same!(rt; list(alloc, pages.as_slice(), &mut sink).err(), due, k);
+            same!(rt; sink.bytes(), cut(listing, k));
+        }
+    }
+    Ok(())
+}
+
 #[test]
 fn listings(rt: HostRuntime) -> Result<(), Fail> {
     let alloc = rt.alloc();
-    let letters = pack_alpha(alloc, b"a,b")?;
-    for (bytes, listing) in [
-        (
-            transmission(alloc, TWO_DIGITS)?,
-            b"address,kind,message\n0,numeric,12\n".as_slice(),
-        ),
-        (transmission(alloc, ACROSS)?, ACROSS_LISTED),
-        (kinds(alloc, letters.as_slice())?, KINDS_LISTED),
-    ] {
-        let pages = decode(alloc, bytes.as_slice())?;
-        for step in [1, 64] {
-            let mut sink = MemorySink::<128>::new(step, listing.len() as u64);
-            list(alloc, pages.as_slice(), &mut sink)?;
-            same!(rt; sink.bytes(), listing);
-        }
-    }
-    let pages = decode(alloc, transmission(alloc, ACROSS)?.as_slice())?;
-    for k in 0..37 {
-        for step in [3, 64] {
-            let mut sink = MemorySink::<64>::new(step, k as u64);
-            let told = list(alloc, pages.as_slice(), &mut sink);
-            same!(rt; told.err(), Some(ListFault::WriteFault), k);
-            same!(rt; sink.bytes(), cut(ACROSS_LISTED, k));
-        }
+    for (sent, listing) in LISTED {
+        let bytes = transmission(alloc, *sent)?;
+        expect_listed(&rt, alloc, bytes.as_slice(), listing)?;
     }
     Ok(())
 }

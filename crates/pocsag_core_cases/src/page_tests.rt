@@ -1,14 +1,17 @@
 //! Page files, rounds and pages.
 
-use crate::given::{PageRow, page, page_file, pages, tones};
-use crate::{THREE_PAGES_TIGHT, ones, same};
+ghost use Rattle.std.specs.Prelude.{◌≤◌};
+
+use crate::given::{PageRow, page, pages, tones};
+use crate::{THREE_PAGES_TIGHT, round_of, same};
 use pocsag_pages::{
-    FieldFault, PageFault, Payload, RecordFault, Round, RoundFault, WholeFault,
+    FieldFault, Page, PageFault, Payload, RecordFault, Round, RoundFault, WholeFault,
     is_reserved_address, only_row, page_fault, page_of_fields, preamble_len, read_round,
     read_whole,
 };
 use pocsag_words::{MemorySource, OutOfMemory};
 use std::alloc::Global;
+use std::process::Abort;
 use std::test::Fail;
 
 // What stands behind the header, and the pages.
@@ -27,87 +30,149 @@ const READ: &[(&[u8], &[PageRow])] = &[
     (b"2007663,tone0,\n", &[(2_007_663, 0, &[])]),
 ];
 
-// What stands behind the header, and the record with a fault in a field.
-const BAD_FIELDS: &[(&[u8], u32, FieldFault)] = &[
-    (b"2007664,tone0,\n", 1, FieldFault::ReservedAddress),
-    (b"2097152,tone0,\n", 1, FieldFault::BadAddress),
-    (b"7,Tone0,\n", 1, FieldFault::BadKind),
-    (b"7,tone1,x\n", 1, FieldFault::MessageForTone),
-    (b"7,alpha,\n", 1, FieldFault::EmptyMessage),
-    (b"7,numeric,12a\n", 1, FieldFault::BadCharacter(2)),
-    (b"\n8,tone0,\n\r\n\n9,tone9,\n", 2, FieldFault::BadKind),
-];
-
-// The same of other faults.
-const REFUSED: &[(&[u8], u32, RecordFault)] = &[
+// What stands behind the header, how many digits 1 follow, and the fault of the file.
+const REFUSED: &[(&[u8], usize, RoundFault)] = &[
+    (b"", 0, RoundFault::NoPages),
+    (
+        b"2007664,tone0,\n",
+        0,
+        RoundFault::Record(1, RecordFault::Field(FieldFault::ReservedAddress)),
+    ),
+    (
+        b"2097152,tone0,\n",
+        0,
+        RoundFault::Record(1, RecordFault::Field(FieldFault::BadAddress)),
+    ),
+    (
+        b"7,Tone0,\n",
+        0,
+        RoundFault::Record(1, RecordFault::Field(FieldFault::BadKind)),
+    ),
+    (
+        b"7,tone1,x\n",
+        0,
+        RoundFault::Record(1, RecordFault::Field(FieldFault::MessageForTone)),
+    ),
+    (
+        b"7,alpha,\n",
+        0,
+        RoundFault::Record(1, RecordFault::Field(FieldFault::EmptyMessage)),
+    ),
+    (
+        b"7,numeric,12a\n",
+        0,
+        RoundFault::Record(1, RecordFault::Field(FieldFault::BadCharacter(2))),
+    ),
+    (
+        b"7,numeric,",
+        4_001,
+        RoundFault::Record(1, RecordFault::Field(FieldFault::TooLong)),
+    ),
+    (
+        b"\n8,tone0,\n\r\n\n9,tone9,\n",
+        0,
+        RoundFault::Record(2, RecordFault::Field(FieldFault::BadKind)),
+    ),
     (
         b"8,tone0,\n0000008,tone1,\n",
-        2,
-        RecordFault::DuplicateAddress,
+        0,
+        RoundFault::Record(2, RecordFault::DuplicateAddress),
     ),
     (
         b"8,tone0,\n16,tone0,\n8,tone1,\n",
-        3,
-        RecordFault::DuplicateAddress,
+        0,
+        RoundFault::Record(3, RecordFault::DuplicateAddress),
     ),
-    (b"7,tone0\n", 1, RecordFault::FieldCount),
+    (
+        b"7,tone0\n",
+        0,
+        RoundFault::Record(1, RecordFault::FieldCount),
+    ),
 ];
 
 // Without the header.
-const UNHEADED: [&[u8]; 2] = [b"", b"8,tone0,\n"];
+const UNHEADED: &[&[u8]] = &[b"", b"8,tone0,\n"];
 
-// The header with these bytes and so many digits 1 behind it.
-fn file_of(alloc: Global, records: &[u8], ones: usize) -> Result<Vec<u8>, OutOfMemory> {
-    let mut bytes = Vec::from_slice(alloc, b"address,kind,message\n".as_slice())?;
-    bytes.extend_from_slice(records)?;
-    bytes.extend_from_slice(vec![in alloc; b'1'; ones]?.as_slice())?;
+// These bytes, then one byte so many times, then more bytes.
+fn joined(
+    alloc: Global,
+    before: &[u8],
+    byte: u8,
+    count: usize,
+    behind: &[u8],
+) -> Result<Vec<u8>, OutOfMemory> {
+    let mut bytes = Vec::from_slice(alloc, before)?;
+    let len = before.len().saturating_add(count);
+    bytes.resize(len, byte)?;
+    bytes.extend_from_slice(behind)?;
     Ok(bytes)
 }
 
+// The header with these bytes and so many digits 1 behind it.
+fn file_of(alloc: Global, records: &[u8], ones: usize) -> Result<Vec<u8>, OutOfMemory> {
+    let mut file = Vec::from_slice(alloc, b"address,kind,message\n")?;
+    file.extend_from_slice(records)?;
+    let len = file.len().saturating_add(ones);
+    file.resize(len, b'1')?;
+    Ok(file)
+}
+
+// The round of a file that is read by so many bytes, from a device that lasts for so many.
+fn read_file(alloc: Global, file: &[u8], step: usize, lasting: u64) -> Result<Round, RoundFault>
+    requires { 1 ≤ step }
+{
+    read_round(alloc, &mut MemorySource::new(file, step, lasting))
+}
+
 fn read_records(alloc: Global, records: &[u8], ones: usize) -> Result<Round, RoundFault> {
-    let bytes = file_of(alloc, records, ones)?;
-    read_round(alloc, &mut MemorySource::new(bytes.as_slice(), 7, u64::MAX))
+    let file = file_of(alloc, records, ones)?;
+    read_file(alloc, file.as_slice(), 7, u64::MAX)
+}
+
+fn expect_pages(
+    rt: &impl Abort,
+    round: Result<Round, RoundFault>,
+    due: Result<Vec<Page>, OutOfMemory>,
+) {
+    let round = round.expect(rt, "a round");
+    let due = due.expect(rt, "memory");
+    same!(rt; round.pages(), due.as_slice());
 }
 
 #[test]
-fn page_files(rt: HostRuntime) -> Result<(), Fail> {
+fn page_files(rt: HostRuntime) {
     let alloc = rt.alloc();
     for (records, rows) in READ {
-        let due = pages(alloc, rows)?;
-        same!(rt; read_records(alloc, records, 0)?.pages(), due.as_slice(), records);
+        expect_pages(&rt, read_records(alloc, records, 0), pages(alloc, rows));
     }
-    for (records, number, fault) in BAD_FIELDS {
-        let due = RoundFault::Record(*number, RecordFault::Field(*fault));
-        same!(rt; read_records(alloc, records, 0).err(), Some(due), records);
+    for (records, ones, fault) in REFUSED {
+        same!(rt; read_records(alloc, records, *ones).err(), Some(*fault), records);
     }
-    for (records, number, fault) in REFUSED {
-        let due = RoundFault::Record(*number, *fault);
-        same!(rt; read_records(alloc, records, 0).err(), Some(due), records);
-    }
-    same!(rt; read_records(alloc, b"", 0).err(), Some(RoundFault::NoPages));
-    let too_long = RoundFault::Record(1, RecordFault::Field(FieldFault::TooLong));
-    same!(rt; read_records(alloc, b"7,numeric,", 4_001).err(), Some(too_long));
-    Ok(())
+}
+
+// The device fails behind so many bytes.
+fn expect_read_fault(rt: &impl Abort, alloc: Global, file: &[u8], place: u64) {
+    let all = read_whole(alloc, &mut MemorySource::new(file, 1, place), 1000);
+    same!(rt; all.err(), Some(WholeFault::ReadFault), place);
+    let round = read_file(alloc, file, 1, place);
+    same!(rt; round.err(), Some(RoundFault::ReadFault), place);
 }
 
 #[test]
-fn page_files_that_cannot_be_read(rt: HostRuntime) -> Result<(), Fail> {
+fn page_files_that_cannot_be_read(rt: HostRuntime) {
     let alloc = rt.alloc();
-    for bytes in UNHEADED {
-        let read = read_round(alloc, &mut MemorySource::new(bytes, 7, u64::MAX));
-        same!(rt; read.err(), Some(RoundFault::BadHeader));
+    for file in UNHEADED {
+        same!(rt; read_file(alloc, file, 7, u64::MAX).err(), Some(RoundFault::BadHeader));
     }
-    let bytes = b"address,kind,message\n8,tone0,".as_slice();
+    let file = b"address,kind,message\n8,tone0,".as_slice();
     for place in 0..30u64 {
-        let all = read_whole(alloc, &mut MemorySource::new(bytes, 1, place), 1000);
-        let round = read_round(alloc, &mut MemorySource::new(bytes, 1, place));
-        same!(rt; all.err(), Some(WholeFault::ReadFault));
-        same!(rt; round.err(), Some(RoundFault::ReadFault));
+        expect_read_fault(&rt, alloc, file, place);
     }
-    let read = read_round(alloc, &mut MemorySource::new(bytes, 1, 30))?;
-    let due = pages(alloc, &[(8, 0, &[])])?;
-    same!(rt; read.pages(), due.as_slice());
-    Ok(())
+    expect_pages(
+        &rt,
+        read_file(alloc, file, 1, 30),
+        pages(alloc, &[(8, 0, &[])]),
+    );
 }
 
 // What stands before more commas than are few, and the fault of the file.
@@ -144,50 +209,87 @@ const BEFORE_COMMAS: &[(&[u8], RoundFault)] = &[
     ),
 ];
 
-#[test]
-fn records_too_wide(rt: HostRuntime) -> Result<(), Fail> {
-    let alloc = rt.alloc();
-    for (before, fault) in BEFORE_COMMAS {
-        let mut bytes = Vec::from_slice(alloc, before)?;
-        bytes.resize(before.len() + 100_001, b',')?;
-        let read = read_round(
-            alloc,
-            &mut MemorySource::new(bytes.as_slice(), 8192, u64::MAX),
-        );
-        same!(rt; read.err(), Some(*fault), before);
-    }
-    Ok(())
+// What stands before and behind so many commas. Each first record has more than three fields, some of them behind a front of
+// 4,194,304 bytes.
+const LONG_FILES: &[(&[u8], usize, &[u8])] = &[
+    (
+        b"address,kind,message\n8,tone0,",
+        5_000_000,
+        b"\n8,tone0,\n",
+    ),
+    (
+        b"address,kind,message\n8,alpha,\"",
+        5_000_000,
+        b"\",\n8,tone0,\n",
+    ),
+    (b"address,kind,message\n", 4_194_283, b""),
+];
+
+// Reads a file with so many commas between these bytes by so many bytes.
+fn read_commas(
+    alloc: Global,
+    before: &[u8],
+    commas: usize,
+    behind: &[u8],
+    step: usize,
+) -> Result<Round, RoundFault>
+    requires { 1 ≤ step }
+{
+    let file = joined(alloc, before, b',', commas, behind)?;
+    read_file(alloc, file.as_slice(), step, u64::MAX)
 }
 
 #[test]
-fn sizes(rt: HostRuntime) -> Result<(), Fail> {
+fn records_too_wide(rt: HostRuntime) {
     let alloc = rt.alloc();
-    let mut bytes = page_file(alloc, &[])?;
-    for address in 0..20_000u32 {
-        bytes.extend_from_slice(format!(in alloc; "{address},tone0,\n")?.as_bytes())?;
+    for (before, due) in BEFORE_COMMAS {
+        let read = read_commas(alloc, before, 100_001, b"", 8192);
+        same!(rt; read.err(), Some(*due), before);
     }
-    let read = read_round(alloc, &mut MemorySource::new(bytes.as_slice(), 7, u64::MAX))?;
-    same!(rt; read.pages().len(), 20_000);
-    bytes.extend_from_slice(b"20000,tone0,\n".as_slice())?;
-    let read = read_round(alloc, &mut MemorySource::new(bytes.as_slice(), 7, u64::MAX));
-    same!(rt; read.err(), Some(RoundFault::Record(20_001, RecordFault::TooManyPages)));
-    let round = Round::from_pages(alloc, tones(alloc, 20_000)?)?;
-    same!(rt; round.pages(), tones(alloc, 20_000)?.as_slice());
-    let fault = Round::from_pages(alloc, tones(alloc, 20_001)?).err();
-    same!(rt; fault, Some(RoundFault::Record(20_001, RecordFault::TooManyPages)));
+    let due = RoundFault::Record(1, RecordFault::FieldCount);
+    for (before, commas, behind) in LONG_FILES {
+        let read = read_commas(alloc, before, *commas, behind, 65_536);
+        same!(rt; read.err(), Some(due), before);
+    }
+}
+
+// The records of so many tones.
+fn tone_records(alloc: Global, count: u32) -> Result<Vec<u8>, OutOfMemory> {
+    let mut records = Vec::new(alloc);
+    for address in 0..count {
+        records.extend_from_slice(format!(in alloc; "{address},tone0,\n")?.as_bytes())?;
+    }
+    Ok(records)
+}
+
+fn read_tones(alloc: Global, count: u32) -> Result<Round, RoundFault> {
+    let records = tone_records(alloc, count)?;
+    read_records(alloc, records.as_slice(), 0)
+}
+
+fn round_of_tones(alloc: Global, count: u32) -> Result<Round, RoundFault> {
+    Round::from_pages(alloc, tones(alloc, count)?)
+}
+
+#[test]
+fn sizes(rt: HostRuntime) {
+    let alloc = rt.alloc();
+    let too_many = Some(RoundFault::Record(20_001, RecordFault::TooManyPages));
+    expect_pages(&rt, read_tones(alloc, 20_000), tones(alloc, 20_000));
+    same!(rt; read_tones(alloc, 20_001).err(), too_many);
+    expect_pages(&rt, round_of_tones(alloc, 20_000), tones(alloc, 20_000));
+    same!(rt; round_of_tones(alloc, 20_001).err(), too_many);
     // Files of 268,435,456 bytes and of one more are read by built programs: with checks it takes minutes.
-    Ok(())
 }
 
 #[test]
-fn bytes_at_the_most(rt: HostRuntime) -> Result<(), Fail> {
+fn bytes_at_the_most(rt: HostRuntime) {
     let alloc = rt.alloc();
-    let bytes = [0xAAu8; 140];
-    let refused = read_whole(alloc, &mut MemorySource::new(&bytes, 9, u64::MAX), 139);
+    let bytes: &[u8] = &[0xAA; 140];
+    let refused = read_whole(alloc, &mut MemorySource::new(bytes, 9, u64::MAX), 139);
     same!(rt; refused.err(), Some(WholeFault::TooLarge));
-    let all = read_whole(alloc, &mut MemorySource::new(&bytes, 9, u64::MAX), 140)?;
-    same!(rt; all.as_slice(), bytes.as_slice());
-    Ok(())
+    let all = read_whole(alloc, &mut MemorySource::new(bytes, 9, u64::MAX), 140);
+    same!(rt; all.expect(&rt, "all bytes").as_slice(), bytes);
 }
 
 // The three fields of a record, and its page or its fault.
@@ -227,153 +329,151 @@ const JUDGED: &[(PageRow, Option<PageFault>)] = &[
     ),
 ];
 
-#[test]
-fn records_and_pages(rt: HostRuntime) -> Result<(), Fail> {
-    let alloc = rt.alloc();
-    for (address, kind, message, wanted) in FIELDS {
-        match (page_of_fields(alloc, address, kind, message), wanted) {
-            (Ok(spelled), Ok((address, function, items))) => {
-                same!(rt; spelled, page(alloc, *address, *function, items)?);
-            }
-            (told, wanted) => same!(rt; told.err(), wanted.err(), (address, kind)),
+fn wanted_page(alloc: Global, row: &Result<PageRow, FieldFault>) -> Result<Page, FieldFault> {
+    match row {
+        Ok((address, function, items)) => {
+            page(alloc, *address, *function, items).or(Err(FieldFault::OutOfMemory))
         }
+        Err(fault) => Err(*fault),
     }
-    Ok(())
 }
 
 #[test]
-fn pages_and_addresses(rt: HostRuntime) -> Result<(), Fail> {
+fn records_and_pages(rt: HostRuntime) {
     let alloc = rt.alloc();
-    for ((address, function, items), fault) in JUDGED {
-        let judged = page(alloc, *address, *function, items)?;
-        same!(rt; page_fault(&judged), *fault, (address, function));
+    for (address, kind, message, row) in FIELDS {
+        let told = page_of_fields(alloc, address, kind, message);
+        same!(rt; told, wanted_page(alloc, row), (address, kind));
     }
-    for (address, is_reserved) in [
-        (2_007_663, false),
-        (2_007_664, true),
-        (2_007_671, true),
-        (2_007_672, false),
-        (2_045_055, false),
-        (2_045_056, true),
-        (2_045_063, true),
-        (2_045_064, false),
-    ] {
-        same!(rt; is_reserved_address(address), is_reserved, address);
-    }
-    Ok(())
 }
 
-#[test]
-fn leading_bytes(rt: HostRuntime) -> Result<(), Fail> {
-    let alloc = rt.alloc();
-    for count in 71..74 {
-        let mut bytes = vec![in alloc; 0xAA; count]?;
-        same!(rt; preamble_len(bytes.as_slice()), count);
-        bytes.push(0x2A)?;
-        same!(rt; preamble_len(bytes.as_slice()), count);
-    }
-    Ok(())
-}
-
-// Rounds of pages, copies and payloads.
-#[test]
-fn rounds_of_pages(rt: HostRuntime) -> Result<(), Fail> {
-    let alloc = rt.alloc();
-    let items: &[u32] = &[0x88888; 15];
-    let tight = [
-        page(alloc, 0, 0, &items[..5])?,
-        page(alloc, 3, 0, &items[..9])?,
-        page(alloc, 11, 0, items)?,
-    ];
-    let mut given = Vec::new(alloc);
-    for (address, count) in THREE_PAGES_TIGHT {
-        given.push(ones(alloc, address, count)?)?;
-    }
-    let round = Round::from_pages(alloc, given)?;
-    same!(rt; round.pages(), tight.as_slice());
-    let mut twice = Vec::new(alloc);
-    for page in round.pages() {
-        twice.push(page.copy(alloc)?)?;
-    }
-    twice.push(page(alloc, 0, 1, &[])?)?;
-    let fault = Round::from_pages(alloc, twice).err();
-    same!(rt; fault, Some(RoundFault::Record(4, RecordFault::DuplicateAddress)));
-    let fault = Round::from_pages(alloc, Vec::new(alloc)).err();
-    same!(rt; fault, Some(RoundFault::NoPages));
-    Ok(())
-}
-
-#[test]
-fn copies_and_payloads(rt: HostRuntime) -> Result<(), Fail> {
-    let alloc = rt.alloc();
-    let tone = page(alloc, 8, 0, &[])?;
-    same!(rt; tone.copy(alloc)?, tone);
-    let digits = page(alloc, 0, 0, &[0x84C2A])?;
-    same!(rt; digits.copy(alloc)?, digits);
-    same!(rt; Payload::empty(alloc), tone.payload);
-    same!(rt; digits.payload.as_slice(), [0x84C2A].as_slice());
-    same!(rt; digits.payload.into_vec().len(), 1);
-    Ok(())
-}
-
-// What stands behind the header, before and behind so many commas. Each first record has more than three fields, some of them
-// behind a front of 4,194,304 bytes.
-const LONG_FILES: &[(&[u8], usize, &[u8])] = &[
-    (b"8,tone0,", 5_000_000, b"\n8,tone0,\n"),
-    (b"8,alpha,\"", 5_000_000, b"\",\n8,tone0,\n"),
-    (b"", 4_194_283, b""),
+// Addresses next to the ends of the reserved ones.
+const RESERVED: &[(u32, bool)] = &[
+    (2_007_663, false),
+    (2_007_664, true),
+    (2_007_671, true),
+    (2_007_672, false),
+    (2_045_055, false),
+    (2_045_056, true),
+    (2_045_063, true),
+    (2_045_064, false),
 ];
 
 #[test]
-fn records_of_a_long_file(rt: HostRuntime) -> Result<(), Fail> {
-    let alloc = rt.alloc();
-    for (before, count, behind) in LONG_FILES {
-        let mut file = Vec::from_slice(alloc, b"address,kind,message\n")?;
-        file.extend_from_slice(before)?;
-        let len = file.len() + count;
-        file.resize(len, b',')?;
-        file.extend_from_slice(behind)?;
-        let mut source = MemorySource::new(file.as_slice(), 65_536, u64::MAX);
-        let fault = read_round(alloc, &mut source)
-            .err()
-            .expect(&rt, "an answer");
-        let text = format!(in alloc; "{fault}")?;
-        same!(rt; text.as_str(), "record 1: three fields are wanted");
+fn pages_and_addresses(rt: HostRuntime) {
+    for ((address, function, items), fault) in JUDGED {
+        let judged = page(rt.alloc(), *address, *function, items).expect(&rt, "memory");
+        same!(rt; page_fault(&judged), *fault, (address, function));
     }
-    Ok(())
+    for (address, is_reserved) in RESERVED {
+        same!(rt; is_reserved_address(*address), *is_reserved, address);
+    }
+}
+
+fn expect_preamble(rt: &impl Abort, alloc: Global, count: usize, behind: &[u8]) {
+    let bytes = joined(alloc, b"", 0xAA, count, behind).expect(rt, "memory");
+    same!(rt; preamble_len(bytes.as_slice()), count);
 }
 
 #[test]
-fn pages_beyond_a_front(rt: HostRuntime) -> Result<(), Fail> {
-    let alloc = rt.alloc();
-    let mut file = Vec::from_slice(alloc, b"address,kind,message\n")?;
-    for number in 0..1_100u32 {
-        let address = number.saturating_mul(8);
-        let begins = format!(in alloc; "{address},alpha,\"")?;
-        file.extend_from_slice(begins.as_bytes())?;
-        let len = file.len() + 4_000;
-        file.resize(len, b',')?;
-        file.extend_from_slice(b"\"\n")?;
+fn leading_bytes(rt: HostRuntime) {
+    for count in 71..74 {
+        expect_preamble(&rt, rt.alloc(), count, b"");
+        expect_preamble(&rt, rt.alloc(), count, b"\x2A");
     }
-    let mut source = MemorySource::new(file.as_slice(), 65_536, u64::MAX);
-    let round = read_round(alloc, &mut source)?;
-    assert!(rt; round.pages().len() == 1_100);
-    same!(rt; round.pages()[1_099].address, 8_792);
-    Ok(())
 }
 
-// Bytes, and the fields of their record, with `|` between them, where they hold one and no more.
+// The pages of `THREE_PAGES_TIGHT`.
+const TIGHT: &[PageRow] = &[
+    (0, 0, &[0x88888; 5]),
+    (3, 0, &[0x88888; 9]),
+    (11, 0, &[0x88888; 15]),
+];
+
+// The same, and one more of address 0.
+const TWICE: &[PageRow] = &[
+    (0, 0, &[0x88888; 5]),
+    (3, 0, &[0x88888; 9]),
+    (11, 0, &[0x88888; 15]),
+    (0, 1, &[]),
+];
+
+fn round_of_rows(alloc: Global, rows: &[PageRow]) -> Result<Round, RoundFault> {
+    Round::from_pages(alloc, pages(alloc, rows)?)
+}
+
+#[test]
+fn rounds_of_pages(rt: HostRuntime) {
+    let alloc = rt.alloc();
+    expect_pages(
+        &rt,
+        round_of(alloc, &THREE_PAGES_TIGHT),
+        pages(alloc, TIGHT),
+    );
+    let fault = RoundFault::Record(4, RecordFault::DuplicateAddress);
+    same!(rt; round_of_rows(alloc, TWICE).err(), Some(fault));
+    same!(rt; round_of_rows(alloc, &[]).err(), Some(RoundFault::NoPages));
+}
+
+fn expect_copy(rt: &impl Abort, alloc: Global, page: Result<Page, OutOfMemory>, items: &[u32]) {
+    let page = page.expect(rt, "memory");
+    same!(rt; page.copy(alloc).expect(rt, "memory"), page);
+    same!(rt; page.payload.as_slice(), items);
+    same!(rt; page.payload.into_vec().len(), items.len());
+}
+
+const COPIED: &[PageRow] = &[
+    (8, 0, &[]),
+    (0, 0, &[0x84C2A]),
+    (0, 0, &[0x88888; 5]),
+    (3, 0, &[0x88888; 9]),
+    (11, 0, &[0x88888; 15]),
+];
+
+#[test]
+fn copies_and_payloads(rt: HostRuntime) {
+    let alloc = rt.alloc();
+    for (address, function, items) in COPIED {
+        let page = page(alloc, *address, *function, items);
+        expect_copy(&rt, alloc, page, items);
+    }
+    let none = Payload::from_vec(Vec::new(alloc));
+    same!(rt; Payload::empty(alloc), none);
+}
+
+// A page file of pages of 4,000 commas each, at so many addresses that are multiples of 8.
+fn comma_file(alloc: Global, count: u32) -> Result<Vec<u8>, OutOfMemory> {
+    let mut file = Vec::from_slice(alloc, b"address,kind,message\n")?;
+    for number in 0..count {
+        let address = number.saturating_mul(8);
+        file.extend_from_slice(format!(in alloc; "{address},alpha,\"")?.as_bytes())?;
+        file.extend_from_slice(&[b','; 4_000])?;
+        file.extend_from_slice(b"\"\n")?;
+    }
+    Ok(file)
+}
+
+#[test]
+fn pages_beyond_a_front(rt: HostRuntime) {
+    let file = comma_file(rt.alloc(), 1_100).expect(&rt, "memory");
+    let round = read_file(rt.alloc(), file.as_slice(), 65_536, u64::MAX).expect(&rt, "a round");
+    assert!(rt; round.pages().len() == 1_100);
+    same!(rt; round.pages()[1_099].address, 8_792);
+}
+
+// Bytes, and the fields of their record, where they hold one and no more. Each field is followed by `|`, so that the number
+// of fields shows.
 const LONE_ROWS: &[(&[u8], Option<&[u8]>)] = &[
     // Lines with nothing on them are no records, wherever they stand.
     (b"", None),
     (b"\r", None),
     (b"\r\n", None),
     (b"\n\n\r\r\n", None),
-    (b"list", Some(b"list")),
-    (b"list\r", Some(b"list")),
-    (b"list\n", Some(b"list")),
-    (b"\r\n\n\ra,b\n\n\r\r\n", Some(b"a|b")),
-    (b" \n", Some(b" ")),
+    (b"list", Some(b"list|")),
+    (b"list\r", Some(b"list|")),
+    (b"list\n", Some(b"list|")),
+    (b"\r\n\n\ra,b\n\n\r\r\n", Some(b"a|b|")),
+    (b" \n", Some(b" |")),
     // Two records.
     (b"a\nb", None),
     (b"a\rb", None),
@@ -382,58 +482,65 @@ const LONE_ROWS: &[(&[u8], Option<&[u8]>)] = &[
     (b"a\n,", None),
     (b"a\n\"", None),
     // Empty fields.
-    (b",", Some(b"|")),
-    (b"a,", Some(b"a|")),
-    (b"a,\r\n", Some(b"a|")),
-    (b",a", Some(b"|a")),
-    (b",,\n", Some(b"||")),
-    (b"\"\"", Some(b"")),
-    (b"\"\",\"\"", Some(b"|")),
+    (b",", Some(b"||")),
+    (b"a,", Some(b"a||")),
+    (b"a,\r\n", Some(b"a||")),
+    (b",a", Some(b"|a|")),
+    (b",,\n", Some(b"|||")),
+    (b"\"\"", Some(b"|")),
+    (b"\"\",\"\"", Some(b"||")),
     // Quotes around a field.
-    (b"a,,\"b, \"\"c\"\"\"\r\n", Some(b"a||b, \"c\"")),
-    (b"\"a\nb\"", Some(b"a\nb")),
-    (b"\"a\r\n\r\n,b\",c", Some(b"a\r\n\r\n,b|c")),
-    (b"\"\"\"\"", Some(b"\"")),
-    (b"\"\"\"a\"\"\"\"b\"", Some(b"\"a\"\"b")),
+    (b"a,,\"b, \"\"c\"\"\"\r\n", Some(b"a||b, \"c\"|")),
+    (b"\"a\nb\"", Some(b"a\nb|")),
+    (b"\"a\r\n\r\n,b\",c", Some(b"a\r\n\r\n,b|c|")),
+    (b"\"\"\"\"", Some(b"\"|")),
+    (b"\"\"\"a\"\"\"\"b\"", Some(b"\"a\"\"b|")),
     // Quotes that do not begin a field are bytes of it.
-    (b"a\"b", Some(b"a\"b")),
-    (b"a\"\"b,\"c\"", Some(b"a\"\"b|c")),
-    (b" \"a\"", Some(b" \"a\"")),
-    (b"a\",b\"\n", Some(b"a\"|b\"")),
+    (b"a\"b", Some(b"a\"b|")),
+    (b"a\"\"b,\"c\"", Some(b"a\"\"b|c|")),
+    (b" \"a\"", Some(b" \"a\"|")),
+    (b"a\",b\"\n", Some(b"a\"|b\"|")),
     // Bytes behind a closing quote join the field.
-    (b"\"a\"b", Some(b"ab")),
-    (b"\"a\" ,b", Some(b"a |b")),
-    (b"\"a,\"b\"c\",d\n", Some(b"a,b\"c\"|d")),
+    (b"\"a\"b", Some(b"ab|")),
+    (b"\"a\" ,b", Some(b"a |b|")),
+    (b"\"a,\"b\"c\",d\n", Some(b"a,b\"c\"|d|")),
     // A quote that none closes holds all that is left.
-    (b"\"", Some(b"")),
-    (b"a,\"b,c\n", Some(b"a|b,c\n")),
-    (b"\"a\"\"", Some(b"a\"")),
+    (b"\"", Some(b"|")),
+    (b"a,\"b,c\n", Some(b"a|b,c\n|")),
+    (b"\"a\"\"", Some(b"a\"|")),
     // One byte order mark, at the start alone.
     (b"\xef\xbb\xbf", None),
     (b"\xef\xbb\xbf\r\n", None),
-    (b"\xef\xbb\xbfa,b", Some(b"a|b")),
-    (b"\xef\xbb\xbf\"a,b\"", Some(b"a,b")),
-    (b"\xef\xbb\xbf\xef\xbb\xbf", Some(b"\xef\xbb\xbf")),
-    (b"\n\xef\xbb\xbfa", Some(b"\xef\xbb\xbfa")),
-    (b"\xef\xbb", Some(b"\xef\xbb")),
+    (b"\xef\xbb\xbfa,b", Some(b"a|b|")),
+    (b"\xef\xbb\xbf\"a,b\"", Some(b"a,b|")),
+    (b"\xef\xbb\xbf\xef\xbb\xbf", Some(b"\xef\xbb\xbf|")),
+    (b"\n\xef\xbb\xbfa", Some(b"\xef\xbb\xbfa|")),
+    (b"\xef\xbb", Some(b"\xef\xbb|")),
 ];
 
-#[test]
-fn lone_rows(rt: HostRuntime) -> Result<(), Fail> {
-    let alloc = rt.alloc();
-    for (bytes, fields) in LONE_ROWS {
-        let mut joined = Vec::new(alloc);
-        let row = only_row(alloc, bytes)?;
-        same!(rt; row.is_some(), fields.is_some(), bytes);
-        if let Some(row) = row {
-            for i in 0..row.len() {
-                joined.extend_from_slice(if i > 0 { b"|" } else { b"" })?;
-                joined.extend_from_slice(row.get(i).unwrap_or(b"||"))?;
-            }
-        }
-        same!(rt; joined.as_slice(), fields.unwrap_or(b""), bytes);
+// Whether these bytes hold one record and no more. Its fields are appended, each followed by `|`.
+fn append_fields(fields: &mut Vec<u8>, alloc: Global, bytes: &[u8]) -> Result<bool, OutOfMemory> {
+    let Some(row) = only_row(alloc, bytes)? else {
+        return Ok(false);
+    };
+    for i in 0..row.len() {
+        fields.extend_from_slice(row.get(i).unwrap_or(b"no field"))?;
+        fields.push(b'|')?;
     }
-    Ok(())
+    Ok(true)
+}
+
+fn expect_fields(rt: &impl Abort, alloc: Global, bytes: &[u8], due: Option<&[u8]>) {
+    let mut fields = Vec::new(alloc);
+    let is_alone = append_fields(&mut fields, alloc, bytes).expect(rt, "memory");
+    same!(rt; (is_alone, fields.as_slice()), (due.is_some(), due.unwrap_or(b"")), bytes);
+}
+
+#[test]
+fn lone_rows(rt: HostRuntime) {
+    for (bytes, fields) in LONE_ROWS {
+        expect_fields(&rt, rt.alloc(), bytes, *fields);
+    }
 }
 
 // What stands before and behind so many times one byte, and how often the byte is in the first field.
@@ -447,14 +554,9 @@ const LONG_ROWS: &[(&[u8], u8, usize, &[u8], usize)] = &[
 fn long_rows(rt: HostRuntime) -> Result<(), Fail> {
     let alloc = rt.alloc();
     for (before, byte, count, behind, field_count) in LONG_ROWS {
-        let mut bytes = Vec::from_slice(alloc, before)?;
-        bytes.resize(before.len() + count, *byte)?;
-        bytes.extend_from_slice(behind)?;
-        let row = only_row(alloc, bytes.as_slice())?.expect(&rt, "an answer");
-        let field = vec![in alloc; *byte; *field_count]?;
-        same!(rt; row.len(), 2);
-        same!(rt; row.get(0), Some(field.as_slice()));
-        same!(rt; row.get(1), Some(b"last".as_slice()));
+        let bytes = joined(alloc, before, *byte, *count, behind)?;
+        let fields = joined(alloc, b"", *byte, *field_count, b"|last|")?;
+        expect_fields(&rt, alloc, bytes.as_slice(), Some(fields.as_slice()));
     }
     Ok(())
 }

@@ -1,24 +1,20 @@
 //! Plans of worked examples, as calls and as streams.
-use crate::given::{ONES, Records, Sent, TIGHT, page_file, round_of_file, transmission};
+use crate::given::{ONES, Records, Sent, TIGHT, cut, page_file, round_of_file, transmission};
 use crate::same;
+use pocsag_branch::SearchLimit;
 use pocsag_check::{check, check_open};
-use pocsag_pages::RoundFault;
+use pocsag_pages::{Round, RoundFault};
 use pocsag_plan::{
-    OnLimit, PlanFault, Search, StreamFault, bounded_plan, plan, plan_stream, plan_stream_always,
-    report,
+    BadRate, OnLimit, PlanFault, Search, StreamFault, bounded_plan, plan, plan_stream,
+    plan_stream_always, report,
 };
 use pocsag_tree::{nodes, read_certificate};
 use pocsag_words::{End, MemorySink, MemorySource, OutOfMemory};
 use std::alloc::Global;
+use std::process::Abort;
 use std::test::Fail;
 
 const ONE_TONE: Records = &[("8,tone0,", 0)];
-
-const THREE_TONES: Records = &[("5,tone0,", 0), ("13,tone0,", 0), ("21,tone0,", 0)];
-
-const LAST_FRAME: Records = &[("7,numeric,12345", 0), ("15,numeric,12345", 0)];
-
-const CLOSED_MIXED: Records = &[("0,numeric,", 65), ("7,tone0,", 0), ("15,numeric,", 80)];
 
 const LOOPS_APART: Records = &[("0,numeric,", 75), ("3,numeric,", 75)];
 
@@ -26,57 +22,81 @@ const EXACT: Records = &[("0,numeric,", 25), ("3,numeric,", 45)];
 
 const THREE_TIGHT: Records = &[("0,numeric,", 25), ("3,numeric,", 45), ("11,numeric,", 75)];
 
-const BOTH_WAYS: Records = &[
-    ("0,numeric,", 65),
-    ("7,tone0,", 0),
-    ("15,numeric,", 10),
-    ("1,numeric,", 65),
-];
-
-// Eight pages for which each tree of the promised shape has at least 354,623 nodes.
-const HARD: Records = &[
-    ("5,numeric,", 20),
-    ("8,numeric,", 40),
-    ("20,numeric,", 40),
-    ("25,numeric,", 10),
-    ("39,numeric,", 150),
-    ("46,numeric,", 70),
-    ("50,numeric,", 150),
-    ("57,numeric,", 70),
-];
-
-// Each with its end, its fewest batches and its batches in file order.
-const PLANNED: &[(Records, End, u32, u32)] = &[
-    (ONE_TONE, End::Open, 1, 1),
-    (ONE_TONE, End::Closed, 1, 1),
-    (ONE_TONE, End::Idle, 1, 1),
-    (THREE_TONES, End::Open, 2, 2),
-    (LOOPS_APART, End::Open, 3, 3),
-    (EXACT, End::Open, 1, 1),
-    (EXACT, End::Closed, 2, 1),
-    (EXACT, End::Idle, 2, 1),
-    (THREE_TIGHT, End::Open, 2, 3),
-    (LAST_FRAME, End::Open, 2, 2),
-    (LONG_NUMERIC, End::Open, 4, 4),
-    (LONG_NUMERIC, End::Closed, 5, 4),
-    (CLOSED_MIXED, End::Closed, 2, 2),
-    (BOTH_WAYS, End::Open, 2, 2),
-    (BOTH_WAYS, End::Closed, 3, 2),
-    (BOTH_WAYS, End::Idle, 3, 2),
-];
-
-const LONG_NUMERIC: Records = &[("7,numeric,", 241)];
-
-// Rounds with their codewords and fewest batches.
-const SIZES: [(Records, u32, u32); 3] = [
-    (LONG_NUMERIC, 50, 4),
-    (LOOPS_APART, 32, 3),
-    (THREE_TIGHT, 32, 2),
+// Rounds with their codewords, and by end the fewest batches and those in file order.
+const PLANNED: &[(Records, u32, &[(End, u32, u32)])] = &[
+    (
+        &[("8,tone0,", 0)],
+        1,
+        &[(End::Open, 1, 1), (End::Closed, 1, 1), (End::Idle, 1, 1)],
+    ),
+    (
+        &[("5,tone0,", 0), ("13,tone0,", 0), ("21,tone0,", 0)],
+        3,
+        &[(End::Open, 2, 2)],
+    ),
+    (
+        &[("0,numeric,", 75), ("3,numeric,", 75)],
+        32,
+        &[(End::Open, 3, 3)],
+    ),
+    (
+        &[("0,numeric,", 25), ("3,numeric,", 45)],
+        16,
+        &[(End::Open, 1, 1), (End::Closed, 2, 1), (End::Idle, 2, 1)],
+    ),
+    (
+        &[("0,numeric,", 25), ("3,numeric,", 45), ("11,numeric,", 75)],
+        32,
+        &[(End::Open, 2, 3)],
+    ),
+    (
+        &[("7,numeric,12345", 0), ("15,numeric,12345", 0)],
+        4,
+        &[(End::Open, 2, 2)],
+    ),
+    (
+        &[("7,numeric,", 241)],
+        50,
+        &[(End::Open, 4, 4), (End::Closed, 5, 4)],
+    ),
+    (
+        &[("0,numeric,", 65), ("7,tone0,", 0), ("15,numeric,", 80)],
+        32,
+        &[(End::Closed, 2, 2)],
+    ),
+    (
+        &[
+            ("0,numeric,", 65),
+            ("7,tone0,", 0),
+            ("15,numeric,", 10),
+            ("1,numeric,", 65),
+        ],
+        32,
+        &[(End::Open, 2, 2), (End::Closed, 3, 2), (End::Idle, 3, 2)],
+    ),
 ];
 
 // Rounds with a limit of nodes within which `plan` refuses, and the batches and the bound of the plan that is
 // never refused.
-const LIMITED: [(Records, u32, u32, u32); 2] = [(LOOPS_APART, 1, 3, 2), (HARD, 1_000, 9, 9)];
+const LIMITED: &[(Records, u32, u32, u32)] = &[
+    (&[("0,numeric,", 75), ("3,numeric,", 75)], 1, 3, 2),
+    // Each tree of the promised shape has at least 354,623 nodes.
+    (
+        &[
+            ("5,numeric,", 20),
+            ("8,numeric,", 40),
+            ("20,numeric,", 40),
+            ("25,numeric,", 10),
+            ("39,numeric,", 150),
+            ("46,numeric,", 70),
+            ("50,numeric,", 150),
+            ("57,numeric,", 70),
+        ],
+        1_000,
+        9,
+        9,
+    ),
+];
 
 fn always(limit: u32, end: End) -> Search {
     Search {
@@ -86,31 +106,59 @@ fn always(limit: u32, end: End) -> Search {
     }
 }
 
+// The codewords, the fewest batches, those in file order, and whether the tree proves the fewest.
+fn fewest(alloc: Global, round: &Round, end: End) -> Result<(u32, u32, u32, bool), PlanFault> {
+    let plan = plan(alloc, round, 100_000, end)?;
+    let is_proved = check(round, plan.batches, &plan.tree, end);
+    Ok((plan.codewords, plan.batches, plan.in_order, is_proved))
+}
+
+// Between which batches a search stopped, after how many nodes, and whether its tree proves the least.
+type Stop = (u32, u32, u64, bool);
+
+fn stop_of(round: &Round, stopped: &Option<SearchLimit>, end: End) -> Option<Stop> {
+    let Some(stop) = stopped else {
+        return None;
+    };
+    let is_proved = check_open(round, stop.found, &stop.tree, end);
+    Some((stop.least, stop.found, nodes(&stop.tree), is_proved))
+}
+
+// The batches, the bound, whether the tree proves the bound, and where the search stopped.
+type Bounded = (u32, u32, bool, Option<Stop>);
+
+fn bounded(alloc: Global, round: &Round, search: Search) -> Result<Bounded, PlanFault> {
+    let told = bounded_plan(alloc, round, search)?;
+    let is_proved = check(round, told.bound, &told.plan.tree, search.end);
+    let stop = stop_of(round, &told.stopped, search.end);
+    Ok((told.plan.batches, told.bound, is_proved, stop))
+}
+
 #[test]
 fn plans(rt: HostRuntime) -> Result<(), Fail> {
     let alloc = rt.alloc();
-    for (records, end, batches, in_order) in PLANNED {
+    for (records, codewords, ends) in PLANNED {
         let round = round_of_file(alloc, records)?;
-        let fewest = plan(alloc, &round, 100_000, *end)?;
-        same!(rt; (fewest.batches, fewest.in_order), (*batches, *in_order), records);
-        same!(rt; check(&round, *batches, &fewest.tree, *end), true, records);
-        let search = always(100_000, *end);
-        let bounded = bounded_plan(alloc, &round, search)?;
-        same!(rt; (bounded.plan.batches, bounded.bound), (*batches, *batches), records);
-        same!(rt; check(&round, *batches, &bounded.plan.tree, *end), true, records);
+        for (end, batches, in_order) in *ends {
+            let told = fewest(alloc, &round, *end)?;
+            same!(rt; told, (*codewords, *batches, *in_order, true), records);
+            let told = bounded(alloc, &round, always(100_000, *end))?;
+            same!(rt; told, (*batches, *batches, true, None), records);
+        }
     }
     Ok(())
 }
 
-#[test]
-fn codewords(rt: HostRuntime) -> Result<(), Fail> {
-    let alloc = rt.alloc();
-    for (records, count, batches) in SIZES {
-        let round = round_of_file(alloc, records)?;
-        let fewest = plan(alloc, &round, 100_000, End::Open)?;
-        same!(rt; (fewest.codewords, fewest.batches), (count, batches), records);
+// The batches of a plan, or between which batches its search stopped, or nothing where the limit is bad.
+type Answer = Option<Result<u32, (u32, u32)>>;
+
+fn answer(alloc: Global, round: &Round, limit: u32) -> Result<Answer, OutOfMemory> {
+    match plan(alloc, round, limit, End::Open) {
+        Ok(plan) => Ok(Some(Ok(plan.batches))),
+        Err(PlanFault::SearchLimit(stop)) => Ok(Some(Err((stop.least, stop.found)))),
+        Err(PlanFault::BadLimit) => Ok(None),
+        Err(PlanFault::OutOfMemory) => Err(OutOfMemory),
     }
-    Ok(())
 }
 
 #[test]
@@ -118,18 +166,73 @@ fn plans_within_a_limit(rt: HostRuntime) -> Result<(), Fail> {
     let alloc = rt.alloc();
     for (records, limit, batches, bound) in LIMITED {
         let round = round_of_file(alloc, records)?;
-        let told = plan(alloc, &round, limit, End::Open);
-        same!(rt; matches!(told, Err(PlanFault::SearchLimit(_))), true, records);
-        let search = always(limit, End::Open);
-        let bounded = bounded_plan(alloc, &round, search)?;
-        same!(rt; (bounded.plan.batches, bounded.bound), (batches, bound), records);
-        same!(rt; check(&round, bound, &bounded.plan.tree, End::Open), true, records);
-        let Some(stop) = &bounded.stopped else {
-            same!(rt; bound, batches, records);
-            continue;
+        let is_stopped = matches!(answer(alloc, &round, *limit), Ok(Some(Err(_))));
+        same!(rt; is_stopped, true, records);
+        let told = bounded(alloc, &round, always(*limit, End::Open))?;
+        let stop = if bound < batches {
+            Some((*bound, *batches, u64::from(*limit), true))
+        } else {
+            None
         };
-        same!(rt; (stop.least, stop.found, nodes(&stop.tree)), (bound, batches, u64::from(limit)), records);
-        same!(rt; check_open(&round, batches, &stop.tree, End::Open), true, records);
+        same!(rt; told, (*batches, *bound, true, stop), records);
+    }
+    Ok(())
+}
+
+// Limits of nodes for `LOOPS_APART`, with what `plan` answers.
+const ANSWERS: &[(u32, Answer)] = &[
+    (0, None),
+    (1_000_001, None),
+    (2, Some(Err((2, 3)))),
+    (3, Some(Ok(3))),
+];
+
+// Rates, with the airtime of `THREE_TIGHT` where the rate is one.
+const AIRTIMES: &[(u32, Option<u64>)] = &[
+    (512, Some(3250)),
+    (1200, Some(1387)),
+    (2400, Some(694)),
+    (1201, None),
+];
+
+const REPORT: &str =
+    "pages 3\ncodewords 32\nin_order 3\nbatches 2\nidles 0\nbits 1664\nairtime_ms 1387\n";
+
+fn is_bad_limit(alloc: Global, round: &Round, limit: u32) -> bool {
+    match bounded_plan(alloc, round, always(limit, End::Open)) {
+        Err(PlanFault::BadLimit) => true,
+        _ => false,
+    }
+}
+
+fn airtime(alloc: Global, round: &Round, rate: u32) -> Result<Option<u64>, PlanFault> {
+    let plan = plan(alloc, round, 100_000, End::Open)?;
+    match report(&plan, rate) {
+        Ok(report) => Ok(Some(report.airtime_ms)),
+        Err(BadRate) => Ok(None),
+    }
+}
+
+fn report_text(alloc: Global, round: &Round) -> Result<String, Fail> {
+    let plan = plan(alloc, round, 100_000, End::Open)?;
+    let report = report(&plan, 1200)?;
+    Ok(format!(in alloc; "{report}")?)
+}
+
+fn expect_reports(rt: &impl Abort, alloc: Global, tight: &Round) -> Result<(), Fail> {
+    for (rate, due) in AIRTIMES {
+        same!(rt; airtime(alloc, tight, *rate)?, *due, rate);
+    }
+    let text = report_text(alloc, tight)?;
+    same!(rt; text.as_str(), REPORT);
+    Ok(())
+}
+
+fn expect_answers(rt: &impl Abort, alloc: Global) -> Result<(), Fail> {
+    let round = round_of_file(alloc, LOOPS_APART)?;
+    for (limit, due) in ANSWERS {
+        same!(rt; answer(alloc, &round, *limit), Ok(*due), limit);
+        same!(rt; is_bad_limit(alloc, &round, *limit), due.is_none(), limit);
     }
     Ok(())
 }
@@ -137,27 +240,9 @@ fn plans_within_a_limit(rt: HostRuntime) -> Result<(), Fail> {
 #[test]
 fn limits_and_reports(rt: HostRuntime) -> Result<(), Fail> {
     let alloc = rt.alloc();
-    let round = round_of_file(alloc, LOOPS_APART)?;
-    for limit in [0, 1_000_001] {
-        let told = plan(alloc, &round, limit, End::Open);
-        same!(rt; matches!(told, Err(PlanFault::BadLimit)), true, limit);
-        let told = bounded_plan(alloc, &round, always(limit, End::Open));
-        same!(rt; matches!(told, Err(PlanFault::BadLimit)), true, limit);
-    }
-    let Err(PlanFault::SearchLimit(stop)) = plan(alloc, &round, 2, End::Open) else {
-        panic!(rt; "planned");
-    };
-    same!(rt; (stop.least, stop.found), (2, 3));
-    let found = plan(alloc, &round, 3, End::Open)?;
-    same!(rt; found.batches, 3);
+    expect_answers(&rt, alloc)?;
     let tight = round_of_file(alloc, THREE_TIGHT)?;
-    let fewest = plan(alloc, &tight, 100_000, End::Open)?;
-    let text = format!(in alloc; "{}", report(&fewest, 1200)?)?;
-    same!(rt; text.as_str(), "pages 3\ncodewords 32\nin_order 3\nbatches 2\nidles 0\nbits 1664\nairtime_ms 1387\n");
-    same!(rt; report(&fewest, 512)?.airtime_ms, 3250);
-    same!(rt; report(&fewest, 2400)?.airtime_ms, 694);
-    assert!(rt; report(&fewest, 1201).is_err());
-    Ok(())
+    expect_reports(&rt, alloc, &tight)
 }
 
 // How a page file is streamed: within which limit of nodes, whether always, how many bytes are read and written
@@ -212,65 +297,109 @@ const fn in_steps(step: usize) -> Way {
     Way { step, ..AMPLE }
 }
 
-const fn always_within(limit: u32) -> Way {
-    Way {
-        limit,
-        is_always: true,
-        ..in_steps(9)
-    }
-}
-
 // A round, how it is streamed, the batches and the bound, and the only transmission, where there is one.
 type StreamCase = (Records, Way, u32, u32, Option<Sent>);
 
 const EXACT_SENT: Sent = (16, ONES, &[(0, 0), (6, 0)]);
 
+fn expect_sent(rt: &impl Abort, alloc: Global, bytes: &[u8], sent: Sent) -> Result<(), Fail> {
+    let due = transmission(alloc, sent)?;
+    same!(rt; bytes, due.as_slice(), sent);
+    Ok(())
+}
+
+// The batches of a certificate, and whether it proves that the round takes so many.
+fn certified(alloc: Global, bytes: &[u8], records: Records) -> Result<(u32, bool), Fail> {
+    let read = read_certificate(alloc, &mut MemorySource::new(bytes, 7, u64::MAX))?;
+    let round = round_of_file(alloc, records)?;
+    let is_proved = check(&round, read.batches, &read.tree, read.end);
+    Ok((read.batches, is_proved))
+}
+
+fn expect_streamed(
+    rt: &impl Abort,
+    alloc: Global,
+    streamed: &Streamed,
+    case: &StreamCase,
+) -> Result<(), Fail> {
+    let (records, _, batches, bound, sent) = case;
+    let told = match &streamed.answer {
+        Ok(told) => Some(*told),
+        Err(_) => None,
+    };
+    same!(rt; told, Some((*batches, *bound)), records);
+    same!(rt; streamed.tx.bytes().len(), 72 + 68 * *batches as usize, records);
+    let certified = certified(alloc, streamed.cert.bytes(), records)?;
+    same!(rt; certified, (*bound, true), records);
+    match sent {
+        Some(sent) => expect_sent(rt, alloc, streamed.tx.bytes(), *sent),
+        None => Ok(()),
+    }
+}
+
+fn expect_case(rt: &impl Abort, alloc: Global, case: &StreamCase) -> Result<(), Fail> {
+    let streamed = stream(alloc, case.0, case.1)?;
+    expect_streamed(rt, alloc, &streamed, case)
+}
+
 #[test]
 fn streams(rt: HostRuntime) -> Result<(), Fail> {
     let alloc = rt.alloc();
-    let cases: [StreamCase; 7] = [
-        (EXACT, in_steps(1), 1, 1, Some(EXACT_SENT)),
-        (EXACT, in_steps(400), 1, 1, Some(EXACT_SENT)),
-        (EXACT, always_within(100_000), 1, 1, Some(EXACT_SENT)),
-        (THREE_TIGHT, in_steps(1), 2, 2, Some(TIGHT)),
-        (THREE_TIGHT, in_steps(400), 2, 2, Some(TIGHT)),
-        (THREE_TIGHT, always_within(100_000), 2, 2, Some(TIGHT)),
-        (LOOPS_APART, always_within(1), 3, 2, None),
-    ];
-    for (records, way, batches, bound, sent) in cases {
-        let streamed = stream(alloc, records, way)?;
-        same!(rt; streamed.answer?, (batches, bound), records);
-        same!(rt; streamed.tx.bytes().len(), 72 + 68 * batches as usize, records);
-        if let Some(sent) = sent {
-            let due = transmission(alloc, sent)?;
-            same!(rt; streamed.tx.bytes(), due.as_slice(), records);
-        }
-        let mut source = MemorySource::new(streamed.cert.bytes(), 7, u64::MAX);
-        let read = read_certificate(alloc, &mut source)?;
-        same!(rt; read.batches, bound, records);
-        let round = round_of_file(alloc, records)?;
-        same!(rt; check(&round, bound, &read.tree, read.end), true, records);
+    for (step, is_always) in [(1, false), (400, false), (9, true)] {
+        let way = Way {
+            step,
+            is_always,
+            ..AMPLE
+        };
+        expect_case(&rt, alloc, &(EXACT, way, 1, 1, Some(EXACT_SENT)))?;
+        expect_case(&rt, alloc, &(THREE_TIGHT, way, 2, 2, Some(TIGHT)))?;
     }
+    let way = Way {
+        limit: 1,
+        is_always: true,
+        ..in_steps(9)
+    };
+    expect_case(&rt, alloc, &(LOOPS_APART, way, 3, 2, None))
+}
+
+fn expect_unwritten(rt: &impl Abort, alloc: Global, limit: u32, read: u64) -> Result<(), Fail> {
+    let way = Way {
+        limit,
+        read,
+        ..AMPLE
+    };
+    let told = stream(alloc, ONE_TONE, way)?;
+    match told.answer {
+        Err(StreamFault::Plan(PlanFault::BadLimit)) => same!(rt; limit, 0),
+        Err(StreamFault::Round(RoundFault::ReadFault)) => same!(rt; limit, 100_000),
+        _ => assert!(rt; false, "{limit} {read}"),
+    }
+    assert!(rt; told.tx.bytes().is_empty() && told.cert.bytes().is_empty());
     Ok(())
 }
 
 #[test]
 fn streams_that_write_nothing(rt: HostRuntime) -> Result<(), Fail> {
     let alloc = rt.alloc();
-    for (limit, read) in [(0, u64::MAX), (100_000, 0), (100_000, 20)] {
-        let way = Way {
-            limit,
-            read,
-            ..AMPLE
-        };
-        let told = stream(alloc, ONE_TONE, way)?;
-        match told.answer {
-            Err(StreamFault::Plan(PlanFault::BadLimit)) => same!(rt; limit, 0),
-            Err(StreamFault::Round(RoundFault::ReadFault)) => same!(rt; limit, 100_000),
-            _ => assert!(rt; false, "{limit} {read}"),
-        }
-        assert!(rt; told.tx.bytes().is_empty() && told.cert.bytes().is_empty());
-    }
+    expect_unwritten(&rt, alloc, 0, u64::MAX)?;
+    expect_unwritten(&rt, alloc, 100_000, 0)?;
+    expect_unwritten(&rt, alloc, 100_000, 20)
+}
+
+// Streams one tone to a transmission that fails after so many bytes.
+fn expect_cut_transmission(
+    rt: &impl Abort,
+    alloc: Global,
+    whole: &[u8],
+    k: usize,
+) -> Result<(), Fail> {
+    let way = Way {
+        sent: k as u64,
+        ..in_steps(5)
+    };
+    let told = stream(alloc, ONE_TONE, way)?;
+    same!(rt; matches!(told.answer, Err(StreamFault::Transmission(_))), true, k);
+    same!(rt; (told.tx.bytes(), told.cert.bytes().is_empty()), (cut(whole, k), true));
     Ok(())
 }
 
@@ -279,16 +408,27 @@ fn streams_that_fail_in_the_transmission(rt: HostRuntime) -> Result<(), Fail> {
     let alloc = rt.alloc();
     let whole = stream(alloc, ONE_TONE, AMPLE)?;
     same!(rt; whole.tx.bytes().len(), 140);
-    for k in 0..140u64 {
-        let way = Way {
-            sent: k,
-            ..in_steps(5)
-        };
-        let told = stream(alloc, ONE_TONE, way)?;
-        same!(rt; matches!(told.answer, Err(StreamFault::Transmission(_))), true, k);
-        same!(rt; whole.tx.bytes().starts_with(told.tx.bytes()), true, k);
-        same!(rt; told.tx.bytes().len() as u64 == k && told.cert.bytes().is_empty(), true, k);
+    for k in 0..140 {
+        expect_cut_transmission(&rt, alloc, whole.tx.bytes(), k)?;
     }
+    Ok(())
+}
+
+// Streams one tone to a certificate that fails after so many bytes.
+fn expect_cut_certificate(
+    rt: &impl Abort,
+    alloc: Global,
+    whole: &Streamed,
+    k: usize,
+) -> Result<(), Fail> {
+    let way = Way {
+        certified: k as u64,
+        ..in_steps(5)
+    };
+    let told = stream(alloc, ONE_TONE, way)?;
+    same!(rt; matches!(told.answer, Err(StreamFault::Certificate(_))), true, k);
+    let written = (told.tx.bytes(), told.cert.bytes());
+    same!(rt; written, (whole.tx.bytes(), cut(whole.cert.bytes(), k)));
     Ok(())
 }
 
@@ -296,16 +436,8 @@ fn streams_that_fail_in_the_transmission(rt: HostRuntime) -> Result<(), Fail> {
 fn streams_that_fail_in_the_certificate(rt: HostRuntime) -> Result<(), Fail> {
     let alloc = rt.alloc();
     let whole = stream(alloc, ONE_TONE, AMPLE)?;
-    for k in 0..whole.cert.bytes().len() as u64 {
-        let way = Way {
-            certified: k,
-            ..in_steps(5)
-        };
-        let told = stream(alloc, ONE_TONE, way)?;
-        same!(rt; matches!(told.answer, Err(StreamFault::Certificate(_))), true, k);
-        same!(rt; told.tx.bytes() == whole.tx.bytes(), true, k);
-        same!(rt; whole.cert.bytes().starts_with(told.cert.bytes()), true, k);
-        same!(rt; told.cert.bytes().len() as u64, k);
+    for k in 0..whole.cert.bytes().len() {
+        expect_cut_certificate(&rt, alloc, &whole, k)?;
     }
     Ok(())
 }
