@@ -8,6 +8,7 @@
     build.py tests CRATE..    runs the tests of these crates, where what they stand on is built, and counts them
     build.py ci               runs `rt ci` and takes the program that it built; it says how long processors were busy with what
     build.py library          builds the library for C over what `rt ci` left, with one job, as one thing to pass
+    build.py unit             proves the lowest crate in a copy, as one thing to pass, and says how long processors were busy with it
 
 What an earlier call proved is not proved again. Exit status 0 where all of it stands, 3 where something does not.
 """
@@ -15,23 +16,25 @@ What an earlier call proved is not proved again. Exit status 0 where all of it s
 import contextlib
 import fcntl
 import os
+import pathlib
 import shutil
 import subprocess
 import sys
+import tempfile
 import time
 
 sys.dont_write_bytecode = True
 import kit
 import lanes
 import workspace
+from gate import BASE, busy_children
 from spent import watched
-from workspace import PROGRAM, TOP
+from workspace import PARTS, PROGRAM, TOP
 
 STATE = TOP / "out"  # never committed
 TEST_SECONDS = 3_600  # for each test: compiled with checks one of the greatest sizes takes minutes
 FUNCTIONS_FOR_JOBS = 20  # in a crate with fewer a second job gains nothing
 LLVM, QUICK = "llvm", "rattle"  # the compilers by the names that `rt` has for them; the second is the toolchain's own
-BASE = "pocsag_words"  # the crate that the whole build is compared with
 TAKEN = "begins with what a check kept"  # the toolchain says so where another copy of the repository has proved a crate
 WAIT = "proving and building, once: 19 to 30 minutes on four processors, with 2 GB of memory for each of them and 6 GB of disk"
 
@@ -218,6 +221,20 @@ def build_library(crates):
     print("1 passed, 0 failed")
 
 
+def measure_unit(crates):
+    """Proves the lowest crate in a copy, from nothing as `rt ci` does, and prints how long processors were busy with it. Hosts get faster
+    and slower from minute to minute, so the bill takes the mean of several such proofs."""
+    with tempfile.TemporaryDirectory() as room:
+        folder = pathlib.Path(room, "crates", crates[BASE].path)
+        for part in PARTS:
+            shutil.copytree(crates[BASE].folder / part, folder / part)
+        pathlib.Path(room, "crates.txt").write_text(f"{crates[BASE].line}\n")
+        before, status = busy_children(), kit.prove_anew(folder)
+    say(f"spent {busy_children() - before:.0f} s on {BASE}")
+    print(f"{int(not status)} passed, {int(bool(status))} failed")
+    return status
+
+
 def main(words):
     lanes.end_on_signals()
     try:
@@ -233,6 +250,8 @@ def main(words):
             return gate_of_toolchain(crates)
         elif verb == "library":
             build_library(crates)
+        elif verb == "unit":
+            return measure_unit(crates)
         else:
             raise Refused(__doc__)
     except (Refused, workspace.BadList) as why:

@@ -30,7 +30,7 @@ class Gate:
         self.passed, self.failed, self.bad = 0, 0, []
         self.notes, self.skipped = [], []
         self.spent, self.tried = dict.fromkeys([*dict.fromkeys(KINDS.values()), "scripts"], 0), [0, 0]
-        self.unit = 0
+        self.units = []  # how long processors were busy with each proof of the lowest crate
 
     def say(self, text):
         print(text, file=self.out, flush=True)
@@ -58,7 +58,7 @@ class Gate:
     def charge(self, name, busy, text):
         """Adds to the bill how long processors were busy with a part."""
         told = {what: int(seconds) for seconds, what in SPENT.findall(text)}
-        self.unit = told.pop(BASE, 0) or self.unit
+        self.units += filter(None, [told.pop(BASE, 0)])
         for what, seconds in told.items():
             self.spent[what] += seconds
         self.spent[next((it for start, it in KINDS.items() if name.startswith(start)), "scripts")] += busy - sum(told.values())
@@ -69,8 +69,11 @@ class Gate:
         tried = " ({} of {} tried)".format(*self.tried)
         parts = {what + tried * (what == "wrong bodies"): seconds for what, seconds in self.spent.items()}
         parts["all"] = sum(self.spent.values())
+        unit = sum(self.units) / max(len(self.units), 1)
+        if unit:
+            self.say(f"w is {unit:.1f} s, the mean of {' and '.join(map(str, self.units))} s of processors for {BASE}")
         for what, seconds in parts.items():
-            multiple = f" minutes of processors, {seconds / self.unit:.1f} w," if self.unit else " minutes of processors"
+            multiple = f" minutes of processors, {seconds / unit:.1f} w," if unit else " minutes of processors"
             self.say(f"spent {lanes.minutes(seconds)}{multiple} on {what}")
 
     def step(self, name, *words):

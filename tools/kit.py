@@ -57,6 +57,16 @@ def check_words(folder, kept="out/incremental"):
     return [script().rtlib.RATTLE, "check", *crate_in(folder).words(["--jobs", "1"]), "--incremental", kept, "--progress"]
 
 
+def prove_anew(folder):
+    """Proves the library in a folder from nothing with one job, as `rt ci` does; gives the exit status."""
+    if script() is None:
+        return subprocess.run(["rt", "lib", "--jobs", "1"], cwd=folder).returncode
+    script().rtlib.guarded()  # its first call sets a signal's handler, which only the main thread may
+    crate = crate_in(folder)
+    crate.cuts_libraries = True
+    return crate.build_rlib(["--jobs", "1"], anew=True)
+
+
 def main(verb, jobs, *words):
     flags = ["--jobs", jobs]
     if script() is None:

@@ -109,10 +109,13 @@ def try_bill(tally):
     """What processors were busy with, by kinds of parts and as multiples of the lowest crate."""
     gate = Gate(TOP, io.StringIO())
     busy = f"{sys.executable} -c 'import time\nwhile time.process_time() < {{}}: pass'; echo '1 passed, 0 failed'".format
-    gate.part("proofs", "sh", "-c", f"{busy(1)}; echo 'pocsag: spent 1 s on tests'; echo 'pocsag: spent 2 s on pocsag_words'")
+    gate.part("proofs", "sh", "-c", f"{busy(1)}; echo 'pocsag: spent 1 s on tests'; echo 'pocsag: spent 1 s on pocsag_words'")
+    gate.part("the proof of the lowest crate", "echo", "pocsag: spent 3 s on pocsag_words\n1 passed, 0 failed")
     gate.beside([("wrong bodies of a", "sh", "-c", busy(1.2) + "; echo 'a: tried 3 of 9 wrong bodies in 1 rounds'"),
                  ("wrong bodies of b", "sh", "-c", busy(1.2) + "; echo 'b: tried 0 of 4 wrong bodies in 0 rounds'"), ("a script", "sh", "-c", busy(0.1))])
     gate.end()
+    unit = "w is 2.0 s, the mean of 1 and 3 s of processors for pocsag_words"
+    tally.check("the unit is the mean of its proofs", unit in gate.out.getvalue().splitlines(), gate.out.getvalue())
     told = [line for line in gate.out.getvalue().splitlines() if line.startswith("spent ")]
     for name, wanted in [("tests", r"0:01 minutes of processors, 0\.5 w, on tests"), ("proofs", r"0:00 minutes of processors, 0\.\d w, on proofs"),
                          ("wrong bodies", r"0:02 minutes of processors, 1\.\d w, on wrong bodies \(3 of 13 tried\)"),
