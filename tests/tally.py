@@ -11,6 +11,8 @@ TOP = pathlib.Path(__file__).resolve().parents[1]
 # The program as the gate left it, or another one, and where the C library is taken from, where it is not built.
 PROGRAM = pathlib.Path(os.environ.get("POCSAG_PROGRAM") or TOP / "crates/pocsag_app/out/pocsag_app")
 LIBRARY = os.environ.get("POCSAG_LIBRARY")
+# Where the system has files in memory, or None: there a small file that is written again and again waits for no disk.
+MEMORY = "/dev/shm" if os.access("/dev/shm", os.W_OK) else None
 # Whether an emulator runs the program: then one of so many cases is tried, and no file is of the largest size.
 ONE_IN = int(os.environ.get("POCSAG_ONE_IN") or 1)
 IS_EMULATED = ONE_IN > 1

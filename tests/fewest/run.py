@@ -26,7 +26,7 @@ sys.path.insert(0, str(HERE.parent / "certificates"))
 import checker
 import fronts
 from rounds import page_file
-from tally import ENDS, PROGRAM, Tally
+from tally import ENDS, MEMORY, PROGRAM, Tally
 from trees import certificate
 
 ROUNDS = 1_500
@@ -224,7 +224,7 @@ def try_ends(tally, folder, source):
 def main():
     tally = Tally()
     source = random.Random(584)
-    with tempfile.TemporaryDirectory() as name:
+    with tempfile.TemporaryDirectory(dir=MEMORY) as name:
         folder = pathlib.Path(name)
         for _ in range(ROUNDS):
             pages = random_round(source)

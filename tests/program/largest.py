@@ -3,7 +3,6 @@
 gives up for want of memory above some size. `tests/calls/largest.txt` says which of these runs is the largest of each call. All numbers
 are worked by hand, and transmissions are made by `forms.py`. The last line is 'N passed, M failed'."""
 
-import os
 import pathlib
 import subprocess
 import sys
@@ -16,7 +15,7 @@ import checker
 import sizes
 import trees
 from forms import IDLE, SYNC, codeword, due_of, items_of, sent
-from tally import PROGRAM, run_parts
+from tally import MEMORY, PROGRAM, run_parts
 
 HEADER = b"address,kind,message\n"
 LARGEST = 268_435_456
@@ -365,8 +364,7 @@ def try_edits(tally, folder):
 
 def try_edits_in_memory(tally, folder):
     """The same in memory, if the system has files there: each edit is synchronised before its answer."""
-    shared = pathlib.Path("/dev/shm")
-    with tempfile.TemporaryDirectory(dir=shared if os.access(shared, os.W_OK) else folder) as name:
+    with tempfile.TemporaryDirectory(dir=MEMORY or folder) as name:
         try_edits(tally, pathlib.Path(name))
 
 
