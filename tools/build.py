@@ -29,7 +29,7 @@ import lanes
 import workspace
 from gate import BASE, busy_children
 from spent import watched
-from workspace import PARTS, PROGRAM, TOP
+from workspace import PROGRAM, TOP
 
 STATE = TOP / "out"  # never committed
 TEST_SECONDS = 3_600  # for each test: compiled with checks one of the greatest sizes takes minutes
@@ -226,8 +226,7 @@ def measure_unit(crates):
     and slower from minute to minute, so the bill takes the mean of several such proofs."""
     with tempfile.TemporaryDirectory() as room:
         folder = pathlib.Path(room, "crates", crates[BASE].path)
-        for part in PARTS:
-            shutil.copytree(crates[BASE].folder / part, folder / part)
+        shutil.copytree(crates[BASE].folder, folder, ignore=shutil.ignore_patterns("out"))
         pathlib.Path(room, "crates.txt").write_text(f"{crates[BASE].line}\n")
         before, status = busy_children(), kit.prove_anew(folder)
     say(f"spent {busy_children() - before:.0f} s on {BASE}")

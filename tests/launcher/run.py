@@ -347,6 +347,23 @@ def try_multiples(tally, clone):
         tally.check(f"the multiples {name}", re.search(rf"^pocsag: {wanted}$", err, re.M), err)
 
 
+def try_unit(tally, clone):
+    """The lowest crate is proved in a copy: it is told whether that passed, and how long processors were busy with it."""
+    (clone.top / "crates.txt").write_text("pocsag_words:\n")
+    clone.source("pocsag_words").parent.mkdir(parents=True)
+    clone.source("pocsag_words").write_text("first\n")
+    rt = clone.commands / "rt"
+    made = rt.read_text()
+    for status in (0, 1):
+        rt.write_text(made.replace("exit 0\n", f"{{ cat src/lib.rt; touch src/proved; exit {status}; }}\n", 1))
+        words = [str(clone.commands / "python3"), str(clone.top / "tools/build.py"), "unit"]
+        ran = subprocess.run(words, cwd=clone.top, env=clone.environment(), capture_output=True, text=True)
+        due = status, f"first\n{1 - status} passed, {status} failed\n", "pocsag: spent 0 s on pocsag_words\n"
+        tally.check(f"the lowest crate, status {status}", (ran.returncode, ran.stdout, ran.stderr) == due, ran)
+    tally.check("it was proved in a copy", [it.name for it in clone.source("pocsag_words").parent.iterdir()] == ["lib.rt"])
+    tally.check("no copy is left", list(clone.temporary.iterdir()) == [], list(clone.temporary.iterdir()))
+
+
 def try_compilers(tally, clone):
     """LLVM makes what is installed or built for the first time; the toolchain's own compiler makes the program after an edit."""
     whole = [str(clone.commands / "python3"), str(clone.top / "tools/build.py"), "program"]
@@ -390,6 +407,7 @@ fi
 TRIALS = [
     ("makes", try_success),
     ("makes", try_multiples),
+    ("makes", try_unit),
     ("makes", try_compilers),
     ("makes", try_gate),
     ("makes", try_old_times),
