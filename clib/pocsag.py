@@ -14,7 +14,7 @@ import operator
 import pathlib
 from collections import namedtuple
 
-__version__ = "1.0.1"
+__version__ = "1.1.0"
 
 
 class Place(ctypes.Structure):

@@ -14,9 +14,9 @@ preamble_asked bits = if bits == 0 then None else Some bits
 abbrev pub inversion_asked : (inverted : ℕ) → Bool
 inversion_asked inverted = not (inverted == 0)
 
--- The keying that the numbers ask for.
+-- The keying that the numbers ask for, with a batch's time of silence.
 abbrev pub IsKeyingOf : (rate samples bits inverted : ℕ) → Keying → Type 0
-IsKeyingOf rate samples bits inverted keying = IsAsAsked keying rate samples (preamble_asked bits) (inversion_asked inverted)
+IsKeyingOf rate samples bits inverted keying = IsAsAsked keying rate samples (preamble_asked bits) None (inversion_asked inverted)
 
 -- The bytes are a transmission, and the file is its sound as the numbers ask for it.
 pub record IsSoundOf (rate samples bits inverted : ℕ) (tx file : List ℕ) : Type 0 where

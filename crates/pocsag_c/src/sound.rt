@@ -61,7 +61,7 @@ pub extern "C" fn pocsag_wav(
 {
     *wav_len = 0;
     *place = NOWHERE;
-    let keying = match Keying::new(rate, samples, preamble_asked(preamble), inverted != 0) {
+    let keying = match Keying::new(rate, samples, preamble_asked(preamble), None, inverted != 0) {
         Ok(keying) => keying,
         Err(fault) => return refused_wav(fault).status,
     };

@@ -40,17 +40,19 @@ const INVERTED: [u8; 16] = [
     0xc0, 0xe0, 0x40, 0x1f, 0x40, 0x1f, 0x40, 0x1f, 0x40, 0x1f, 0x40, 0x1f, 0xc0, 0xe0, 0xc0, 0xe0,
 ];
 
-// What `wav` writes of the lone tone, with a sample for each bit, where its writer takes at most so many bytes.
+// What `wav` writes of the lone tone, with a sample for each bit and so many milliseconds of silence, where its writer takes at
+// most so many bytes.
 fn keyed(
     rt: &impl Abort,
     alloc: Global,
+    tail: Option<u32>,
     is_inverted: bool,
     most: u64,
 ) -> (Option<SoundFault>, MemorySink<4000>) {
     let sent = lone_tone();
     let mut tx = MemorySource::new(&sent, 50, 1000);
     let mut out = MemorySink::<4000>::new(1000, most);
-    let keying = Keying::new(2400, 2400, None, is_inverted)
+    let keying = Keying::new(2400, 2400, None, tail, is_inverted)
         .ok()
         .expect(rt, "a keying");
     let mut err = ErrorStream::new(MemorySink::<100>::new(1, 1000));
@@ -61,7 +63,7 @@ fn keyed(
 #[test]
 fn a_lone_tone_is_keyed(rt: HostRuntime) -> Result<(), Fail> {
     for (is_inverted, first) in [(false, SYNCHRONISATION), (true, INVERTED)] {
-        let (fault, out) = keyed(&rt, rt.alloc(), is_inverted, 4000);
+        let (fault, out) = keyed(&rt, rt.alloc(), None, is_inverted, 4000);
         assert!(rt; fault.is_none());
         let file = out.bytes();
         same!(rt; file.len(), 3372);
@@ -77,11 +79,27 @@ fn a_lone_tone_is_keyed(rt: HostRuntime) -> Result<(), Fail> {
     Ok(())
 }
 
+// Milliseconds of silence, and the bytes of the file: at 2,400 bits a second one lasts 2.4 bits, and so three.
+const TAILS: &[(Option<u32>, usize)] = &[
+    (None, 3372),
+    (Some(0), 2284),
+    (Some(1), 2290),
+    (Some(100), 2764),
+];
+
+#[test]
+fn the_end_is_as_long_as_asked(rt: HostRuntime) {
+    for (tail, len) in TAILS {
+        let (fault, out) = keyed(&rt, rt.alloc(), *tail, false, 4000);
+        same!(rt; (fault.is_none(), out.bytes().len()), (true, *len), tail);
+    }
+}
+
 #[test]
 fn a_failed_write_leaves_a_front(rt: HostRuntime) -> Result<(), Fail> {
-    let (_, whole) = keyed(&rt, rt.alloc(), false, 4000);
+    let (_, whole) = keyed(&rt, rt.alloc(), None, false, 4000);
     for most in [0, 43, 44, 2000, 3371] {
-        let (fault, out) = keyed(&rt, rt.alloc(), false, most);
+        let (fault, out) = keyed(&rt, rt.alloc(), None, false, most);
         let fault = fault.ok_or("a fault")?;
         same!(rt; fault.status(), 3);
         same!(rt;

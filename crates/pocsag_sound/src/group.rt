@@ -1,6 +1,6 @@
 use crate::fault::SoundFault;
 use crate::wav::run_wav;
-use crate::words::{BIT_RATE, INVERT, LEAD, SAMPLES, SOUND_COMMANDS, WAV};
+use crate::words::{BIT_RATE, INVERT, LEAD, SAMPLES, SOUND_COMMANDS, TAIL, WAV};
 use clap::{ArgMatches, Error};
 use pocsag_shell::{
     Call, Context, ErrorStream, Group, Loaded, MemoryStreams, Names, PAGES_READ, Role, TX, Tables,
@@ -39,7 +39,8 @@ impl Group for Sound {
         let rate = found.get_one::<u32>(BIT_RATE)?;
         let samples = found.get_one::<u32>(SAMPLES)?;
         let preamble = found.get_one::<u32>(LEAD);
-        let keying = Keying::new(rate, samples, preamble, found.get_flag(INVERT));
+        let tail = found.get_one::<u32>(TAIL);
+        let keying = Keying::new(rate, samples, preamble, tail, found.get_flag(INVERT));
         Some(Ok(match load_keyed(context, keying, tx) {
             Ok((keying, loaded)) => key(context, keying, loaded, names),
             Err(fault) => context.end(names, Err(fault)),
@@ -88,6 +89,7 @@ fn is_short(keying: Keying, tx: &Loaded) -> bool {
         return true;
     };
     let own = (bytes.len() as u64).saturating_mul(8);
-    let bits = own.saturating_add(u64::from(keying.preamble.unwrap_or(0)));
+    let keyed = own.saturating_add(u64::from(keying.preamble.unwrap_or(0)));
+    let bits = keyed.saturating_add(keying.tail_bits());
     bits.saturating_mul(u64::from(keying.samples)) / u64::from(keying.rate) <= KEPT_SAMPLES
 }

@@ -12,10 +12,13 @@ pub(crate) const INVERT: &str = "invert";
 
 pub(crate) const LEAD: &str = "preamble";
 
+pub(crate) const TAIL: &str = "tail";
+
 const WAV_MANUAL: &str = "\
 The sound goes to standard output: a WAV file of PCM samples, 16 bits and one
-channel. A bit 0 has a high level and a bit 1 a low one, and the time of one
-batch is silent at the end. Sample i belongs to bit i * R / S, rounded down.
+channel. A bit 0 has a high level and a bit 1 a low one, and the end is silent
+for the time of one batch, or for --tail. Sample i belongs to bit i * R / S,
+rounded down.
 TX is read whole and judged as decode judges it before the first sample is
 written. '-' as TX is standard input.
 
@@ -55,6 +58,16 @@ more, a multiple of 8",
     ..FLAG
 };
 
+const TAIL_OPTION: LineWord = LineWord {
+    id: TAIL,
+    help: "\
+Ends with MS milliseconds of silence, rounded up to whole
+bits, in place of the time of a batch",
+    given: Given::Option("MS", &[]),
+    content: Content::Number,
+    ..FLAG
+};
+
 pub(crate) const SOUND_COMMANDS: &[Shape] = &[Shape {
     name: WAV,
     about: "Writes a transmission as sound, for a transmitter or a receiver",
@@ -65,5 +78,6 @@ pub(crate) const SOUND_COMMANDS: &[Shape] = &[Shape {
         SAMPLES_OPTION,
         INVERT_FLAG,
         LEAD_OPTION,
+        TAIL_OPTION,
     ],
 }];

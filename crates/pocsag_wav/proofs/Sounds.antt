@@ -11,7 +11,7 @@ use Rattle.std.proofs.lemmas.Option.{slice_get-get_or}
 use Rattle.std.specs.Int.{bit_at, cast_signed, cast_unsigned, div_ceil, from_bool, w16}
 use Rattle.std.specs.List.{flat_map}
 use Rattle.pocsag_wav.specs.declared.keying.Keying.{Keying}
-use Rattle.pocsag_wav.specs.Levels.{high_level, keyed_bytes, level_at, level_in, low_level}
+use Rattle.pocsag_wav.specs.Levels.{high_level, keyed_bytes, level_at, level_in, low_level, tail_bits}
 use Rattle.pocsag_wav.specs.Wav.{IsWav, sample_bytes, wav_header}
 use Rattle.pocsag_wav.specs.Samples.{IsCount, samples_of}
 
@@ -111,17 +111,18 @@ module _ (keying : Keying) (bytes : List ℕ) where
       ∙ (ap (λ (l : List ℕ). l ++ rest) (sym told) ∙ append_assoc now piece rest))
 
 -- a file of the bytes that are keyed, with the header of so many samples, is the sound of a transmission
-pub is_wav : (keying : Keying) (bytes keyed : List ℕ) (bits n : ℕ) → keyed ≡ keyed_bytes keying.preamble bytes → bits ≡ 8 * length keyed + 544 →
+pub is_wav : (keying : Keying) (bytes keyed : List ℕ) (tail bits n : ℕ) → keyed ≡ keyed_bytes keying.preamble bytes →
+    tail ≡ tail_bits keying.rate keying.tail → bits ≡ 8 * length keyed + tail →
     IsCount keying bits n → 36 + 2 * n < 2 ^ 32 →
     IsWav keying bytes (wav_header keying.samples n ++ flat_map sample_bytes (samples_of keying keyed n))
-is_wav keying bytes keyed bits n same due count fits =
+is_wav keying bytes keyed tail bits n same silent due count fits =
     let long : length (samples_of keying keyed n) ≡ n = length-samples_of keying keyed n in
     record {
       samples = samples_of keying keyed n;
       keyed = record {
         levels = λ i h. get-samples_of keying keyed n i (omega (arith, long))
             ∙ ap (λ (l : List ℕ). Some (level_at keying.is_inverted l (i * keying.rate / keying.samples))) same;
-        all = λ i. rw long (subst (λ (m : ℕ). (i < n) ↔ (i * keying.rate / keying.samples < m)) (due ∙ ap (λ (l : List ℕ). 8 * length l + 544) same) (count i));
+        all = λ i. rw long (subst (λ (m : ℕ). (i < n) ↔ (i * keying.rate / keying.samples < m)) (due ∙ ap₂ (λ (l : List ℕ) (m : ℕ). 8 * length l + m) same silent) (count i));
       };
       held = record {
         fits = omega (arith, long);

@@ -22,10 +22,11 @@ pub record MayBeKeyed (rate samples : ℕ) (preamble : Option ℕ) : Type 0 wher
   pub led : IfSome preamble ArePreamble
 
 -- The keying has these numbers.
-pub record IsAsAsked (keying : Keying) (rate samples : ℕ) (preamble : Option ℕ) (is_inverted : Bool) : Type 0 where
+pub record IsAsAsked (keying : Keying) (rate samples : ℕ) (preamble tail : Option ℕ) (is_inverted : Bool) : Type 0 where
   pub rate_is : keying.rate ≡ rate
   pub samples_are : keying.samples ≡ samples
   pub preamble_is : keying.preamble ≡ preamble
+  pub tail_is : keying.tail ≡ tail
   pub inversion_is : keying.is_inverted ≡ is_inverted
 
 -- The first of the numbers that may not be.

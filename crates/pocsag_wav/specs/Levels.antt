@@ -1,7 +1,7 @@
 -- The levels that a transmission is keyed with, bit by bit, and its samples (the order of the bits is a rule; the levels, the
 -- preamble and the silence are this project's own).
 use Rattle.std.specs.Prelude.{◌≡◌, ℕ, ◌+◌, ◌-◌, ◌*◌, ◌/◌, ◌%◌, ◌<◌, ◌↔◌, ◌==◌, if◌then◌else◌, Bool, List, ◌++◌, length, replicate, Option, None, Some, slice_get, ℤ, pos, negsuc}
-use Rattle.std.specs.Int.{bit_at, from_bool}
+use Rattle.std.specs.Int.{bit_at, div_ceil, from_bool}
 use Rattle.pocsag_words.specs.Frame.{preamble_byte}
 use Rattle.pocsag_pages.specs.Bytes.{after_preamble}
 use Rattle.pocsag_wav.specs.declared.keying.Keying.{Keying}
@@ -32,9 +32,15 @@ level_in is_inverted (Some byte) bit = if bit_at byte bit == from_bool is_invert
 abbrev pub level_at : (is_inverted : Bool) → (bytes : List ℕ) → (place : ℕ) → ℤ
 level_at is_inverted bytes place = level_in is_inverted (slice_get bytes (place / 8)) (7 - place % 8)
 
--- How many bits the sound of a transmission lasts: those that are keyed, and a batch's time of silence.
+-- How many bits the silence at the end lasts, at so many bits a second: as many as a batch or, where milliseconds are asked for,
+-- the fewest that last as long.
+abbrev pub tail_bits : (rate : ℕ) → (tail : Option ℕ) → ℕ
+tail_bits rate None = 544
+tail_bits rate (Some milliseconds) = div_ceil (milliseconds * rate) 1000
+
+-- How many bits the sound of a transmission lasts: those that are keyed, and those of the silence.
 abbrev pub bits_sent : Keying → (bytes : List ℕ) → ℕ
-bits_sent keying bytes = 8 * length (keyed_bytes keying.preamble bytes) + 544
+bits_sent keying bytes = 8 * length (keyed_bytes keying.preamble bytes) + tail_bits keying.rate keying.tail
 
 -- The samples of a transmission: sample i has the level of bit i * rate / samples, rounded down, and a sample is there just
 -- where the sound has such a bit.

@@ -12,7 +12,7 @@ use crate::keyed::Keyed;
 use crate::keying::Keying;
 use arrayvec::ArrayVec;
 use pocsag_decode::judge_bytes;
-use pocsag_words::{BATCH_BITS, DeviceFault, Sink, write_all};
+use pocsag_words::{DeviceFault, Sink, write_all};
 
 // The bytes of one write.
 const PIECE: usize = 8192;
@@ -110,7 +110,7 @@ pub fn write_wav<O: Sink>(keying: Keying, bytes: &[u8], out: &mut O) -> Result<(
 {
     judge_bytes(bytes)?;
     let keyed = Keyed::new(keying.preamble, bytes);
-    let count = sample_count(keying, keyed.bits() + u128::from(BATCH_BITS))?;
+    let count = sample_count(keying, keyed.bits() + u128::from(keying.tail_bits()))?;
     write_all(out, header(keying.samples, count).as_flattened())?;
     put_samples(keying, &keyed, count, out)?;
     Ok(())

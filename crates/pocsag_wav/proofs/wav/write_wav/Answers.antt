@@ -17,8 +17,8 @@ returns-in_err-write_all-clause-part g c = λ is_known is.
     record {
       reads = c.in_ok-judge_bytes.ensures.ok;
       file = front ++ sound;
-      wav = is_wav c.args.keying c.args.bytes.now c.new-keyed.result _ n c.new-keyed.ensures (omega (arith, c.bits.ensures, c.from.ensures))
-          c.in_ok-count.ensures.count c.in_ok-count.ensures.fits;
+      wav = is_wav c.args.keying c.args.bytes.now c.new-keyed.result c.tail_bits.result _ n c.new-keyed.ensures c.tail_bits.ensures
+          (omega (arith, c.bits.ensures, c.from.ensures)) c.in_ok-count.ensures.count c.in_ok-count.ensures.fits;
       part = took_on before before (g.O.Sink.taken c.write_all.new.sink) c.as_flattened.result.now sound (front ++ sound) (omega arith)
           (ap (λ (l : List ℕ). before ++ (l ++ sound)) (sym headed)) (c.in_err-write_all.ensures.delivers is_known).1;
     }
@@ -35,8 +35,8 @@ returns-in_err-put_samples-clause-part g c = λ is_known is.
     record {
       reads = c.in_ok-judge_bytes.ensures.ok;
       file = front ++ sound;
-      wav = is_wav c.args.keying c.args.bytes.now c.new-keyed.result _ n c.new-keyed.ensures (omega (arith, c.bits.ensures, c.from.ensures))
-          c.in_ok-count.ensures.count c.in_ok-count.ensures.fits;
+      wav = is_wav c.args.keying c.args.bytes.now c.new-keyed.result c.tail_bits.result _ n c.new-keyed.ensures c.tail_bits.ensures
+          (omega (arith, c.bits.ensures, c.from.ensures)) c.in_ok-count.ensures.count c.in_ok-count.ensures.fits;
       part = took_on before middle (g.O.Sink.taken c.put_samples.new.out) sound [] (front ++ sound)
           (omega (arith, ap length first, length-append before front))
           (sym (append_assoc before front sound)
@@ -54,8 +54,8 @@ returns-clause-sounded g c = λ is_known.
     record {
       reads = c.in_ok-judge_bytes.ensures.ok;
       file = front ++ sound;
-      wav = is_wav c.args.keying c.args.bytes.now c.new-keyed.result _ n c.new-keyed.ensures (omega (arith, c.bits.ensures, c.from.ensures))
-          c.in_ok-count.ensures.count c.in_ok-count.ensures.fits;
+      wav = is_wav c.args.keying c.args.bytes.now c.new-keyed.result c.tail_bits.result _ n c.new-keyed.ensures c.tail_bits.ensures
+          (omega (arith, c.bits.ensures, c.from.ensures)) c.in_ok-count.ensures.count c.in_ok-count.ensures.fits;
       written = (c.in_ok-put_samples.ensures.delivers is_known).0
           ∙ (ap (λ (l : List ℕ). l ++ sound) ((c.in_ok-write_all.ensures.delivers is_known).0 ∙ ap (λ (l : List ℕ). before ++ l) headed)
           ∙ append_assoc before front sound);
