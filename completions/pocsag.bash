@@ -12,7 +12,7 @@ _pocsag() {
         mapfile -t COMPREPLY < <(compgen -W "512 1200 2400" -- "$word")
         return
         ;;
-    --limit | --expect | --text | --rows | --nth | --depth | --samples | --preamble | --at-most | --airtime)
+    --limit | --expect | --text | --rows | --nth | --depth | --samples | --preamble | --tail | --at-most | --airtime)
         compopt +o default 2>/dev/null
         COMPREPLY=()
         return
@@ -29,7 +29,7 @@ _pocsag() {
         [decode]='--repair --capture --json --text --verbose --help -h'
         [hear]='--capture --json --text --verbose --help -h'
         [show]='--svg --list --rows --repair --capture --nth --verbose --help -h'
-        [wav]='--rate --samples --invert --preamble --verbose --help -h'
+        [wav]='--rate --samples --invert --preamble --tail --verbose --help -h'
         [open]='--journal --read-only --expect --strict --always --keep --verbose --help -h'
         [report]='--rate --limit --end --idle-last --expect --strict --always --frames --verbose --help -h'
         [help]=''

@@ -8,7 +8,7 @@ set -l options \
     decode='--repair --capture --json --text --verbose --help -h' \
     hear='--capture --json --text --verbose --help -h' \
     show='--svg --list --rows --repair --capture --nth --verbose --help -h' \
-    wav='--rate --samples --invert --preamble --verbose --help -h' \
+    wav='--rate --samples --invert --preamble --tail --verbose --help -h' \
     open='--journal --read-only --expect --strict --always --keep --verbose --help -h' \
     report='--rate --limit --end --idle-last --expect --strict --always --frames --verbose --help -h'
 
@@ -27,7 +27,7 @@ for line in $options
                 set value -x -a 'open closed idle'
             case --rate
                 set value -x -a '512 1200 2400'
-            case --limit --expect --text --rows --nth --depth --samples --preamble --at-most --airtime
+            case --limit --expect --text --rows --nth --depth --samples --preamble --tail --at-most --airtime
                 set value -x # no file names where no value is known
             case --rest --why --oversized --journal
                 set value -r

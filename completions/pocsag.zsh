@@ -10,7 +10,7 @@ case $words[CURRENT-1] in
     compadd -- 512 1200 2400
     return
     ;;
---limit | --expect | --text | --rows | --nth | --depth | --samples | --preamble | --at-most | --airtime)
+--limit | --expect | --text | --rows | --nth | --depth | --samples | --preamble | --tail | --at-most | --airtime)
     return # no file names where no value is known
     ;;
 esac
@@ -25,7 +25,7 @@ local -A offered=(
     [decode]='--repair --capture --json --text --verbose --help -h'
     [hear]='--capture --json --text --verbose --help -h'
     [show]='--svg --list --rows --repair --capture --nth --verbose --help -h'
-    [wav]='--rate --samples --invert --preamble --verbose --help -h'
+    [wav]='--rate --samples --invert --preamble --tail --verbose --help -h'
     [open]='--journal --read-only --expect --strict --always --keep --verbose --help -h'
     [report]='--rate --limit --end --idle-last --expect --strict --always --frames --verbose --help -h'
     [help]=''

@@ -28,7 +28,7 @@ NO_CONFIGURATION = {"bash": ["--norc"], "zsh": ["-f"], "fish": ["--no-config"]}
 COMMANDS = {"plan", "check", "explain", "decode", "hear", "show", "wav", "open", "report", "help"}
 # Options with a value, a command that has them, and what is offered for it.
 VALUES = [(option, "plan", set()) for option in ("--limit", "--expect", "--at-most", "--airtime")]
-VALUES += [("--depth", "explain", set()), ("--samples", "wav", set()), ("--preamble", "wav", set()), ("--rows", "show", set()), ("--nth", "show", set()), ("--text", "decode", set())]
+VALUES += [("--depth", "explain", set()), ("--samples", "wav", set()), ("--preamble", "wav", set()), ("--tail", "wav", set()), ("--rows", "show", set()), ("--nth", "show", set()), ("--text", "decode", set())]
 VALUES += [("--end", "plan", {"open", "closed", "idle"}), ("--rate", "report", {"512", "1200", "2400"}), ("--rest", "plan", {"named.csv"})]
 VALUES += [("--why", "plan", {"named.csv"}), ("--oversized", "plan", {"named.csv"}), ("--journal", "open", {"named.csv"})]
 

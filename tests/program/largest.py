@@ -304,10 +304,10 @@ def try_captures(tally, folder):
 
 def try_sounds(tally, folder):
     """A sound that is kept in memory, and the longest that a WAV file holds, which goes nowhere; each of a sample a bit: a header of
-    44 bytes, and behind the bits the time of a batch in silence."""
-    words = ["wav", "tx.bin", "--rate", "2400", "--samples", "2400", "--invert", "--preamble", "584", "--verbose"]
+    44 bytes, and behind the bits 255 ms of silence, which are 612 bits."""
+    words = ["wav", "tx.bin", "--rate", "2400", "--samples", "2400", "--invert", "--preamble", "584", "--tail", "255", "--verbose"]
     (folder / "tx.bin").write_bytes(b"\xaa" * 72 + 20_000 * tone_batch(8))
-    done, due = run(words, folder), 44 + 2 * (584 + 544 * 20_001)
+    done, due = run(words, folder), 44 + 2 * (584 + 544 * 20_000 + 612)
     tally.check("wav of 20000 batches", (done.returncode, len(done.stdout), done.stderr) == (0, due, b""), (brief(done), due))
     (folder / "tx.bin").write_bytes(b"\xaa" * 72 + 3_947_578 * tone_batch(8))
     with open("/dev/null", "wb") as nowhere:

@@ -46,12 +46,12 @@ def fails(done, status, fault):
     return (done.returncode, done.stdout, done.stderr) == (status, b"", b"pocsag: %s\n" % fault.encode())
 
 
-def samples_of(sent, rate, a_second, inverted=False, preamble=None):
-    """The samples of a transmission: sample i has the level of bit i * rate / a_second."""
+def samples_of(sent, rate, a_second, inverted=False, preamble=None, tail=None):
+    """The samples of a transmission: sample i has the level of bit i * rate / a_second. The silence lasts a batch, or so many milliseconds."""
     if preamble is not None:
         sent = b"\xaa" * (preamble // 8) + sent[sent.index(SYNC) :]
     bits = [int(bit) for byte in sent for bit in f"{byte:08b}"]
-    levels = [(8_000 if bit == inverted else -8_000) for bit in bits] + 544 * [0]
+    levels = [(8_000 if bit == inverted else -8_000) for bit in bits] + (544 if tail is None else -(-tail * rate // 1_000)) * [0]
     count = -(-len(levels) * a_second // rate)
     return [levels[index * rate // a_second] for index in range(count)]
 
@@ -81,6 +81,11 @@ def try_by_hand(tally, folder):
     tally.check("its preamble", done.stdout[44:1196] == 288 * (low + high))
     tally.check("its first word", done.stdout[1196:1260] == b"".join(sync), done.stdout[1196:1260].hex())
     tally.check("its silence", done.stdout[-1088:] == bytes(1088) and done.stdout[-1090:-1088] == low)
+    for tail, bits in (0, 0), (1, 3), (5, 12), (1_000, 2_400):
+        ended = run(["tx.bin", "--rate", 2400, "--samples", 2400, "--tail", tail], folder).stdout
+        due = 2 * (576 + 544 + bits)
+        holds = ended[40:44] == due.to_bytes(4, "little") and ended[44:] == done.stdout[44:-1088] + bytes(2 * bits)
+        tally.check(f"a silence of {tail} ms", holds, len(ended))
     done = run(["tx.bin"], folder)
     tally.check("1200 bit/s and 48000 samples by default", done.stdout == run(["tx.bin", "--rate", 1200, "--samples", 48_000], folder).stdout)
 
@@ -108,13 +113,14 @@ def try_odd_numbers(tally, folder):
 def try_options(tally, folder):
     """Each option with each other, of a file and of standard input, and of transmissions with longer preambles."""
     sent = {length: b"\xaa" * length + SENT[72:] for length in (72, 73, 200)}
-    lists = sent, RATES, (22_050, 48_000), (False, True), (None, 576, 1_000, 4_096), (False, True), (False, True)
-    for length, rate, a_second, inverted, preamble, is_piped, is_verbose in sampled(itertools.product(*lists)):
+    lists = sent, RATES, (22_050, 48_000), (False, True), (None, 576, 1_000, 4_096), (None, 7), (False, True), (False, True)
+    for length, rate, a_second, inverted, preamble, tail, is_piped, is_verbose in sampled(itertools.product(*lists)):
         (folder / "tx.bin").write_bytes(sent[length])
         words = ["-" if is_piped else "tx.bin", "--rate", rate, "--samples", a_second]
         words += ["--invert"] * inverted + (["--preamble", preamble] if preamble else []) + ["--verbose"] * is_verbose
+        words += [] if tail is None else ["--tail", tail]
         done = run(words, folder, sent[length] if is_piped else b"")
-        samples = samples_of(sent[length], rate, a_second, inverted, preamble)
+        samples = samples_of(sent[length], rate, a_second, inverted, preamble, tail)
         holds = (done.returncode, done.stderr) == (0, b"") and is_sound(done.stdout, samples, a_second)
         tally.check(f"{length} bytes AA, {words}", holds, (done.stderr, len(done.stdout)))
 
@@ -130,7 +136,7 @@ def try_words(tally, folder):
         tally.check(f"refused {words}", fails(run(["none.bin", *words], folder), 1, fault), run(["none.bin", *words], folder))
     usage = [
         [], ["a", "b"], ["a", "--rate"], ["a", "--rate", "fast"], ["a", "--rate", "-1"], ["a", "--samples", "4294967296"],
-        ["a", "--preamble", "x"], ["a", "--preamble"], ["a", "--invert=yes"], ["a", "--repair"], ["a", "--rate", "512", "--rate", "512"],
+        ["a", "--preamble", "x"], ["a", "--preamble"], ["a", "--tail", "1.5"], ["a", "--tail"], ["a", "--invert=yes"], ["a", "--repair"], ["a", "--rate", "512", "--rate", "512"],
         ["a", "--end", "open"], ["a", "-"],
     ]  # fmt: skip
     for words in usage:
@@ -175,6 +181,10 @@ def try_lengths(tally, folder):
     tally.check("its reader goes", (process.returncode, told) == (3, b"pocsag: cannot write\n"), (process.returncode, told))
     for bits in (longest + 8, 4_294_967_288):
         tally.check(f"{bits} bits of preamble", fails(run([*words, bits], folder), 1, TOO_LONG))
+    # 2,147,483,629 - 1,120 bits are 894,784,378.75 milliseconds
+    for tail in (894_784_379, 4_294_967_295):
+        done = run(["tx.bin", "--rate", 2400, "--samples", 2400, "--tail", tail], folder)
+        tally.check(f"a silence of {tail} ms", fails(done, 1, TOO_LONG), (done.returncode, len(done.stdout)))
 
 
 def try_pipes(tally, folder):
