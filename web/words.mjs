@@ -41,7 +41,9 @@ const SHOWN = {
   svg: flag(), rows: text("A-B", { excludes: ["list"] }), list: flag({ excludes: ["svg"] }), repair: REPAIR,
   capture: NATIVE, nth: number("N", { needs: ["capture"], isNative: true }),
 };
-const SOUND = { rate: number("R"), samples: number("S"), invert: flag(), preamble: number("N") };
+const SOUND = {
+  rate: number("R"), samples: number("S"), invert: flag(), preamble: number("N"), tail: number("MS", { isNative: true }),
+};
 const EXPLAINED = { depth: number("N"), json: flag(), svg: flag({ excludes: ["json", "depth"], isNative: true }) };
 
 /* A command: its places in order, and its options. */

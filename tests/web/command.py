@@ -309,7 +309,7 @@ ODD = [
 # What the program alone does, among words that are right.
 NATIVE = {
     "keep": "plan apart.csv a.bin a.cert --keep", "later": "plan apart.csv a.bin a.cert --later --rest r", "verbose": "check apart.csv apart.cert --verbose",
-    "text": "decode apart.bin --text 0", "svg": "explain apart.csv apart.cert --svg", "capture": "decode apart.bin --capture", "nth": "show apart.bin --nth 2 --capture", "open": "open apart.csv",
+    "text": "decode apart.bin --text 0", "svg": "explain apart.csv apart.cert --svg", "capture": "decode apart.bin --capture", "nth": "show apart.bin --nth 2 --capture", "tail": "wav apart.bin --tail 0", "open": "open apart.csv",
 }  # fmt: skip
 
 
