@@ -447,7 +447,7 @@ fn plan_among<O: Sink>(
         let Some(place) = place else {
             continue;
         };
-        let made = StagedFile::make(context, role, place)?;
+        let made = StagedFile::make(context, role, place, files.as_slice())?;
         files
             .push(made)
             .map_err(|_| CentreFault::File(FileFault::OutOfMemory))?;

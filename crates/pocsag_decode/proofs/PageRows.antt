@@ -26,7 +26,7 @@ use Rattle.pocsag_pages.proofs.GoodPages.{good_page}
 use Rattle.pocsag_pages.proofs.Judgements.{after_header, grown, grown_end, grown_on, judged, small_file}
 use Rattle.pocsag_pages.proofs.QueueRows.{after_queue_header, queue_judged, queue_room, queued, queued_end, queued_on, small_queue, some_queue}
 use Rattle.pocsag_pages.proofs.Spelled.{characters_spelled, digits_spelled, tone_spelled}
-use Rattle.pocsag_decode.specs.Listing.{header, kind_field, message_field}
+use Rattle.pocsag_decode.specs.Listing.{header, kind_field, listing, message_field, record_of}
 use Rattle.pocsag_decode.specs.PageFiles.{IsSpellable, IsOfText, page_file, page_record, whole_message}
 use Rattle.pocsag_decode.specs.PageFiles.IsOfText.{characters, digits, silent}
 use Rattle.pocsag_decode.proofs.ListedFields.{characters_listed}
@@ -142,13 +142,23 @@ row_short a k m =
     let whole = length-append (x ++ 44 ∷ (y ++ 44 ∷ (z ++ []))) (10 ∷ []) in
     omega (arith, whole, first, middle, last, field_short a, field_short k, field_short m)
 
-row_some : (a k m : List ℕ) → 1 ≤ length (row_text default_writer (a ∷ k ∷ m ∷ []))
+pub row_some : (a k m : List ℕ) → 1 ≤ length (row_text default_writer (a ∷ k ∷ m ∷ []))
 unfolding is_blank fields_text
 row_some a k m =
     let x = field_text default_writer a in
     let y = field_text default_writer k in
     let z = field_text default_writer m in
     omega (arith, length-append (x ++ 44 ∷ (y ++ 44 ∷ (z ++ []))) (10 ∷ []))
+
+-- a listing has the record of the names
+pub listing_some : (ps : List Page) → 0 < length (listing ps)
+unfolding listing
+listing_some ps =
+    omega (
+      arith,
+      row_some (codes "address") (codes "kind") (codes "message"),
+      length-append (row_text default_writer header) (flat_map (λ p. row_text default_writer (record_of p)) ps),
+    )
 
 abbrev rows_text : List Page → List ℕ
 rows_text ps = flat_map (λ p. row_text default_writer (page_record p)) ps

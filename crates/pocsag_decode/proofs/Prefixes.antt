@@ -1,6 +1,6 @@
 -- What a writer took of a listing that is written in pieces.
-use Rattle.std.proofs.Common.{◌≡◌, ℕ, ◌≤◌, List, [], ◌++◌, length, take, Result, Ok, Err, sym, ap, ◌∙◌, append_assoc, arith}
-use Rattle.std.proofs.Common.{length-take}
+use Rattle.std.proofs.Common.{◌≡◌, ℕ, ◌+◌, ◌<◌, ◌≤◌, List, [], ◌++◌, length, take, Result, Ok, Err, sym, ap, ◌∙◌, append_assoc, arith}
+use Rattle.std.proofs.Common.{length-append, length-take}
 use Rattle.std.proofs.lemmas.List.{append-nil, take-append-le}
 use Rattle.std.proofs.Math.Seq.{take-length}
 use Rattle.std.specs.Prelude.{OnErr}
@@ -25,6 +25,12 @@ pub took_last : (before now after piece due : List ℕ) → length before ≤ le
     → TookPrefix now after piece → TookPrefix before after due
 took_last before now after piece due grown same =
     took_on before now after piece [] due grown (same ∙ ap (λ (l : List ℕ). now ++ l) (sym (append-nil piece)))
+
+-- what was taken is not all, if some of it waits
+pub some_left : (before now waits rest due : List ℕ) → before ++ due ≡ now ++ (waits ++ rest) → 0 < length waits
+    → length now < length before + length due
+some_left before now waits rest due same some =
+    omega (arith, ap length same, length-append before due, length-append now (waits ++ rest), length-append waits rest)
 
 -- what holds after each outcome holds after a fault
 pub after_fault : {T E P : Type 0} (r : Result T E) → P → OnErr r P

@@ -1,5 +1,5 @@
 //! Listings that are written as the codewords are read.
-ghost use Rattle.std.specs.Prelude.{◌≡◌, ℕ, ◌+◌, ◌*◌, ◌%◌, ◌^◌, ◌<◌, ◌∷◌, ◌++◌, [], None, Some, List, All, IfOk, OnErr, OnOk, length, map};
+ghost use Rattle.std.specs.Prelude.{◌≡◌, ℕ, ◌+◌, ◌*◌, ◌%◌, ◌^◌, ◌<◌, ◌≤◌, ◌∷◌, ◌++◌, [], None, Some, List, All, Err, IfOk, OnErr, OnOk, length, map};
 ghost use Rattle.csv.specs.Writing.{default_writer, row_text};
 ghost use Rattle.pocsag_words.specs.Devices.{TookPrefix};
 ghost use Rattle.pocsag_words.specs.Kinds.{IsInRange, kind_of};
@@ -42,6 +42,7 @@ impl Lister {
         requires ranges { IsInRange kind }
         requires frame { frame < 8 }
         ensures can { OnOk result (CanList self.new) }
+        ensures grown { OnOk result (length (text_in self.old.records) ≤ length (text_in self.new.records)) }
         ensures reads { OnOk result ((i : ℕ) (ks : List Kind) → frame ≡ frame_at i →
             still_listed self.old i (kind ∷ ks) ≡ still_listed self.new (i + 1) ks) }
     {
@@ -95,6 +96,7 @@ impl Lister {
         requires can { CanList self.old }
         requires long { length batch.now ≡ 68 }
         ensures can { OnOk result (CanList self.new) }
+        ensures grown { OnOk result (length (text_in self.old.records) ≤ length (text_in self.new.records)) }
         ensures reads { OnOk result ((i j : ℕ) (ks : List Kind) → i % 16 ≡ 0 → j % 17 ≡ 0 →
             still_listed self.old i (map kind_of (unsynced j (words_of batch.now)) ++ ks)
             ≡ still_listed self.new (i + 16) ks) }
@@ -124,6 +126,8 @@ fn list_batches<S: Sink>(lister: &mut Lister, bytes: &[u8], sink: &mut S) -> Res
         ≡ S.taken sink.old ++ listing (pages_from 0 (map kind_of (unsynced 0 (words_of bytes.now))))) }
     ensures part { S.is_known → OnErr result (TookPrefix (S.taken sink.old) (S.taken sink.new)
         (listing (pages_from 0 (map kind_of (unsynced 0 (words_of bytes.now)))))) }
+    ensures stopped { S.is_known → result ≡ Err ListFault.OutOfMemory → length (S.taken sink.new)
+        < length (S.taken sink.old) + length (listing (pages_from 0 (map kind_of (unsynced 0 (words_of bytes.now))))) }
     ensures failures { NamesFailures result ListFault.WriteFault (S.failures sink.old) (S.failures sink.new) }
 {
     for i in 0..bytes.len() / BATCH_BYTES {
@@ -136,13 +140,15 @@ fn list_batches<S: Sink>(lister: &mut Lister, bytes: &[u8], sink: &mut S) -> Res
 }
 
 /// Writes the listing of the pages that the bytes of a transmission read as, as `list` does, but as they are read: no more
-/// than one page is held, and records up to 1,048,576 bytes beside its own. After a fault a prefix was written. Of bytes that
+/// than one page is held, and records up to 1,048,576 bytes beside its own. After a fault a prefix was written, which is not all where memory was refused. Of bytes that
 /// have a fault nothing is promised: `judge_bytes` finds it before.
 pub fn list_sent<S: Sink>(alloc: Global, bytes: &[u8], sink: &mut S) -> Result<(), ListFault>
     ensures whole { S.is_known → OnOk result ((pages : List Page) → ReadsAs bytes.now pages →
         S.taken sink.new ≡ S.taken sink.old ++ listing pages) }
     ensures part { S.is_known → OnErr result ((pages : List Page) → ReadsAs bytes.now pages →
         TookPrefix (S.taken sink.old) (S.taken sink.new) (listing pages)) }
+    ensures stopped { S.is_known → result ≡ Err ListFault.OutOfMemory → (pages : List Page) → ReadsAs bytes.now pages →
+        length (S.taken sink.new) < length (S.taken sink.old) + length (listing pages) }
 
     // A device's fault is answered only where that device failed.
     ensures failures { NamesFailures result ListFault.WriteFault (S.failures sink.old) (S.failures sink.new) }
@@ -170,6 +176,8 @@ fn put_all<S: Sink>(
     requires listable { All IsListable pages.items }
     ensures whole { S.is_known → OnOk result (S.taken sink.new ≡ S.taken sink.old ++ listing pages.items) }
     ensures part { S.is_known → OnErr result (TookPrefix (S.taken sink.old) (S.taken sink.new) (listing pages.items)) }
+    ensures stopped { S.is_known → result ≡ Err ListFault.OutOfMemory →
+        length (S.taken sink.new) < length (S.taken sink.old) + length (listing pages.items) }
     ensures failures { NamesFailures result ListFault.WriteFault (S.failures sink.old) (S.failures sink.new) }
 {
     for page in pages {
@@ -180,11 +188,13 @@ fn put_all<S: Sink>(
 }
 
 /// Writes the listing of the pages, as `list` does, but each page is let go as its record is made. After a fault a prefix
-/// was written.
+/// was written, which is not all where memory was refused.
 pub fn list_owned<S: Sink>(alloc: Global, pages: Vec<Page>, sink: &mut S) -> Result<(), ListFault>
     requires { All IsListable pages.items }
     ensures whole { S.is_known → OnOk result (S.taken sink.new ≡ S.taken sink.old ++ listing pages.items) }
     ensures part { S.is_known → OnErr result (TookPrefix (S.taken sink.old) (S.taken sink.new) (listing pages.items)) }
+    ensures stopped { S.is_known → result ≡ Err ListFault.OutOfMemory →
+        length (S.taken sink.new) < length (S.taken sink.old) + length (listing pages.items) }
 
     // A device's fault is answered only where that device failed.
     ensures failures { NamesFailures result ListFault.WriteFault (S.failures sink.old) (S.failures sink.new) }

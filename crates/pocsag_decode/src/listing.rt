@@ -1,4 +1,4 @@
-ghost use Rattle.std.specs.Prelude.{◌≡◌, ◌≢◌, ◌^◌, ◌<◌, ◌≤◌, ◌∷◌, ◌++◌, [], length, All, OnErr, OnOk, IfOk};
+ghost use Rattle.std.specs.Prelude.{◌≡◌, ◌≢◌, ◌^◌, ◌<◌, ◌≤◌, ◌∷◌, ◌++◌, [], Err, length, All, OnErr, OnOk, IfOk};
 ghost use Rattle.std.specs.List.{flat_map};
 ghost use Rattle.std.specs.Fmt.{decimal};
 ghost use Rattle.csv.specs.Writing.{default_writer, row_text};
@@ -201,30 +201,26 @@ pub(crate) fn begun(alloc: Global) -> Result<Writer<Vec<u8>>, AllocError>
     Ok(writer)
 }
 
-// Writes the records so far out.
+// Writes all records out.
 pub(crate) fn write_records<S: Sink>(
     alloc: Global,
     writer: &mut Writer<Vec<u8>>,
     sink: &mut S,
 ) -> Result<(), ListFault>
-    ensures ready { OnOk result (IsReady writer.new) }
-    ensures none { OnOk result (text_in writer.new ≡ []) }
     ensures whole { S.is_known → OnOk result (S.taken sink.new ≡ S.taken sink.old ++ text_in writer.old) }
     ensures part { S.is_known → OnErr result (TookPrefix (S.taken sink.old) (S.taken sink.new) (text_in writer.old)) }
+    ensures untouched { result ≡ Err ListFault.OutOfMemory → sink.new ≡ sink.old }
     ensures failures { NamesFailures result ListFault.WriteFault (S.failures sink.old) (S.failures sink.new) }
 {
     let full = mem::replace(writer, Writer::from_writer(Vec::new(alloc)));
-    let mut records = match full.into_inner() {
-        Ok(records) => records,
-        Err(_) => return Err(ListFault::OutOfMemory),
+    let Ok(records) = full.into_inner() else {
+        return Err(ListFault::OutOfMemory);
     };
     write_all(sink, records.as_slice())?;
-    records.clear();
-    *writer = Writer::from_writer(records);
     Ok(())
 }
 
-// The same, where they are many.
+// Writes the records so far out where they are many, but for the last byte: while memory may be refused, the listing is not whole.
 pub(crate) fn write_many_records<S: Sink>(
     alloc: Global,
     writer: &mut Writer<Vec<u8>>,
@@ -235,13 +231,28 @@ pub(crate) fn write_many_records<S: Sink>(
     ensures told { S.is_known → OnOk result
         (S.taken sink.new ++ text_in writer.new ≡ S.taken sink.old ++ text_in writer.old) }
     ensures grown { S.is_known → OnOk result (length (S.taken sink.old) ≤ length (S.taken sink.new)) }
+    ensures kept { 0 < length (text_in writer.old) → OnOk result (0 < length (text_in writer.new)) }
     ensures part { S.is_known → OnErr result (TookPrefix (S.taken sink.old) (S.taken sink.new) (text_in writer.old)) }
+    ensures untouched { result ≡ Err ListFault.OutOfMemory → sink.new ≡ sink.old }
     ensures failures { NamesFailures result ListFault.WriteFault (S.failures sink.old) (S.failures sink.new) }
 {
     if writer.get_ref().len() < PIECE {
         return Ok(());
     }
-    write_records(alloc, writer, sink)
+    let full = mem::replace(writer, Writer::from_writer(Vec::new(alloc)));
+    let Ok(mut records) = full.into_inner() else {
+        return Err(ListFault::OutOfMemory);
+    };
+    let Some(last) = records.pop() else {
+        return Ok(());
+    };
+    let mut kept = Vec::new(alloc);
+    if kept.push(last).is_err() {
+        return Err(ListFault::OutOfMemory);
+    }
+    write_all(sink, records.as_slice())?;
+    *writer = Writer::from_writer(kept);
+    Ok(())
 }
 
 // The page file of pages, or their listing.

@@ -8,8 +8,8 @@ use pocsag_shell::{Context, FileFault, Loaded, Named, ReaderSource, Role, Staged
 use pocsag_words::{DeviceFault, Source, write_all};
 use std::alloc::Global;
 use std::cell::Cell;
-use std::fs::{self, File, OpenFile, OpenOptions, TryLockError};
-use std::io::Write;
+use std::fs::{self, File, Metadata, OpenFile, OpenOptions, TryLockError};
+use std::io::{ErrorKind, Write};
 
 const ROLE: Role = Role::Journal;
 
@@ -52,21 +52,25 @@ impl<'a, 'w> JournalFile<'a, 'w> {
     /// the path must still be the file that is locked.
     pub fn hold(place: JournalPlace<'a, 'w>) -> Result<JournalFile<'a, 'w>, OpenFault> {
         let JournalPlace { context, path, .. } = place;
-        let is_new = Named::at(context.rt, path).is_none();
         let mut options = OpenOptions::new();
-        options.read(true).append(true).create(true);
-        let file = context.opened(ROLE, options.open(context.rt, path))?;
-        lock(context, &file, OpenFault::HeldByAnother)?;
-        let metadata = context.opened(ROLE, file.metadata())?;
-        let named = Named::of(&metadata);
-        if Named::at(context.rt, path) != Some(named) {
-            return Err(OpenFault::HeldByAnother);
+        options.read(true).append(true).create_new(true);
+        let (found, is_new) = match options.open(context.rt, path) {
+            Err(error) if error.kind() == ErrorKind::AlreadyExists => {
+                (options.create_new(false).open(context.rt, path), false)
+            }
+            made => (made, true),
+        };
+        let file = context.opened(ROLE, found)?;
+        let held = held(place, &file);
+        if is_new && held.is_err() {
+            remove_made(place, &file);
         }
+        let metadata = held?;
         Ok(JournalFile {
             place,
             is_new,
             file,
-            named,
+            named: Named::of(&metadata),
             len: metadata.len(),
         })
     }
@@ -76,7 +80,11 @@ impl<'a, 'w> JournalFile<'a, 'w> {
         if !self.is_new {
             return Ok(None);
         }
-        Ok(Some(self.place.context.opened(ROLE, self.file.try_clone())?))
+        let made = self.place.context.opened(ROLE, self.file.try_clone());
+        if made.is_err() {
+            remove_made(self.place, &self.file);
+        }
+        Ok(Some(made?))
     }
 
     // That what stands at the path is the file that is held, with the bytes that it should have: another program may
@@ -92,40 +100,53 @@ impl<'a, 'w> JournalFile<'a, 'w> {
     // Puts a file of the text at the path, and holds it.
     fn put(&mut self, text: &[u8]) -> Result<(), OpenFault> {
         let context = self.place.context;
-        let mut staged_file = StagedFile::make(context, ROLE, self.place.path)?;
-        // The journal's own lock comes in place of that of the file.
-        staged_file.file = None;
-        match self.put_staged(&staged_file, text) {
-            Ok((file, named)) => {
-                self.file = file;
-                self.named = named;
-                self.len = text.len() as u64;
-                Ok(())
-            }
-            Err(fault) => {
-                staged_file.remove(context);
-                Err(fault)
-            }
+        let staged_file = StagedFile::make(context, ROLE, self.place.path, &[])?;
+        if let Err(fault) = self.put_staged(&staged_file, text) {
+            staged_file.remove(context);
+            return Err(fault);
         }
+        let StagedFile { file, named, .. } = staged_file;
+        self.file = file;
+        self.named = named;
+        self.len = text.len() as u64;
+        Ok(())
     }
 
     // Writes the text to the file beside the path, and puts it there once it is on the disk. It is locked before.
-    fn put_staged(
-        &self,
-        staged_file: &StagedFile,
-        text: &[u8],
-    ) -> Result<(File, Named), OpenFault> {
-        let mut options = OpenOptions::new();
-        options.append(true);
+    fn put_staged(&self, staged_file: &StagedFile, text: &[u8]) -> Result<(), OpenFault> {
         let context = self.place.context;
-        let mut file = context.opened(ROLE, options.open(context.rt, staged_file.path()))?;
-        lock(context, &file, OpenFault::File(FileFault::Device))?;
-        let named = Named::of(&context.opened(ROLE, file.metadata())?);
+        let mut file = &staged_file.file;
+        lock(context, file, OpenFault::File(FileFault::Device))?;
         context.written(ROLE, file.write_all(text))?;
         staged_file.sync(context)?;
         self.stands()?;
-        staged_file.put(context)?;
-        Ok((file, named))
+        Ok(staged_file.put(context)?)
+    }
+}
+
+// Locks the file of a journal, which must still stand at the path.
+fn held(place: JournalPlace<'_, '_>, file: &File) -> Result<Metadata, OpenFault> {
+    let JournalPlace { context, path, .. } = place;
+    lock(context, file, OpenFault::HeldByAnother)?;
+    let metadata = context.opened(ROLE, file.metadata())?;
+    if Named::at(context.rt, path) != Some(Named::of(&metadata)) {
+        return Err(OpenFault::HeldByAnother);
+    }
+    Ok(metadata)
+}
+
+/// Takes a file away that was made, if it still stands at the path and no other program holds it: a journal that was written is
+/// another. That it cannot be taken away changes nothing.
+pub(crate) fn remove_made(place: JournalPlace<'_, '_>, made: &File) {
+    let rt = place.context.rt;
+    if matches!(made.try_lock(), Err(TryLockError::WouldBlock)) {
+        return;
+    }
+    let Ok(metadata) = made.metadata() else {
+        return;
+    };
+    if Named::at(rt, place.path) == Some(Named::of(&metadata)) {
+        let _ = fs::remove_file(rt, place.path);
     }
 }
 

@@ -1,17 +1,16 @@
 use crate::answer::KeptRound;
 use crate::fault::OpenFault;
-use crate::journal_file::{FirstPages, JournalFile, JournalPlace};
+use crate::journal_file::{FirstPages, JournalFile, JournalPlace, remove_made};
 use crate::kept_streams::{KeptStreams, open_kept, print_read};
 use crate::round_files::{OpenArgs, RoundFiles};
 use pocsag_journal::{Journal, Replayed, list_journal};
 use pocsag_pages::RoundFault;
 use pocsag_plan::Book;
 use pocsag_shell::{
-    Context, FileFault, Named, ReaderSource, Role, STANDARD, is_regular_or_none, open_source,
-    path_of, refuse_equal, refuse_one_file,
+    Context, FileFault, ReaderSource, Role, STANDARD, is_regular_or_none, open_source, path_of,
+    refuse_equal, refuse_one_file,
 };
 use std::cell::Cell;
-use std::fs::{self, File};
 
 /// `open --journal`: keeps an open round whose edits are in the file of a journal before they are answered, or lists the
 /// pages of a journal. Returns the exit status.
@@ -93,17 +92,5 @@ fn keep_on(place: JournalPlace<'_, '_>, args: OpenArgs<'_>) -> Result<u8, OpenFa
             }
             Err(fault)
         }
-    }
-}
-
-// Takes a file away that was made, if it still stands at the path: a journal that was written is another. That it cannot be taken
-// away changes nothing.
-fn remove_made(place: JournalPlace<'_, '_>, made: &File) {
-    let rt = place.context.rt;
-    let Ok(metadata) = made.metadata() else {
-        return;
-    };
-    if Named::at(rt, place.path) == Some(Named::of(&metadata)) {
-        let _ = fs::remove_file(rt, place.path);
     }
 }

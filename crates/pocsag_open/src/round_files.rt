@@ -176,10 +176,10 @@ impl<'a> OutputStore for RoundFiles<'a> {
             }
             refuse_shared(context, pages, tx, cert)?;
             // No transmission ever stands without its certificate.
-            self.made
-                .push(StagedFile::make(context, Role::Certificate, cert)?)?;
-            self.made
-                .push(StagedFile::make(context, Role::Transmission, tx)?)?;
+            for (role, place) in [(Role::Certificate, cert), (Role::Transmission, tx)] {
+                let made = StagedFile::make(context, role, place, self.made.as_slice())?;
+                self.made.push(made)?;
+            }
             let [made_cert, made_tx] = self.made.as_slice() else {
                 return Err(FileFault::Device);
             };

@@ -2,4 +2,6 @@ pub mod Folders
 pub mod Loads
 pub mod Placements
 pub mod Printed
+pub mod Readers
+pub mod Runs
 pub mod StagedFiles

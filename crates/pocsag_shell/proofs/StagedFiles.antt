@@ -1,5 +1,5 @@
 -- The names of the files beside a place, and the numbers in them.
-use Rattle.std.proofs.Common.{◌≡◌, ◌≢◌, inl, inr, ◌↔◌, ℕ, zero, suc, ◌+◌, ◌^◌, ◌<◌, ◌≤◌, List, [], ◌∷◌, ◌++◌, length, get_or, take, drop, true, false, Bool, Bor, refl, sym, ap, subst, ◌∙◌, arith, length-append}
+use Rattle.std.proofs.Common.{◌≡◌, ◌≢◌, ◌↔◌, ℕ, zero, suc, ◌+◌, ◌^◌, ◌<◌, ◌≤◌, List, [], ◌∷◌, ◌++◌, length, get_or, take, drop, true, false, Bool, Bor, refl, sym, ap, subst, ◌∙◌, arith, length-append}
 use Rattle.std.specs.Prelude.{IfNone, nat_eq, Option, Some, None, Result, Ok, Err, codes, slice_get}
 use Rattle.std.specs.Result.{result_ok}
 use Rattle.std.specs.Fmt.{decimal}
@@ -13,8 +13,8 @@ use Rattle.std.proofs.lemmas.List.{append_assoc, append_cancel_right, take-appen
 use Rattle.std.proofs.lemmas.Str.Parse.{IsNumeralModel, numerals_by_value, parse_plain, tells_digits}
 use Rattle.std.proofs.lemmas.Str.Pattern.{NoCharPasses-char, drop_at_char}
 use Rattle.std.specs.Str.Pattern.{RFindsChar, SplitsAroundMatch}
-use Rattle.pocsag_shell.specs.declared.left_over.LeftOver.TheVariants.{Lock, Made, Neither}
-use Rattle.pocsag_shell.specs.StagedFiles.{IsLeftName, IsLockName, IsStagedName, MayTakeNew, MayTakeOld}
+use Rattle.pocsag_shell.specs.declared.left_over.LeftOver.TheVariants.{Kept, Made}
+use Rattle.pocsag_shell.specs.StagedFiles.{IsLockName, IsMadeName, IsStagedName}
 
 own : IsNumeralModel (AllDigits 10) (digits_value 10)
 own = numerals_by_value _ tells_digits
@@ -172,28 +172,37 @@ lock_ending file one ending m four dot lock is =
     let letter : 108 ≡ 46 = ap (λ (v : List ℕ). get_or v 0 0) last ∙ dot in
     omega (arith, letter)
 
-module _ (name file : List ℕ) where
-  pub no_lock : IsLockName file → (n : ℕ) → IsLeftName name n file → ⊥
-  no_lock lock n left = elim left.made [
-    | inl new ↦ lock_ending file left.front (codes ".new") n refl refl lock new.0
-    | inr old ↦ lock_ending file left.front (codes ".old") n refl refl lock old.0
-  ]
+-- the number and the place of what a process made or kept is that of the name that was split
+pub lock_made : (file : List ℕ) → IsLockName file → (n : ℕ) → IsMadeName n file → ⊥
+lock_made file lock n made = lock_ending file (made.place ++ codes ".pocsag") (codes ".new") n refl refl lock made.named
 
-  pub left_new : (front : List ℕ) (m : ℕ) → IsStagedName front m (codes ".new") file → (n : ℕ) → IsLeftName name n file → MayTakeNew name front × (m ≡ n)
-  left_new front m is n left = elim left.made [
-    | inl new ↦
-        let same = same_name file (codes ".new") front left.front m n is new.0 in
-        (subst (MayTakeNew name) (sym same.0) new.1, same.1)
-    | inr old ↦ absurd (two_endings file front left.front m n is old.0)
-  ]
+pub lock_kept : (front file : List ℕ) → IsLockName file → (n : ℕ) → IsStagedName front n (codes ".old") file → ⊥
+lock_kept front file lock n kept = lock_ending file front (codes ".old") n refl refl lock kept
 
-  pub left_old : (front : List ℕ) (m : ℕ) → IsStagedName front m (codes ".old") file → (n : ℕ) → IsLeftName name n file → MayTakeOld name front × (m ≡ n)
-  left_old front m is n left = elim left.made [
-    | inl new ↦ absurd (two_endings file left.front front n m new.0 is)
-    | inr old ↦
-        let same = same_name file (codes ".old") front left.front m n is old.0 in
-        (subst (MayTakeOld name) (sym same.0) old.1, same.1)
-  ]
+pub made_of : (front place file : List ℕ) (m : ℕ) → IsStagedName front m (codes ".new") file → front ≡ place ++ codes ".pocsag" → (n : ℕ) →
+    (Made m ≡ Made n) ↔ IsMadeName n file
+made_of front place file m named parts n = (
+  λ e. let same : m ≡ n = cc (e) in subst (λ (k : ℕ). IsMadeName k file) same
+      (record { place = place; named = subst (λ (v : List ℕ). IsStagedName v m (codes ".new") file) parts named }),
+  λ made. ap Made (same_name file (codes ".new") front (made.place ++ codes ".pocsag") m n named made.named).1,
+)
+
+pub not_made : (front file : List ℕ) (m : ℕ) → IsStagedName front m (codes ".new") file → ((place : List ℕ) → front ≢ place ++ codes ".pocsag") →
+    (n : ℕ) → IsMadeName n file → ⊥
+not_made front file m named none n made =
+    none made.place (same_name file (codes ".new") front (made.place ++ codes ".pocsag") m n named made.named).0
+
+pub kept_of : (name front place file : List ℕ) (m : ℕ) → IsStagedName front m (codes ".old") file → front ≡ place ++ codes ".pocsag" →
+    place ≡ name → (n : ℕ) → (Kept m ≡ Kept n) ↔ IsStagedName (name ++ codes ".pocsag") n (codes ".old") file
+kept_of name front place file m named parts own n = (
+  λ e. let same : m ≡ n = cc (e) in subst (λ (k : ℕ). IsStagedName (name ++ codes ".pocsag") k (codes ".old") file) same
+      (subst (λ (v : List ℕ). IsStagedName v m (codes ".old") file) (parts ∙ ap (λ (v : List ℕ). v ++ codes ".pocsag") own) named),
+  λ kept. ap Kept (same_name file (codes ".old") front (name ++ codes ".pocsag") m n named kept).1,
+)
+
+pub not_kept : (name front file : List ℕ) (m : ℕ) → IsStagedName front m (codes ".old") file → front ≢ name ++ codes ".pocsag" → (n : ℕ) →
+    IsStagedName (name ++ codes ".pocsag") n (codes ".old") file → ⊥
+not_kept name front file m named other n kept = other (same_name file (codes ".old") front (name ++ codes ".pocsag") m n named kept).0
 
 pub where_none : {X : Type 0} (r : Option X) (P : Type 0) → P → IfNone r P
 where_none None P p = p
@@ -203,24 +212,3 @@ where_none (Some x) P p = tt
 pub text_is : (r : Bool) (one two : List ℕ) → r ≡ pointwise nat_eq one two → (r ≡ true) ↔ (one ≡ two)
 text_is true one two h = (λ e. same_text one two h, λ e. refl)
 text_is false one two h = (λ e. cc (e), λ e. absurd (other_text one two h e))
-
-pub taken_marked : (name front place : List ℕ) (r : Bool) → front ≡ place ++ codes ".pocsag" → (r ≡ true) ↔ (place ≡ name) →
-    (r ≡ true) ↔ MayTakeOld name front
-taken_marked name front place r parts same = (
-  λ is. inl (parts ∙ ap (λ (v : List ℕ). v ++ codes ".pocsag") (same.0 is)),
-  λ may. elim may [
-    | inl e ↦ same.1 (append_cancel_right place name (codes ".pocsag") (sym parts ∙ e))
-    | inr e ↦ absurd (e.1 (record { place = place; named = sym e.0 ∙ parts }))
-  ],
-)
-
--- the number of what was left, and none
-pub made_by : (name file : List ℕ) (m : ℕ) → IsLeftName name m file → ((n : ℕ) → IsLeftName name n file → m ≡ n) → (n : ℕ) →
-    (Made m ≡ Made n) ↔ IsLeftName name n file
-made_by name file m left one n = (λ e. let same : m ≡ n = cc (e) in subst (λ (k : ℕ). IsLeftName name k file) same left, λ also. ap Made (one n also))
-
-pub locked : (name file : List ℕ) → ((n : ℕ) → IsLeftName name n file → ⊥) → (n : ℕ) → (Lock ≡ Made n) ↔ IsLeftName name n file
-locked name file none n = (λ e. cc (e), λ left. absurd (none n left))
-
-pub neither : (name file : List ℕ) → ((n : ℕ) → IsLeftName name n file → ⊥) → (n : ℕ) → (Neither ≡ Made n) ↔ IsLeftName name n file
-neither name file none n = (λ e. cc (e), λ left. absurd (none n left))

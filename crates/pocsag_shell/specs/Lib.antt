@@ -4,4 +4,6 @@ pub mod Folders
 pub mod Loads
 pub mod Notes
 pub mod Paths
+pub mod Readers
+pub mod Runs
 pub mod StagedFiles

@@ -10,10 +10,8 @@ pub struct ErrorStream<F: Failure + Drop, S: Sink + Drop> {
 }
 
 impl<F: Failure + Drop, S: Sink + Drop> ErrorStream<F, S> {
-    ghost use Rattle.std.specs.Prelude.{◌≡◌, ℕ, List, None, Some, IfErr, IfOk};
-    ghost use Rattle.pocsag_words.specs.Devices.{TookPrefix};
-    ghost use Rattle.pocsag_shell.specs.ErrorStreams.{stream_of, printed_by};
-    ghost use Rattle.pocsag_shell.specs.Notes.{error_line};
+    ghost use Rattle.std.specs.Prelude.{◌≡◌, None, IfErr, IfOk};
+    ghost use Rattle.pocsag_shell.specs.ErrorStreams.{EndedWell, EndedWith, stream_of, printed_by};
 
     /// A stream without a fault over this writer.
     pub fn new(sink: S) -> ErrorStream<F, S>
@@ -26,11 +24,8 @@ impl<F: Failure + Drop, S: Sink + Drop> ErrorStream<F, S> {
     /// Ends a command: writes the line of its fault, if there is one, and keeps the fault. If the writer fails the line is lost, or
     /// all but its front. Returns the exit status.
     pub fn end(&mut self, done: Result<u8, F>) -> u8
-        ensures done { IfOk done (λ status. (result ≡ status) × (printed_by self.new ≡ None)
-            × (stream_of self.new ≡ stream_of self.old)) }
-        ensures fault { IfErr done (λ fault. (result ≡ F.status_is fault) × (printed_by self.new ≡ Some fault)) }
-        ensures line { S.is_known → IfErr done (λ fault. (text : List ℕ) → F.output fault ≡ Some text →
-            TookPrefix (S.taken (stream_of self.old)) (S.taken (stream_of self.new)) (error_line text)) }
+        ensures done { IfOk done (λ status. (result ≡ status) × EndedWell self.old self.new) }
+        ensures fault { IfErr done (EndedWith F.status_is S.Sink self.old self.new result) }
     {
         self.fault = done.err();
         match done {

@@ -51,7 +51,8 @@ const BEHIND_INPUT: &str = "the file behind standard input";
 const ONE_STREAM: &str =
     "standard output takes a file, and standard error, which is to take the lines, is the same file";
 
-/// Opens a file for reading, or standard input if there is no path. It refuses a folder.
+/// Opens a file for reading, or standard input if there is no path. A folder is refused where it is read, as any file that
+/// cannot be read, but as a journal at once.
 pub fn open_source<'a>(
     context: Context<'a>,
     role: Role,
@@ -60,7 +61,8 @@ pub fn open_source<'a>(
     let input = match path {
         Some(path) => {
             let file = context.opened(role, fs::open(context.rt, path))?;
-            if context.opened(role, file.metadata())?.is_dir() {
+            let is_journal = matches!(role, Role::Journal);
+            if is_journal && context.opened(role, file.metadata())?.is_dir() {
                 context.diagnostics.meet(role, Some(IS_FOLDER));
                 return Err(FileFault::Device);
             }

@@ -1,7 +1,7 @@
-ghost use Rattle.std.specs.Prelude.{◌≡◌, ◌↔◌, ◌^◌, ◌<◌, ℕ, List, true, IfNone, IfSome, Some};
+ghost use Rattle.std.specs.Prelude.{◌≡◌, ◌↔◌, ◌^◌, ◌<◌, ◌++◌, ℕ, List, codes, IfNone, IfSome, Some};
 ghost use Rattle.std.specs.Fmt.{decimal};
-ghost use Rattle.pocsag_shell.specs.StagedFiles.{IsLeftName, IsLockName, IsStagedName, MayTakeOld};
-ghost use Rattle.pocsag_shell.specs.declared.left_over.LeftOver.TheVariants.{Lock, Made};
+ghost use Rattle.pocsag_shell.specs.StagedFiles.{IsLockName, IsMadeName, IsStagedName};
+ghost use Rattle.pocsag_shell.specs.declared.left_over.LeftOver.TheVariants.{Kept, Lock, Made};
 
 use crate::files::is_regular_or_none;
 use crate::paths::Named;
@@ -27,6 +27,8 @@ enum LeftOver {
     Lock,
     // What the process of this number made beside a place.
     Made(u32),
+    // What stood at this place before, which the process of this number kept.
+    Kept(u32),
     // Nothing that may be removed.
     Neither,
 }
@@ -47,41 +49,54 @@ pub(crate) fn remove_left_over(rt: &HostRuntime, place: &str) {
             continue;
         };
         let path = entry.path();
-        let path = path.as_str();
-        if !may_be_left(rt, name, entry.file_name()) {
-            continue;
-        }
-        // The lock lasts until the file is removed.
-        if let Some(_file) = locked(rt, path, false) {
-            let _ = fs::remove_file(rt, path);
+        match left_over(name, entry.file_name()) {
+            LeftOver::Lock => remove_unheld(rt, path.as_str()),
+            LeftOver::Made(number) if is_gone(rt, number) => remove_unheld(rt, path.as_str()),
+            LeftOver::Kept(number) if is_gone(rt, number) => remove_kept(rt, place, path.as_str()),
+            _ => {}
         }
     }
 }
 
-// Whether the name is that of the lock of a place, or of a file that a process which is gone made beside the place of a name or
-// beside another one.
-fn may_be_left(rt: &HostRuntime, name: &str, file: &str) -> bool {
-    let number = match left_over(name, file) {
-        LeftOver::Lock => return true,
-        LeftOver::Made(number) => number,
-        LeftOver::Neither => return false,
-    };
+// Whether no process has the number.
+fn is_gone(rt: &HostRuntime, number: u32) -> bool {
     let Ok(path) = format!(in rt.alloc(); "/proc/{number}") else {
         return false;
     };
     fs::metadata(rt, path.as_str()).is_err_and(|error| error.kind() == ErrorKind::NotFound)
 }
 
+/// Removes a file that nobody holds, if there is one.
+pub(crate) fn remove_unheld(rt: &HostRuntime, path: &str) {
+    // The lock lasts until the file is removed.
+    if let Ok(Some(_file)) = lock_there(rt, path, false) {
+        let _ = fs::remove_file(rt, path);
+    }
+}
+
+// Removes what stood at a place before, unless a run holds the place, which may bring it back.
+fn remove_kept(rt: &HostRuntime, place: &str, path: &str) {
+    let Ok(lock) = format!(in rt.alloc(); "{place}{LOCK}") else {
+        return;
+    };
+    if let Ok(Some(_file)) = lock_or_make(rt, lock.as_str(), false) {
+        let _ = fs::remove_file(rt, path);
+        let _ = fs::remove_file(rt, lock.as_str());
+    }
+}
+
 // What killed runs may have left under the name of a file, in the folder of the place of a name.
 fn left_over(name: &str, file: &str) -> LeftOver
     ensures lock { (result ≡ Lock) ↔ IsLockName file.now }
-    ensures made { (number : ℕ) → (result ≡ Made number) ↔ IsLeftName name.now number file.now }
+    ensures made { (number : ℕ) → (result ≡ Made number) ↔ IsMadeName number file.now }
+    ensures kept { (number : ℕ) → (result ≡ Kept number)
+        ↔ IsStagedName (name.now ++ codes ".pocsag") number (codes ".old") file.now }
 {
     if file.ends_with(LOCK) {
         return LeftOver::Lock;
     }
     if let Some((front, number)) = process_of(file, ".new") {
-        if front == name || front.ends_with(FILE_MARK) {
+        if front.ends_with(FILE_MARK) {
             return LeftOver::Made(number);
         }
         return LeftOver::Neither;
@@ -89,74 +104,93 @@ fn left_over(name: &str, file: &str) -> LeftOver
     let Some((front, number)) = process_of(file, ".old") else {
         return LeftOver::Neither;
     };
-    if may_take_old(name, front) {
-        return LeftOver::Made(number);
+    let Some(place) = front.strip_suffix(FILE_MARK) else {
+        return LeftOver::Neither;
+    };
+    if place == name {
+        return LeftOver::Kept(number);
     }
     LeftOver::Neither
 }
 
-// Whether what stood at a place before stood at the place of this name. Earlier versions marked no name, and nobody but the user knows
-// whose such a name is beside another place.
-fn may_take_old(name: &str, front: &str) -> bool
-    ensures { (result ≡ true) ↔ MayTakeOld name.now front.now }
-{
-    match front.strip_suffix(FILE_MARK) {
-        Some(place) => place == name,
-        None => front == name,
+/// Opens a file that is not there or that runs lock, and locks it. None where another run holds it, or has just removed it. A file
+/// system that has no locks has that of nobody, where `may_lack` says so.
+pub(crate) fn lock_or_make(
+    rt: &HostRuntime,
+    path: &str,
+    may_lack: bool,
+) -> io::Result<Option<File>> {
+    match make_lock(rt, path)? {
+        Some(file) => locked(rt, file, path, may_lack),
+        None => lock_there(rt, path, may_lack),
     }
 }
 
-/// Opens a file that is not there or that runs lock, and locks it. None where another run holds it, or has just removed it. A file
-/// system that has no locks has that of nobody, where `may_lack` says so.
-pub(crate) fn locked(rt: &HostRuntime, path: &str, may_lack: bool) -> Option<File> {
-    let file = match make_lock(rt, path) {
-        Some(file) => file,
-        // Opening a pipe would wait for who writes to it.
-        None if is_regular_or_none(rt, path) => fs::open(rt, path).ok()?,
-        None => return None,
-    };
+// The same of a file that is there.
+fn lock_there(rt: &HostRuntime, path: &str, may_lack: bool) -> io::Result<Option<File>> {
+    // Opening a pipe would wait for who writes to it.
+    if !is_regular_or_none(rt, path) {
+        return Err(io::Error::other("no regular file"));
+    }
+    match fs::open(rt, path) {
+        Ok(file) => locked(rt, file, path, may_lack),
+        Err(error) if error.kind() == ErrorKind::NotFound => Ok(None),
+        Err(error) => Err(error),
+    }
+}
+
+/// The file, locked. None where another run holds it, or has removed it since it was opened.
+pub(crate) fn locked(
+    rt: &HostRuntime,
+    file: File,
+    path: &str,
+    may_lack: bool,
+) -> io::Result<Option<File>> {
     match file.try_lock() {
-        Ok(()) => {}
-        Err(TryLockError::Error(_)) if may_lack => {}
-        Err(_) => return None,
+        Err(TryLockError::WouldBlock) => return Ok(None),
+        Err(TryLockError::Error(error)) if !may_lack => return Err(error),
+        _ => {}
     }
-    // Who held it may have removed it since it was opened.
-    let named = Named::of(&file.metadata().ok()?);
+    let named = Named::of(&file.metadata()?);
     if Named::at(rt, path) != Some(named) {
-        return None;
+        return Ok(None);
     }
-    Some(file)
+    Ok(Some(file))
 }
 
 // Makes a lock that is not there. Runs of other users open it too, whatever the mask of this one: it has its mode before it has its
 // name, so that a run that is killed in between leaves no lock that others cannot open. None where it is there already.
-fn make_lock(rt: &HostRuntime, path: &str) -> Option<File> {
+fn make_lock(rt: &HostRuntime, path: &str) -> io::Result<Option<File>> {
     if Named::at(rt, path).is_some() {
-        return None;
+        return Ok(None);
     }
     let number = process::id(rt.process());
-    let first = format!(in rt.alloc(); "{path}.pocsag.{number}.new").ok()?;
+    let first = format!(in rt.alloc(); "{path}.pocsag.{number}.new")?;
     let first = first.as_str();
     // A killed process with the same number may have left one.
     let _ = fs::remove_file(rt, first);
-    if let Some(file) = readable_by_all(File::create_new(rt, first)) {
+    if let Ok(file) = readable_by_all(File::create_new(rt, first)) {
         let named = fs::hard_link(rt, first, path);
         let _ = fs::remove_file(rt, first);
         match named {
-            Ok(()) => return Some(file),
-            Err(error) if error.kind() == ErrorKind::AlreadyExists => return None,
+            Ok(()) => return Ok(Some(file)),
+            Err(error) if error.kind() == ErrorKind::AlreadyExists => return Ok(None),
             // Some file systems have no second names.
             Err(_) => {}
         }
     }
-    readable_by_all(File::create_new(rt, path))
+    match readable_by_all(File::create_new(rt, path)) {
+        Ok(file) => Ok(Some(file)),
+        Err(error) if error.kind() == ErrorKind::AlreadyExists => Ok(None),
+        Err(error) => Err(error),
+    }
 }
 
 // The file that was made, which everybody may read now.
-fn readable_by_all(made: io::Result<File>) -> Option<File> {
-    let file = made.ok()?;
+fn readable_by_all(made: io::Result<File>) -> io::Result<File> {
+    let file = made?;
     let _ = file.set_permissions(Permissions::from_mode(ALL_READ));
-    Some(file)
+    Ok(file)
 }
 
 // What stands before the number in the name of a file with this ending, and the number of the process that made it, if a process

@@ -2,6 +2,7 @@
 //! What the groups of commands share: the faults of files, how a command opens and makes files, the lines on standard error,
 //! and how the words of the command line become a call of a command. The crate knows neither the commands nor the planner.
 
+mod answer;
 mod context;
 mod devices;
 mod diagnostics;
@@ -24,8 +25,10 @@ mod staged_file;
 mod streams;
 mod system_folder;
 mod tables;
+mod transmission;
 mod words;
 
+pub use answer::{CommandAnswer, print_answer};
 pub use context::Context;
 pub use devices::{ReaderSource, WriterSink};
 pub use diagnostics::Diagnostics;
@@ -50,6 +53,7 @@ pub use staged_file::StagedFile;
 pub use streams::{Input, Output};
 pub use system_folder::{SystemFolder, put_staged};
 pub use tables::command;
+pub use transmission::read_transmission;
 pub use words::{
     ALWAYS, ALWAYS_FLAG, CERT, CERT_PLACE, Content, EXPECT, FLAG, Given, KEEP, KEEP_FLAG, LineWord,
     PAGES, PAGES_PLACE, PLACE, STANDARD, STRICT, SVG, Shape, TX, TX_PLACE, path_of,

@@ -1,7 +1,7 @@
-ghost use Rattle.std.specs.Prelude.{◌≡◌, ℕ, ◌≤◌, List, ◌++◌, length, map, IfErr, OnErr, OnOk, Some};
-ghost use Rattle.pocsag_words.specs.Devices.{CountsFailures, Delivers, TookPrefix};
+ghost use Rattle.std.specs.Prelude.{◌≡◌, ◌⊎◌, ℕ, ◌≤◌, List, ◌++◌, length, map, IfErr, OnErr, OnOk, Some};
+ghost use Rattle.pocsag_words.specs.Devices.{CountsFailures, Delivers, HasFailed, TookPrefix};
 ghost use Rattle.pocsag_shell.specs.Faults.{IsFailure};
-ghost use Rattle.pocsag_shell.specs.Notes.{error_line, numbered_text};
+ghost use Rattle.pocsag_shell.specs.Notes.{IsOneLine, TookLine, numbered_text};
 
 use crate::fault::{Failure, FileFault};
 use arrayvec::ArrayString;
@@ -12,6 +12,11 @@ use std::fmt::{Display, Write};
 // The longest text in bytes.
 pub(crate) const LONGEST: usize = 200;
 
+// What each line begins with, and how much of the text of a fault has room behind it.
+const PREFIX: &str = "pocsag: ";
+
+const LONGEST_FAULT: usize = 191;
+
 /// Writes the bytes whole. After a fault a prefix of them was taken.
 pub fn put_whole<S: Sink>(sink: &mut S, bytes: &[u8]) -> Result<(), FileFault>
     ensures delivers { S.is_known → Delivers result (S.taken sink.old) (S.taken sink.new) bytes.now }
@@ -21,13 +26,14 @@ pub fn put_whole<S: Sink>(sink: &mut S, bytes: &[u8]) -> Result<(), FileFault>
     write_all(sink, bytes).map_err(|_| FileFault::Write)
 }
 
-/// Writes a text of at most 200 bytes without allocating. A longer text is a fault.
+/// Writes a text of at most 200 bytes without allocating. A longer text is a fault, and nothing of it is written.
 pub fn print<S: Sink, D: Display + Drop>(sink: &mut S, text: D) -> Result<(), FileFault>
     ensures printed { S.is_known → (printed : List ℕ) → D.output text ≡ Some printed →
         OnOk result (S.taken sink.new ≡ S.taken sink.old ++ printed) }
     ensures part { S.is_known → (printed : List ℕ) → D.output text ≡ Some printed →
         OnErr result (TookPrefix (S.taken sink.old) (S.taken sink.new) printed) }
     ensures lost { IfErr result (λ e. e ≡ FileFault.Write) }
+    ensures failed { OnErr result ((sink.new ≡ sink.old) ⊎ HasFailed (S.failures sink.old) (S.failures sink.new)) }
 {
     let mut kept = ArrayString::<LONGEST>::new();
     let Ok(()) = write!(kept, "{text}") else {
@@ -83,11 +89,27 @@ pub fn print_numbers<S: Sink>(
 /// Writes the line of a fault to standard error and returns the exit status. If standard error fails the line is lost, or all
 /// but its front.
 pub fn print_fault<S: Sink, F: Failure>(err: &mut S, fault: F) -> u8
-    ensures printed { S.is_known → (text : List ℕ) → F.output fault ≡ Some text →
-        TookPrefix (S.taken err.old) (S.taken err.new) (error_line text) }
+    ensures line { TookLine S.Sink err.old err.new }
     ensures value { result ≡ F.status_is fault }
     ensures failure { IsFailure result }
 {
-    let _ = print(err, format_args!("pocsag: {fault}\n"));
+    let mut text = ArrayString::<LONGEST_FAULT>::new();
+    let _ = write!(text, "{fault}");
+    let mut line = ArrayString::<LONGEST>::new();
+    line.push_str(PREFIX);
+    line.push_str(one_line(text.as_str()));
+    line.push('\n');
+    let _ = put_whole(err, line.as_str().as_bytes());
     fault.status()
+}
+
+// The text, where it is one line; nothing of any other.
+fn one_line(text: &str) -> &str
+    ensures line { IsOneLine result.now }
+    ensures long { length result.now ≤ length text.now }
+{
+    if text.as_bytes().contains(&b'\n') {
+        return "";
+    }
+    text
 }

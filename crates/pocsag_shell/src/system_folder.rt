@@ -1,7 +1,7 @@
 use crate::context::Context;
 use crate::fault::FileFault;
 use crate::folder::Folder;
-use crate::left_over::locked;
+use crate::left_over::lock_or_make;
 use crate::placement::put_files;
 use crate::role::Role;
 use crate::staged_file::{StagedFile, parts_of};
@@ -20,6 +20,8 @@ const PAUSE_MS: u64 = 10;
 #[derive(Drop)]
 pub struct SystemFolder<'a> {
     context: Context<'a>,
+    // The files that are to be renamed.
+    files: &'a [StagedFile],
     // The folders that were opened, by their paths.
     opened: Vec<(String, File)>,
     // The locks of places, by their paths.
@@ -29,10 +31,8 @@ pub struct SystemFolder<'a> {
 /// Brings the files to the disk and puts them at their places, as `put_files` does. Runs that put files at one place take
 /// turns.
 pub fn put_staged(context: Context<'_>, files: &[StagedFile]) -> Result<(), FileFault> {
-    let mut folder = SystemFolder::new(context);
-    let done = folder
-        .prepare(files)
-        .and_then(|_| put_files(&mut folder, files));
+    let mut folder = SystemFolder::new(context, files);
+    let done = folder.prepare().and_then(|_| put_files(&mut folder, files));
     // The locks last until they are removed.
     for (path, _file) in &folder.locks {
         let _ = fs::remove_file(context.rt, path.as_str());
@@ -41,22 +41,23 @@ pub fn put_staged(context: Context<'_>, files: &[StagedFile]) -> Result<(), File
 }
 
 impl<'a> SystemFolder<'a> {
-    /// No folder is opened yet.
-    pub fn new(context: Context<'a>) -> SystemFolder<'a> {
+    /// The folders of these files' places. None is opened yet.
+    pub fn new(context: Context<'a>, files: &'a [StagedFile]) -> SystemFolder<'a> {
         SystemFolder {
             context,
+            files,
             opened: Vec::new(context.alloc),
             locks: Vec::new(context.alloc),
         }
     }
 
     // Brings the bytes of the files to the disk, opens the folders of their places, and locks the places.
-    fn prepare(&mut self, files: &[StagedFile]) -> Result<(), FileFault> {
-        for file in files {
+    fn prepare(&mut self) -> Result<(), FileFault> {
+        for file in self.files {
             file.sync(self.context)?;
             self.open(file.role, &file.place)?;
         }
-        for file in files {
+        for file in self.files {
             self.lock(file.role, &file.place)?;
         }
         Ok(())
@@ -83,11 +84,20 @@ impl<'a> SystemFolder<'a> {
         let context = self.context;
         let path = format!(in context.alloc; "{place}.pocsag.lock")?;
         for _ in 0..TRIES {
-            if let Some(lock) = locked(context.rt, path.as_str(), true) {
-                self.locks.push((path, lock))?;
-                return Ok(());
+            match lock_or_make(context.rt, path.as_str(), true) {
+                Ok(Some(lock)) => {
+                    self.locks.push((path, lock))?;
+                    return Ok(());
+                }
+                Ok(None) => thread::sleep(context.rt, Duration::from_millis(PAUSE_MS)),
+                Err(error) if error.kind() == ErrorKind::OutOfMemory => {
+                    return Err(FileFault::OutOfMemory);
+                }
+                Err(error) => {
+                    context.note(format_args!("{role} {place}: cannot lock {path}: {error}"));
+                    return Err(FileFault::Write);
+                }
             }
-            thread::sleep(context.rt, Duration::from_millis(PAUSE_MS));
         }
         context.note(format_args!("{role} {place}: another run is putting its files there"));
         Err(FileFault::Write)
@@ -131,8 +141,15 @@ impl Folder for SystemFolder<'_> {
     }
 
     fn rename(&mut self, role: Role, from: &String, to: &String) -> Result<(), FileFault> {
-        let renamed = fs::rename(self.context.rt, from.as_str(), to.as_str());
-        self.context.written(role, renamed)
+        let context = self.context;
+        for file in self.files {
+            if file.path() == from.as_str() && !file.stands(context) {
+                context.note(format_args!("{role} {to}: another program took away {from}"));
+                return Err(FileFault::Write);
+            }
+        }
+        let renamed = fs::rename(context.rt, from.as_str(), to.as_str());
+        context.written(role, renamed)
     }
 
     fn sync_names(&mut self, role: Role, path: &String) -> Result<(), FileFault> {

@@ -1,7 +1,8 @@
-use Rattle.std.proofs.Common.{◌≡◌, ◌≤◌, ◌++◌, length, map}
+use Rattle.std.proofs.Common.{◌≡◌, ◌<◌, ◌≤◌, ◌++◌, length, map}
 use Rattle.pocsag_words.specs.Kinds.{kind_of}
 use Rattle.pocsag_pages.specs.Bytes.{unsynced, words_of}
 use Rattle.pocsag_pages.specs.Plain.{pages_from}
+use Rattle.pocsag_decode.specs.Lines.{text_in}
 use Rattle.pocsag_decode.specs.Listers.{CanList}
 use Rattle.pocsag_decode.specs.Listing.{listing}
 use Rattle.pocsag_decode.proofs.Listings.{AreListed}
@@ -10,6 +11,7 @@ use Rattle.pocsag_decode.proofs.lister.list_batches.Given as goal
 abbrev pub invariant-loop-i : goal.invariant-loop-i
 invariant-loop-i g l = record {
   can : CanList l.lister;
+  some : 0 < length (text_in l.lister.records);
   told : g.S.Sink.is_known
       → AreListed (g.S.Sink.taken l.fn.sink ++ listing (pages_from 0 (map kind_of (unsynced 0 (words_of l.bytes)))))
       (g.S.Sink.taken l.sink) l.lister l.i l.bytes;

@@ -1,16 +1,21 @@
-use Rattle.std.proofs.Common.{◌++◌, List, ℕ, refl, sym, ap, ◌∙◌, arith}
+use Rattle.std.proofs.Common.{codes, rules, ◌≡◌, ◌++◌, List, ℕ, length, length-append, refl, sym, ap, ◌∙◌, arith}
 use Rattle.std.proofs.lemmas.Iterator.Adapters.{YieldsList-from_vec}
 use Rattle.std.proofs.lemmas.Iterator.Consumers.{YieldsList-end, YieldsList-turn}
 use Rattle.std.proofs.lemmas.List.{map-id}
 use Rattle.std.proofs.lemmas.Result.{on_err_weaker, on_ok_weaker}
+use Rattle.csv.specs.Writing.{default_writer, row_text}
+use Rattle.pocsag_decode.specs.Lines.{text_in}
+use Rattle.pocsag_decode.specs.Listing.{record_of}
 use Rattle.pocsag_decode.specs.Listers.{rows_of_pages}
 use Rattle.pocsag_decode.proofs.Listings.{listing_is, poured, row_more, rows_end}
-use Rattle.pocsag_decode.proofs.Prefixes.{after_fault, took_on, took_so_far}
+use Rattle.pocsag_decode.proofs.PageRows.{row_some}
+use Rattle.pocsag_decode.proofs.Prefixes.{after_fault, some_left, took_on, took_so_far}
 use Rattle.pocsag_decode.proofs.lister.put_all.Goals as goal
 
 pub loop-page-init : goal.loop-page-init
 loop-page-init g c = record {
   ready = c.requires.ready;
+  some = omega (arith, ap length c.requires.begun, row_some (codes "address") (codes "kind") (codes "message"));
   told = λ is_known.
       ap (λ (l : List ℕ). g.S.Sink.taken c.args.sink.now ++ l)
       (listing_is c.args.pages.items ∙ ap (λ (l : List ℕ). l ++ rows_of_pages c.args.pages.items) (sym c.requires.begun));
@@ -27,6 +32,8 @@ loop-page-preserved g c =
     c.next.ensures.steps in
     record {
       ready = c.in_ok-write_many_records.ensures.ready;
+      some = c.in_ok-write_many_records.ensures.kept
+          (omega (arith, loop.invariant.some, ap length c.in_ok-put_spent.ensures.row.1, length-append (text_in loop.records) (row_text default_writer (record_of c.in-Some.page))));
       told = λ is_known.
           poured _ (g.S.Sink.taken loop.sink) (g.S.Sink.taken c.write_many_records.new.sink) _ _ _ (c.in_ok-write_many_records.ensures.told is_known)
           (row_more _ (g.S.Sink.taken loop.sink) _ c.args.pages.items loop.yielded (loop.invariant.told is_known) _ c.in-Some.page turn.0 turn.1
@@ -72,3 +79,16 @@ returns-clause-part g c = λ is_known.
     (took_on (g.S.Sink.taken c.args.sink.now) (g.S.Sink.taken loop.sink) (g.S.Sink.taken c.write_records.new.sink) _ _ _
     (loop.invariant.grown is_known) (loop.invariant.told is_known))
     (c.write_records.ensures.part is_known)
+
+pub returns-in_err-put_spent-clause-stopped : goal.returns-in_err-put_spent-clause-stopped
+returns-in_err-put_spent-clause-stopped g c = λ is_known _.
+    let loop = c.loop-page in
+    some_left (g.S.Sink.taken c.args.sink.now) (g.S.Sink.taken loop.sink) (text_in loop.records) _ _ (loop.invariant.told is_known)
+    loop.invariant.some
+
+pub returns-in_err-write_many_records-clause-stopped : goal.returns-in_err-write_many_records-clause-stopped
+returns-in_err-write_many_records-clause-stopped g c = λ is_known refused.
+    let loop = c.loop-page in
+    let same : c.write_many_records.new.sink ≡ loop.sink = c.in_err-write_many_records.ensures.untouched (search rules) in
+    rw same (some_left (g.S.Sink.taken c.args.sink.now) (g.S.Sink.taken loop.sink) (text_in loop.records) _ _ (loop.invariant.told is_known)
+    loop.invariant.some)

@@ -1,4 +1,4 @@
-use Rattle.std.proofs.Common.{◌≡◌, ◌≤◌, ◌++◌, drop, length}
+use Rattle.std.proofs.Common.{◌≡◌, ◌<◌, ◌≤◌, ◌++◌, drop, length}
 use Rattle.pocsag_decode.specs.Lines.{IsReady, text_in}
 use Rattle.pocsag_decode.specs.Listers.{rows_of_pages}
 use Rattle.pocsag_decode.specs.Listing.{listing}
@@ -7,6 +7,7 @@ use Rattle.pocsag_decode.proofs.lister.put_all.Given as goal
 abbrev pub invariant-loop-page : goal.invariant-loop-page
 invariant-loop-page g l = record {
   ready : IsReady l.records;
+  some : 0 < length (text_in l.records);
   told : g.S.Sink.is_known → g.S.Sink.taken l.fn.sink ++ listing l.fn.pages.items
       ≡ g.S.Sink.taken l.sink ++ (text_in l.records ++ rows_of_pages (drop (length l.yielded) l.fn.pages.items));
   grown : g.S.Sink.is_known → length (g.S.Sink.taken l.fn.sink) ≤ length (g.S.Sink.taken l.sink);

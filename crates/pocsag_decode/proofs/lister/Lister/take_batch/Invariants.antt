@@ -1,13 +1,15 @@
-use Rattle.std.proofs.Common.{◌≡◌, ◌+◌, ◌%◌, ◌++◌, ℕ, List, map, take}
+use Rattle.std.proofs.Common.{◌≡◌, ◌+◌, ◌%◌, ◌≤◌, ◌++◌, ℕ, List, length, map, take}
 use Rattle.std.specs.Int.{from_be_bytes, w32}
 use Rattle.pocsag_words.specs.Kinds.{kind_of}
 use Rattle.pocsag_words.specs.declared.codeword.Kind.{Kind}
+use Rattle.pocsag_decode.specs.Lines.{text_in}
 use Rattle.pocsag_decode.specs.Listers.{CanList, still_listed}
 use Rattle.pocsag_decode.proofs.lister.Lister.take_batch.Given as goal
 
 abbrev pub invariant-loop-word : goal.invariant-loop-word
 invariant-loop-word l = record {
   can : CanList l.self;
+  grown : length (text_in l.initial.self.records) ≤ length (text_in l.self.records);
   at : l.slot ≡ l.word-index;
   reads : (i : ℕ) (ks : List Kind) → i % 16 ≡ 0
       → still_listed l.initial.self i (map kind_of (map (from_be_bytes w32) (take l.word-index l.words)) ++ ks)
