@@ -1,26 +1,35 @@
 -- What is listed of a capture, and why a command does not answer for one.
-use Rattle.std.proofs.Common.{◌≡◌, ℕ, ◌+◌, ◌*◌, ◌<◌, ◌≤◌, Bool, true, false, List, [], ◌∷◌, ◌++◌, length, get_or, map, take, Option, refl, sym, ap, ap₂, subst, ◌∙◌, arith, append_assoc, if◌then◌else◌}
+use Rattle.std.proofs.Common.{◌≡◌, ℕ, ◌+◌, ◌*◌, ◌<◌, ◌≤◌, Bool, true, false, List, [], ◌∷◌, ◌++◌, length, get_or, map, take, Option, None, refl, sym, ap, ap₂, subst, ◌∙◌, arith, append_assoc, if◌then◌else◌}
+use Rattle.std.specs.Prelude.{IfNone, IfSome}
 use Rattle.std.proofs.Math.Seq.{take-length}
 use Rattle.std.proofs.lemmas.List.{append-nil, flat_map_more, length-map, length-take-le, map-append, take_more}
 use Rattle.std.proofs.lemmas.List.Elements.{All-nil, All-push, All-weaker}
-use Rattle.pocsag_words.specs.Devices.{TookPrefix}
+use Rattle.pocsag_words.specs.declared.device.Sink.{Ghosts as Writer}
+use Rattle.pocsag_words.specs.declared.device.Source.{Ghosts as Reader}
 use Rattle.pocsag_words.specs.Frame.{input_limit}
 use Rattle.pocsag_pages.specs.declared.page.Page.{Page}
 use Rattle.pocsag_pages.specs.Bytes.{unsynced}
 use Rattle.pocsag_capture.specs.Bits.{capture_bits}
-use Rattle.pocsag_capture.specs.CapturedPages.{HasCaptured}
+use Rattle.pocsag_capture.proofs.SentBits.{shows_what_was_sent}
 use Rattle.pocsag_capture.specs.ExtractedBytes.{ExtractsOne}
-use Rattle.pocsag_capture.specs.PageEnds.{AreNumbered, HasTransmissions, IsCapturedTransmission, UncutStandWhole, pages_captured}
+use Rattle.pocsag_capture.specs.PageEnds.{AreNumbered, IsCapturedTransmission, UncutStandWhole, pages_captured}
 use Rattle.pocsag_capture.specs.Receptions.{AreInStep, AreReceptions, received}
-use Rattle.pocsag_capture.specs.Sent.{StandAmong}
+use Rattle.pocsag_capture.specs.Sent.{HoldsSent}
 use Rattle.pocsag_capture.specs.declared.captured_transmission.CapturedTransmission.{CapturedTransmission}
 use Rattle.pocsag_capture.specs.declared.reception.ReceptionStats.{ReceptionStats}
 use Rattle.pocsag_capture.specs.declared.reception.Reception.{Reception}
 use Rattle.pocsag_capture.proofs.PageEnds.{transmissions_are_captured_lem, uncut_pages_stand}
 use Rattle.pocsag_decode.specs.Faults.{IsFaultless}
+use Rattle.pocsag_pager.specs.Faults.{address_fault}
+use Rattle.pocsag_shell.proofs.Readers.{printed_so}
+use Rattle.pocsag_shell.specs.ErrorStreams.{printed_by}
+use Rattle.pocsag_shell.specs.Readers.{over_reader}
+use Rattle.pocsag_shell.specs.Runs.{Ran}
+use Rattle.pocsag_shell.specs.declared.error_stream.ErrorStream.{ErrorStream}
 use Rattle.pocsag_shell.specs.declared.fault.FileFault.TheVariants as file
 use Rattle.pocsag_show.specs.declared.view.View.{View}
-use Rattle.pocsag_receiver.specs.Captures.{ExplainsOne, ListsAmong, ListsCaptured, ListsCapturedPart, ListsWhole, TextOfTransmissions}
+use Rattle.pocsag_receiver.specs.Captures.{ExplainsOne, IsCaptureListed, ListsAmong, ListsWhole, TextOfTransmissions}
+use Rattle.pocsag_receiver.specs.Works.{lists_capture}
 use Rattle.pocsag_receiver.specs.CapturedForms.{captured_header, captured_text, is_picked, picked_pages}
 use Rattle.pocsag_receiver.specs.Views.{ExplainsShowing}
 use Rattle.pocsag_receiver.specs.declared.captured.Picking.{Picking}
@@ -28,12 +37,11 @@ use Rattle.pocsag_receiver.specs.declared.fault.ReceiverFault.{ReceiverFault}
 use Rattle.pocsag_receiver.specs.declared.fault.ReceiverFault.TheVariants as fault
 
 pub show_explained : (view : View) (capture bytes : List ℕ) (nth : ℕ) (heard : List ReceptionStats) (e : ReceiverFault) → length capture ≤ input_limit
-    → ExtractsOne capture nth heard bytes → IsFaultless bytes → ExplainsShowing view bytes e → ExplainsOne view capture nth e
+    → ExtractsOne capture nth heard bytes → IsFaultless bytes → ExplainsShowing view bytes e → ExplainsOne view nth capture e
 show_explained view capture bytes nth heard (fault.Transmission f) few extracts none said = absurd (none f said)
 show_explained view capture bytes nth heard (fault.NoSuchRows rows batches) few extracts none said =
-    record { heard = heard; bytes = bytes; extracts = extracts; holds = said }
+    (heard, record { bytes = bytes; extracts = extracts; holds = said })
 show_explained view capture bytes nth heard (fault.File file.OutOfMemory) few extracts none said = few
-show_explained view capture bytes nth heard (fault.File file.Write) few extracts none said = few
 show_explained view capture bytes nth heard _ few extracts none said = absurd said
 
 -- ---- the pages of a transmission, of which the first were listed
@@ -139,38 +147,48 @@ text_more bits k rs rs' first heard heard' text text' c f is number next pushed 
 
 -- ---- all of them
 
-module _ (capture : List ℕ) (k : Picking) (found : List Reception) (first heard : List ReceptionStats) (text out out' : List ℕ)
-    (t : TextOfTransmissions (capture_bits capture) k found first heard text) (are : AreReceptions (capture_bits capture) found) where
-  has_transmissions : HasTransmissions capture t.transmissions
-  has_transmissions = record { found = subst (AreReceptions (capture_bits capture)) (sym t.of) are; each = t.each; numbers = t.numbers }
+pub captured_listed : (capture : List ℕ) (k : Picking) (found : List Reception) (first heard : List ReceptionStats) (text : List ℕ)
+    → IfSome k.only (λ a. address_fault a ≡ None) → AreReceptions (capture_bits capture) found → first ≡ []
+    → TextOfTransmissions (capture_bits capture) k found first heard text → IsCaptureListed k heard capture text
+captured_listed capture k found first heard text address are none t = record {
+  address = address;
+  transmissions = t.transmissions;
+  captured = record { found = subst (AreReceptions (capture_bits capture)) (sym t.of) are; each = t.each; numbers = t.numbers };
+  printed = t.printed ∙ ap (λ (l : List ReceptionStats). l ++ map (λ (c : CapturedTransmission). c.heard) t.transmissions) none;
+  listed = t.written;
+}
 
-  pub lists_captured : first ≡ [] → out' ≡ out ++ text → ListsCaptured capture k heard out out'
-  lists_captured none written = record {
-    transmissions = t.transmissions;
-    captured = has_transmissions;
-    printed = t.printed ∙ ap (λ (l : List ReceptionStats). l ++ map (λ (c : CapturedTransmission). c.heard) t.transmissions) none;
-    listed = written ∙ ap (λ (l : List ℕ). out ++ l) t.written;
-  }
+module _ {T O E : Type 0} (Tx : Reader T) {Out : Writer O} {Err' : Writer E} {tx tx' : T} {status : ℕ} {out out' : O}
+    {err err' : ErrorStream ReceiverFault E} (k : Picking) (heard : List ReceptionStats)
+    (ran : Ran (over_reader (lists_capture k heard) Tx Out tx tx') Out Err' status out out' err err') where
+  pub captured_whole : Tx.is_known → Out.is_known → IfNone (printed_by err') (ListsWhole (Tx.held tx) k (Out.taken out) (Out.taken out'))
+  captured_whole known on =
+      printed_so _ _ ran on on (λ s text prints taken.
+      let h = prints.1 in
+      let t = h.holds in
+      let bits = capture_bits h.bytes in
+      let said : ListsWhole h.bytes k (Out.taken out) (Out.taken out') = record {
+        transmissions = t.transmissions;
+        found = t.captured.found;
+        in_step = All-weaker (IsCapturedTransmission bits) (λ (c : CapturedTransmission). AreInStep bits c.heard.reception c.heard.steady)
+            (λ c is. is.told.steady) t.transmissions t.captured.each;
+        whole = All-weaker (IsCapturedTransmission bits)
+            (λ (c : CapturedTransmission). UncutStandWhole (unsynced 0 (received bits c.heard.reception)) (16 * c.heard.steady) c.pages.items c.cuts.items)
+            (λ c is. uncut_pages_stand (received bits c.heard.reception) (16 * c.heard.steady) c.pages.items c.cuts.items is.pages is.cuts) t.transmissions
+            t.captured.each;
+        listed = taken ∙ ap (λ (l : List ℕ). Out.taken out ++ l) t.listed;
+      } in
+      subst (λ (l : List ℕ). ListsWhole l k (Out.taken out) (Out.taken out')) (h.held known) said)
 
-  pub lists_whole : out' ≡ out ++ text → ListsWhole capture k out out'
-  lists_whole written = record {
-    transmissions = t.transmissions;
-    found = has_transmissions.found;
-    in_step = All-weaker (IsCapturedTransmission (capture_bits capture)) (λ (c : CapturedTransmission). AreInStep (capture_bits capture) c.heard.reception c.heard.steady)
-        (λ c is. is.told.steady) t.transmissions t.each;
-    whole = All-weaker (IsCapturedTransmission (capture_bits capture))
-        (λ (c : CapturedTransmission). UncutStandWhole (unsynced 0 (received (capture_bits capture) c.heard.reception)) (16 * c.heard.steady) c.pages.items c.cuts.items)
-        (λ c is. uncut_pages_stand (received (capture_bits capture) c.heard.reception) (16 * c.heard.steady) c.pages.items c.cuts.items is.pages is.cuts) t.transmissions t.each;
-    listed = written ∙ ap (λ (l : List ℕ). out ++ l) t.written;
-  }
-
-  pub lists_among : (ps : List Page)
-      → ((rs : List Reception) (qs : List Page) → HasCaptured capture rs qs → StandAmong ps qs) → out' ≡ out ++ text → ListsAmong k ps out out'
-  lists_among ps law written = record {
-    transmissions = t.transmissions;
-    among = law (map (λ (c : CapturedTransmission). c.heard.reception) t.transmissions) (pages_captured t.transmissions) (transmissions_are_captured_lem capture t.transmissions has_transmissions);
-    listed = written ∙ ap (λ (l : List ℕ). out ++ l) t.written;
-  }
-
-  pub lists_part : TookPrefix out out' text → ListsCapturedPart capture k out out'
-  lists_part part = record { transmissions = t.transmissions; captured = has_transmissions; part = subst (TookPrefix out out') t.written part }
+  pub captured_sent : Tx.is_known → Out.is_known → (pages : List Page) → HoldsSent (capture_bits (Tx.held tx)) pages
+      → IfNone (printed_by err') (ListsAmong k pages (Out.taken out) (Out.taken out'))
+  captured_sent known on pages sent =
+      printed_so _ _ ran on on (λ s text prints taken.
+      let h = prints.1 in
+      let t = h.holds in
+      let holds = subst (λ (l : List ℕ). HoldsSent (capture_bits l) pages) (sym (h.held known)) sent in record {
+        transmissions = t.transmissions;
+        among = shows_what_was_sent h.bytes (map (λ (c : CapturedTransmission). c.heard.reception) t.transmissions) pages (pages_captured t.transmissions) holds
+            (transmissions_are_captured_lem h.bytes t.transmissions t.captured);
+        listed = taken ∙ ap (λ (l : List ℕ). Out.taken out ++ l) t.listed;
+      })

@@ -1,3 +1,4 @@
 pub mod CapturedTexts
 pub mod Read
 pub mod Received
+pub mod Works

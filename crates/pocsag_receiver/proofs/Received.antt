@@ -1,10 +1,9 @@
 -- What is received of bytes that were sent, and why a command does not answer.
-use Rattle.std.proofs.Common.{◌≡◌, ◌⊎◌, ℕ, ◌*◌, List, ◌++◌, length, None, Some, Result, Ok, Err, refl, ap, ◌∙◌, subst, inl, inr, arith}
+use Rattle.std.proofs.Common.{◌≡◌, ◌⊎◌, ℕ, ◌*◌, List, length, None, Some, Result, Ok, Err, refl, ap, subst, inl, inr, arith}
 use Rattle.std.specs.Result.{IfOk, MatchResult, is_ok}
-use Rattle.pocsag_pages.specs.declared.page.Page.{Page}
 use Rattle.pocsag_pages.specs.Bytes.{Sent, after_preamble, body_bytes, synced, words_of}
 use Rattle.pocsag_pages.proofs.Lengths.{body_length, synced_count}
-use Rattle.pocsag_decode.specs.Faults.{IsFaultless, ReadsAs}
+use Rattle.pocsag_decode.specs.Faults.{IsFaultless}
 use Rattle.pocsag_decode.proofs.Preambles.{after_is}
 use Rattle.pocsag_decode.proofs.SentBytes.{body_begins}
 use Rattle.pocsag_pager.specs.Faults.{hearing_fault}
@@ -13,11 +12,9 @@ use Rattle.pocsag_pager.specs.declared.fault.PagerFault.{PagerFault}
 use Rattle.pocsag_pager.specs.declared.fault.PagerFault.TheVariants as hearing
 use Rattle.pocsag_shell.specs.declared.fault.FileFault.TheVariants as file
 use Rattle.pocsag_receiver.specs.Faults.{receiver_status}
-use Rattle.pocsag_receiver.specs.Forms.{listed_in}
-use Rattle.pocsag_receiver.specs.Listings.{DecodedIn, ExplainsDecoding, ExplainsHearing}
+use Rattle.pocsag_receiver.specs.Listings.{ExplainsDecoding, ExplainsHearing}
 use Rattle.pocsag_receiver.specs.declared.fault.ReceiverFault.{ReceiverFault}
 use Rattle.pocsag_receiver.specs.declared.fault.ReceiverFault.TheVariants as fault
-use Rattle.pocsag_receiver.specs.declared.form.ListForm.{ListForm}
 
 -- what holds of a value holds of it behind `map_err`
 pub passed_on : {T E D : Type 0} (P : T → Type 0) (Q : E → Type 0) (r : Result T E) (mapped : Result T D) (v : T)
@@ -25,17 +22,10 @@ pub passed_on : {T E D : Type 0} (P : T → Type 0) (Q : E → Type 0) (r : Resu
 passed_on P Q (Ok x) mapped v same variant is p = let e : x ≡ v = cc in subst P e p
 passed_on P Q (Err e) mapped v same variant is p = let ok = ap is_ok is in absurd (cc)
 
--- what is listed of the bytes that were sent are their pages
-pub listed_as_sent : {form : ListForm} (X bytes : List ℕ) (ps : List Page) (out out' : List ℕ)
-    → ((qs : List Page) → ReadsAs X qs → qs ≡ ps) → bytes ≡ X → DecodedIn form bytes out out' → out' ≡ out ++ listed_in form ps
-listed_as_sent {form = form} X bytes ps out out' one same d =
-    d.listed ∙ ap (λ (qs : List Page). out ++ listed_in form qs) (one d.pages (subst (λ (l : List ℕ). ReadsAs l d.pages) same d.reads))
-
 -- bytes of a reading are not refused
 pub never_refused : (X : List ℕ) (e : ReceiverFault) → IsFaultless X → ExplainsDecoding X e → receiver_status e ≡ 3
 never_refused X (fault.Transmission f) none said = absurd (none f said)
 never_refused X (fault.File file.OutOfMemory) none said = refl
-never_refused X (fault.File file.Write) none said = refl
 never_refused X _ none said = absurd said
 
 pub why_unheard : (a : ℕ) (X : List ℕ) (f : PagerFault) →

@@ -1,6 +1,5 @@
--- What `--capture` leaves of standard output, and why it leaves nothing.
-use Rattle.std.specs.Prelude.{◌≡◌, ℕ, ◌*◌, ◌≤◌, List, ◌++◌, length, map, All, Option, Some}
-use Rattle.pocsag_words.specs.Devices.{TookPrefix}
+-- What `--capture` prints of a capture, and why it prints nothing.
+use Rattle.std.specs.Prelude.{◌≡◌, ℕ, ◌*◌, ◌≤◌, List, ◌++◌, length, map, All, Option, None, Some, IfSome}
 use Rattle.pocsag_words.specs.Frame.{input_limit}
 use Rattle.pocsag_pages.specs.declared.page.Page.{Page}
 use Rattle.pocsag_pages.specs.Bytes.{unsynced}
@@ -16,7 +15,7 @@ use Rattle.pocsag_pager.specs.Faults.{address_fault}
 use Rattle.pocsag_shell.specs.declared.fault.FileFault.TheVariants as file
 use Rattle.pocsag_show.specs.declared.view.View.{View}
 use Rattle.pocsag_receiver.specs.CapturedForms.{captured_listing}
-use Rattle.pocsag_receiver.specs.Views.{HasRows, IsBehindLast, Viewed, ViewedPart}
+use Rattle.pocsag_receiver.specs.Views.{IsBehindLast}
 use Rattle.pocsag_receiver.specs.declared.captured.Picking.{Picking}
 use Rattle.pocsag_receiver.specs.declared.fault.ReceiverFault.{ReceiverFault}
 use Rattle.pocsag_receiver.specs.declared.fault.ReceiverFault.TheVariants as fault
@@ -30,13 +29,14 @@ pub record TextOfTransmissions (bits : List ℕ) (k : Picking) (receptions : Lis
   pub printed : heard_after ≡ heard_before ++ map (λ (c : CapturedTransmission). c.heard) transmissions
   pub written : text ≡ captured_listing k transmissions
 
--- A capture was listed: those of its pages that are asked for, each with its state; and how each transmission was
--- received is reported.
-pub record ListsCaptured (capture : List ℕ) (k : Picking) (heard : List ReceptionStats) (out_before out_after : List ℕ) : Type 0 where
+-- The text is the listing of a capture: of those of its pages that are asked for, each with its state. How each transmission
+-- was received is reported. The address that is asked for, if one is, is one that a pager can have.
+pub record IsCaptureListed (k : Picking) (heard : List ReceptionStats) (capture text : List ℕ) : Type 0 where
+  pub address : IfSome k.only (λ a. address_fault a ≡ None)
   pub transmissions : List CapturedTransmission
   pub captured : HasTransmissions capture transmissions
   pub printed : heard ≡ map (λ (c : CapturedTransmission). c.heard) transmissions
-  pub listed : out_after ≡ out_before ++ captured_listing k transmissions
+  pub listed : text ≡ captured_listing k transmissions
 
 -- *Listed as whole*: pages of the receptions of a capture were listed, and each that is listed as whole stands whole among the words
 -- of its reception that are in step.
@@ -53,44 +53,26 @@ pub record ListsAmong (k : Picking) (ps : List Page) (out_before out_after : Lis
   pub among : StandAmong ps (pages_captured transmissions)
   pub listed : out_after ≡ out_before ++ captured_listing k transmissions
 
--- A prefix of what is listed was taken.
-pub record ListsCapturedPart (capture : List ℕ) (k : Picking) (out_before out_after : List ℕ) : Type 0 where
-  pub transmissions : List CapturedTransmission
-  pub captured : HasTransmissions capture transmissions
-  pub part : TookPrefix out_before out_after (captured_listing k transmissions)
-
--- The capture is too large, or memory or the writer refused: it is never refused for what it holds.
+-- Memory was refused, or the capture is too large: it is never refused for what it holds.
 abbrev pub ExplainsCapture : (capture : List ℕ) → ReceiverFault → Type 0
 ExplainsCapture capture (fault.Capture f) = ExplainsUnextracted capture f
 ExplainsCapture capture (fault.File file.OutOfMemory) = length capture ≤ input_limit
-ExplainsCapture capture (fault.File file.Write) = length capture ≤ input_limit
 ExplainsCapture capture _ = ⊥
 
--- The capture is too large, or memory or the writer refused; or pages of one address are asked for, and the address has this fault.
+-- The same; or pages of one address are asked for, and the address has this fault.
 abbrev pub ExplainsCaptured : (only : Option ℕ) → (capture : List ℕ) → ReceiverFault → Type 0
 ExplainsCaptured only capture (fault.Pager f) = (address : ℕ) × (only ≡ Some address) × (address_fault address ≡ Some f)
 ExplainsCaptured only capture e = ExplainsCapture capture e
 
--- The transmission of this number was extracted, and it was shown.
-pub record ViewsOne (view : View) (capture : List ℕ) (nth : ℕ) (heard : List ReceptionStats) (out_before out_after : List ℕ) : Type 0 where
-  pub bytes : List ℕ
-  pub extracts : ExtractsOne capture nth heard bytes
-  pub rows : HasRows view bytes
-  pub viewed : Viewed view bytes out_before out_after
-
--- These are the bytes of the transmission of this number, as it is extracted.
-pub record IsSoOfOne (capture : List ℕ) (nth : ℕ) (P : List ℕ → Type 0) : Type 0 where
-  pub heard : List ReceptionStats
+-- These are the bytes of the transmission of this number, as it is extracted, and how it was received is reported.
+pub record IsSoOfOne (capture : List ℕ) (nth : ℕ) (heard : List ReceptionStats) (P : List ℕ → Type 0) : Type 0 where
   pub bytes : List ℕ
   pub extracts : ExtractsOne capture nth heard bytes
   pub holds : P bytes
 
--- A prefix of what is shown of it was taken.
-abbrev pub ViewsOnePart : View → (capture : List ℕ) → (nth : ℕ) → (out_before out_after : List ℕ) → Type 0
-ViewsOnePart view capture nth out_before out_after = IsSoOfOne capture nth (λ bytes. ViewedPart view bytes out_before out_after)
-
--- There is no such transmission, the rows that are asked for are behind its last batch, or memory or the writer refused.
-abbrev pub ExplainsOne : View → (capture : List ℕ) → (nth : ℕ) → ReceiverFault → Type 0
-ExplainsOne view capture nth (fault.Capture f) = ExplainsNone capture nth f
-ExplainsOne view capture nth (fault.NoSuchRows rows batches) = IsSoOfOne capture nth (λ bytes. IsBehindLast view bytes rows batches)
-ExplainsOne view capture nth e = ExplainsCapture capture e
+-- There is no such transmission, the rows that are asked for are behind its last batch, or memory was refused.
+abbrev pub ExplainsOne : View → (nth : ℕ) → (capture : List ℕ) → ReceiverFault → Type 0
+ExplainsOne view nth capture (fault.Capture f) = ExplainsNone capture nth f
+ExplainsOne view nth capture (fault.NoSuchRows rows batches) =
+    (heard : List ReceptionStats) × IsSoOfOne capture nth heard (λ bytes. IsBehindLast view bytes rows batches)
+ExplainsOne view nth capture e = ExplainsCapture capture e

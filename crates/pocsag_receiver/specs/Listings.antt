@@ -1,6 +1,5 @@
--- What `decode` and `hear` list, and why they list nothing.
-use Rattle.std.specs.Prelude.{◌≡◌, ◌⊎◌, ℕ, List, ◌++◌, None, Some}
-use Rattle.pocsag_words.specs.Devices.{TookPrefix}
+-- What `decode` and `hear` print of bytes, and why they print nothing.
+use Rattle.std.specs.Prelude.{◌≡◌, ◌⊎◌, ℕ, List, None, Some}
 use Rattle.pocsag_pages.specs.declared.page.Page.{Page}
 use Rattle.pocsag_pages.specs.Bytes.{after_preamble, words_of}
 use Rattle.pocsag_decode.specs.Faults.{HasFault, ReadsAs}
@@ -12,48 +11,34 @@ use Rattle.pocsag_receiver.specs.Forms.{listed_in}
 use Rattle.pocsag_receiver.specs.declared.fault.ReceiverFault.{ReceiverFault}
 use Rattle.pocsag_receiver.specs.declared.fault.ReceiverFault.TheVariants as fault
 use Rattle.pocsag_receiver.specs.declared.form.ListForm.{ListForm}
+use Rattle.pocsag_receiver.specs.declared.hear.Hearing.{Hearing}
 
--- `decode`: the pages that the bytes read as were listed in a form.
-pub record DecodedIn (form : ListForm) (bytes out_before out_after : List ℕ) : Type 0 where
+-- `decode`: the text is the pages that the bytes read as, in a form.
+pub record IsDecoded (form : ListForm) (bytes text : List ℕ) : Type 0 where
   pub pages : List Page
   pub reads : ReadsAs bytes pages
-  pub listed : out_after ≡ out_before ++ listed_in form pages
+  pub listed : text ≡ listed_in form pages
 
--- A prefix of what that lists was taken.
-pub record DecodedPartIn (form : ListForm) (bytes out_before out_after : List ℕ) : Type 0 where
-  pub pages : List Page
-  pub reads : ReadsAs bytes pages
-  pub part : TookPrefix out_before out_after (listed_in form pages)
-
--- The bytes have this fault, of which they have one at most; or they read as pages, and memory or the writer refused.
+-- The bytes have this fault, of which they have one at most; or they read as pages, and memory was refused.
 abbrev pub ExplainsDecoding : (bytes : List ℕ) → ReceiverFault → Type 0
 ExplainsDecoding bytes (fault.Transmission f) = HasFault bytes f
 ExplainsDecoding bytes (fault.File file.OutOfMemory) = (pages : List Page) × ReadsAs bytes pages
-ExplainsDecoding bytes (fault.File file.Write) = (pages : List Page) × ReadsAs bytes pages
 ExplainsDecoding bytes _ = ⊥
 
--- `hear`: the pages that a pager of the address shows of the bytes were listed in a form.
-pub record HeardIn (form : ListForm) (address : ℕ) (bytes out_before out_after : List ℕ) : Type 0 where
-  pub taken : hearing_fault address bytes ≡ None
+-- `hear`: the text is the pages that a pager of the address shows of the bytes, in a form.
+pub record IsHeard (hearing : Hearing) (bytes text : List ℕ) : Type 0 where
+  pub taken : hearing_fault hearing.address bytes ≡ None
   pub pages : List Page
-  pub shown : AreShown (words_of (after_preamble bytes)) address pages
-  pub listed : out_after ≡ out_before ++ listed_in form pages
-
--- A prefix of what that lists was taken.
-pub record HeardPartIn (form : ListForm) (address : ℕ) (bytes out_before out_after : List ℕ) : Type 0 where
-  pub taken : hearing_fault address bytes ≡ None
-  pub pages : List Page
-  pub shown : AreShown (words_of (after_preamble bytes)) address pages
-  pub part : TookPrefix out_before out_after (listed_in form pages)
+  pub shown : AreShown (words_of (after_preamble bytes)) hearing.address pages
+  pub listed : text ≡ listed_in hearing.form pages
 
 -- Memory refused a page that the pager shows.
 pub record IsUnheard (address : ℕ) (bytes : List ℕ) : Type 0 where
   pub taken : hearing_fault address bytes ≡ None
   pub some : ShowsSome (words_of (after_preamble bytes)) address
 
--- The address or the bytes have this fault; or they have none, and memory or the writer refused.
+-- The address or the bytes have this fault; or they have none, and memory was refused.
 abbrev pub ExplainsHearing : (address : ℕ) → (bytes : List ℕ) → ReceiverFault → Type 0
 ExplainsHearing address bytes (fault.Pager f) = (hearing_fault address bytes ≡ Some f) ⊎ ((f ≡ hearing.OutOfMemory) × IsUnheard address bytes)
 ExplainsHearing address bytes (fault.File file.OutOfMemory) = hearing_fault address bytes ≡ None
-ExplainsHearing address bytes (fault.File file.Write) = hearing_fault address bytes ≡ None
 ExplainsHearing address bytes _ = ⊥

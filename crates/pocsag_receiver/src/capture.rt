@@ -1,26 +1,24 @@
 //! `decode`, `hear` and `show` of a capture: of each transmission that it holds, or of one of them.
-ghost use Rattle.std.specs.Prelude.{◌≡◌, ◌≢◌, ◌⊎◌, List, None, Some, IfErr, IfNone, IfOk, IfSome, IsErrOf, OnOk};
-ghost use Rattle.pocsag_words.specs.Devices.{HasFailed};
+ghost use Rattle.std.specs.Prelude.{◌≡◌, ℕ, List, None, IfErr, IfNone, IfSome, OnOk};
 ghost use Rattle.pocsag_pages.specs.declared.page.Page.{Page};
 ghost use Rattle.pocsag_capture.specs.Bits.{capture_bits};
 ghost use Rattle.pocsag_capture.specs.Sent.{HoldsSent};
-ghost use Rattle.pocsag_shell.specs.ErrorStreams.{stream_of, printed_by};
-ghost use Rattle.pocsag_shell.specs.declared.fault.FileFault.TheVariants as file;
-ghost use Rattle.pocsag_receiver.specs.Captures.{ExplainsCaptured, ExplainsOne, ListsAmong, ListsCaptured, ListsCapturedPart, ListsWhole, ViewsOne, ViewsOnePart};
-ghost use Rattle.pocsag_receiver.specs.Faults.{receiver_status};
-ghost use Rattle.pocsag_receiver.specs.Files.{ExplainsUnread};
-ghost use Rattle.pocsag_receiver.specs.declared.fault.ReceiverFault.TheVariants as fault;
+ghost use Rattle.pocsag_pager.specs.Faults.{address_fault};
+ghost use Rattle.pocsag_shell.specs.ErrorStreams.{printed_by};
+ghost use Rattle.pocsag_shell.specs.Readers.{over_bytes, over_reader};
+ghost use Rattle.pocsag_shell.specs.Runs.{IsStreamOf, Ran};
+ghost use Rattle.pocsag_receiver.specs.Captures.{ExplainsCaptured, ListsAmong, ListsWhole};
+ghost use Rattle.pocsag_receiver.specs.Works.{lists_capture, shows_capture};
 
 use crate::captured::{Picking, text_captured};
 use crate::fault::ReceiverFault;
 use crate::show::show_bytes;
-use crate::transmission::read_transmission;
 use pocsag_capture::{Extracted, ReceptionStats, extract_one, receptions_in};
 use pocsag_decode::readings_have_no_fault;
 use pocsag_pager::Pager;
-use pocsag_shell::{ErrorStream, FileFault};
+use pocsag_shell::{ErrorStream, FileFault, put_whole, read_transmission};
 use pocsag_show::View;
-use pocsag_words::{Sink, Source, write_all};
+use pocsag_words::{Sink, Source};
 use std::alloc::Global;
 
 /// Which pages of a capture are listed and in which form, and how each transmission was received.
@@ -38,6 +36,17 @@ pub struct Viewing {
     pub heard: Vec<ReceptionStats>,
 }
 
+// An address that no pager can have is refused, if pages of one are asked for.
+fn judge_address(alloc: Global, only: Option<u32>) -> Result<(), ReceiverFault>
+    ensures ok { OnOk result (IfSome only (λ a. address_fault a ≡ None)) }
+    ensures explained { (capture : List ℕ) → IfErr result (ExplainsCaptured only capture) }
+{
+    if let Some(address) = only {
+        Pager::new(alloc, address)?;
+    }
+    Ok(())
+}
+
 // Lists the pages of all transmissions of the bytes of a capture, one behind the other, or those of one address.
 fn list_captured<O: Sink>(
     alloc: Global,
@@ -45,25 +54,12 @@ fn list_captured<O: Sink>(
     capture: &[u8],
     out: &mut O,
 ) -> Result<u8, ReceiverFault>
-    ensures status { IfOk result (λ status. status ≡ 0) }
-    ensures listed { O.is_known → OnOk result
-        (ListsCaptured capture.now capture_listing.old.picking capture_listing.new.heard.items (O.taken out.old)
-        (O.taken out.new)) }
-    ensures whole { O.is_known → OnOk result
-        (ListsWhole capture.now capture_listing.old.picking (O.taken out.old) (O.taken out.new)) }
-    ensures sent { O.is_known → (pages : List Page) → HoldsSent (capture_bits capture.now) pages →
-        OnOk result (ListsAmong capture_listing.old.picking pages (O.taken out.old) (O.taken out.new)) }
-    ensures part { O.is_known → IsErrOf result (fault.File file.Write) →
-        ListsCapturedPart capture.now capture_listing.old.picking (O.taken out.old) (O.taken out.new) }
-    ensures explained { IfErr result (ExplainsCaptured capture_listing.old.picking.only capture.now) }
-    ensures refused { IfErr result (λ e. receiver_status e ≡ 1 → out.new ≡ out.old) }
-    ensures write_failed { IsErrOf result (fault.File file.Write) →
-        HasFailed (O.failures out.old) (O.failures out.new) }
+    ensures streams { IsStreamOf
+        (over_bytes (lists_capture capture_listing.old.picking capture_listing.new.heard.items) O.Sink capture.now)
+        O.Sink out.old out.new result }
 {
     let found = receptions_in(alloc, capture).map_err(ReceiverFault::Capture)?;
-    if let Some(address) = capture_listing.picking.only {
-        Pager::new(alloc, address)?;
-    }
+    judge_address(alloc, capture_listing.picking.only)?;
     let mut heard = Vec::new(alloc);
     let receptions = found.as_slice();
     let Ok(text) = text_captured(
@@ -76,10 +72,8 @@ fn list_captured<O: Sink>(
         return Err(ReceiverFault::File(FileFault::OutOfMemory));
     };
     capture_listing.heard = heard;
-    match write_all(out, text.as_slice()) {
-        Ok(()) => Ok(0),
-        Err(_) => Err(ReceiverFault::File(FileFault::Write)),
-    }
+    put_whole(out, text.as_slice())?;
+    Ok(0)
 }
 
 /// `decode TX --capture` and `hear ADDRESS TX --capture`: lists the pages of all transmissions of a capture, one behind the
@@ -91,11 +85,10 @@ pub fn run_list_capture<T: Source, O: Sink, E: Sink + Drop>(
     out: &mut O,
     err: &mut ErrorStream<ReceiverFault, E>,
 ) -> u8
-    ensures done { IfNone (printed_by err.new) ((result ≡ 0) × (stream_of err.new ≡ stream_of err.old)) }
-    ensures status { IfSome (printed_by err.new) (λ e. result ≡ receiver_status e) }
-    ensures listed { T.is_known → O.is_known → IfNone (printed_by err.new)
-        (ListsCaptured (T.held tx.old) capture_listing.old.picking capture_listing.new.heard.items (O.taken out.old)
-        (O.taken out.new)) }
+    ensures ran { Ran
+        (over_reader (lists_capture capture_listing.old.picking capture_listing.new.heard.items)
+        T.Source O.Sink tx.old tx.new)
+        O.Sink E.Sink result out.old out.new err.old err.new }
 
     // *Listed as whole*: each page that is listed as whole stands in the capture with all its codewords and one that ends it, each
     // within two bits and in step.
@@ -105,22 +98,12 @@ pub fn run_list_capture<T: Source, O: Sink, E: Sink + Drop>(
     // *A capture that holds a sent transmission shows its pages*, one behind the other, whatever else it holds.
     ensures sent { T.is_known → O.is_known → (pages : List Page) → HoldsSent (capture_bits (T.held tx.old)) pages →
         IfNone (printed_by err.new) (ListsAmong capture_listing.old.picking pages (O.taken out.old) (O.taken out.new)) }
-    ensures part { T.is_known → O.is_known → printed_by err.new ≡ Some (fault.File file.Write) →
-        ListsCapturedPart (T.held tx.old) capture_listing.old.picking (O.taken out.old) (O.taken out.new) }
-    ensures explained { T.is_known → IfSome (printed_by err.new) (λ e. ExplainsUnread (T.held tx.old) e
-        ⊎ ExplainsCaptured capture_listing.old.picking.only (T.held tx.old) e) }
-    ensures refused { IfSome (printed_by err.new) (λ e. receiver_status e ≡ 1 → out.new ≡ out.old) }
-
-    // A device's fault is reported only where that device failed.
-    ensures read_failed { printed_by err.new ≡ Some (fault.File file.Device) →
-        HasFailed (T.failures tx.old) (T.failures tx.new) }
-    ensures write_failed { printed_by err.new ≡ Some (fault.File file.Write) →
-        HasFailed (O.failures out.old) (O.failures out.new) }
 {
-    err.end(match read_transmission(alloc, tx) {
-        Ok(capture) => list_captured(alloc, capture_listing, capture.as_slice(), out),
-        Err(refused) => Err(ReceiverFault::File(refused)),
-    })
+    let capture = match read_transmission(alloc, tx) {
+        Ok(capture) => capture,
+        Err(fault) => return err.end(Err(ReceiverFault::File(fault))),
+    };
+    err.end(list_captured(alloc, capture_listing, capture.as_slice(), out))
 }
 
 // Shows one of the transmissions of the bytes of a capture.
@@ -130,16 +113,9 @@ fn show_captured<O: Sink>(
     capture: &[u8],
     out: &mut O,
 ) -> Result<u8, ReceiverFault>
-    ensures status { IfOk result (λ status. status ≡ 0) }
-    ensures shown { O.is_known → OnOk result
-        (ViewsOne viewing.old.view capture.now viewing.old.nth viewing.new.heard.items (O.taken out.old)
-        (O.taken out.new)) }
-    ensures part { O.is_known → IsErrOf result (fault.File file.Write) →
-        ViewsOnePart viewing.old.view capture.now viewing.old.nth (O.taken out.old) (O.taken out.new) }
-    ensures explained { IfErr result (ExplainsOne viewing.old.view capture.now viewing.old.nth) }
-    ensures untouched { IfErr result (λ e. e ≢ fault.File file.Write → out.new ≡ out.old) }
-    ensures write_failed { IsErrOf result (fault.File file.Write) →
-        HasFailed (O.failures out.old) (O.failures out.new) }
+    ensures streams { IsStreamOf
+        (over_bytes (shows_capture viewing.old.view viewing.old.nth viewing.new.heard.items) O.Sink capture.now)
+        O.Sink out.old out.new result }
 {
     readings_have_no_fault();
     let Extracted { bytes, heard } = extract_one(alloc, capture, viewing.nth).map_err(
@@ -157,25 +133,14 @@ pub fn run_show_capture<T: Source, O: Sink, E: Sink + Drop>(
     out: &mut O,
     err: &mut ErrorStream<ReceiverFault, E>,
 ) -> u8
-    ensures done { IfNone (printed_by err.new) ((result ≡ 0) × (stream_of err.new ≡ stream_of err.old)) }
-    ensures status { IfSome (printed_by err.new) (λ e. result ≡ receiver_status e) }
-    ensures shown { T.is_known → O.is_known → IfNone (printed_by err.new)
-        (ViewsOne viewing.old.view (T.held tx.old) viewing.old.nth viewing.new.heard.items (O.taken out.old)
-        (O.taken out.new)) }
-    ensures part { T.is_known → O.is_known → printed_by err.new ≡ Some (fault.File file.Write) →
-        ViewsOnePart viewing.old.view (T.held tx.old) viewing.old.nth (O.taken out.old) (O.taken out.new) }
-    ensures explained { T.is_known → IfSome (printed_by err.new) (λ e. ExplainsUnread (T.held tx.old) e
-        ⊎ ExplainsOne viewing.old.view (T.held tx.old) viewing.old.nth e) }
-    ensures untouched { IfSome (printed_by err.new) (λ e. e ≢ fault.File file.Write → out.new ≡ out.old) }
-
-    // A device's fault is reported only where that device failed.
-    ensures read_failed { printed_by err.new ≡ Some (fault.File file.Device) →
-        HasFailed (T.failures tx.old) (T.failures tx.new) }
-    ensures write_failed { printed_by err.new ≡ Some (fault.File file.Write) →
-        HasFailed (O.failures out.old) (O.failures out.new) }
+    ensures ran { Ran
+        (over_reader (shows_capture viewing.old.view viewing.old.nth viewing.new.heard.items)
+        T.Source O.Sink tx.old tx.new)
+        O.Sink E.Sink result out.old out.new err.old err.new }
 {
-    err.end(match read_transmission(alloc, tx) {
-        Ok(capture) => show_captured(alloc, viewing, capture.as_slice(), out),
-        Err(refused) => Err(ReceiverFault::File(refused)),
-    })
+    let capture = match read_transmission(alloc, tx) {
+        Ok(capture) => capture,
+        Err(fault) => return err.end(Err(ReceiverFault::File(fault))),
+    };
+    err.end(show_captured(alloc, viewing, capture.as_slice(), out))
 }

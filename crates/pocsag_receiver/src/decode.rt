@@ -1,27 +1,20 @@
-ghost use Rattle.std.specs.Prelude.{◌≡◌, ℕ, ◌<◌, ◌++◌, ◌⊎◌, List, None, Some, true, length, IfErr, IfNone, IfOk, IfSome, IsErrOf, OnOk};
-ghost use Rattle.pocsag_words.specs.Devices.{HasFailed};
+ghost use Rattle.std.specs.Prelude.{◌≡◌, ℕ, ◌<◌, ◌++◌, List, true, length, IfNone, IfSome};
 ghost use Rattle.pocsag_words.specs.Frame.{input_limit};
 ghost use Rattle.pocsag_pages.specs.declared.page.Page.{Page};
 ghost use Rattle.pocsag_decode.specs.Faults.{ReadsAs};
-ghost use Rattle.pocsag_decode.specs.Repairs.{Counts};
 ghost use Rattle.pocsag_pager.specs.Damage.{IsDamaged};
-ghost use Rattle.pocsag_shell.specs.ErrorStreams.{stream_of, printed_by};
-ghost use Rattle.pocsag_shell.specs.declared.fault.FileFault.TheVariants as file;
+ghost use Rattle.pocsag_shell.specs.ErrorStreams.{printed_by};
+ghost use Rattle.pocsag_shell.specs.Readers.{over_bytes, over_reader};
+ghost use Rattle.pocsag_shell.specs.Runs.{IsStreamOf, Ran};
 ghost use Rattle.pocsag_receiver.specs.Faults.{receiver_status};
-ghost use Rattle.pocsag_receiver.specs.Files.{ExplainsUnread};
 ghost use Rattle.pocsag_receiver.specs.Forms.{listed_in};
-ghost use Rattle.pocsag_receiver.specs.Listings.{DecodedIn, DecodedPartIn, ExplainsDecoding};
-ghost use Rattle.pocsag_receiver.specs.Repair.{AreReadOf, IsSoOfRead};
-ghost use Rattle.pocsag_receiver.specs.declared.fault.ReceiverFault.TheVariants as fault;
+ghost use Rattle.pocsag_receiver.specs.Works.{decodes, lists};
 
 use crate::fault::ReceiverFault;
 use crate::form::{ListForm, list_in};
 use crate::repair::{Repairing, repair_asked};
-use crate::transmission::read_transmission;
-use pocsag_decode::{
-    decode, judge_bytes, list_sent, readings_have_no_fault, readings_of_bytes_are_one,
-};
-use pocsag_shell::{ErrorStream, FileFault};
+use pocsag_decode::{decode, judge_bytes, list_sent};
+use pocsag_shell::{ErrorStream, FileFault, read_transmission};
 use pocsag_words::{Sink, Source};
 use std::alloc::Global;
 
@@ -39,14 +32,7 @@ fn list_decoded_in<O: Sink>(
     bytes: &[u8],
     out: &mut O,
 ) -> Result<u8, ReceiverFault>
-    ensures status { IfOk result (λ status. status ≡ 0) }
-    ensures listed { O.is_known → OnOk result (DecodedIn form bytes.now (O.taken out.old) (O.taken out.new)) }
-    ensures part { O.is_known → IsErrOf result (fault.File file.Write) →
-        DecodedPartIn form bytes.now (O.taken out.old) (O.taken out.new) }
-    ensures explained { IfErr result (ExplainsDecoding bytes.now) }
-    ensures refused { IfErr result (λ e. receiver_status e ≡ 1 → out.new ≡ out.old) }
-    ensures write_failed { IsErrOf result (fault.File file.Write) →
-        HasFailed (O.failures out.old) (O.failures out.new) }
+    ensures streams { IsStreamOf (over_bytes (lists form) O.Sink bytes.now) O.Sink out.old out.new result }
 {
     judge_bytes(bytes).map_err(ReceiverFault::Transmission)?;
     if let ListForm::Listing = form {
@@ -54,8 +40,7 @@ fn list_decoded_in<O: Sink>(
         return Ok(0);
     }
     let pages = decode(alloc, bytes).map_err(|_| ReceiverFault::File(FileFault::OutOfMemory))?;
-    list_in(alloc, form, pages, out)?;
-    Ok(0)
+    list_in(alloc, form, pages, out)
 }
 
 // Lists the pages of the bytes of a transmission, with repair those that its words read as once each is repaired.
@@ -65,25 +50,10 @@ fn decode_bytes<O: Sink>(
     bytes: &mut [u8],
     out: &mut O,
 ) -> Result<u8, ReceiverFault>
-    ensures status { IfOk result (λ status. status ≡ 0) }
-    ensures read { AreReadOf bytes.old decoding.old.repairing.is_asked bytes.new }
-    ensures counted { Counts decoding.new.repairing.corrected bytes.old bytes.new }
-    ensures listed { O.is_known →
-        OnOk result (DecodedIn decoding.old.form bytes.new (O.taken out.old) (O.taken out.new)) }
-    ensures restored { O.is_known → decoding.old.repairing.is_asked ≡ true → (X : List ℕ) (pages : List Page) →
-        ReadsAs X pages →
-        IsDamaged X bytes.old → OnOk result (O.taken out.new ≡ O.taken out.old ++ listed_in decoding.old.form pages) }
-    ensures taken { decoding.old.repairing.is_asked ≡ true → (X : List ℕ) (pages : List Page) → ReadsAs X pages →
-        IsDamaged X bytes.old → IfErr result (λ e. receiver_status e ≡ 3) }
-    ensures part { O.is_known → IsErrOf result (fault.File file.Write) →
-        DecodedPartIn decoding.old.form bytes.new (O.taken out.old) (O.taken out.new) }
-    ensures explained { IfErr result (ExplainsDecoding bytes.new) }
-    ensures refused { IfErr result (λ e. receiver_status e ≡ 1 → out.new ≡ out.old) }
-    ensures write_failed { IsErrOf result (fault.File file.Write) →
-        HasFailed (O.failures out.old) (O.failures out.new) }
+    ensures streams { IsStreamOf
+        (over_bytes (decodes decoding.old.form decoding.old.repairing decoding.new.repairing) O.Sink bytes.old)
+        O.Sink out.old out.new result }
 {
-    readings_of_bytes_are_one();
-    readings_have_no_fault();
     decoding.repairing.corrected = repair_asked(decoding.repairing.is_asked, bytes);
     list_decoded_in(alloc, decoding.form, bytes, out)
 }
@@ -97,14 +67,10 @@ pub fn run_decode<T: Source, O: Sink, E: Sink + Drop>(
     out: &mut O,
     err: &mut ErrorStream<ReceiverFault, E>,
 ) -> u8
-    ensures done { IfNone (printed_by err.new) ((result ≡ 0) × (stream_of err.new ≡ stream_of err.old)) }
-    ensures status { IfSome (printed_by err.new) (λ e. result ≡ receiver_status e) }
-    ensures counted { T.is_known → IfNone (printed_by err.new)
-        (IsSoOfRead (T.held tx.old) decoding.old.repairing.is_asked
-        (Counts decoding.new.repairing.corrected (T.held tx.old))) }
-    ensures listed { T.is_known → O.is_known → IfNone (printed_by err.new)
-        (IsSoOfRead (T.held tx.old) decoding.old.repairing.is_asked
-        (λ bytes. DecodedIn decoding.old.form bytes (O.taken out.old) (O.taken out.new))) }
+    ensures ran { Ran
+        (over_reader (decodes decoding.old.form decoding.old.repairing decoding.new.repairing)
+        T.Source O.Sink tx.old tx.new)
+        O.Sink E.Sink result out.old out.new err.old err.new }
 
     // *Repaired for all*: of a transmission with at most two wrong bits in each word just its pages are listed.
     ensures restored { T.is_known → O.is_known → decoding.old.repairing.is_asked ≡ true →
@@ -116,21 +82,10 @@ pub fn run_decode<T: Source, O: Sink, E: Sink + Drop>(
         ReadsAs X pages →
         IsDamaged X (T.held tx.old) →
         IfSome (printed_by err.new) (λ e. receiver_status e ≡ 1 → input_limit < length (T.held tx.old)) }
-    ensures part { T.is_known → O.is_known → printed_by err.new ≡ Some (fault.File file.Write) →
-        IsSoOfRead (T.held tx.old) decoding.old.repairing.is_asked
-        (λ bytes. DecodedPartIn decoding.old.form bytes (O.taken out.old) (O.taken out.new)) }
-    ensures explained { T.is_known → IfSome (printed_by err.new) (λ e. ExplainsUnread (T.held tx.old) e
-        ⊎ IsSoOfRead (T.held tx.old) decoding.old.repairing.is_asked (λ bytes. ExplainsDecoding bytes e)) }
-    ensures refused { IfSome (printed_by err.new) (λ e. receiver_status e ≡ 1 → out.new ≡ out.old) }
-
-    // A device's fault is reported only where that device failed.
-    ensures read_failed { printed_by err.new ≡ Some (fault.File file.Device) →
-        HasFailed (T.failures tx.old) (T.failures tx.new) }
-    ensures write_failed { printed_by err.new ≡ Some (fault.File file.Write) →
-        HasFailed (O.failures out.old) (O.failures out.new) }
 {
-    err.end(match read_transmission(alloc, tx) {
-        Ok(mut bytes) => decode_bytes(alloc, decoding, bytes.as_mut_slice(), out),
-        Err(refused) => Err(ReceiverFault::File(refused)),
-    })
+    let mut bytes = match read_transmission(alloc, tx) {
+        Ok(bytes) => bytes,
+        Err(fault) => return err.end(Err(ReceiverFault::File(fault))),
+    };
+    err.end(decode_bytes(alloc, decoding, bytes.as_mut_slice(), out))
 }

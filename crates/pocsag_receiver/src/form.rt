@@ -7,19 +7,21 @@ ghost use Rattle.json.specs.Json.{Members, object};
 ghost use Rattle.json.specs.Print.{print};
 ghost use Rattle.json.specs.Token.{end_object};
 ghost use Rattle.json.specs.Tree.{json_tokens, members_tokens};
-ghost use Rattle.pocsag_words.specs.Devices.{TookPrefix};
 ghost use Rattle.pocsag_text.specs.Bits.{AreItems};
 ghost use Rattle.pocsag_pages.specs.Listable.{IsListable};
-ghost use Rattle.pocsag_decode.specs.Faults.{NamesFailures};
 ghost use Rattle.pocsag_decode.specs.Lines.{IsReady, PutsRow, text_in};
 ghost use Rattle.pocsag_decode.specs.Listing.{header};
+ghost use Rattle.pocsag_shell.specs.Runs.{IsStreamOf};
 ghost use Rattle.pocsag_receiver.specs.CapturedForms.{state_field, state_fields};
 ghost use Rattle.pocsag_receiver.specs.Forms.{is_text, json_lines, kind_read, listed_in, message_read, page_members, record_read, text_listing};
+ghost use Rattle.pocsag_receiver.specs.Works.{writing};
 
-use pocsag_decode::{ListFault, list_owned, message_of};
+use crate::fault::ReceiverFault;
+use pocsag_decode::{list_owned, message_of};
 use pocsag_pages::Page;
+use pocsag_shell::{FileFault, put_whole};
 use pocsag_text::{unpack_alpha, unpack_numeric};
-use pocsag_words::{OutOfMemory, Sink, write_all};
+use pocsag_words::{OutOfMemory, Sink};
 use std::alloc::{AllocError, Global};
 use std::str;
 
@@ -188,24 +190,27 @@ fn text_listing(alloc: Global, texts: [bool; 3], pages: &[Page]) -> Result<Vec<u
     writer.into_inner().map_err(|_| AllocError)
 }
 
-/// Writes pages in a form. After a fault a prefix was written.
+/// Writes pages in a form. Returns exit status 0.
 pub(crate) fn list_in<S: Sink>(
     alloc: Global,
     form: ListForm,
     pages: Vec<Page>,
     sink: &mut S,
-) -> Result<(), ListFault>
+) -> Result<u8, ReceiverFault>
     requires { All IsListable pages.items }
-    ensures whole { S.is_known → OnOk result (S.taken sink.new ≡ S.taken sink.old ++ listed_in form pages.items) }
-    ensures part { S.is_known → OnErr result
-        (TookPrefix (S.taken sink.old) (S.taken sink.new) (listed_in form pages.items)) }
-    ensures failures { NamesFailures result ListFault.WriteFault (S.failures sink.old) (S.failures sink.new) }
+    ensures streams { IsStreamOf (writing (listed_in form pages.items)) S.Sink sink.old sink.new result }
 {
     let text = match form {
-        ListForm::Listing => return list_owned(alloc, pages, sink),
-        ListForm::Texts(texts) => text_listing(alloc, texts, pages.as_slice())?,
-        ListForm::Json(texts) => lines_of(alloc, texts, pages.as_slice())?,
+        ListForm::Listing => {
+            list_owned(alloc, pages, sink)?;
+            return Ok(0);
+        }
+        ListForm::Texts(texts) => text_listing(alloc, texts, pages.as_slice()),
+        ListForm::Json(texts) => lines_of(alloc, texts, pages.as_slice()),
     };
-    write_all(sink, text.as_slice())?;
-    Ok(())
+    let Ok(text) = text else {
+        return Err(ReceiverFault::File(FileFault::OutOfMemory));
+    };
+    put_whole(sink, text.as_slice())?;
+    Ok(0)
 }

@@ -10,7 +10,6 @@ mod group;
 mod hear;
 mod repair;
 mod show;
-mod transmission;
 mod words;
 
 pub use capture::{CaptureListing, Viewing, run_list_capture, run_show_capture};

@@ -1,20 +1,25 @@
-use Rattle.std.proofs.Common.{rules, ℕ, List, sym, ◌∙◌, subst}
-use Rattle.std.specs.Result.{OnOk}
-use Rattle.pocsag_capture.specs.Bits.{capture_bits}
-use Rattle.pocsag_capture.specs.Sent.{HoldsSent}
-use Rattle.pocsag_receiver.specs.Captures.{ListsAmong}
+use Rattle.pocsag_shell.proofs.Readers.{ran_read, ran_unread}
+use Rattle.pocsag_receiver.specs.Works.{lists_capture}
+use Rattle.pocsag_receiver.proofs.CapturedTexts.{captured_sent, captured_whole}
 use Rattle.pocsag_receiver.proofs.capture.run_list_capture.Goals as goal
-use Rattle.pocsag_receiver.proofs.capture.run_list_capture.Goals.{in-Ok, in-Err}
 
-pub returns-clause-sent : goal.returns-clause-sent
-returns-clause-sent g c = λ is_known printed pages sent.
-    let read = c.match-read_transmission in
-    let among : OnOk read.end (ListsAmong c.args.capture_listing.now.picking pages (g.O.Sink.taken c.args.out.now) (g.O.Sink.taken read.out)) =
-    elim read.branch [
-      | in-Ok w ↦
-          let shown = w.list_captured.ensures.sent printed pages
-          (subst (λ (l : List ℕ). HoldsSent (capture_bits l) pages) (sym (w.as_slice.ensures.value ∙ w.in-Ok.ensures.whole is_known)) sent) in
-          search rules
-      | in-Err w ↦ search rules
-    ] in
-    search rules
+pub returns-in-Err : goal.returns-in-Err
+returns-in-Err g c =
+    let asked = c.args.capture_listing.now in
+    let ran = ran_unread (lists_capture asked.picking asked.heard.items) g.T.Source c.in-Err.fault c.in-Err.ensures.explained
+    c.end.ensures.fault in record {
+      ran = ran;
+      whole = captured_whole g.T.Source asked.picking asked.heard.items ran;
+      sent = captured_sent g.T.Source asked.picking asked.heard.items ran;
+    }
+
+pub returns : goal.returns
+returns g c =
+    let picking = c.args.capture_listing.now.picking in
+    let heard = c.list_captured.new.capture_listing.heard.items in
+    let ran = ran_read (lists_capture picking heard) g.T.Source c.list_captured.result c.as_slice.ensures.value
+    c.in-Ok.ensures.whole c.in-Ok.ensures.fits c.list_captured.ensures.streams c.end-2.ensures.done c.end-2.ensures.fault in record {
+      ran = ran;
+      whole = captured_whole g.T.Source picking heard ran;
+      sent = captured_sent g.T.Source picking heard ran;
+    }

@@ -1,18 +1,39 @@
-use Rattle.std.proofs.Common.{◌≡◌, sym, subst}
-use Rattle.pocsag_words.specs.Devices.{TookPrefix}
-use Rattle.pocsag_receiver.specs.Forms.{listed_in}
-use Rattle.pocsag_receiver.specs.declared.form.ListForm.{ListForm}
+use Rattle.std.proofs.Common.{◌≡◌, Err, ap, refl}
+use Rattle.std.proofs.lemmas.Result.{err_from_is_err_and}
+use Rattle.pocsag_decode.specs.Listing.{listing}
+use Rattle.pocsag_shell.proofs.Readers.{streams_as}
+use Rattle.pocsag_shell.specs.Readers.{over_bytes}
+use Rattle.pocsag_receiver.specs.Faults.{fault_of_list}
+use Rattle.pocsag_receiver.specs.Works.{lists, writing}
 use Rattle.pocsag_receiver.specs.declared.form.ListForm.TheVariants as forms
 use Rattle.pocsag_receiver.proofs.Received.{passed_on}
+use Rattle.pocsag_receiver.proofs.Works.{unlisted}
 use Rattle.pocsag_receiver.proofs.decode.list_decoded_in.Goals as goal
 
-pub returns-in_err-list_sent-clause-part : goal.returns-in_err-list_sent-clause-part
-returns-in_err-list_sent-clause-part g c = λ known is.
+pub returns-in_err-list_sent : goal.returns-in_err-list_sent
+returns-in_err-list_sent g c =
+    let read = passed_on _ _ _ _ _ c.map_err.ensures.cases c.map_err.ensures.variant c.in_ok-map_err.was c.judge_bytes.ensures.ok in
+    let p = err_from_is_err_and c.from_residual-in_err-list_sent.result c.from_residual-in_err-list_sent.ensures.1 in
+    let done = c.in_err-list_sent.ensures in
+    let plain : c.args.form ≡ forms.Listing = cc in
+    let put = unlisted g.O.Sink c.args.out.now c.list_sent.new.sink (listing read.0) c.in_err-list_sent.field-0.0 (λ is. done.failures.1 (ap Err is))
+    (λ known. done.part known read.0 read.1) (λ known is. done.stopped known (ap Err is) read.0 read.1) in
+    let as_list = streams_as (writing (listing read.0)) (over_bytes (lists c.args.form) g.O.Sink c.args.bytes.now) g.O.Sink c.args.out.now c.list_sent.new.sink
+    (Err (fault_of_list c.in_err-list_sent.field-0.0)) (λ k. tt)
+    (λ s text q. (q.0, record { pages = read.0; reads = read.1; listed = rw plain q.1 })) (λ f why. rw why read) (λ f why. why) (λ f why. why) put in
+    record { streams = rw (p.1, p.2) as_list }
+
+pub returns-in-Listing : goal.returns-in-Listing
+returns-in-Listing g c =
     let read = passed_on _ _ _ _ _ c.map_err.ensures.cases c.map_err.ensures.variant c.in_ok-map_err.was c.judge_bytes.ensures.ok in
     let plain : c.args.form ≡ forms.Listing = cc in
     record {
-      pages = read.0;
-      reads = read.1;
-      part = subst (λ (f : ListForm). TookPrefix (g.O.Sink.taken c.args.out.now) (g.O.Sink.taken c.list_sent.new.sink) (listed_in f read.0))
-          (sym plain) (c.in_err-list_sent.ensures.part known read.0 read.1);
+      streams = (
+        λ _. (
+          listing read.0,
+          (refl, record { pages = read.0; reads = read.1; listed = rw plain refl }),
+          λ known. c.in_ok-list_sent.ensures.whole known read.0 read.1,
+        ),
+        tt,
+      );
     }

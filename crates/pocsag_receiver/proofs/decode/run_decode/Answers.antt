@@ -1,38 +1,25 @@
-use Rattle.std.proofs.Common.{rules, ◌≡◌, ◌<◌, ◌++◌, length, sym, ◌∙◌, subst, arith}
-use Rattle.std.specs.Result.{IfErr, OnOk}
-use Rattle.std.proofs.lemmas.Result.{IfErr-weaker}
-use Rattle.pocsag_words.specs.Frame.{input_limit}
-use Rattle.pocsag_pager.specs.Damage.{IsDamaged}
-use Rattle.pocsag_receiver.specs.Faults.{receiver_status}
-use Rattle.pocsag_receiver.specs.Forms.{listed_in}
-use Rattle.pocsag_receiver.specs.declared.fault.ReceiverFault.{ReceiverFault}
+use Rattle.pocsag_shell.proofs.Readers.{ran_read, ran_unread}
+use Rattle.pocsag_receiver.specs.Works.{decodes}
+use Rattle.pocsag_receiver.proofs.Works.{decoded_restored, decoded_taken}
 use Rattle.pocsag_receiver.proofs.decode.run_decode.Goals as goal
-use Rattle.pocsag_receiver.proofs.decode.run_decode.Goals.{in-Ok, in-Err}
 
-pub returns-clause-restored : goal.returns-clause-restored
-returns-clause-restored g c = λ is_known printed on X ps reads damaged.
-    let read = c.match-read_transmission in
-    let listed : OnOk read.end (g.O.Sink.taken read.out ≡ g.O.Sink.taken c.args.out.now ++ listed_in c.args.decoding.now.form ps) =
-    elim read.branch [
-      | in-Ok w ↦
-          let same = w.decode_bytes.ensures.restored printed on X ps reads
-          (subst (IsDamaged X) (sym (w.as_mut_slice.ensures.value ∙ w.in-Ok.ensures.whole is_known)) damaged) in
-          search rules
-      | in-Err w ↦ search rules
-    ] in
-    search rules
+pub returns-in-Err : goal.returns-in-Err
+returns-in-Err g c =
+    let before = c.args.decoding.now in
+    let ran = ran_unread (decodes before.form before.repairing before.repairing) g.T.Source c.in-Err.fault c.in-Err.ensures.explained
+    c.end.ensures.fault in record {
+      ran = ran;
+      restored = decoded_restored g.T.Source before.repairing before.repairing before.form ran;
+      taken = decoded_taken g.T.Source before.repairing before.repairing before.form ran;
+    }
 
-pub returns-clause-taken : goal.returns-clause-taken
-returns-clause-taken g c = λ is_known on X ps reads damaged.
-    let large : IfErr c.match-read_transmission.end (λ e. receiver_status e ≡ 1 → input_limit < length (g.T.Source.held c.args.tx.now)) =
-    elim c.match-read_transmission.branch [
-      | in-Ok w ↦
-          let three = IfErr-weaker w.decode_bytes.result (λ (e : ReceiverFault). receiver_status e ≡ 3)
-          (λ (e : ReceiverFault). receiver_status e ≡ 1 → input_limit < length (g.T.Source.held c.args.tx.now))
-          (λ e three one. absurd (omega arith))
-          (w.decode_bytes.ensures.taken on X ps reads
-          (subst (IsDamaged X) (sym (w.as_mut_slice.ensures.value ∙ w.in-Ok.ensures.whole is_known)) damaged)) in
-          search rules
-      | in-Err w ↦ search rules
-    ] in
-    search rules
+pub returns : goal.returns
+returns g c =
+    let before = c.args.decoding.now in
+    let after = c.decode_bytes.new.decoding.repairing in
+    let ran = ran_read (decodes before.form before.repairing after) g.T.Source c.decode_bytes.result c.as_mut_slice.ensures.value
+    c.in-Ok.ensures.whole c.in-Ok.ensures.fits c.decode_bytes.ensures.streams c.end-2.ensures.done c.end-2.ensures.fault in record {
+      ran = ran;
+      restored = decoded_restored g.T.Source before.repairing after before.form ran;
+      taken = decoded_taken g.T.Source before.repairing after before.form ran;
+    }

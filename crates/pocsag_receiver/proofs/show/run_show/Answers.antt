@@ -1,19 +1,23 @@
-use Rattle.std.proofs.Common.{rules, sym, ◌∙◌, subst}
-use Rattle.std.specs.Result.{OnOk}
-use Rattle.pocsag_pager.specs.Damage.{IsDamaged}
-use Rattle.pocsag_receiver.specs.Views.{Viewed}
+use Rattle.pocsag_shell.proofs.Readers.{ran_read, ran_unread}
+use Rattle.pocsag_receiver.specs.Works.{shows}
+use Rattle.pocsag_receiver.proofs.Works.{shown_restored}
 use Rattle.pocsag_receiver.proofs.show.run_show.Goals as goal
-use Rattle.pocsag_receiver.proofs.show.run_show.Goals.{in-Ok, in-Err}
 
-pub returns-clause-restored : goal.returns-clause-restored
-returns-clause-restored g c = λ is_known printed on X codewords sent damaged.
-    let read = c.match-read_transmission in
-    let shown : OnOk read.end (Viewed c.args.showing.now.view X (g.O.Sink.taken c.args.out.now) (g.O.Sink.taken read.out)) =
-    elim read.branch [
-      | in-Ok w ↦
-          let same = w.show_read.ensures.restored printed on X codewords sent
-          (subst (IsDamaged X) (sym (w.as_mut_slice.ensures.value ∙ w.in-Ok.ensures.whole is_known)) damaged) in
-          search rules
-      | in-Err w ↦ search rules
-    ] in
-    search rules
+pub returns-in-Err : goal.returns-in-Err
+returns-in-Err g c =
+    let before = c.args.showing.now in
+    let ran = ran_unread (shows before.view before.repairing before.repairing) g.T.Source c.in-Err.fault c.in-Err.ensures.explained
+    c.end.ensures.fault in record {
+      ran = ran;
+      restored = shown_restored g.T.Source before.repairing before.repairing before.view ran;
+    }
+
+pub returns : goal.returns
+returns g c =
+    let before = c.args.showing.now in
+    let after = c.show_read.new.showing.repairing in
+    let ran = ran_read (shows before.view before.repairing after) g.T.Source c.show_read.result c.as_mut_slice.ensures.value
+    c.in-Ok.ensures.whole c.in-Ok.ensures.fits c.show_read.ensures.streams c.end-2.ensures.done c.end-2.ensures.fault in record {
+      ran = ran;
+      restored = shown_restored g.T.Source before.repairing after before.view ran;
+    }

@@ -1,10 +1,15 @@
-use Rattle.std.proofs.Common.{ℕ, List, subst}
-use Rattle.std.specs.Result.{OnOk}
-use Rattle.pocsag_receiver.specs.Views.{Viewed}
+use Rattle.pocsag_shell.proofs.Readers.{streams_as}
+use Rattle.pocsag_shell.specs.Readers.{over_bytes}
+use Rattle.pocsag_receiver.specs.Works.{shows, views}
 use Rattle.pocsag_receiver.proofs.show.show_read.Goals as goal
 
-pub returns-clause-restored : goal.returns-clause-restored
-returns-clause-restored g c = λ is_known on X codewords sent damaged.
-    subst (λ (bytes : List ℕ). OnOk c.show_bytes.result
-    (Viewed c.args.showing.now.view bytes (g.O.Sink.taken c.args.out.now) (g.O.Sink.taken c.show_bytes.new.out)))
-    (c.repair_asked-showing.ensures.restored on X codewords sent damaged) (c.show_bytes.ensures.shown is_known)
+pub returns : goal.returns
+returns g c =
+    let repaired = c.repair_asked-showing.ensures in record {
+      streams = streams_as (over_bytes (views c.args.showing.now.view) g.O.Sink c.repair_asked-showing.new.bytes)
+          (over_bytes (shows c.args.showing.now.view c.args.showing.now.repairing (record { is_asked = c.args.showing.now.repairing.is_asked; corrected = c.repair_asked-showing.result })) g.O.Sink c.args.bytes.now) g.O.Sink _ _ c.show_bytes.result (λ k. k) (λ s text p. (
+            p.0,
+            record { bytes = c.repair_asked-showing.new.bytes; read = repaired.read; holds = (repaired.counted, p.1) },
+          )) (λ f why. record { bytes = c.repair_asked-showing.new.bytes; read = repaired.read; holds = why }) (λ f why. why) (λ f why. why)
+          c.show_bytes.ensures.streams;
+    }

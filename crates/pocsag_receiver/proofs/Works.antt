@@ -1,0 +1,99 @@
+-- What a command did over the bytes of a transmission.
+use Rattle.std.proofs.Common.{◌≡◌, ◌+◌, ◌<◌, ℕ, Bool, true, false, List, ◌++◌, length, Err, ap, inl, inr, refl, ◌∙◌, arith}
+use Rattle.std.specs.Prelude.{IfNone, IfSome}
+use Rattle.pocsag_words.specs.Devices.{HasFailed, TookPrefix}
+use Rattle.pocsag_words.specs.Frame.{input_limit}
+use Rattle.pocsag_words.specs.declared.device.Sink.{Ghosts as Writer}
+use Rattle.pocsag_words.specs.declared.device.Source.{Ghosts as Reader}
+use Rattle.pocsag_pages.specs.declared.page.Page.{Page}
+use Rattle.pocsag_pages.specs.Bytes.{Sent}
+use Rattle.pocsag_pager.specs.Damage.{IsDamaged}
+use Rattle.pocsag_decode.specs.Faults.{ReadsAs}
+use Rattle.pocsag_decode.specs.declared.fault.ListFault.{ListFault}
+use Rattle.pocsag_decode.specs.declared.fault.ListFault.TheVariants as listing
+use Rattle.pocsag_decode.proofs.Restoration.{no_fault_of_reading, restores}
+use Rattle.pocsag_decode.proofs.SentBytes.{one_reading}
+use Rattle.pocsag_shell.proofs.Readers.{printed_so, told_so}
+use Rattle.pocsag_shell.specs.ErrorStreams.{printed_by}
+use Rattle.pocsag_shell.specs.Faults.{file_status}
+use Rattle.pocsag_shell.specs.Readers.{WasNotRead, over_reader}
+use Rattle.pocsag_shell.specs.Runs.{IsStreamOf, Ran}
+use Rattle.pocsag_shell.specs.declared.error_stream.ErrorStream.{ErrorStream}
+use Rattle.pocsag_shell.specs.declared.fault.FileFault.{FileFault}
+use Rattle.pocsag_shell.specs.declared.fault.FileFault.TheVariants as file
+use Rattle.pocsag_show.specs.Shows.{Shows}
+use Rattle.pocsag_show.specs.Views.{view_text}
+use Rattle.pocsag_show.specs.declared.view.View.{View}
+use Rattle.pocsag_receiver.specs.Faults.{fault_of_list, receiver_status}
+use Rattle.pocsag_receiver.specs.Forms.{listed_in}
+use Rattle.pocsag_receiver.specs.Repair.{AreReadOf}
+use Rattle.pocsag_receiver.specs.Works.{decodes, shows, writing}
+use Rattle.pocsag_receiver.specs.declared.fault.ReceiverFault.{ReceiverFault}
+use Rattle.pocsag_receiver.specs.declared.form.ListForm.{ListForm}
+use Rattle.pocsag_receiver.specs.declared.repair.Repairing.{Repairing}
+use Rattle.pocsag_receiver.proofs.Received.{never_refused}
+
+-- ---- a text that was not written whole
+
+module _ {O : Type 0} (Out : Writer O) (out out' : O) (due : List ℕ) where
+  pub unlisted : (e : ListFault) → (e ≡ listing.WriteFault → HasFailed (Out.failures out) (Out.failures out'))
+      → (Out.is_known → TookPrefix (Out.taken out) (Out.taken out') due)
+      → (Out.is_known → e ≡ listing.OutOfMemory → length (Out.taken out') < length (Out.taken out) + length due)
+      → IsStreamOf (writing due) Out out out' (Err (fault_of_list e))
+  unlisted listing.WriteFault failed part short =
+      (λ _. tt, inr (inl (refl, failed refl, λ _. (0, due, (refl, refl), part))))
+  unlisted listing.OutOfMemory failed part short =
+      (λ _. tt, inr (inr (refl, λ _. (0, due, (refl, refl), λ k. (part k, short k refl)))))
+
+-- ---- bytes that are repaired
+
+pub read_restored : (X T held bytes : List ℕ) (repair : Bool) → Sent X T → IsDamaged X held → repair ≡ true → AreReadOf held repair bytes → bytes ≡ X
+read_restored X T held bytes false sent damaged on read = absurd cc
+read_restored X T held bytes true sent damaged on read = restores X T sent held bytes damaged read
+
+-- a file that is refused is larger than is read
+unread_large : {T : Type 0} (Tx : Reader T) (tx tx' : T) (e : FileFault) → Tx.is_known → WasNotRead Tx tx tx' e → file_status e ≡ 1
+    → input_limit < length (Tx.held tx)
+unread_large Tx tx tx' file.TooLarge known why one = why known
+unread_large Tx tx tx' file.Device known why one = absurd (omega arith)
+unread_large Tx tx tx' file.OutOfMemory known why one = absurd (omega arith)
+unread_large Tx tx tx' file.EqualPaths known why one = absurd why
+unread_large Tx tx tx' file.Write known why one = absurd why
+unread_large Tx tx tx' file.Owner known why one = absurd why
+
+module _ {T : Type 0} (Tx : Reader T) {tx tx' : T} where
+  module _ {O E : Type 0} {Out : Writer O} {Err' : Writer E} {status : ℕ} {out out' : O} {err err' : ErrorStream ReceiverFault E}
+      (before after : Repairing) where
+    module _ (form : ListForm)
+        (ran : Ran (over_reader (decodes form before after) Tx Out tx tx') Out Err' status out out' err err') where
+      pub decoded_restored : Tx.is_known → Out.is_known → before.is_asked ≡ true → (X : List ℕ) (pages : List Page) → ReadsAs X pages
+          → IsDamaged X (Tx.held tx) → IfNone (printed_by err') (Out.taken out' ≡ Out.taken out ++ listed_in form pages)
+      decoded_restored known on asked X pages reads damaged =
+          printed_so _ _ ran on on (λ s text prints taken.
+          let h = prints.1 in
+          let d = h.holds.holds.1 in
+          let same = read_restored X reads.codewords h.bytes h.holds.bytes before.is_asked reads.sent (rw (h.held known) damaged) asked h.holds.read in
+          let one : d.pages ≡ pages = one_reading X d.pages pages (rw (← same) d.reads) reads in
+          taken ∙ ap (λ (l : List ℕ). Out.taken out ++ l) (d.listed ∙ ap (listed_in form) one))
+
+      pub decoded_taken : Tx.is_known → before.is_asked ≡ true → (X : List ℕ) (pages : List Page) → ReadsAs X pages
+          → IsDamaged X (Tx.held tx) → IfSome (printed_by err') (λ e. receiver_status e ≡ 1 → input_limit < length (Tx.held tx))
+      decoded_taken known asked X pages reads damaged =
+          let three : (e : ReceiverFault) → receiver_status e ≡ 3 → receiver_status e ≡ 1 → input_limit < length (Tx.held tx) =
+          λ e three one. absurd (omega (arith, three, one)) in
+          told_so _ _ ran (λ f why. elim why [
+            | inl u ↦ λ one. unread_large Tx tx tx' u.0 known u.2 (rw u.1 at one)
+            | inr h ↦
+                let same = read_restored X reads.codewords h.bytes h.holds.bytes before.is_asked reads.sent (rw (h.held known) damaged) asked h.holds.read in
+                three f (never_refused X f (no_fault_of_reading X pages reads) (rw same at h.holds.holds))
+          ]) (λ f why. three f (rw why refl)) (λ f why. three f (rw why refl))
+
+    module _ (view : View)
+        (ran : Ran (over_reader (shows view before after) Tx Out tx tx') Out Err' status out out' err err') where
+      pub shown_restored : Tx.is_known → Out.is_known → before.is_asked ≡ true → (X codewords : List ℕ) → Sent X codewords
+          → IsDamaged X (Tx.held tx) → IfNone (printed_by err') (Shows (view_text view) X (Out.taken out) (Out.taken out'))
+      shown_restored known on asked X codewords sent damaged =
+          printed_so _ _ ran on on (λ s text prints taken.
+          let h = prints.1 in
+          let same = read_restored X codewords h.bytes h.holds.bytes before.is_asked sent (rw (h.held known) damaged) asked h.holds.read in
+          record { shown = text; is_text = rw same at h.holds.holds.1.shown; taken = taken })

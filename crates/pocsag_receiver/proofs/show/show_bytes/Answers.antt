@@ -1,0 +1,50 @@
+use Rattle.std.proofs.Common.{◌≡◌, ◌≢◌, ℕ, List, Err, ap, inl, inr, refl}
+use Rattle.std.proofs.lemmas.Result.{err_from_is_err_and}
+use Rattle.pocsag_words.specs.Devices.{HasFailed}
+use Rattle.pocsag_words.specs.declared.device.Sink.{Ghosts as Writer}
+use Rattle.pocsag_shell.specs.Readers.{over_bytes}
+use Rattle.pocsag_shell.specs.Runs.{IsStreamOf}
+use Rattle.pocsag_show.specs.Shows.{Explains, ShowsPart}
+use Rattle.pocsag_show.specs.Views.{view_text}
+use Rattle.pocsag_show.specs.declared.fault.ShowFault.{ShowFault}
+use Rattle.pocsag_show.specs.declared.fault.ShowFault.TheVariants as showing
+use Rattle.pocsag_show.specs.declared.view.View.{View}
+use Rattle.pocsag_receiver.specs.Faults.{fault_of_show}
+use Rattle.pocsag_receiver.specs.Views.{HasRows}
+use Rattle.pocsag_receiver.specs.Works.{views}
+use Rattle.pocsag_receiver.proofs.show.show_bytes.Goals as goal
+
+unshown : {O : Type 0} (Out : Writer O) (out out' : O) (view : View) (bytes : List ℕ) (e : ShowFault) → HasRows view bytes → Explains bytes e
+    → (e ≢ showing.WriteFault → out' ≡ out) → (e ≡ showing.WriteFault → HasFailed (Out.failures out) (Out.failures out'))
+    → (Out.is_known → e ≡ showing.WriteFault → ShowsPart (view_text view) bytes (Out.taken out) (Out.taken out'))
+    → IsStreamOf (over_bytes (views view) Out bytes) Out out out' (Err (fault_of_show e))
+unshown Out out out' view bytes (showing.Transmission f) rows why same failed part = (λ _. tt, inl (why, same (λ e. cc (e))))
+unshown Out out out' view bytes showing.OutOfMemory rows why same failed part = (λ _. tt, inl (why, same (λ e. cc (e))))
+unshown Out out out' view bytes showing.WriteFault rows why same failed part = (
+  λ _. tt,
+  inr (inl (
+    refl,
+    failed refl,
+    λ known.
+        let p = part known refl in (0, p.shown, (refl, record { shown = p.is_text; rows = rows }), λ _. p.taken),
+  )),
+)
+
+pub returns-in_err-show : goal.returns-in_err-show
+returns-in_err-show g c =
+    let p = err_from_is_err_and c.from_residual-in_err-show.result c.from_residual-in_err-show.ensures.1 in
+    let done = c.in_err-show.ensures in
+    record {
+      streams = rw (p.1, p.2) (unshown g.O.Sink _ _ c.args.view c.args.bytes.now c.in_err-show.field-0.0 c.in_ok-refuse_rows.ensures.rows done.fault
+          done.untouched (λ is. done.failures.1 (ap Err is)) (λ known is. done.part known (ap Err is)));
+    }
+
+pub returns : goal.returns
+returns g c = record {
+  streams = (
+    λ known.
+        let p = c.in_ok-show.ensures.shown known in
+        (p.shown, (refl, record { shown = p.is_text; rows = c.in_ok-refuse_rows.ensures.rows }), λ _. p.taken),
+    tt,
+  );
+}

@@ -1,0 +1,91 @@
+-- The commands for transmissions: what each does over the bytes of one.
+use Rattle.std.specs.Prelude.{◌≡◌, ℕ, List}
+use Rattle.pocsag_capture.specs.declared.reception.ReceptionStats.{ReceptionStats}
+use Rattle.pocsag_decode.specs.Repairs.{Counts}
+use Rattle.pocsag_shell.specs.Readers.{Task}
+use Rattle.pocsag_shell.specs.Runs.{Work}
+use Rattle.pocsag_shell.specs.declared.fault.FileFault.TheVariants as file
+use Rattle.pocsag_show.specs.declared.view.View.{View}
+use Rattle.pocsag_receiver.specs.Captures.{ExplainsCaptured, ExplainsOne, IsCaptureListed, IsSoOfOne}
+use Rattle.pocsag_receiver.specs.Faults.{receiver_status}
+use Rattle.pocsag_receiver.specs.Listings.{ExplainsDecoding, ExplainsHearing, IsDecoded, IsHeard}
+use Rattle.pocsag_receiver.specs.Repair.{IsSoOfRead}
+use Rattle.pocsag_receiver.specs.Views.{ExplainsShowing, IsViewed}
+use Rattle.pocsag_receiver.specs.declared.captured.Picking.{Picking}
+use Rattle.pocsag_receiver.specs.declared.fault.ReceiverFault.{ReceiverFault}
+use Rattle.pocsag_receiver.specs.declared.fault.ReceiverFault.TheVariants as fault
+use Rattle.pocsag_receiver.specs.declared.form.ListForm.{ListForm}
+use Rattle.pocsag_receiver.specs.declared.hear.Hearing.{Hearing}
+use Rattle.pocsag_receiver.specs.declared.repair.Repairing.{Repairing}
+
+-- Memory was refused.
+abbrev pub IsStarved : ReceiverFault → Type 0
+IsStarved f = f ≡ fault.File file.OutOfMemory
+
+-- Writes this text, and stops in front of it or behind a part of it where memory is refused.
+abbrev pub writing : (due : List ℕ) → Work ReceiverFault
+writing due = record {
+  is_known = Unit {0};
+  prints = λ status text. (status ≡ 0) × (text ≡ due);
+  explains = IsStarved;
+  lost = λ f. f ≡ fault.File file.Write;
+  stops = IsStarved;
+  ends = receiver_status;
+}
+
+-- A command that prints one of these texts, or tells a fault that is explained, before it writes;
+abbrev pub whole : (Prints : (bytes text : List ℕ) → Type 0) → (Explains : (bytes : List ℕ) → ReceiverFault → Type 0) → Task ReceiverFault
+whole Prints Explains = record {
+  prints = Prints;
+  explains = Explains;
+  stops = λ f. ⊥;
+  as_fault = fault.File;
+  ends = receiver_status;
+}
+
+-- and one that writes while it works, and stops behind a part of the text where memory is refused.
+abbrev pub streamed : (Prints : (bytes text : List ℕ) → Type 0) → (Explains : (bytes : List ℕ) → ReceiverFault → Type 0) → Task ReceiverFault
+streamed Prints Explains = record {
+  prints = Prints;
+  explains = Explains;
+  stops = IsStarved;
+  as_fault = fault.File;
+  ends = receiver_status;
+}
+
+-- What is printed of the bytes that are read of a file, and why nothing is: with repair, so much was corrected.
+abbrev pub PrintsRead : (before after : Repairing) → (Prints : (bytes text : List ℕ) → Type 0) → (bytes text : List ℕ) → Type 0
+PrintsRead before after Prints held text =
+    IsSoOfRead held before.is_asked (λ bytes. Counts after.corrected held bytes × Prints bytes text)
+
+abbrev pub ExplainsRead : Repairing → (Explains : (bytes : List ℕ) → ReceiverFault → Type 0) → (bytes : List ℕ) → ReceiverFault → Type 0
+ExplainsRead repairing Explains held f = IsSoOfRead held repairing.is_asked (λ bytes. Explains bytes f)
+
+-- Lists the pages that the bytes read as, in a form,
+abbrev pub lists : ListForm → Task ReceiverFault
+lists form = streamed (IsDecoded form) ExplainsDecoding
+
+-- and `decode`: with repair those that its words read as once each is repaired.
+abbrev pub decodes : ListForm → (before after : Repairing) → Task ReceiverFault
+decodes form before after = streamed (PrintsRead before after (IsDecoded form)) (ExplainsRead before ExplainsDecoding)
+
+-- `hear`: lists what the pager of an address shows.
+abbrev pub hears : Hearing → Task ReceiverFault
+hears hearing = streamed (IsHeard hearing) (ExplainsHearing hearing.address)
+
+-- `decode --capture` and `hear --capture`: lists the pages of the transmissions of a capture.
+abbrev pub lists_capture : Picking → (heard : List ReceptionStats) → Task ReceiverFault
+lists_capture picking heard = whole (IsCaptureListed picking heard) (ExplainsCaptured picking.only)
+
+-- Shows a transmission,
+abbrev pub views : View → Task ReceiverFault
+views view = whole (IsViewed view) (ExplainsShowing view)
+
+-- `show`: with repair as it is once each of its words is repaired,
+abbrev pub shows : View → (before after : Repairing) → Task ReceiverFault
+shows view before after = whole (PrintsRead before after (IsViewed view)) (ExplainsRead before (ExplainsShowing view))
+
+-- and `show --capture`: one of those of a capture.
+abbrev pub shows_capture : View → (nth : ℕ) → (heard : List ReceptionStats) → Task ReceiverFault
+shows_capture view nth heard =
+    whole (λ capture text. IsSoOfOne capture nth heard (λ bytes. IsViewed view bytes text)) (ExplainsOne view nth)
