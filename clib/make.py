@@ -1,7 +1,7 @@
 #!/usr/bin/env python3
 """Makes the C library from the proved crate pocsag_c.
 
-    clib/make.py FOLDER    puts libpocsag.a, libpocsag.so.1, libpocsag.so, pocsag.h, pocsag.py and pocsag.pc into FOLDER
+    clib/make.py FOLDER    puts libpocsag.a, libpocsag.so.1, libpocsag.so, pocsag.h, pocsag.pc and Python's pocsag into FOLDER
 
 It needs `rt`, by which the crate is proved and built with what it stands on, where that is not done yet, `cc`, `ld`,
 `objcopy` and `ar`.
@@ -25,6 +25,7 @@ TOP = HERE.parent
 CRATE = TOP / "crates/pocsag_c"
 MADE = CRATE / "out/libpocsag_c.a"
 SONAME = "libpocsag.so.1"
+MODULE = ("pocsag/__init__.py", "pocsag/py.typed")  # the package of Python
 
 
 def run(*words, **how):
@@ -73,8 +74,11 @@ def make(folder, made=MADE, memory=None, tools=""):
         shared = pathlib.Path(room) / SONAME
         run(f"{tools}gcc" if tools else "cc", "-shared", "-o", shared, f"-Wl,-soname,{SONAME}", f"-Wl,--version-script={HERE / 'pocsag.map'}",
             "-Wl,--whole-archive", joined, "-Wl,--no-whole-archive", "-Wl,--no-undefined", "-Wl,-z,relro,-z,now", "-lc")
-        for file in (joined, shared, HERE / "pocsag.h", HERE / "pocsag.py"):
+        for file in (joined, shared, HERE / "pocsag.h"):
             shutil.copy(file, folder / file.name)
+    (folder / "pocsag").mkdir(exist_ok=True)
+    for name in MODULE:
+        shutil.copy(HERE / name, folder / name)
     link = folder / "libpocsag.so"
     link.unlink(missing_ok=True)
     link.symlink_to(SONAME)

@@ -1,5 +1,6 @@
 /* The C library of pocsag: plans of paging rounds with the fewest batches, certificates of that, and what
- * transmissions say. docs/LIBRARY.md says what is proved of these calls.
+ * transmissions say. LIBRARY.md says what is proved of these calls: docs/LIBRARY.md of the sources, and where the library is installed
+ * share/doc/pocsag/LIBRARY.md. This header needs C99 or later, or C++.
  *
  * Bytes.    A pointer and a length are bytes that the call reads, or a buffer of the caller that it writes. The
  *           pointer is never null, also where the length is 0, and no two of the arguments overlap where one of them
@@ -7,7 +8,8 @@
  * Lengths.  In bytes. Where a text goes into a buffer, its length is told through `..._len`. Where the buffer is too
  *           small, the length that is wanted is told all the same and nothing is written, so the first call may give a
  *           buffer of 0 bytes. Behind a text the buffer is as it was. pocsag_plan_bound gives sizes that always
- *           suffice for a plan, pocsag_front_bound for a front, so that the search need not be made twice.
+ *           suffice for a plan, pocsag_front_bound for a front, so that the search need not be made twice; POCSAG_LISTING_BOUND and
+ *           so on are sizes that suffice for a listing, a picture and a sound.
  * Numbers.  A limit, end, rate, form or address that is none of those allowed is a fault; `always` may be any number.
  * Order.    A call answers the first fault in this order. pocsag_plan: end, limit, page file, search, size of `tx`, size
  *           of `cert`. pocsag_plan_at_most: end, limit, page file, first page, search, size of `rest`, of `why`, of `tx`,
@@ -15,17 +17,17 @@
  *           pocsag_check: page file, certificate.
  *           pocsag_explain: form, page file, certificate, size of `text`. pocsag_decode: transmission, size of
  *           `listing`; pocsag_hear: before them the address. pocsag_decode_as and pocsag_hear_as: before all these the
- *           reading, the capture. pocsag_show: reading, form, batches, capture, transmission, size of `text`. pocsag_wav: rate,
+ *           reading, the capture. pocsag_show: reading, form, batches, capture, transmission, batches behind its last, size of `text`. pocsag_wav: rate,
  *           samples, preamble, transmission, length, size of `wav`.
  *           pocsag_lay_in_order: page file, size of `tx`. pocsag_write_page: address, kind, message, size of `row`. Where
  *           memory is wanting, that may come first.
  * Memory.   A call takes memory with malloc and realloc, and has freed all of it when it returns. Where it is
- *           refused, the status is POCSAG_OUT_OF_MEMORY and no buffer was written. As measured it takes at most 16 bytes
- *           for each byte of a page file or a transmission, a picture 48 and a drawing 120, a sound three times its length,
- *           40 bytes for each node of a certificate or a search, and for each node that is explained 180 near the root and
- *           up to 4,500 at depth 300, most of them for the text.
- * Stack.    POCSAG_CHECK_STACK and so on are the bytes of stack that each call needs at most: measured for certificates
- *           of the greatest depth, computed and not measured for the deepest search of a plan.
+ *           refused, the status is POCSAG_OUT_OF_MEMORY and no buffer was written. As measured it takes at most 4,096 bytes, for a
+ *           drawing or an explanation 32,768, and beside them 16 for each byte of a page file or a transmission, for a picture 48 and a
+ *           drawing 160, for a sound three times its length, 40 for each node of a certificate or a search, and for each node that is
+ *           explained 180 near the root and up to 4,500 at depth 300, most of them for the text.
+ * Stack.    POCSAG_CHECK_STACK and so on are the bytes of stack that each call needs at most, and beside them what was measured: for
+ *           certificates of the greatest depth, and for rounds and fronts. The deepest search of a plan is computed, not measured.
  * Threads.  The library keeps no state: any number of threads may call at one time, with buffers of their own. No
  *           call from a signal handler, nor in a child of fork where the parent had several threads.
  */
@@ -48,7 +50,7 @@ extern "C" {
 
 /* The number of this interface, which pocsag_version answers, and the version of the package that it is part of. */
 #define POCSAG_VERSION 5u
-#define POCSAG_RELEASE "1.1.0"
+#define POCSAG_RELEASE "1.2.0-rc.1"
 
 /* The end of a transmission: it ends the last message, or the last codeword is no message codeword, or an idle one. */
 #define POCSAG_END_OPEN 0u
@@ -91,12 +93,12 @@ extern "C" {
 #define POCSAG_GREATEST_LIMIT 1000000u
 
 /* The bytes of stack that a thread needs for a call, its own part included. A certificate has at most 300 levels: 64 KiB,
- * and 1 KiB for each of them. A search goes through at most 289 levels, each of some 1,600 bytes: 462 KB, and 133 KB that
- * the measured rounds and fronts take in all. What is left of a mebibyte is added. */
-#define POCSAG_CHECK_STACK 372736u
-#define POCSAG_EXPLAIN_STACK 372736u
-#define POCSAG_PLAN_STACK 1048576u      /* pocsag_plan_at_most, pocsag_report and pocsag_frames too */
-#define POCSAG_LISTING_STACK 196608u    /* all others, as measured 121,192 */
+ * and 1 KiB for each of them. A search goes through at most 289 levels, each of some 1,600 bytes: 462 KB, and what the measured rounds and
+ * fronts take in all. What is left of a mebibyte is added. */
+#define POCSAG_CHECK_STACK 372736u   /* measured: 234,856 */
+#define POCSAG_EXPLAIN_STACK 372736u /* measured: 266,216 */
+#define POCSAG_PLAN_STACK 1048576u   /* pocsag_plan_at_most, pocsag_report and pocsag_frames too; measured: 197,416 */
+#define POCSAG_LISTING_STACK 196608u /* all others; measured: 154,536 */
 
 /* Statuses. */
 #define POCSAG_OK 0u
@@ -150,7 +152,7 @@ extern "C" {
 #define POCSAG_TRUNCATED 52u
 #define POCSAG_NO_BATCH 53u
 #define POCSAG_CAPTURE_TOO_LARGE 56u   /* over 268,435,456 bytes */
-#define POCSAG_BAD_ROWS 57u            /* the first batch is 0, or the last is before it */
+#define POCSAG_BAD_ROWS 57u            /* the first batch is 0, behind the last of the transmission, or behind the last that is wanted */
 #define POCSAG_BAD_READING 58u         /* the reading, or the form of a picture, is none of 0, 1 and 2 */
 /* Of a sound. */
 #define POCSAG_BAD_SAMPLES 60u         /* the samples a second are fewer than the bits, or over 192,000 */
@@ -300,7 +302,7 @@ POCSAG_CALL uint32_t pocsag_hear_as(uint32_t reading, uint32_t address, const ui
                                     struct pocsag_place *place);
 
 /* Puts a picture of what is read of `tx` by a reading into `text`. `form` is POCSAG_SHOW_TEXT, POCSAG_SHOW_LIST or
- * POCSAG_SHOW_DRAWING. Text and drawing have the batches from `first` to `last`, counted from 1, as far as there are such;
+ * POCSAG_SHOW_DRAWING. Text and drawing have the batches from `first` to `last`, counted from 1, of which the first must be there;
  * 1 and UINT64_MAX are all. */
 POCSAG_CALL uint32_t pocsag_show(uint32_t reading, const uint8_t *tx, size_t tx_len,
                                  uint32_t form, uint64_t first, uint64_t last,
@@ -427,6 +429,18 @@ static inline void pocsag_front_bound(size_t pages_len, uint32_t limit, size_t *
     pocsag_plan_bound(pages_len, limit, tx_size, cert_size);
     *rest_size = 21 + 2 * records + 3 * (records / 8 < 20000 ? records / 8 : 20000);
 }
+
+/* Sizes that suffice for what is told of a transmission of so many bytes, plain or repaired: listings, a picture of each form, and a sound,
+ * of which `preamble` may be 0. Of a capture, in which pieces of batches may stand, ask for the length. A batch has 68 bytes and sixteen
+ * codewords. A page of one codeword has at most 15 bytes in a listing and 30 in the list of places, and each message codeword more fewer
+ * than these. A batch has at most 32 bytes in the text; in the drawing a codeword has at most 250 and a batch 200 more, behind 20,000 for
+ * all else. A sound has 44 bytes and two for each sample, in which a batch's time of silence is counted. */
+#define POCSAG_LISTING_BOUND(tx_len) (21 + 240 * ((tx_len) / 68))
+#define POCSAG_SHOW_TEXT_BOUND(tx_len) (200 + 32 * ((tx_len) / 68))
+#define POCSAG_SHOW_LIST_BOUND(tx_len) (48 + 480 * ((tx_len) / 68))
+#define POCSAG_SHOW_DRAWING_BOUND(tx_len) (20000 + 4200 * ((tx_len) / 68))
+#define POCSAG_WAV_BOUND(tx_len, rate, samples, preamble) \
+    (46 + 2 * (8 * (uint64_t)(tx_len) + (preamble) + 544) * (samples) / (rate))
 
 #ifdef __cplusplus
 }

@@ -12,16 +12,9 @@ sys.path[:0] = [str(TESTS / it) for it in (".", "calls", "program")]
 import largest
 import pocsag
 import sizes
+from answers import attempt
 from forms import due_of, items_of
 from largest import HEADER, LARGEST, ROUNDS, repeated, texts, tone_batch
-
-
-def attempt(call, *words, **named):
-    """What a call gives, or its fault."""
-    try:
-        return call(*words, **named)
-    except pocsag.Fault as fault:
-        return fault
 
 
 def in_order(pages, codewords):
@@ -91,9 +84,9 @@ def try_certificates(tally, call):
 
 def told_by(call, words, size):
     """What a call puts into a buffer of so many bytes, or its status and the length that it tells."""
-    text, length, place = ctypes.create_string_buffer(size), ctypes.c_size_t(), pocsag.Place()
-    status = call(*words, text, ctypes.c_size_t(size), ctypes.byref(length), ctypes.byref(place))
-    return text.raw[: length.value] if status == 0 else (status, length.value)
+    text, place = pocsag.Text(size), pocsag.Place()
+    status = call(*words, *text.words, ctypes.byref(place))
+    return text.written() if status == 0 else (status, text.length)
 
 
 def try_readings(tally, call):

@@ -24,14 +24,16 @@ HERE = pathlib.Path(__file__).resolve().parent
 TOP = HERE.parents[1]
 sys.path[:0] = [str(HERE.parent / it) for it in (".", "certificates", "library", "wrong_bodies", "../clib", "../tools")]
 import greatest
+import in_c
+import in_python
 import kit
 import make
 import pocsag
-import trees
 import version
 import workspace
 from prover import Room
-from tally import ENDS, LIBRARY, PROGRAM, run_parts
+from answers import TOLD, WORDS, attempt, program, run, said
+from tally import LIBRARY, run_parts
 
 EXAMPLES = TOP / "clib/examples"
 ROUND = TOP / "examples/round.csv"
@@ -40,55 +42,6 @@ ROUNDS_OF_BOTH, CHANGED_OF_BOTH = 2_000, 8_000
 CALLS = {"airtime_batches", "check", "decode", "decode_as", "explain", "hear", "hear_as", "lay_in_order", "plan", "plan_at_most"}
 CALLS |= {"frames", "report", "show", "strict", "text_of_status", "text_of_version", "version", "wav", "write_page"}
 CALLS = {f"pocsag_{name}" for name in CALLS}
-
-# The words of the program for each end, and what its `check` tells of it.
-WORDS = dict(zip((pocsag.OPEN, pocsag.CLOSED, pocsag.IDLE), ENDS.values()))
-TOLD = dict(zip(WORDS, (b"", b" with a closed end", b" with an idle last")))
-
-# What the program prints where a call answers a status.
-SAID = {
-    3: "out of memory", 5: "the limit must be 1 to 1000000", 6: "search limit reached: at least {least} batches, {found} would do",
-    12: "page 1 needs {found} batches", 17: "the file is too large", 18: "the header must be address,kind,message",
-    19: "record {record_number}: three fields are wanted", 20: "record {record_number}: bad address",
-    21: "record {record_number}: reserved address", 22: "record {record_number}: unknown kind",
-    23: "record {record_number}: a tone page has no message", 24: "record {record_number}: the message is empty",
-    25: "record {record_number}: bad character at {at}", 26: "record {record_number}: the message is too long",
-    27: "record {record_number}: the address is already there", 28: "record {record_number}: too many pages",
-    29: "record {record_number}: bad payload", 30: "there are no pages",
-    32: "not a certificate", 33: "unknown certificate version", 34: "the certificate is cut short",
-    35: "bytes after the certificate", 36: "the certificate is malformed", 37: "the certificate is malformed",
-    38: "the certificate is too deep", 39: "the certificate has too many nodes",
-    41: "record {record_number}: the quote in line {at} is not closed",
-    42: "record {record_number}: the quote in line {at} stands inside a field that begins without one",
-    43: "record {record_number}: text follows the closing quote in line {at}",
-    48: "the preamble is too short", 49: "batch {at}: no synchronisation codeword", 50: "codeword {at}: not a codeword",
-    51: "codeword {at}: a message without an address", 52: "the transmission is cut short", 53: "the transmission has no batch",
-    56: "the capture is too large", 60: "the samples a second must be from the rate to 192000",
-    61: "the preamble must have 576 bits or more, a multiple of 8", 62: "the sound is too long for a WAV file", 64: "bad address", 65: "reserved address",
-}  # fmt: skip
-
-
-def run(*words, **how):
-    return subprocess.run([str(word) for word in words], capture_output=True, timeout=120, **how)
-
-
-def program(*words):
-    """What the program prints where it is done, or else why it is not."""
-    ran = run(PROGRAM, *words)
-    return ran.returncode, (ran.stdout if ran.returncode == 0 or not ran.stderr else ran.stderr)
-
-
-def said(fault):
-    return f"pocsag: {SAID[fault.status].format(**vars(fault))}\n".encode()
-
-
-def attempt(call, *words, **named):
-    """What a call gives, or its fault."""
-    try:
-        return call(*words, **named)
-    except pocsag.Fault as fault:
-        return fault
-
 
 def random_file(source):
     """A page file of up to twelve pages."""
@@ -274,154 +227,6 @@ def try_faults(tally, library):
     tally.check("a form that is none", type(fault) is pocsag.BadForm, fault)
 
 
-def raises(kind, call, *words, **named):
-    try:
-        call(*words, **named)
-    except kind:
-        return True
-    return False
-
-
-def try_numbers(tally, library):
-    """Numbers that C does not take are told, none is taken for another; and what else holds bytes is read."""
-    call, sample = library.pocsag, ROUND.read_bytes()
-    plan = call.plan(sample)
-    for number in (2**32 + 8, 2**64 + 8, -(2**32) + 8, -1):
-        fault = attempt(call.hear, number, plan.transmission)
-        tally.check(f"the pager {number}", type(fault) is pocsag.PagerBadAddress, fault)
-    for name, wanted, words, given in (
-        ("limit", pocsag.BadLimit, (call.plan, sample), dict(limit=2**32 + 1)),
-        ("end", pocsag.BadEnd, (call.plan, sample), dict(end=2**32)),
-        ("limit of a report", pocsag.BadLimit, (call.report, sample, 1200), dict(limit=-1)),
-        ("rate", pocsag.BadRate, (call.report, sample, 2**32 + 512), {}),
-        ("form", pocsag.BadForm, (call.explain, sample, plan.certificate), dict(form=2**32)),
-    ):
-        fault = attempt(*words, **given)
-        tally.check(f"no {name} is taken for another", type(fault) is wanted, fault)
-    tally.check("a depth below 0", raises(ValueError, call.explain, sample, plan.certificate, depth=-1))
-    tally.check("a size below 0", raises(ValueError, call.plan, sample, sizes=(-1, 9)))
-    tally.check("any number is for always", call.plan(sample, always=2**32).batches == plan.batches)
-    tally.check("no number at all", raises(TypeError, call.plan, sample, limit="9") and raises(TypeError, call.hear, 1.5, b""))
-    for kind in (bytearray, memoryview, lambda data: memoryview(data)[:]):
-        alike = call.plan(kind(sample)) == plan and call.check(kind(sample), kind(plan.certificate)).is_shown
-        alike = alike and call.decode(kind(plan.transmission)) == call.decode(plan.transmission)
-        tally.check("other bytes are read alike", alike, kind)
-    tally.check("no bytes", raises(TypeError, call.plan, sample.decode()) and raises(TypeError, call.decode, 5))
-    fault = attempt(call.plan, b"address,kind,message\n8,numeric,12x4\n")
-    tally.check("a fault tells record and place", str(fault) == "record 1: bad character at 2", str(fault))
-
-
-def try_header(tally, folder, room):
-    """What stands in the header alone: the texts of statuses, sizes that suffice, and what a compiler warns of."""
-    sized = room / "sized"
-    built = run("cc", "-std=c11", "-Wall", "-Wextra", "-Werror", HERE / "header.c", f"-I{folder}", "-o", sized)
-    tally.check("the header's own functions are compiled", built.returncode == 0, built.stderr)
-    told = run(sized, "texts").stdout.decode().splitlines()
-    wanted = {number: re.sub(r"^(record|batch|codeword) \{\w+\}: | at \{at\}$| in line \{at\}|: at least .*$", "", text).replace("{found}", "more") for number, text in SAID.items()}
-    texts = dict(line.split(" ", 1) for line in told)
-    wrong = [(number, text) for number, text in wanted.items() if texts.get(str(number)) != text]
-    tally.check("a status has the program's text", not wrong and len(texts) == 100, wrong)
-    exported = {number: pocsag.Pocsag(str(folder / make.SONAME)).status_text(int(number)) for number in texts}
-    tally.check("the library tells the header's texts", exported == texts, {it for it in texts.items() if exported[it[0]] != it[1]})
-    unknown = {number for number, text in texts.items() if text == "unknown status"}
-    tally.check("each status of a fault has one", not {str(number) for number in pocsag.NAMES} & unknown, unknown)
-    for name, line, flag in (("a status that is dropped", "pocsag_decode(b, 1, b, 1, &n, &p);", "unused-result"),
-                             ("a null pointer", "return (int)pocsag_decode(NULL, 0, b, 1, &n, &p);", "nonnull")):
-        (room / "warned.c").write_text(f'#include "pocsag.h"\nint main(void) {{ uint8_t b[1] = {{0}}; size_t n; struct pocsag_place p; {line} return 0; }}\n')
-        built = run("cc", "-Wall", f"-Werror={flag}", "-c", room / "warned.c", f"-I{folder}", "-o", room / "warned.o")
-        tally.check(f"the compiler warns of {name}", built.returncode and flag.encode() in built.stderr, built.stderr)
-
-
-def crowded_files():
-    """Page files whose plans are long for their bytes."""
-    frame = [8 * number for number in range(1, 20_001)]
-    lines = [f"{address},tone{number % 4}," for number, address in enumerate(frame)]
-    yield from (lines[:count] for count in (1, 2, 3, 100, 2_500, 20_000))
-    yield from ([f"{address},alpha,{'a' * length}" for address in frame[:count]] for length in (1, 3, 6, 57, 4_000) for count in (1, 40))
-    yield from ([f"{address},numeric,{'1' * length}" for address in frame[:count]] for length in (1, 6, 4_000) for count in (1, 40))
-    yield [f"{address},tone0," for address in range(1, 8)]
-
-
-def try_bound(tally, library, room):
-    """No plan is longer than the header says of so many bytes, nor has its certificate more than the limit allows."""
-    wrong, number = [], 0
-    for lines in crowded_files():
-        for ending in ("", "\n"):
-            data = ("\n".join(["address,kind,message", *lines]) + ending).encode()
-            for end in WORDS:
-                *sizes, _ = [int(word) for word in run(room / "sized", len(data), 1_000).stdout.split()]
-                plan = attempt(library.pocsag.plan, data, limit=1_000, end=end, always=True, sizes=sizes)
-                number += 1
-                fits = isinstance(plan, pocsag.Plan) and len(plan.transmission) <= sizes[0] and len(plan.certificate) <= sizes[1]
-                in_order = isinstance(plan, pocsag.Plan) and 72 + 68 * (plan.in_order + 2) <= sizes[0]
-                wrong += [(len(data), lines[0][:20], sizes)] * (not (fits and in_order))
-    tally.check(f"{number} plans fit where the header says so", not wrong, wrong[:4])
-    # The pages that are left grow as they are written: quotes that stood alone, and fields that went on behind their quotes.
-    for message in ('a"b', "x" + '"' * 900, '"a"b"c', '"a,b"', "a" * 40):
-        data = "\n".join(["address,kind,message", "8,tone0,", *(f"{number},alpha,{message}" for number in range(9, 99))]).encode()
-        tx, cert, rest = [int(word) for word in run(room / "sized", len(data), 1_000).stdout.split()]
-        front = attempt(library.pocsag.plan_at_most, data, 1, limit=1_000, sizes=(tx, cert, rest, cert))
-        fits = isinstance(front, pocsag.Front) and front.left > 80 and len(front.rest) <= rest and len(front.why) <= cert
-        tally.check(f"a front of pages of {message[:9]} fits", fits, (rest, str(front)[:200]))
-
-
-def deep_certificates():
-    """Certificates of 300 levels for a round of many tones, by the kind of the nodes: accepted ones, and others."""
-    pages = "".join(["address,kind,message\n", *(f"{8 * number + 1},tone0,\n" for number in range(1, 401))]).encode()
-    held, loose = trees.overload(0b1100), trees.overload(1)
-    for kind in ("splits", "cuts", "closes", "late splits"):
-        for leaf in (held, loose):
-            tree = leaf
-            for level in range(299, 0, -1):
-                if kind == "splits":
-                    tree = trees.SPLIT, 0, 17, level, (held, tree)
-                elif kind == "late splits":
-                    tree = trees.SPLIT, 0, 17, 401 - level, (tree, held)
-                elif kind == "cuts":
-                    tree = trees.CUT, 1, 17, 0, (held, tree)
-                else:
-                    tree = trees.CLOSE, 0, 0, 0, (tree,)
-            yield kind, leaf is held, pages, trees.certificate(trees.IDLE_END if kind == "closes" else 0, 12, tree)
-
-
-def try_stack(tally, folder, room):
-    """Each call does with the stack that the header names, also for certificates as deep as there are."""
-    text = (folder / "pocsag.h").read_text()
-    named = {name: int(size) for name, size in re.findall(r"#define POCSAG_(\w+)_STACK (\d+)u", text)}
-    built = run("cc", "-std=c11", "-O1", "-Wall", "-Wextra", HERE / "stack.c", folder / "libpocsag.a", f"-I{folder}", "-pthread", "-o", room / "stack")
-    tally.check("the calls on a stack of their own are built", built.returncode == 0 and len(named) == 4, (built.stderr, named))
-    used = dict.fromkeys(named, 0)
-    pages, cert = room / "deep.csv", room / "deep.cert"
-
-    def on_stack(call, size, wanted, what):
-        ran = run(room / "stack", call, named[size], pages, cert)
-        told = ran.stdout.split()
-        tally.check(f"{call} of {what} within {named[size]} bytes of stack", len(told) == 2 and int(told[0]) in wanted, (ran.returncode, told))
-        used[size] = max(used[size], int(told[1]) if len(told) == 2 else 0)
-
-    for kind, is_held, data, certificate in deep_certificates():
-        pages.write_bytes(data)
-        cert.write_bytes(certificate)
-        what = f"{'accepted' if is_held else 'refused'} {kind}"
-        on_stack("check", "CHECK", {int(not is_held)}, what)
-        on_stack("words", "EXPLAIN", {int(not is_held)}, what)
-        on_stack("json", "EXPLAIN", {int(not is_held)}, what)
-        told = run("bash", "-c", 'ulimit -s 2048; exec "$@"', "bash", PROGRAM, "explain", pages, cert)
-        tally.check(f"the program explains {what} with 2 MiB of stack", told.returncode == int(not is_held), (told.returncode, told.stderr))
-    for name, data in (("a sample", ROUND.read_bytes()), ("many tones", data)):
-        pages.write_bytes(data)
-        cert.write_bytes(pocsag.Pocsag(str(folder / make.SONAME)).plan(data).transmission)
-        on_stack("plan", "PLAN", {0}, name)
-        on_stack("front", "PLAN", {0}, name)
-        on_stack("report", "PLAN", {0}, name)
-        on_stack("frames", "PLAN", {0}, name)
-        on_stack("decode", "LISTING", {0}, name)
-        on_stack("hear", "LISTING", {0}, name)
-        for call in ("repaired", "captured", "heard", "text", "list", "drawing", "sound", "order", "row"):
-            on_stack(call, "LISTING", {0}, name)
-    print("stack used:", used)
-
-
 def try_large(tally, room):
     """The example in C reads to the end: 20,000 pages in more than a mebibyte."""
     lines = [f"{8 + number},alpha,{number:060}" for number in range(20_000)]
@@ -547,9 +352,11 @@ def try_readings(tally, library, plans, seed):
             else:
                 shown = [(pocsag.SHOW_TEXT, []), (pocsag.SHOW_LIST, ["--list"]), (pocsag.SHOW_DRAWING, ["--svg"])]
                 pairs += [(attempt(call.show, sent, form, reading=reading), program("show", library.tx, *words, *how)) for form, how in shown]
-                part = attempt(call.show, sent, pocsag.SHOW_TEXT, rows, reading)
-                if rows[0] <= plan.batches:
-                    pairs.append((part, program("show", library.tx, *words, "--rows", "%d-%d" % rows)))
+                part, told = attempt(call.show, sent, pocsag.SHOW_TEXT, rows, reading), program("show", library.tx, *words, "--rows", "%d-%d" % rows)
+                if isinstance(part, pocsag.BadRows):  # the program names the rows
+                    wrong += [(number, reading, rows)] * (told != (1, b"pocsag: rows %d-%d: the transmission has %d batch%s\n" % (*rows, plan.batches, b"es" * (plan.batches > 1))))
+                else:
+                    pairs.append((part, told))
             faults += isinstance(pairs[0][0], pocsag.Fault)
             wrong += [(number, reading, k) for k, pair in enumerate(pairs) if not is_pair(*pair)]
     tally.check(f"{len(plans[::4])} transmissions are read and shown as the program does", not wrong, wrong[:5])
@@ -570,13 +377,16 @@ def try_readings(tally, library, plans, seed):
         ("a picture that is none", pocsag.BadReading, (call.show, sent, 3, (0, 9)), {}),
         ("batch 0", pocsag.BadRows, (call.show, sent, pocsag.SHOW_LIST, (0, 9)), {}),
         ("batches from the last", pocsag.BadRows, (call.show, sent, pocsag.SHOW_TEXT, (2, 1)), {}),
+        ("batches behind the last", pocsag.BadRows, (call.show, sent, pocsag.SHOW_TEXT, (3, 3)), {}),
+        ("a drawing of none", pocsag.BadRows, (call.show, sent, pocsag.SHOW_DRAWING, (3, 2**64 - 1)), {}),
+        ("a fault before batches behind the last", pocsag.Truncated, (call.show, sent[:-1], pocsag.SHOW_TEXT, (3, 3)), {}),
         ("a capture of a byte too many", pocsag.CaptureTooLarge, (call.decode, bytes(268_435_457), pocsag.CAPTURED), {}),
     ):
         fault = attempt(*words, **given)
         tally.check(name, type(fault) is wanted, fault)
+    tally.check("the list has all pages, whatever batches are asked for", call.show(sent, pocsag.SHOW_LIST, (3, 3)) == call.show(sent, pocsag.SHOW_LIST))
     lines = call.show(sent, pocsag.SHOW_TEXT, (2, 2**64 - 1)).splitlines()
     tally.check("the second batch alone", len(lines) == 3 and lines[2].startswith(b"  2"), lines)
-    tally.check("no batch behind the last", len(call.show(sent, pocsag.SHOW_TEXT, (3, 3)).splitlines()) == 2)
 
 
 def try_sounds(tally, library, plans, seed):
@@ -716,15 +526,16 @@ def try_examples(tally, folder, room):
 
 
 def try_page(tally, folder, room):
-    """The two first plans of docs/LIBRARY.md."""
-    blocks = dict(re.findall(r"```(c|python)\n(.*?)```", (TOP / "docs/LIBRARY.md").read_text(), re.DOTALL))
-    (room / "first.c").write_text(blocks["c"])
+    """The first plans of docs/LIBRARY.md, and those in a pool of processes."""
+    (c,), pythons = (re.findall(rf"```{kind}\n(.*?)```", (TOP / "docs/LIBRARY.md").read_text(), re.DOTALL) for kind in ("c", "python"))
+    (room / "first.c").write_text(c)
     built = run("cc", "-Wall", "-Werror", room / "first.c", f"-I{folder}", folder / "libpocsag.a", "-o", room / "first")
     ran = run(room / "first") if built.returncode == 0 else built
     tally.check("the first plan in C", ran.stdout == b"status 0, 1 batches, 140 bytes\n", ran)
-    (room / "first.py").write_text(blocks["python"].replace("FOLDER", str(folder)))
-    ran = run(sys.executable, room / "first.py", env={**os.environ, "PYTHONPATH": str(folder), "PYTHONDONTWRITEBYTECODE": "1"})
-    tally.check("the first plan in Python", ran.stdout == b"1 140\naddress,kind,message\n8,tone0,\n\nrecord 1: unknown kind\n", ran)
+    for name, text, printed in zip(("first", "pool"), pythons, (b"1 140\naddress,kind,message\n8,tone0,\n\nrecord 1: unknown kind\n", b"[1, 1]\n"), strict=True):
+        (room / f"{name}.py").write_text(text.replace("FOLDER", str(folder)))
+        ran = run(sys.executable, room / f"{name}.py", env={**os.environ, "PYTHONPATH": str(folder), "PYTHONDONTWRITEBYTECODE": "1"})
+        tally.check(f"the {name} plan in Python", ran.stdout == printed, ran)
 
 
 def ways_to_try():
@@ -818,8 +629,9 @@ def put_library(folder):
     if not LIBRARY:
         return make.make(folder)
     folder.mkdir()
-    for name in (f"lib/{make.SONAME}", "lib/libpocsag.a", "include/pocsag.h", "python/pocsag.py"):
+    for name in (f"lib/{make.SONAME}", "lib/libpocsag.a", "include/pocsag.h"):
         shutil.copy(pathlib.Path(LIBRARY) / name, folder)
+    shutil.copytree(pathlib.Path(LIBRARY) / "python", folder, dirs_exist_ok=True)
     (folder / "libpocsag.so").symlink_to(make.SONAME)
 
 
@@ -829,10 +641,8 @@ def try_library(tally, room):
     library = Library(folder, room)
     try_symbols(tally, folder)
     try_faults(tally, library)
-    try_numbers(tally, library)
-    try_header(tally, folder, room)
-    try_bound(tally, library, room)
-    try_stack(tally, folder, room)
+    in_python.try_python(tally, str(folder / make.SONAME), (folder / "pocsag.h").read_text(), room)
+    in_c.try_c(tally, folder, room)
     try_reports(tally, library)
     greatest.try_greatest(tally, library)
     try_explanations(tally, library)

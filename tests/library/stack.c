@@ -2,10 +2,12 @@
  *
  *     stack CALL BYTES PAGES CERT
  *
- * CALL is plan, front, report, frames, check, words, json, order or row, or else decode, hear, repaired, captured, heard, text,
- * list, drawing or sound, which read CERT as a transmission. It prints the status of the call and how many bytes of the stack were
- * written, the thread's own part included. */
+ * CALL is plan, front, report, frames, check, words, json, order, strict or row, or else decode, hear, repaired, captured, heard, text,
+ * list, drawing or sound, which read CERT as a transmission. It is linked with malloc, realloc and free wrapped. It prints the status of
+ * the call, how many bytes of the stack were written, the thread's own part included, how many bytes of memory it held at most, and how
+ * long its first text is. */
 #define _GNU_SOURCE
+#include <malloc.h>
 #include <pthread.h>
 #include <stdio.h>
 #include <stdlib.h>
@@ -15,7 +17,37 @@
 
 #include "pocsag.h"
 
-#define LARGE (1 << 24)
+#define LARGE (1 << 26)
+
+void *__real_malloc(size_t size);
+void *__real_realloc(void *block, size_t size);
+void __real_free(void *block);
+
+static _Thread_local size_t held, most;
+
+static void *took(void *block)
+{
+    held += block == NULL ? 0 : malloc_usable_size(block);
+    most = held > most ? held : most;
+    return block;
+}
+
+void *__wrap_malloc(size_t size)
+{
+    return took(__real_malloc(size));
+}
+
+void *__wrap_realloc(void *block, size_t size)
+{
+    held -= block == NULL ? 0 : malloc_usable_size(block);
+    return took(__real_realloc(block, size));
+}
+
+void __wrap_free(void *block)
+{
+    held -= block == NULL ? 0 : malloc_usable_size(block);
+    __real_free(block);
+}
 
 struct file {
     uint8_t *bytes;
@@ -25,6 +57,7 @@ struct file {
 static struct file pages, other;
 static const char *call;
 static uint8_t *first, *second, *third, *fourth;
+static size_t memory, first_len;
 
 static struct file read_file(const char *name)
 {
@@ -76,12 +109,16 @@ static void *run(void *status)
         *told = pocsag_wav(other.bytes, other.len, 2400, 2400, 0, 0, first, LARGE, &len, &place);
     else if (strcmp(call, "order") == 0)
         *told = pocsag_lay_in_order(pages.bytes, pages.len, first, LARGE, &len, &place);
+    else if (strcmp(call, "strict") == 0)
+        *told = pocsag_strict(pages.bytes, pages.len, &place);
     else if (strcmp(call, "row") == 0)
         *told = pocsag_write_page(8, POCSAG_ALPHA, (const uint8_t *)"a\"b", 3, first, LARGE, &len, &place);
     else
         *told = pocsag_explain(pages.bytes, pages.len, other.bytes, other.len,
                                strcmp(call, "json") == 0 ? POCSAG_AS_JSON : POCSAG_IN_WORDS, 300, first, LARGE, &len,
                                &check);
+    memory = most;
+    first_len = len;
     return NULL;
 }
 
@@ -112,6 +149,6 @@ int main(int argc, char **argv)
     size_t untouched = 0;
     while (untouched < bytes && stack[untouched] == 0x5a)
         untouched++;
-    printf("%u %zu\n", status, bytes - untouched);
+    printf("%u %zu %zu %zu\n", status, bytes - untouched, memory, first_len);
     return 0;
 }

@@ -1,17 +1,19 @@
 ghost use Rattle.std.specs.Prelude.{◌≡◌, ◌≢◌, ◌⊎◌, ◌↔◌, Err, IfErr, IfOk, OnOk};
 ghost use Rattle.pocsag_show.specs.Shows.{Explains, IsTextOf};
 ghost use Rattle.pocsag_show.specs.Views.{view_text};
+ghost use Rattle.pocsag_wav.specs.Sounds.{ReadsAsPages};
 ghost use Rattle.pocsag_c.specs.Answers.{PrintsFault};
 ghost use Rattle.pocsag_c.specs.Listings.{HasNoRoom, IsListed};
-ghost use Rattle.pocsag_c.specs.Pictures.{AreNoRows, IsNoPicture, IsNumberOfView, IsPictureAs};
+ghost use Rattle.pocsag_c.specs.Pictures.{AreBehindLast, AreNoRows, AreThere, IsBehindLastAs, IsNoPicture, IsNumberOfView, IsPictureAs};
 ghost use Rattle.pocsag_c.specs.Readings.{IsNoReading, IsSoAsRead, IsUnreadOr, number_of_reading};
 ghost use Rattle.pocsag_c.specs.Statuses.{IsOfBytes, IsRefusing, nowhere, show_refusal};
 
 use crate::buffer::hand_out_text;
 use crate::reading::{Reading, read_as, reading_of};
 use crate::refusal::{NOWHERE, Place, StatusAt, refused_show};
+use pocsag_pages::preamble_len;
 use pocsag_show::{Rows, View, show};
-use pocsag_words::GrowingSink;
+use pocsag_words::{BATCH_BYTES, GrowingSink};
 use std::alloc::Global;
 
 // The picture of a number, of the batches from one to another; or the status that says which of them is none.
@@ -34,15 +36,41 @@ fn view_of(form: u32, first: u64, last: u64) -> Result<View, u32>
     })
 }
 
+// Batches of which a transmission does not have the first are refused.
+fn refuse_batches(view: View, tx: &[u8]) -> Result<(), StatusAt>
+    ensures there { OnOk result (AreThere view tx.now) }
+    ensures behind { IfErr result (λ r. AreBehindLast view tx.now) }
+    ensures status { IfErr result (λ r. (r.status ≡ 57) × (r.place ≡ nowhere)) }
+{
+    let Some(rows) = view.rows() else {
+        return Ok(());
+    };
+    let (_, batches) = tx.split_at(preamble_len(tx));
+    if rows.first <= (batches.len() / BATCH_BYTES) as u64 {
+        return Ok(());
+    }
+    Err(StatusAt {
+        status: 57,
+        place: NOWHERE,
+    })
+}
+
 fn text_shown(alloc: Global, view: View, tx: &[u8]) -> Result<Vec<u8>, StatusAt>
     ensures shown { IfOk result (λ text. IsTextOf (view_text view) tx.now text.items) }
-    ensures fault { IfErr result (λ r. PrintsFault show_refusal (Explains tx.now) r.status r.place) }
+    ensures there { OnOk result (AreThere view tx.now) }
+    ensures behind { IfErr result (λ r. r.status ≡ 57 →
+        AreBehindLast view tx.now × ReadsAsPages tx.now × (r.place ≡ nowhere)) }
+    ensures fault { IfErr result (λ r. r.status ≢ 57 →
+        PrintsFault show_refusal (Explains tx.now) r.status r.place) }
     ensures refusing { IfErr result (λ r. IsRefusing r.status) }
     ensures of_bytes { IfErr result (λ r. IsOfBytes r.status) }
 {
     let mut text = GrowingSink::new(alloc);
     match show(alloc, view, tx, &mut text) {
-        Ok(()) => Ok(text.into_bytes()),
+        Ok(()) => {
+            refuse_batches(view, tx)?;
+            Ok(text.into_bytes())
+        }
         Err(fault) => Err(refused_show(fault)),
     }
 }
@@ -54,8 +82,10 @@ fn text_shown_as(
     tx: &[u8],
 ) -> Result<Vec<u8>, StatusAt>
     ensures shown { IfOk result (λ text. IsSoAsRead (number_of_reading reading) tx.now
-        (λ bytes. IsTextOf (view_text view) bytes text.items)) }
-    ensures fault { IfErr result (λ r. IsUnreadOr (number_of_reading reading) tx.now r.status r.place
+        (λ bytes. IsTextOf (view_text view) bytes text.items × AreThere view bytes)) }
+    ensures behind { IfErr result (λ r. r.status ≡ 57 → IsSoAsRead (number_of_reading reading) tx.now
+        (λ bytes. AreBehindLast view bytes × ReadsAsPages bytes) × (r.place ≡ nowhere)) }
+    ensures fault { IfErr result (λ r. r.status ≢ 57 → IsUnreadOr (number_of_reading reading) tx.now r.status r.place
         (λ bytes. PrintsFault show_refusal (Explains bytes) r.status r.place)) }
     ensures refusing { IfErr result (λ r. IsRefusing r.status) }
     ensures of_bytes { IfErr result (λ r. IsOfBytes r.status) }
@@ -69,7 +99,7 @@ fn text_shown_as(
 /// Puts a picture of a transmission into a buffer: 0, or 10 where the buffer is too small. In both cases `text_len` reports its
 /// length. The reading is that of `pocsag_decode_as`; the form is 0 for a text with a letter for each codeword, 1 for the list
 /// of where the pages stand and 2 for a drawing; 58 where one of them is none. Text and drawing show the batches from `first`
-/// to `last`, counted from 1; 57 where these are none.
+/// to `last`, counted from 1; 57 where these are none, or where a transmission without other faults ends before `first`.
 #[unsafe(no_mangle)]
 pub extern "C" fn pocsag_show(
     alloc: Global,
@@ -87,7 +117,7 @@ pub extern "C" fn pocsag_show(
     ensures no_room { result ≡ 10 →
         HasNoRoom (IsPictureAs reading form first last tx.now) text.old text.new text_len.new }
     ensures bad_form { result ≡ 58 ↔ IsNoReading reading ⊎ IsNoPicture form }
-    ensures bad_rows { result ≡ 57 → AreNoRows first last }
+    ensures bad_rows { result ≡ 57 → AreNoRows first last ⊎ IsBehindLastAs reading form first last tx.now }
     ensures rows { AreNoRows first last → (result ≡ 58) ⊎ (result ≡ 57) }
     ensures fault { result ≢ 0 → result ≢ 10 → result ≢ 58 → result ≢ 57 →
         IsUnreadOr reading tx.now result place.new
