@@ -1,20 +1,54 @@
 #!/usr/bin/env node
-/* The command line of pocsag in Node, over the WebAssembly module, for machines on which the native program does not run:
- *
- *     node cli.mjs [--strict]                            reads a page file, prints its pages and batches
- *     node cli.mjs plan [SEARCH] [--verify] [[--at-most B | --airtime MS --rate R]
- *                       [--rest REST] [--oversized F] [--why FILE]] PAGES TX CERT
- *     node cli.mjs check PAGES CERT
- *     node cli.mjs report --rate R [SEARCH] [--frames] PAGES
- *     node cli.mjs decode [--repair] [--json] TX
- *     node cli.mjs hear [--json] ADDRESS TX
- *     node cli.mjs show [--svg | --list] [--rows A-B] [--repair] TX
- *     node cli.mjs wav [--rate R] [--samples S] [--invert] [--preamble N] TX
- *     node cli.mjs explain [--depth N] [--json] PAGES CERT
- *
- * SEARCH is [--limit N] [--end END | --idle-last] [--expect N] [--strict] [--always]. Words, output, texts and statuses are those
- * of the program, which its manual page explains: 0 done, 1 refused or not shown, 2 wrong words, 3 a file or memory. `-` is
- * standard input or standard output. Other commands and options are the program's alone. */
-import { run } from "./commands.mjs";
+/* The program in Node: node cli.mjs WORDS, with program.wasm and system.mjs beside it. It has all commands of the manual page. What is here
+ * carries out the calls of the system that the program makes. */
+import fs from "node:fs";
+import { isatty } from "node:tty";
+import { compiled, refuse, Run } from "./system.mjs";
 
-process.exitCode = run(process.argv.slice(2));
+const PAUSE_MS = 5; // between two looks at a stream that is not ready
+const IS_WINDOWS = process.platform === "win32";
+
+const pause = (ms) => Atomics.wait(new Int32Array(new SharedArrayBuffer(4)), 0, 0, ms);
+
+/* What a call returns that reads or writes. It waits for a pipe or a terminal that another process has set not to wait. */
+function waited(call) {
+  for (;;) {
+    try {
+      return call();
+    } catch (error) {
+      if (error.code === "EOF") return 0; // the end of a pipe on Windows
+      if (error.code !== "EAGAIN") throw error;
+      pause(PAUSE_MS);
+    }
+  }
+}
+
+/* Opens a file by the names of flags, of which Windows has some. There only what is open for writing can be brought to the disk. */
+function openSync(path, names, mode) {
+  const flags = names.reduce((sum, name) => sum | fs.constants[name], 0);
+  if (!IS_WINDOWS || flags !== fs.constants.O_RDONLY) return fs.openSync(path, flags, mode);
+  try {
+    return fs.openSync(path, "r+");
+  } catch {
+    return fs.openSync(path, "r");
+  }
+}
+
+/* The words behind the name of this script. Of a word that is no UTF-8 Node keeps no more than that, but Linux shows its bytes. On Windows a
+ * path may have the stroke that the program does not know. */
+function words() {
+  const given = process.argv.slice(2).map((word) => Buffer.from(IS_WINDOWS ? word.replaceAll("\\", "/") : word));
+  if (process.platform !== "linux") return given;
+  const shown = fs.readFileSync("/proc/self/cmdline", "latin1").split("\0").slice(0, -1);
+  return shown.slice(shown.length - given.length).map((word) => Buffer.from(word, "latin1"));
+}
+
+/* Node has no call that locks a file, and none that duplicates a descriptor. */
+const refused = () => refuse("ENOTSUP");
+const system = {
+  ...fs, openSync, pause, isatty, pid: process.pid, lock: refused, duplicate: refused,
+  readSync: (file, bytes) => waited(() => fs.readSync(file, bytes)),
+  writeSync: (file, bytes) => waited(() => fs.writeSync(file, bytes)),
+};
+const run = new Run(system, words()), module = compiled(new URL("program.wasm", import.meta.url));
+process.exitCode = await module.then((it) => run.status(it), (error) => run.stopped(error));

@@ -140,13 +140,13 @@ struct room rattle_realloc(void *bytes, u64 kept, u64 size, u64 align)
 }
 
 /* A buffer of the host: its address, or 0 where there is none. */
-__attribute__((export_name("pocsag_take"))) u64 pocsag_take(u64 size)
+u64 pocsag_take(u64 size)
 {
     struct room room = rattle_alloc(size, HEAD);
     return room.is_given ? (u64)room.bytes : 0;
 }
 
-__attribute__((export_name("pocsag_give"))) void pocsag_give(u64 address)
+void pocsag_give(u64 address)
 {
     rattle_dealloc((void *)address);
 }

@@ -1,9 +1,9 @@
 #!/usr/bin/env python3
-"""Makes the WebAssembly module from the proved crate pocsag_c, and the page around it.
+"""Makes the WebAssembly modules of the library and the program, from the proved crates pocsag_c and pocsag_app, and the page.
 
-    web/make.py FOLDER    puts pocsag.wasm, pocsag.mjs and its types, the command line and pocsag.html into FOLDER
+    web/make.py FOLDER    puts pocsag.wasm and program.wasm, what is over them with its types, and pocsag.html into FOLDER
 
-It needs `rt`, by which the crate is proved and built with what it stands on, where that is not done yet, and `wasm-opt` of
+It needs `rt`, by which the crates are proved and built with what they stand on, where that is not done yet, and `wasm-opt` of
 Binaryen. The same sources give the same bytes in every folder.
 Exit status: 0 done, 1 not done, 2 usage.
 """
@@ -19,6 +19,7 @@ import stat
 import subprocess
 import sys
 import tempfile
+import typing
 import zlib
 
 sys.dont_write_bytecode = True
@@ -27,14 +28,14 @@ TOP = HERE.parent
 sys.path[:0] = [str(TOP / "tools")]
 import kit
 
-CRATE = TOP / "crates/pocsag_c"
-COMMAND = ("cli.mjs", "commands.mjs", "words.mjs", "context.mjs", "reading.mjs")
-COPIED = ("pocsag.mjs", "pocsag.d.ts", *COMMAND)
-C_FILES = ("heap.c", "wide.c")
-PAGE = ("page/library.js", "page/rows.js", "reading.mjs", "page/files.js", "page/page.js")
-AS_MODULE = "/* == From here on as an ES module"  # what stands behind it in pocsag.mjs loads the file pocsag.wasm
+COPIED = ("pocsag.mjs", "pocsag.d.mts", "package.json", "program.mjs", "program.d.mts", "system.mjs", "cli.mjs")
+WORKER = ("pocsag.mjs", "system.mjs", "program.mjs", "page/worker.js")
+PAGE = ("page/library.js", "page/rows.js", "page/cells.js", "page/reading.js", "page/files.js", "page/command.js", "page/page.js")
+AS_MODULE = "/* == From here on as an ES module"  # what stands behind it loads the module of a file
 EXAMPLES = {"a hospital's round": "round.csv", "loops apart": "loops-apart.csv"}
-STACK = 1 << 20  # bytes, as POCSAG_PLAN_STACK of the header
+# The calls of the system that a host of the program carries out.
+SYSTEM = ("rattle_arg", "rattle_errno", "rattle_set_errno", "rattle_open_dir_at", "host_open", "host_fcntl", "close", "read", "write", "statx",
+          "getdents64", "isatty", "ftruncate", "fchmod", "fchown", "fsync", "fdatasync", "flock", "link", "rename", "unlink", "getpid", "nanosleep")  # fmt: skip
 # Of WebAssembly what each engine has since 2021; no vectors, which Binaryen 108 cannot lower and which gained nothing.
 TARGET = ["--target=wasm64-unknown-unknown", "-mcpu=mvp", "-mbulk-memory", "-msign-ext", "-mmutable-globals", "-mnontrapping-fptoint"]
 FEATURES = ["--mvp-features", "--enable-bulk-memory", "--enable-sign-ext", "--enable-mutable-globals", "--enable-nontrapping-float-to-int"]
@@ -46,6 +47,29 @@ for word; do
 done
 exec "{clang}" "$@"
 """
+
+
+class Module(typing.NamedTuple):
+    """What a module is made of."""
+
+    crate: pathlib.Path
+    built: str  # what the toolchain builds of the crate, in its folder `out`
+    c_files: tuple
+    level: str  # of optimisation: the program is to be small, since it is compiled again at each start
+    stack: int  # bytes
+    exports: tuple
+    imports: tuple
+
+
+def calls():
+    """The names of the library's calls."""
+    files = sorted((TOP / "crates/pocsag_c/src").glob("*.rt"))
+    return re.findall(r"pub extern \"C\" fn (pocsag_\w+)", "\n".join(path.read_text() for path in files))
+
+
+# The library, with the stack that its header names and two calls for buffers; the program, with the stack that a process has.
+LIBRARY = Module(TOP / "crates/pocsag_c", "libpocsag_c.a", ("heap.c", "wide.c"), "-O3", 1 << 20, (*calls(), "pocsag_take", "pocsag_give"), ())
+PROGRAM = Module(TOP / "crates/pocsag_app", "pocsag_app.o", ("heap.c", "wide.c", "system.c"), "-O2", 8 << 20, ("main",), SYSTEM)
 
 
 def run(*words, **how):
@@ -71,21 +95,22 @@ def copying_toolchain(room, copy):
     return made
 
 
-def proved_code(crate):
-    """The code of a proved library, as LLVM's bitcode. The toolchain writes it where it builds the library once more, over the
-    proofs that stand; the library that comes of it must be the one that stands. It is kept until that is another."""
-    library, kept = crate / "out" / f"lib{crate.name}.a", crate / "out" / f"{crate.name}.bc"
-    record, total = kept.with_suffix(".bc.of"), hashlib.sha256(library.read_bytes()).hexdigest()
+def proved_code(module):
+    """The code of a proved crate, as LLVM's bitcode. The toolchain writes it where it builds the crate once more, over the proofs that
+    stand; what comes of it must be what stands. It is kept until that is another."""
+    crate = module.crate
+    built, kept = crate / "out" / module.built, crate / "out" / f"{crate.name}.bc"
+    record, total = kept.with_suffix(".bc.of"), hashlib.sha256(built.read_bytes()).hexdigest()
     if kept.is_file() and record.is_file() and record.read_text() == total:
         return kept
     with tempfile.TemporaryDirectory() as name:
         room = pathlib.Path(name)
         words = kit.crate_in(str(crate)).words(["--jobs", "1"])
-        made, copy = room / library.name, room / kept.name
+        made, copy = room / built.name, room / kept.name
         run(kit.script().rtlib.RATTLE, "build", *words, "--toolchain", copying_toolchain(room, copy), "--backend", "llvm",
             "--incremental", "out/incremental", "-o", made, cwd=crate, stdout=subprocess.DEVNULL)
-        if made.read_bytes() != library.read_bytes():
-            raise SystemExit(f"make.py: {library} is not what its sources give")
+        if made.read_bytes() != built.read_bytes():
+            raise SystemExit(f"make.py: {built} is not what its sources give")
         record.unlink(missing_ok=True)
         shutil.copyfile(copy, kept)
         record.write_text(total)
@@ -122,20 +147,21 @@ def with_narrow_table(data):
     return data
 
 
-def module(code, names, to):
-    """The module of this code, in whose memory an address has 32 bits, with these calls."""
+def make_module(module, to):
+    """Makes a module, in whose memory an address has 32 bits."""
     clang = toolchain() / "bin/clang"
     with tempfile.TemporaryDirectory() as name:
         room = pathlib.Path(name)
-        run(clang, "-S", "-emit-llvm", "-x", "ir", code.resolve(), "-o", "code.ll", cwd=room)
+        run(clang, "-S", "-emit-llvm", "-x", "ir", proved_code(module).resolve(), "-o", "code.ll", cwd=room)
         (room / "code.ll").write_text(for_wasm((room / "code.ll").read_text()))
-        run(clang, *TARGET, "-O3", "-Wno-override-module", "-c", "code.ll", "-o", "code.o", cwd=room)
-        for file in C_FILES:
+        run(clang, *TARGET, module.level, "-Wno-override-module", "-c", "code.ll", "-o", "code.o", cwd=room)
+        for file in module.c_files:
             shutil.copyfile(HERE / file, room / file)
             run(clang, *TARGET, "-O2", "-ffreestanding", "-Wall", "-Wextra", "-Werror", "-c", file, "-o", f"{file}.o", cwd=room)
-        objects = ["code.o", *(f"{file}.o" for file in C_FILES)]
-        run("wasm-ld", "-mwasm64", "--no-entry", "--gc-sections", "--strip-all", "--stack-first", "-z", f"stack-size={STACK}",
-            *(f"--export={it}" for it in names), *objects, "-o", "wide.wasm", cwd=room, executable=clang)
+        objects = ["code.o", *(f"{file}.o" for file in module.c_files)]
+        (room / "imports").write_text("\n".join(module.imports))
+        run("wasm-ld", "-mwasm64", "--no-entry", "--gc-sections", "--strip-all", "--stack-first", "-z", f"stack-size={module.stack}",
+            "--allow-undefined-file=imports", *(f"--export={it}" for it in module.exports), *objects, "-o", "wide.wasm", cwd=room, executable=clang)
         (room / "wide.wasm").write_bytes(with_narrow_table((room / "wide.wasm").read_bytes()))
         run("wasm-opt", *FEATURES, "--enable-memory64", "--memory64-lowering", "-O2", "--strip-producers", "--strip-target-features",
             "wide.wasm", "-o", "narrow.wasm", cwd=room)
@@ -156,25 +182,25 @@ def script(*names):
     return re.sub(r"(?m)^export ", "", re.sub(r"(?m)^import .*\n", "", text))
 
 
-def page(wasm):
-    """The page, with all that it needs within it."""
+def packed(file):
+    """The file as the page has it."""
     shrink = zlib.compressobj(9, zlib.DEFLATED, -15)
-    packed = base64.b64encode(shrink.compress(wasm) + shrink.flush()).decode()
+    return base64.b64encode(shrink.compress(file.read_bytes()) + shrink.flush()).decode()
+
+
+def page(folder):
+    """The page, with all that it needs within it: also the modules in a folder."""
     examples = {name: (TOP / "examples" / file).read_text() for name, file in EXAMPLES.items()}
     parts = {
         "STYLE": (HERE / "page/page.css").read_text().replace("/*HUES*/", hues()),
-        "WORKER": script("pocsag.mjs", "page/worker.js"),
-        "MODULE": packed,
+        "WORKER": script(*WORKER),
+        "MODULE": packed(folder / "pocsag.wasm"),
+        "PROGRAM": packed(folder / "program.wasm"),
         "PAGE": script(*PAGE).replace("{} /*EXAMPLES*/", json.dumps(examples)),
     }
     if any("</script" in part or "<!--" in part for part in parts.values()):
         raise SystemExit("make.py: a part of the page would end its script")
     return re.sub(r"/\*(\w+)\*/", lambda found: parts[found[1]], (HERE / "page/page.html").read_text())
-
-
-def calls():
-    """The names of the library's calls."""
-    return re.findall(r"pub extern \"C\" fn (pocsag_\w+)", "\n".join(path.read_text() for path in sorted((CRATE / "src").glob("*.rt"))))
 
 
 def main(words):
@@ -184,13 +210,14 @@ def main(words):
     if not shutil.which("wasm-opt"):
         print("make.py: wasm-opt is missing in PATH: install binaryen", file=sys.stderr)
         return 1
-    built = subprocess.run([sys.executable, TOP / "tools/build.py", "proofs", CRATE.name])
+    built = subprocess.run([sys.executable, TOP / "tools/build.py", "proofs", LIBRARY.crate.name, PROGRAM.crate.name])
     if built.returncode:
         return 1
     folder = pathlib.Path(words[0])
     folder.mkdir(parents=True, exist_ok=True)
-    module(proved_code(CRATE), calls(), folder / "pocsag.wasm")
-    (folder / "pocsag.html").write_text(page((folder / "pocsag.wasm").read_bytes()))
+    make_module(LIBRARY, folder / "pocsag.wasm")
+    make_module(PROGRAM, folder / "program.wasm")
+    (folder / "pocsag.html").write_text(page(folder))
     for name in COPIED:
         shutil.copyfile(HERE / name, folder / name)
     return 0

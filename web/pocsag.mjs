@@ -3,12 +3,13 @@
  *     import { plan } from "./pocsag.mjs";
  *     const { batches, transmission, certificate } = plan("address,kind,message\n8,tone0,\n");
  *
- * Runs in Node 20 and later, in Deno and in browsers, with pocsag.wasm beside it. pocsag.d.ts describes each call. A page file
+ * Runs in Node 20 and later, in Deno and in browsers, with pocsag.wasm beside it. pocsag.d.mts describes each call. A page file
  * is a string or bytes; bytes are a Uint8Array, another view or an ArrayBuffer. Each fault is an error: `name` is that of
  * pocsag.h, `message` the program's text, `recordNumber` and `at` the place. */
 
 /* The name and the text of each status. */
 const STATUSES = {
+  0: ["OUT_OF_RANGE", "a whole number from 0 to 4294967295 is wanted"], // of this module, for numbers of which the library allows each
   2: ["BAD_END", "the end must be open, closed or idle"],
   3: ["OUT_OF_MEMORY", "out of memory"],
   4: ["BAD_RATE", "the rate must be 512, 1200 or 2400"],
@@ -57,15 +58,18 @@ const STATUSES = {
   65: ["PAGER_RESERVED_ADDRESS", "reserved address"],
 };
 
-/* Why a call did nothing. */
-export class Fault extends Error {
-  constructor(status, place = { recordNumber: 0, least: 0, found: 0, at: 0 }) {
-    const [name, text] = STATUSES[status] ?? ["UNKNOWN", `status ${status}`];
+/* Why a call did nothing. It is an error by its prototype alone: of an object that the engine made as an error the message alone crosses
+ * to another worker, and of any other all fields. */
+export class Fault {
+  constructor(status, { recordNumber = 0, least = 0, found = 0, at = 0 } = {}) {
+    const [name, text] = STATUSES[status] ?? ["UNKNOWN", `status ${status}`], place = { recordNumber, least, found, at };
     const told = text.replace(/\{(\w+)\}/g, (_, word) => place[word]);
-    super(status < 41 ? told.replace(/^record 0: /, "") : told); // a page that stands in no file has no record
-    Object.assign(this, place, { status, name: `POCSAG_${name}` });
+    const message = status < 41 ? told.replace(/^record 0: /, "") : told; // a page that stands in no file has no record
+    Object.assign(this, place, { status, name: `POCSAG_${name}`, message });
+    Error.captureStackTrace?.(this, Fault);
   }
 }
+Object.setPrototypeOf(Fault.prototype, Error.prototype);
 
 export const VERSION = 5;
 export const DEFAULT_LIMIT = 100_000, GREATEST_LIMIT = 1_000_000, DEFAULT_DEPTH = 3;
@@ -100,26 +104,24 @@ function layout(listed, start = 0) {
   return { places, end: Math.ceil(end / 8) * 8 };
 }
 
+const isBuffer = (data) => Object.prototype.toString.call(data).endsWith("ArrayBuffer]"); // of whatever realm
 const bytesOf = (data) => {
   if (typeof data === "string") return new TextEncoder().encode(data);
   if (ArrayBuffer.isView(data)) return new Uint8Array(data.buffer, data.byteOffset, data.byteLength);
-  if (data instanceof ArrayBuffer) return new Uint8Array(data);
+  if (isBuffer(data)) return new Uint8Array(data);
   throw new TypeError("a string or bytes are wanted");
 };
 const textOf = (bytes) => new TextDecoder("utf-8", { ignoreBOM: true }).decode(bytes);
 
 /* A number that the library takes; the fault of the status where it does not. */
-function number(value, status) {
-  if (!Number.isInteger(value)) throw new TypeError(`a whole number is wanted, not ${value}`);
-  if (value < 0 || value > GREATEST) throw status ? new Fault(status) : new RangeError(`0 to ${GREATEST} is wanted, not ${value}`);
+function number(value, status = 0, greatest = GREATEST) {
+  if (!Number.isInteger(value)) throw new TypeError(`a whole number is wanted, not ${String(value)}`);
+  if (value < 0 || value > greatest) throw new Fault(status);
   return value;
 }
 
-/* A number that the library takes with 64 bits. */
-function wide(value) {
-  if (!Number.isSafeInteger(value) || value < 0) throw new RangeError(`a whole number is wanted, not ${value}`);
-  return BigInt(value);
-}
+/* The number of a batch, which the library takes with 64 bits. */
+const wide = (value) => BigInt(number(value, 57, Number.MAX_SAFE_INTEGER));
 
 /* The number of a name; the fault of the status where it is none. */
 function placeIn(names, name, status) {

@@ -61,7 +61,7 @@ export class Browser {
 
   close() {
     this.#process.kill();
-    return new Promise((done) => this.#process.on("exit", () => (rmSync(this.#folder, { recursive: true, force: true, maxRetries: 5 }), done())));
+    return new Promise((done) => this.#process.on("exit", () => (rmSync(this.#folder, { recursive: true, force: true, maxRetries: 20 }), done())));
   }
 }
 

@@ -52,11 +52,59 @@ const value = async (script, ...args) => (await send("ExecuteScript", { script: 
 const text = (selector) => value(`document.querySelector(arguments[0]).textContent`, selector);
 const find = async (selector) => (await send("FindElement", { using: "css selector", value: selector })).value[ELEMENT];
 const click = async (selector) => send("ElementClick", { id: await find(selector) });
+const says = (selector, wanted) => comes(async () => (await text(selector)).includes(wanted));
 const title = (wanted) => comes(async () => (await text("#plan-title")) === wanted);
 
 /* A new round, as a user pastes it. */
 async function round(words) {
   await value(`((it) => (it.value = arguments[0], it.dispatchEvent(new Event("input", { bubbles: true }))))(document.querySelector("#csv"))`, words);
+}
+
+/* Presses keys at once, each by its character or by its code of WebDriver. */
+const [TAB, CONTROL, SHIFT, DOWN, RIGHT, ENTER, ESCAPE] = ["\ue004", "\ue009", "\ue008", "\ue015", "\ue014", "\ue007", "\ue00c"];
+async function press(...keys) {
+  const actions = [...keys.map((key) => ({ type: "keyDown", value: key })), ...keys.reverse().map((key) => ({ type: "keyUp", value: key }))];
+  await send("PerformActions", { actions: [{ type: "key", id: "keys", actions }] });
+}
+
+/* Quotes, wrong files, the last round, links and the keys of the table, as page.mjs tries them in Chromium. */
+async function tryHandling() {
+  await round(`${HEADER}8,tone0,\n16,alpha,"open\n24,tone0,\n`);
+  tally.check("an open quote is a fault", await says("#status", "record 2: the quote in line 3 is not closed"), await text("#status"));
+  await click("#as-table");
+  await click("#rows .why button");
+  tally.check("until it is read all the same", await says("#status", "2 pages"), await text("#status"));
+  writeFileSync(join(folder, "junk.bin"), Buffer.from([1, 2, 3]));
+  await send("ElementSendKeys", { id: await find("#file"), text: ["junk.bin", "round.bin", "round.csv"].map((it) => join(folder, it)).join("\n") });
+  tally.check("a file that is none is named", await says("#verdict", "junk.bin: not taken, since it begins neither as a page file"), await text("#verdict"));
+  tally.check("among others", await says("#verdict", "round.bin: 6 pages, those of the round") && await title("2 batches"), await text("#verdict"));
+  await press(CONTROL, "z");
+  tally.check("the last round comes back", await says("#status", "record 2: the quote in line 3"), await text("#status"));
+  await send("Refresh");
+  tally.check("a reload keeps the round", await says("#status", "record 2: the quote in line 3"), await text("#status"));
+  await press(CONTROL, SHIFT, "Z");
+  tally.check("and the others", await says("#status", "6 pages, 24 codewords"), await text("#status"));
+  await value(`document.querySelector("#as-csv").focus()`);
+  const focus = () => value(`((it) => [it.closest("[data-row]")?.dataset.row ?? it.id, it.tagName])(document.activeElement)`);
+  await press(TAB);
+  tally.is("the table is reached", await focus(), ["0", "SPAN"]);
+  await press(DOWN);
+  await press(RIGHT);
+  tally.is("the arrows move in it", await focus(), ["1", "SPAN"]);
+  await press(TAB);
+  tally.is("it is one stop", await focus(), ["order-play", "BUTTON"]);
+  await press(SHIFT, TAB);
+  await press(RIGHT);
+  await press(RIGHT);
+  await press(ENTER);
+  tally.is("a field is reached", await focus(), ["1", "INPUT"]);
+  await press("7");
+  await press(ESCAPE);
+  tally.is("edited and left", [await focus(), await value(`document.querySelector('#rows [data-row="1"] .message').value`)], [["1", "SPAN"], "7"]);
+  await click("#link");
+  tally.check("a link is copied, or that it is not is said", await comes(async () => /^(copied|not copied)/.test(await text("#linked"))), await text("#linked"));
+  await value(`(location.hash = location.hash.slice(0, -9), 0)`);
+  tally.check("a damaged link says so", await says("#linked", "the link is damaged"), await text("#linked"));
 }
 
 async function tryPage() {
@@ -79,6 +127,7 @@ async function tryPage() {
   tally.check("a bad record is named", await comes(async () => (await text("#status")).includes("record 1: unknown kind")), await text("#status"));
   await round(`${HEADER}8,tone0,\n`);
   tally.check("and another round is planned", await title("1 batch"), await text("#status"));
+  await tryHandling();
   tally.is("no request to a network", await value(`performance.getEntriesByType("resource").map((it) => it.name).filter((it) => !/^(blob|data):/.test(it))`), []);
 }
 

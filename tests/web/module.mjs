@@ -1,14 +1,17 @@
 /* The ES module in Node: module.mjs FOLDER EXAMPLES VECTORS. The worked examples and the published vectors by its calls; its
  * faults, by name, text and place; what it refuses; refused memory; a trap. The last line is 'N passed, M failed'. */
 import { readFileSync } from "node:fs";
+import { once } from "node:events";
 import { join, resolve } from "node:path";
 import { pathToFileURL } from "node:url";
+import { runInNewContext } from "node:vm";
+import { Worker } from "node:worker_threads";
 import { Tally } from "./tally.mjs";
 
 const [folder, examples, vectors] = process.argv.slice(2).map((it) => resolve(it));
 const pocsag = await import(pathToFileURL(join(folder, "pocsag.mjs")));
 const source = (path) => import(new URL(`../../web/${path}`, import.meta.url));
-const files = { ...(await source("page/files.js")), ...(await source("reading.mjs")) };
+const files = { ...(await source("page/files.js")), ...(await source("page/reading.js")) };
 const wasm = readFileSync(join(folder, "pocsag.wasm"));
 const tally = new Tally();
 const { Fault, Pocsag } = pocsag, HEADER = "address,kind,message\n", SAMPLE = HEADER + "8,tone0,\n";
@@ -77,6 +80,8 @@ const faults = [
   [() => pocsag.decode(sent, "aloud"), "POCSAG_BAD_READING", "there is no such reading or picture", {}],
   [() => pocsag.show(sent, { form: "film" }), "POCSAG_BAD_READING", "there is no such reading or picture", {}],
   [() => pocsag.show(sent, { first: 2, last: 1 }), "POCSAG_BAD_ROWS", "there are no such batches", {}],
+  [() => pocsag.show(sent, { first: -1 }), "POCSAG_BAD_ROWS", "there are no such batches", {}],
+  [() => pocsag.show(sent, { first: 2 }), "POCSAG_BAD_ROWS", "there are no such batches", {}],
   [() => pocsag.writePage(8, "numeric", "12x4"), "POCSAG_BAD_CHARACTER", "bad character at 2", { at: 2 }],
   [() => pocsag.writePage(8, "tone9"), "POCSAG_BAD_KIND", "unknown kind", {}],
   [() => pocsag.writePage(2 ** 32, "tone0"), "POCSAG_BAD_ADDRESS", "bad address", {}],
@@ -95,13 +100,35 @@ for (const [call, name, message, place] of faults) {
   tally.is(`the place of ${name}`, Object.fromEntries(Object.keys(at).map((it) => [it, told[it]])), at);
   tally.check(`${name} is of the header`, new RegExp(`#define ${name} ${told.status}u`).test(header), told.status);
 }
+const faulty = tally.attempt(() => pocsag.plan(HEADER + "8,numeric,12x4\n"));
+const due = { recordNumber: 1, least: 0, found: 0, at: 2, status: 25, name: "POCSAG_BAD_CHARACTER", message: "record 1: bad character at 2" };
+tally.check("a fault is an error", faulty instanceof Error && String(faulty) === `${due.name}: ${due.message}` && faulty.stack.includes("module.mjs"), faulty.stack);
+for (const [how, last] of [["posted", "parentPort.postMessage(fault)"], ["thrown", "throw fault"]]) {
+  const code = `import { parentPort, workerData } from "node:worker_threads";
+    const { plan } = await import(workerData);
+    try { plan("address,kind,message\\n8,numeric,12x4\\n"); } catch (fault) { ${last}; }`;
+  const worker = new Worker(new URL(`data:text/javascript,${encodeURIComponent(code)}`), { workerData: pathToFileURL(join(folder, "pocsag.mjs")).href });
+  const [crossed] = await (how === "posted" ? once(worker, "message") : new Promise((gives) => worker.on("error", (it) => gives([it]))));
+  tally.is(`a fault that is ${how} by a worker`, { ...crossed, stack: undefined }, { ...due, stack: undefined });
+  const again = new Fault(crossed.status, crossed);
+  tally.is("and is a fault again", [again instanceof Fault, { ...again }], [true, due]);
+}
 for (const [name, call, kind] of [
   ["no bytes", () => pocsag.plan(5), TypeError], ["no number", () => pocsag.plan(SAMPLE, { limit: "9" }), TypeError],
-  ["half a page", () => pocsag.hear(1.5, sent), TypeError], ["a depth below 0", () => pocsag.explain(SAMPLE, proof, { depth: -1 }), RangeError],
-  ["batches below 0", () => pocsag.planAtMost(SAMPLE, -1), RangeError], ["no module", () => new Pocsag(5).plan(SAMPLE), TypeError],
+  ["half a page", () => pocsag.hear(1.5, sent), TypeError], ["half a batch", () => pocsag.show(sent, { first: 1.5 }), TypeError], ["no module", () => new Pocsag(5).plan(SAMPLE), TypeError],
 ]) tally.check(name, tally.attempt(call) instanceof kind, tally.attempt(call));
+for (const call of [
+  () => pocsag.explain(SAMPLE, proof, { depth: -1 }), () => pocsag.planAtMost(SAMPLE, -1), () => pocsag.planAtMost(SAMPLE, 2 ** 32), () => pocsag.airtimeBatches(-1, 512),
+  () => pocsag.airtimeBatches(2 ** 32, 512), () => pocsag.statusText(-1),
+]) {
+  const told = tally.attempt(call);
+  tally.is(`${call} is a fault`, [told instanceof Fault, told.name, told.status], [true, "POCSAG_OUT_OF_RANGE", 0]);
+}
 tally.is("the version", [pocsag.version(), header.includes(`#define POCSAG_VERSION ${pocsag.VERSION}u`)], [pocsag.VERSION, true]);
-for (const given of [latin(SAMPLE), latin(SAMPLE).buffer, new DataView(latin(SAMPLE).buffer), Buffer.from(SAMPLE), new Uint8Array([...latin("xx"), ...latin(SAMPLE)]).subarray(2)])
+const elsewhere = runInNewContext(`[new Uint8Array(bytes), new Uint8Array(bytes).buffer]`, { bytes: [...latin(SAMPLE)] }); // of another realm
+const shared = new SharedArrayBuffer(SAMPLE.length);
+new Uint8Array(shared).set(latin(SAMPLE));
+for (const given of [...elsewhere, shared, latin(SAMPLE), latin(SAMPLE).buffer, new DataView(latin(SAMPLE).buffer), Buffer.from(SAMPLE), new Uint8Array([...latin("xx"), ...latin(SAMPLE)]).subarray(2)])
   tally.is("other bytes are read alike", pocsag.plan(given).transmission, sent);
 const bound = pocsag.plan(rounds["loops-apart"][0], { limit: 1 });
 tally.is("a batch more than the bound", [bound.batches, bound.bound], [3, 2]);
@@ -128,7 +155,6 @@ const grid = "       0  1  2  3  4  5  6  7\n  1   A. .. .. .. .. .. .. ..\n", p
 tally.is("a text of one tone", pocsag.show(sent).split("\n").slice(1).join("\n"), grid);
 tally.is("its place", pocsag.show(bad, { form: "list", reading: "repaired" }), places);
 tally.check("a drawing", /^<svg [^]*<\/svg>\n$/.test(pocsag.show(sent, { form: "drawing" })));
-tally.is("no batch behind the last", pocsag.show(sent, { first: 2 }).split("\n").length, 3);
 tally.is("a page's record", pocsag.writePage(11, "alpha", 'say "yes", now'), '11,alpha,"say ""yes"", now"\n');
 tally.is("a header and records", pocsag.plan(pocsag.HEADER + pocsag.writePage(8, "tone0")).transmission, sent);
 // 1,664 bits with the silence, of which the last of the preamble is 0 and the first of the synchronisation codeword too.

@@ -1,10 +1,10 @@
 #!/usr/bin/env python3
-"""Tries the WebAssembly module, its ES module and command line in Node, and the page in Chromium and in Firefox.
+"""Tries the WebAssembly modules, the ES modules over them, the program in Node, and the page in Chromium and in Firefox.
 
 It makes them twice, in two folders; makes the same calls of the module and of the native library, with random rounds, changed
-files and buffers that are too small; runs the published vectors and the worked examples; refuses memory; and uses the page
-as a user does. Where the C library is that of the release, it tries the release's files. Where Node, the toolchain, Binaryen
-or a browser is missing it says so and tries the rest.
+files and buffers that are too small; runs the published vectors and the worked examples; refuses memory; runs the program by
+its hosts in Node and in memory; and uses the page as a user does. Where the C library is that of the release, it tries the
+release's files. Where Node, the toolchain, Binaryen or a browser is missing it says so and tries the rest.
 The last line is 'N passed, M failed'.
 """
 
@@ -22,8 +22,9 @@ sys.dont_write_bytecode = True
 HERE = pathlib.Path(__file__).resolve().parent
 TOP = HERE.parents[1]
 sys.path[:0] = [str(HERE), str(HERE.parent)]
-import command
+import host
 import native
+import package
 from tally import LIBRARY, PROGRAM, run_parts
 
 
@@ -148,7 +149,7 @@ def try_made(tally, made):
         done = run(sys.executable, TOP / "web/make.py", folder)
         tally.check(f"made in {folder.name}", done.returncode == 0, done)
     names = sorted(path.name for path in made.folder.iterdir())
-    tally.check("the files that are made", names == sorted(["pocsag.wasm", "pocsag.html", *made.web.COPIED]), names)
+    tally.check("the files that are made", names == sorted(["pocsag.wasm", "program.wasm", "pocsag.html", *made.web.COPIED]), names)
     for name in names:
         tally.check(f"{name} is the same in two folders", (made.folder / name).read_bytes() == (other / name).read_bytes())
     for words, status in (([], 2), (["--help"], 2), (["a", "b"], 2)):
@@ -157,7 +158,7 @@ def try_made(tally, made):
 
 def take_released(tally, made):
     """Takes the files of the release, which are tried beside its C library."""
-    with tarfile.open(next((TOP / "release").glob("pocsag-*-web.tar.xz"))) as archive:
+    with tarfile.open(next((TOP / "release").glob("pocsag-*.tgz"))) as archive:
         files = {pathlib.Path(it.name).name: archive.extractfile(it).read() for it in archive if it.isfile()}
     made.folder.mkdir()
     for name, data in files.items():
@@ -206,7 +207,7 @@ def try_large(tally, made):
         calls.append(["pocsag_check", hexed(pages), hexed(plan.certificate), info("check")])
         calls.append(["pocsag_decode", hexed(plan.transmission), ["room", 2**21], info("place")])
         calls.append(["pocsag_plan_at_most", hexed(pages), number(40), *[["room", 2**21]] * 4, number(1_000), number(0), number(1), info("front")])
-    for _, _, pages, certificate in made.library.deep_certificates():
+    for _, _, pages, certificate in made.library.in_c.deep_certificates():
         calls.append(["pocsag_check", hexed(pages), hexed(certificate), info("check")])
         calls += [["pocsag_explain", hexed(pages), hexed(certificate), number(form), number(300), ["room", 2**23], info("check")] for form in (0, 1)]
     made.compare(tally, "large rounds and deep certificates", calls)
@@ -268,7 +269,8 @@ def main(tally, room):
     try_rounds(tally, made)
     try_large(tally, made)
     try_node(tally, made)
-    command.try_command(tally, made, room, NODE)
+    package.try_package(tally, made.folder, room)
+    host.try_hosts(tally, room / "hosts", made.folder, NODE)
     for name, what, browser, least in (("page", "chromium", CHROMIUM, 60), ("firefox", "firefox", FIREFOX, 10)):
         if browser:
             try_page(tally, made, name, browser, least)

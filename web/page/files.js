@@ -16,14 +16,18 @@ export const unpictured = (line) => line.replace(/[\u2400-\u241f]+/g, (it) => sh
 /* The milliseconds of so many batches at a rate, rounded up. */
 export const airtimeOf = (batches, rate) => Math.ceil(((576 + 544 * batches) * 1000) / rate);
 
-/* The letter and the hue of each page, as `pocsag show` gives them: by its place among the addresses. */
+/* Whether a file that begins like this is a page file: its first record is the header. */
+export const beginsAsPages = (text) => /^\ufeff?[\r\n]*("?)address\1,("?)kind\2,("?)message\3(?=[\r\n]|$)/.test(text);
+
+/* The label and the hue of each page, in the order of the file: A to Z, then A2 to Z2. */
 export function labelsOf(addresses) {
-  const sorted = [...addresses].sort((a, b) => a - b);
-  const label = (k) => ({ hue: k % 12, letter: String.fromCharCode(65 + (k % 26)), turn: Math.floor(k / 26) + 1 });
-  return new Map(sorted.map((address, k) => [address, label(k)]));
+  const label = (k) => String.fromCharCode(65 + (k % 26)) + (k < 26 ? "" : Math.floor(k / 26) + 1);
+  return new Map(addresses.map((address, k) => [address, { hue: k % 12, label: label(k) }]));
 }
 
-export const labelOf = ({ letter, turn }) => letter + (turn > 1 ? turn : "");
+/* Words of the library with separators in numbers that count. Numbers that name something have none. */
+const NUMBERS = /\b(?:address(?:es)?|record|line|codeword|batch|at|node) [\d., ]+|\d{4,}/g;
+export const grouped = (words) => words.replace(NUMBERS, (it) => (/^\d/.test(it) ? Number(it).toLocaleString("en") : it));
 
 /* The nodes of an explanation: its words beside its facts. */
 export function nodesOf(text, facts) {

@@ -1,13 +1,15 @@
-/* The library in a worker. A call that takes long is ended by ending its worker; the compiled module serves the next one. */
+/* The library or the program in a worker. A call that takes long is ended by ending its worker; the compiled module serves the next one. */
 export class Library {
   #module;
   #script;
+  #kind;
   #worker;
   #waiting = new Map();
   #number = 0;
 
-  constructor(module, script) {
-    this.#module = module;
+  /* `kind` is the class over the module: Pocsag or Program. */
+  constructor(module, script, kind) {
+    [this.#module, this.#kind] = [module, kind];
     this.#script = URL.createObjectURL(new Blob([script], { type: "text/javascript" }));
     this.#begin();
   }
@@ -21,7 +23,7 @@ export class Library {
       if (fault) failed(fault);
       else done({ given, took });
     };
-    this.#worker.postMessage({ module: this.#module });
+    this.#worker.postMessage({ module: this.#module, kind: this.#kind });
   }
 
   /* What a call gives, and how many milliseconds it took; or its fault. */
@@ -31,10 +33,11 @@ export class Library {
     return new Promise((done, failed) => this.#waiting.set(number, { done, failed }));
   }
 
-  /* Ends the calls that are not done; what waits for them waits for ever. */
+  /* Ends the calls that are not done; what waits for them waits for ever. Returns whether there were some. */
   endCalls() {
-    if (this.#waiting.size === 0) return;
+    if (this.#waiting.size === 0) return false;
     this.#worker.terminate();
     this.#begin();
+    return true;
   }
 }

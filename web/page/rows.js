@@ -6,6 +6,7 @@ export class Rows {
   #make;
   #fill;
   #count = 0;
+  #tall = { index: Infinity, more: 0 };
   #shown = new Map();
 
   /* `make` gives an empty row, `fill` shows the row of a number in it; each is `height` pixels high. */
@@ -17,30 +18,34 @@ export class Rows {
     new ResizeObserver(() => this.#draw()).observe(box);
   }
 
-  /* Shows so many rows anew. */
-  show(count, height = this.#height) {
-    [this.#count, this.#height] = [count, height];
-    this.#inside.style.height = `${count * height}px`;
+  /* Shows so many rows anew, of which one may be taller by less than two rows. */
+  show(count, height = this.#height, tall = { index: Infinity, more: 0 }) {
+    [this.#count, this.#height, this.#tall] = [count, height, tall];
+    this.#inside.style.height = `${this.#top(count)}px`;
     for (const [index, row] of this.#shown) if (index < count) this.#place(row, index);
     this.#draw();
   }
 
   /* The row of a number, brought into view. */
   reach(index) {
-    const top = index * this.#height, room = this.#box.clientHeight;
+    const top = this.#top(index), end = this.#top(index + 1), room = this.#box.clientHeight;
     if (top < this.#box.scrollTop) this.#box.scrollTop = top;
-    if (top + this.#height > this.#box.scrollTop + room) this.#box.scrollTop = top + this.#height - room;
+    if (end > this.#box.scrollTop + room) this.#box.scrollTop = end - room;
     this.#draw();
     return this.#shown.get(index);
   }
 
+  #top(index) {
+    return index * this.#height + (index > this.#tall.index ? this.#tall.more : 0);
+  }
+
   #place(row, index) {
-    row.style.top = `${index * this.#height}px`;
+    row.style.top = `${this.#top(index)}px`;
     this.#fill(row, index);
   }
 
   #draw() {
-    const first = Math.floor(this.#box.scrollTop / this.#height) - 2;
+    const first = Math.floor(this.#box.scrollTop / this.#height) - 4;
     const last = Math.ceil((this.#box.scrollTop + this.#box.clientHeight) / this.#height) + 2;
     const isInView = (index) => index >= first && index < last && index < this.#count;
     for (const [index, row] of this.#shown) {

@@ -1,8 +1,9 @@
-/* The library in a worker: it gets the compiled module, then calls by their names, and gives back what each gave, or its fault. */
+/* The library or the program in a worker: it gets the compiled module, then calls by their names, and gives back what each gave, or its
+ * fault. */
 let library;
 onmessage = ({ data }) => {
   if (data.module) {
-    library = new Pocsag(data.module);
+    library = new { Pocsag, Program }[data.kind](data.module);
     return;
   }
   try {

@@ -1,7 +1,7 @@
 /** Plans of paging rounds with the fewest batches, certificates of that, and what transmissions say. */
 
 /** What is read: bytes, or a text that is taken as UTF-8. */
-export type Data = string | ArrayBufferView | ArrayBuffer;
+export type Data = string | ArrayBufferView | ArrayBufferLike;
 /** What ends the last message: the end of the transmission; a codeword that is no message; an idle codeword. */
 export type End = "open" | "closed" | "idle";
 
@@ -92,11 +92,13 @@ export interface Explanation extends Verdict {
   text: string;
 }
 
-/** Why a call did nothing. */
+/** Why a call did nothing. What `postMessage` gives another worker of it is an object with all these fields, and no `Fault`. */
 export class Fault extends Error {
-  /** As in pocsag.h, such as `POCSAG_BAD_ADDRESS`. */
+  /** A fault of a status, or the one that crossed from another worker: `new Fault(data.status, data)`. */
+  constructor(status: number, place?: { recordNumber?: number; least?: number; found?: number; at?: number });
+  /** As in pocsag.h, such as `POCSAG_BAD_ADDRESS`; `POCSAG_OUT_OF_RANGE` for a number that no call can take. */
   name: string;
-  /** The number of that name. */
+  /** The number of that name; of `POCSAG_OUT_OF_RANGE` 0. */
   status: number;
   /** The record of the page file, from 1; 0 where the fault is not of one, or is a quote of the header. */
   recordNumber: number;

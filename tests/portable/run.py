@@ -1,0 +1,216 @@
+#!/usr/bin/env python3
+"""Runs the program as C beside the native one: by cases for its host, and by the scripts that run the program.
+
+    tests/portable/run.py          also compiled for 32-bit ARM, under an emulator
+    tests/portable/run.py --all    and with musl, and for RISC-V
+
+It is made over the proofs that stand; without the toolchain it is the one of release/. Where a tool is missing, that part is left
+out and says so. The last line is 'N passed, M failed'.
+"""
+
+import os
+import pathlib
+import re
+import shutil
+import subprocess
+import sys
+import tempfile
+
+sys.dont_write_bytecode = True
+TOP = pathlib.Path(__file__).resolve().parents[2]
+sys.path[:0] = [str(TOP / it) for it in ("tests", "tests/release", "release", "tools", "clib")]
+import arm64
+import packages
+import products
+import version
+from cases import CASES
+from tally import LIBRARY, PROGRAM, Tally, as_nobody
+
+HERE = pathlib.Path(__file__).resolve().parent
+PACKAGE = TOP / f"release/pocsag-{version.VERSION}-c.tar.xz"
+# The scripts that run the program, and of how many of their cases one is tried here: the host is not another in each.
+SCRIPTS = {"tests/program/run.py": 13, "tests/program/open.py": 1, "tests/journal/run.py": 7, "tests/sound/run.py": 13, "tests/capture/run.py": 13,
+           "tests/explain/run.py": 13, "tests/pictures/run.py": 13, "tests/faults/run.py": 13, "tests/operation/queues.py": 1}
+ON_ARM = {"tests/program/run.py": 101, "tests/program/open.py": 101, "tests/journal/run.py": 101}
+OUT_OF_RANGE = "pocsag: Out-of-bounds access in linear memory or a table\n"
+END_OF_STACK = "pocsag: Call stack exhausted\n"
+OUT_OF_MEMORY = "pocsag: out of memory\n"
+PRELUDE = """
+pocsag() { "$PROGRAM" "$@"; }
+as_other() { $AS_OTHER "$PROGRAM" "$@"; }
+traced() {
+    which=$2 fault=$4
+    shift 4
+    strace -qq -o /dev/null -e "$which" -e "$fault" "$PROGRAM" "$@"
+}
+"""
+
+
+def what_is_missing():
+    """Why the program is not made as C here, or nothing."""
+    try:
+        return "" if LIBRARY else products.portable.tools() and ""
+    except products.Missing as why:
+        return str(why)
+
+
+def unpacked(room):
+    """The folder of the release's package in C, compiled."""
+    folder = room / "c"
+    for name, file in packages.read(PACKAGE.name, PACKAGE.read_bytes()).items():
+        (folder / name).parent.mkdir(parents=True, exist_ok=True)
+        (folder / name).write_bytes(file.data)
+    subprocess.run(["make", "-s", "-C", str(folder)], check=True)
+    return folder
+
+
+def prepared(room, name):
+    """A folder as each case begins in."""
+    folder = room / name
+    shutil.rmtree(folder, ignore_errors=True)
+    folder.mkdir()
+    folder.chmod(0o777)
+    (folder / "p.csv").write_text("address,kind,message\n8,tone0,\n")
+    subprocess.run([str(PROGRAM), "plan", "p.csv", "t.bin", "c.cert"], cwd=folder, check=True, stdout=subprocess.DEVNULL)
+    return folder
+
+
+def ran(script, program, folder):
+    """What a script prints with a program, without the numbers of processes."""
+    other = as_nobody(folder)
+    environment = {**os.environ, "PROGRAM": str(program), "AS_OTHER": " ".join(other), "LC_ALL": "C", "TZ": "UTC"}
+    done = subprocess.run(["sh", "-c", PRELUDE + script], cwd=folder, env=environment, stdin=subprocess.DEVNULL, capture_output=True, timeout=300)
+    told = done.stdout + done.stderr
+    return re.sub(rb"\.pocsag\.\d+", b".pocsag.N", told).decode("latin-1"), done.returncode
+
+
+def try_cases(tally, room, program):
+    """Each case has the native program's texts, statuses and files."""
+    has_strace = bool(shutil.which("strace"))
+    for name, wanted, script in CASES:
+        if "traced" in script and not has_strace or "as_other" in script and not as_nobody(room):
+            print(f"left out: {name}, since there is no strace, or no other user")
+            continue
+        due, found = (ran(script, it, prepared(room, "case")) for it in (PROGRAM, program))
+        tally.check(f"{name}: as the native program", due == found, (due, found))
+        tally.check(f"{name}: what is told", wanted in found[0], found)
+
+
+def limited(limit, program, *words):
+    """A run within a limit of the shell."""
+    return subprocess.run(["sh", "-c", f'ulimit {limit}; exec "$@"', "sh", str(program), *words], capture_output=True, text=True, timeout=120)
+
+
+def try_memory(tally, room, program):
+    """Under each limit of memory the answer is that with ample memory, or that there is none."""
+    pages = room / "many.csv"
+    pages.write_text("address,kind,message\n" + "".join(f"{k},numeric,{k}\n" for k in range(8000)))
+    found = []
+    for limit in (*range(8_000, 50_000, 2_000), 1_000_000):
+        done = limited(f"-v {limit}", program, "report", "--rate", "1200", str(pages))
+        found.append((done.returncode, done.stdout, done.stderr))
+    number = found.index(found[-1])
+    tally.check("what ample memory gives", found[-1][0] == 0 and found[-1][1].startswith("pages 8000\n"), found[-1])
+    tally.check("enough is enough", found[number:] == [found[-1]] * (len(found) - number), found)
+    tally.check("and less is told", number > 5 and found[:number] == [(3, "", OUT_OF_MEMORY)] * number, found)
+
+
+def try_stack(tally, room, program):
+    """The deepest certificate within little stack, and what is printed where that does not suffice."""
+    folder = prepared(room, "case")
+    (folder / "deep").write_bytes(bytes.fromhex("504342310000000" + "1" + 299 * "01000001" + 300 * "03"))
+    refused = 0
+    for size in (48, 64, 96, 128, 192, 256, 512, 1024, 2048, 8192):
+        done = limited(f"-s {size}", program, "check", str(folder / "p.csv"), str(folder / "deep"))
+        told = done.returncode, done.stdout, done.stderr
+        tally.check(f"{size} KiB of stack", told == (1, "not shown\n", "") or size < 2048 and told == (3, "", END_OF_STACK), told)
+        refused += told == (3, "", END_OF_STACK)
+    tally.check("the stack ended", refused > 0)
+
+
+def try_out_of_range(tally, room, folder):
+    """A module that is not the program's: what it asks for ends the run, and nothing is removed."""
+    stand_in = room / "stand_in"
+    files = [HERE / "stand_in.c", folder / "host_posix.c", folder / "wasm-rt-impl.c"]
+    settings = ["-O1", "-DWASM_RT_MEMCHECK_SIGNAL_HANDLER=0", "-DWASM_RT_USE_STACK_DEPTH_COUNT=0", f"-I{folder}"]
+    subprocess.run(["cc", *settings, "-o", str(stand_in), *map(str, files)], check=True)
+    for word in ("read", "write", "length", "path", "status", "folder", "time", "word", "stack"):
+        done = subprocess.run([str(stand_in), word], capture_output=True, text=True, stdin=subprocess.DEVNULL)
+        wanted = (3, "", END_OF_STACK if word == "stack" else OUT_OF_RANGE)
+        tally.check(f"out of range: {word}", (done.returncode, done.stdout, done.stderr) == wanted, done)
+
+
+def try_package(tally, folder):
+    """`make check` and `make install` of the package, whose compiler warns of nothing in the host."""
+    words = ["-std=c99", "-pedantic", "-Wall", "-Wextra", "-Wno-unused-parameter", "-Werror", "-fsyntax-only"]
+    settings = ["-DWASM_RT_MEMCHECK_SIGNAL_HANDLER=0", "-DWASM_RT_USE_STACK_DEPTH_COUNT=0"]
+    done = subprocess.run(["cc", *words, *settings, "host_posix.c"], cwd=folder, capture_output=True, text=True)
+    tally.check("the host is C99 without a warning", done.returncode == 0, done.stderr)
+    done = subprocess.run(["cc", "-fsyntax-only", "host_posix.c"], cwd=folder, capture_output=True, text=True)
+    tally.check("compiled otherwise it is refused", "compile it as the Makefile does" in done.stderr, done.stderr)
+    done = subprocess.run(["make", "-s", "check"], cwd=folder, capture_output=True, text=True)
+    tally.check("make check", done.returncode == 0 and done.stdout.endswith(" passed, 0 failed\n"), done)
+    (folder / "wrong").write_text('#!/bin/sh\n"$REAL" "$@" | sed "s/2/3/"\n')
+    (folder / "wrong").chmod(0o755)
+    environment = {**os.environ, "PROGRAM": str(folder / "wrong"), "REAL": str(folder / "bin/pocsag")}
+    done = subprocess.run(["sh", "check.sh"], cwd=folder, env=environment, capture_output=True, text=True)
+    tally.check("which finds a wrong program", done.returncode == 1 and "FAILED loops apart" in done.stdout, done)
+
+
+def try_armhf(tally, room):
+    """The program for 32-bit ARM, under an emulator."""
+    try:
+        products.compiler_of_armhf()
+    except products.Missing as why:
+        print(f"left out: {why}")
+        return
+    if not shutil.which(arm64.EMULATORS[products.ARMHF]):
+        print(f"left out: {arm64.EMULATORS[products.ARMHF]} is missing; on Debian: apt-get install qemu-user")
+        return
+    program = arm64.emulated(room, "armhf", products.armhf_program(), products.ARMHF)
+    arm64.try_beside(tally, room, program)
+    arm64.try_scripts(tally, program, ON_ARM)
+
+
+# Other systems: a name, the compiler, and the emulator.
+OTHERS = [("musl", "musl-gcc", ""), ("riscv", "riscv64-linux-gnu-gcc", "qemu-riscv64")]
+
+
+def try_others(tally):
+    """`make check` on other systems, as static programs that are compiled in a short time."""
+    for name, compiler, emulator in OTHERS:
+        if not all(map(shutil.which, filter(None, (compiler, emulator)))):
+            print(f"left out: {name}, since {compiler} or {emulator} is missing")
+            continue
+        folder = products.portable.program(name, f"CC={compiler}", "CFLAGS=-O0", "LDFLAGS=-static").parents[1]
+        done = subprocess.run(["make", "-s", f"EMULATOR={emulator}", "check"], cwd=folder, capture_output=True, text=True)
+        tally.check(f"make check: {name}", done.returncode == 0 and done.stdout.endswith(" passed, 0 failed\n"), done)
+
+
+def main(words):
+    tally = Tally()
+    if what_is_missing():
+        print(f"skipped: {what_is_missing()}")
+        tally.check("skipped", True)
+        return tally.end()
+    with tempfile.TemporaryDirectory() as name:
+        room = pathlib.Path(name)
+        room.chmod(0o755)
+        folder = unpacked(room) if LIBRARY else products.portable.program("native").parents[1]
+        program = shutil.copy(folder / "bin/pocsag", room / "pocsag")
+        try_cases(tally, room, program)
+        for part in (try_memory, try_stack):
+            part(tally, room, program)
+        try_out_of_range(tally, room, folder)
+        try_package(tally, folder)
+        scripts = {it: one_in for it, one_in in SCRIPTS.items() if not LIBRARY or it != "tests/faults/run.py"}
+        arm64.try_scripts(tally, program, scripts)
+        if not LIBRARY:
+            try_armhf(tally, room)
+        if words == ["--all"]:
+            try_others(tally)
+    return tally.end()
+
+
+if __name__ == "__main__":
+    sys.exit(main(sys.argv[1:]))

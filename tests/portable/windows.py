@@ -1,0 +1,467 @@
+#!/usr/bin/env python3
+"""Runs the program for Windows under Wine: beside the native program with the same words and files, and in cases of its host.
+
+Texts, statuses and the bytes of all files are compared. Where Wine, mingw or wabt is missing it says so.
+The last line is 'N passed, M failed'.
+"""
+
+import itertools
+import os
+import pathlib
+import random
+import shutil
+import subprocess
+import sys
+import tempfile
+import time
+
+sys.dont_write_bytecode = True
+TOP = pathlib.Path(__file__).resolve().parents[2]
+sys.path[:0] = [str(TOP / "tests"), str(TOP / "tests/program"), str(TOP / "portable")]
+import run as program
+import windows
+from tally import ENDS, PROGRAM, Tally
+
+TOOLS = ("wine", "wineserver", "wasm2c", "wat2wasm", windows.COMPILER)
+STREAMS = ("stdin", "stdout", "stderr")
+HEADER, ROUND = program.HEADER, (TOP / "examples/round.csv").read_bytes()
+APART = HEADER + b"0,numeric," + b"1" * 75 + b"\n3,numeric," + b"1" * 75 + b"\n"
+TONES = HEADER + b"".join(b"%d,tone0,\n" % (8 * k) for k in range(1, 8))
+TWICE = TONES + b'8,alpha,"a, ""b"""\r\n16,numeric,[12-34]\r\n'
+PLANNED = (0, b"pages 6\nbatches 2\n", b"")  # what a plan of ROUND prints
+CANNOT_OPEN, CANNOT_WRITE, ONE_FILE = b"pocsag: cannot read or open a file\n", b"pocsag: cannot write\n", b"pocsag: the same file is named twice\n"
+# Names of several scripts, and with what shells and paths could take otherwise.
+NAMES = ("Zürich.csv", "данные.csv", "頁.csv", "📟 page.csv", "a'b & c.csv", "%TEMP%.csv", "^!.csv", "-.csv")
+
+
+class Windows:
+    """Wine, in a folder and with a server of its own."""
+
+    def __init__(self, room):
+        (room / "wine").mkdir()
+        hidden = {"WINEDEBUG": "-all", "WINEDLLOVERRIDES": "mscoree,mshtml="}
+        self.system = {**os.environ, **hidden, "WINEPREFIX": str(room / "wine"), "LANG": "C.UTF-8"}
+        subprocess.run(["wineserver", "-p"], env=self.system, check=True)
+        # Services of Wine go on, and would hold a pipe open.
+        quiet = dict.fromkeys(STREAMS, subprocess.DEVNULL)
+        subprocess.run(["wine", "wineboot", "-i"], env=self.system, check=True, timeout=300, **quiet)
+        self.exe = room / windows.PROGRAM
+        shutil.copyfile(windows.program(), self.exe)
+
+    def end(self):
+        subprocess.run(["wineserver", "-k", "-w"], env=self.system, timeout=60)
+
+    def start(self, words, folder, exe=None, **how):
+        streams = dict.fromkeys(STREAMS, subprocess.PIPE) | how
+        return subprocess.Popen(["wine", str(exe or self.exe), *words], cwd=folder, env=self.system, **streams)
+
+    def run(self, words, folder, stdin=b"", **how):
+        return ended(self.start(words, folder, **how), stdin)
+
+
+def ended(process, stdin=b""):
+    """The status of a process, and what it wrote."""
+    out, err = process.communicate(stdin, timeout=110)
+    return process.returncode, out or b"", err or b""
+
+
+def native(words, folder, stdin=b""):
+    done = subprocess.run([str(PROGRAM), *words], cwd=folder, input=stdin, capture_output=True, timeout=110)
+    return done.returncode, done.stdout, done.stderr
+
+
+def put(folder, files):
+    """Makes the folder anew, with these files, and a folder in it."""
+    shutil.rmtree(folder, ignore_errors=True)
+    (folder / "folder").mkdir(parents=True)
+    for name, data in files.items():
+        (folder / name).write_bytes(data)
+
+
+def files_of(folder):
+    return {path.name: path.read_bytes() for path in folder.iterdir() if path.is_file()}
+
+
+class Both:
+    """The program for Windows and the native one, each in a folder with the same files."""
+
+    def __init__(self, tally, room, wine):
+        self.tally, self.room, self.wine, self.files = tally, room, wine, {}
+
+    def make(self, words, *names):
+        """Adds files that the native program makes."""
+        put(self.room / "native", self.files)
+        native(words.split(), self.room / "native")
+        self.files |= {name: (self.room / "native" / name).read_bytes() for name in names}
+
+    def check(self, words, stdin=b""):
+        words = words.split() if isinstance(words, str) else words
+        found = []
+        for name, run in (("native", native), ("windows", self.wine.run)):
+            put(self.room / name, self.files)
+            found.append((run(words, self.room / name, stdin), files_of(self.room / name)))
+        wrong = [name for name in found[0][1].keys() | found[1][1].keys() if found[0][1].get(name) != found[1][1].get(name)]
+        self.tally.check(f"as the native program: {words} {stdin[:40]}", found[0] == found[1], str((found[0][0], found[1][0], wrong))[:2000])
+
+
+# ---- beside the native program
+
+LINES = """
+--help
+--version
+plan --help
+help open
+plan tones.csv a.bin
+plan tones.csv a.bin a.cert --limit x
+nothing
+plan round.csv a.bin a.cert --verify --strict --expect 6
+plan round.csv a.bin a.cert --keep --verify
+plan round.csv old.bin old.cert --keep
+plan round.csv old.bin old.cert --always --limit 1
+plan bad.csv old.bin old.cert
+plan bad.csv old.bin old.cert --keep --verbose
+plan none.csv old.bin old.cert --verbose
+plan none.csv old.bin old.cert --keep --verbose
+plan folder old.bin old.cert --verbose
+plan round.csv folder old.cert --verbose
+plan round.csv old.bin folder --keep --verbose
+plan round.csv none/a.bin old.cert --verbose
+plan round.csv none/a.bin old.cert --keep --verbose
+plan round.csv round.csv old.cert --verbose
+plan round.csv ./round.csv old.cert --verbose
+plan round.csv old.bin folder/../old.bin --verbose
+plan round.csv new.bin ./new.bin
+plan - a.bin a.cert
+plan - - a.cert
+plan - a.bin - --verbose
+plan round.csv /dev/null a.cert
+plan /dev/null a.bin a.cert --verbose
+plan tones.csv a.bin a.cert --at-most 2 --rest rest.csv --why why --keep
+plan tones.csv a.bin a.cert --at-most 2 --rest tones.csv --verbose
+plan apart.csv a.bin a.cert --at-most 1 --oversized over.csv --rest rest.csv
+plan twice.csv a.bin a.cert --airtime 900 --rate 512 --later --rest twice.rest --keep
+plan twice.csv a.bin a.cert
+check apart.csv apart.cert
+check tones.csv apart.cert --verbose
+check - apart.cert
+check apart.csv apart.bin
+check apart.csv none.cert --verbose
+report round.csv --rate 1200 --frames
+report twice.csv --rate 512
+explain apart.csv apart.cert
+explain apart.csv apart.cert --json --depth 1
+explain apart.csv apart.cert --svg
+explain round.csv apart.cert
+decode apart.bin
+decode mixed.bin --repair --json
+decode cut.bin
+decode mixed.bin --text 8
+decode air.bin --capture
+decode air.bin --capture --json
+hear 8 mixed.bin
+hear 16 worn.bin --json
+hear 2097152 mixed.bin
+show round.bin
+show round.bin --svg
+show air.bin --capture --nth 2 --list
+show mixed.bin --list --rows 2-3
+show worn.bin --repair --rows 2
+wav round.bin
+wav round.bin --rate 512 --samples 8000 --invert --tail 0
+wav round.bin --preamble 577
+open --journal none/new
+open --journal old.journal --read-only
+"""
+EDITS = b'add,8,tone0,\nadd,11,alpha,"Pump 4, hall ""B"""\r\nadd,8,tone0,\nlist\nplan,a.bin,a.cert\nplan,a.bin,a.cert,closed,1\nlist\nsent,1\nclear\nplan,x\nlist'
+
+
+def air(first, second):
+    """A capture: noise, and two transmissions at bits that begin no byte, the second in the other polarity."""
+    bits = "".join(f"{byte:08b}" for byte in b"\x35\x9d\xc1" + first + b"\x17")[3:]
+    bits += "".join(f"{byte ^ 255:08b}" for byte in second) + "011"
+    bits += "0" * (-len(bits) % 8)
+    return int(bits, 2).to_bytes(len(bits) // 8, "big")
+
+
+def try_beside(tally, room, wine):
+    """A sample of the cases of the native program's own tests."""
+    both = Both(tally, room, wine)
+    both.files = {"round.csv": ROUND, "apart.csv": APART, "tones.csv": TONES, "twice.csv": TWICE, "bad.csv": HEADER + b"1,tone0,\n2,tone9,\n"}
+    both.files["mixed.csv"] = HEADER + b'8,alpha,"a ""b"", c"\r\n16,numeric,12-[ U]*\n24,tone3,\n2007663,alpha,\x01~\x7f\n'
+    for name in ("round", "apart", "mixed"):
+        both.make(f"plan {name}.csv {name}.bin {name}.cert", f"{name}.bin", f"{name}.cert")
+    sent = both.files["mixed.bin"]
+    both.files |= {"worn.bin": sent[:80] + bytes([sent[80] ^ 0x90]) + sent[81:], "cut.bin": sent[:-1], "air.bin": air(both.files["round.bin"], sent)}
+    both.files |= {"old.bin": b"older" * 99, "old.cert": b"older", "rest.csv": b"old rest", "old.journal": b"add,8,tone0,\nadd,16,tone1,\n"}
+    for words in LINES.strip().split("\n"):
+        both.check(words, ROUND)
+    for stdin in (ROUND, ROUND.replace(b"\n", b"\r\n"), b"", b"\0" * 5000, APART[:-1]):
+        both.check("", stdin)
+    both.check("open", EDITS)
+    both.check("open round.csv --expect 6 --keep", EDITS)
+    both.check("open --verbose", b"plan,tx.bin,folder,open\nplan,tx.bin,none/x,open\nadd,1,tone0,\nplan,folder,a.cert,open\n")
+
+
+def try_rounds(tally, room, wine):
+    """Some of the worked rounds, and of the page files that are refused."""
+    both = Both(tally, room, wine)
+    for name, end in itertools.islice(itertools.product(program.ROUNDS, ENDS), 0, None, 4):
+        both.files = {"pages.csv": HEADER + program.ROUNDS[name][0]}
+        both.check(["plan", "pages.csv", "tx.bin", "cert.bin", *ENDS[end], "--verify"])
+    for name in list(program.REFUSED)[::3]:
+        both.files = {"pages.csv": program.REFUSED[name][0] or b""}
+        both.check("plan pages.csv tx.bin cert.bin --verbose")
+
+
+# ---- names and paths
+
+
+def try_names(tally, room, wine):
+    folder = room / "names"
+    put(folder, dict.fromkeys(NAMES, ROUND))
+    for name in NAMES:
+        told = wine.run(["plan", "--keep", "--", name, f"{name}.bin", f"{name}.cert"], folder)
+        tally.check(f"the name {name}", told == PLANNED and (folder / f"{name}.bin").is_file(), told)
+        told = wine.run(["decode", "--verbose", f"no {name}"], folder)
+        due = CANNOT_OPEN + f"pocsag: transmission no {name}: No such file or directory (os error 2)\n".encode()
+        tally.check(f"no file of the name {name}", told == (3, b"", due), told)
+    told = wine.run(["open"], folder, "add,8,tone0,\nplan,Äther.bin,folder\\Äther.cert,open\n".encode())
+    made = (folder / "Äther.bin").is_file() and (folder / "folder/Äther.cert").is_file()
+    tally.check("names in lines", told == (0, b"ok 1\nbatches 1\n", b"") and made, told)
+    told = wine.run(["plan", b"\xff.csv", "a.bin", "a.cert"], folder)
+    tally.check("a name that is no UTF-8", told[0] in (2, 3) and not (folder / "a.bin").exists(), told)
+
+
+def drive_path(path):
+    """The path as Windows has it: Wine shows the whole system as its drive Z."""
+    return "Z:" + str(path).replace("/", "\\")
+
+
+def try_paths(tally, room, wine):
+    """Words with `\\`, from the folder on and from the drive on, in a path of more than 260 characters too."""
+    folder = room / "paths"
+    put(folder, {})
+    deep = pathlib.Path(*(["a folder of fifty characters, of which there are six"] * 6))
+    (folder / deep).mkdir(parents=True)
+    for place in (pathlib.Path("folder"), deep):
+        for front in ("", f"{drive_path(folder)}\\", f"\\\\?\\{drive_path(folder)}\\"):
+            (folder / place / "pages.csv").write_bytes(ROUND)
+            words = [front + str(place / name).replace("/", "\\") for name in ("pages.csv", "tx.bin", "tx.cert")]
+            told, left = wine.run(["plan", *words, "--keep"], folder), sorted(files_of(folder / place))
+            tally.check(f"plan {words[1][:60]}", told == PLANNED and left == ["pages.csv", "tx.bin", "tx.cert"], (told, left))
+            told = wine.run(["check", words[0], words[2].replace("\\", "/")], folder)
+            tally.check(f"check {words[2][:60]}", told == (0, b"at least 2 batches\n", b""), told)
+    told = wine.run(["plan", "folder\\pages.csv", "NUL", "folder\\a.cert"], folder)
+    tally.check("the device NUL", told == PLANNED and not (folder / "NUL").exists(), told)
+    told = wine.run(["plan", "folder/pages.csv", "folder\\Pages.CSV", "a.cert", "--verbose"], folder)
+    due = ONE_FILE + b"pocsag: page file folder/pages.csv and transmission folder/Pages.CSV are one file\n"
+    tally.check("names that differ in case", told == (1, b"", due), told)
+
+
+# ---- files that stay whole
+
+
+def try_journal(tally, room, wine):
+    """There are no locks, so no journal is written, and none is made."""
+    folder, why = room / "journal", b"pocsag: journal %s: Operation not supported (os error 95)\n"
+    put(folder, {})
+    native(["open", "--journal", "old"], folder, b"add,8,tone0,\n")
+    before = files_of(folder)
+    for name in ("new", "old"):
+        told = wine.run(["open", "--journal", name], folder, b"add,16,tone0,\n")
+        tally.check(f"the journal {name}", told == (3, b"", CANNOT_OPEN), told)
+        told = wine.run(["open", "--journal", name, "--verbose"], folder, b"add,16,tone0,\n")
+        tally.check(f"the journal {name} in words", told == (3, b"", CANNOT_OPEN + why % name.encode()), told)
+    tally.check("no journal is made or changed", before and files_of(folder) == before, files_of(folder))
+    told = wine.run(["open", "--journal", "old", "--read-only"], folder)
+    tally.check("a journal is listed", told == (0, HEADER + b"8,tone0,\n", b"pocsag: 1 edit read, 1 page\n"), told)
+
+
+def try_kept(tally, room, wine):
+    """`--keep` where the transmission cannot be replaced: another program has it open, or it is read-only."""
+    folder, words = room / "kept", ["plan", "round.csv", "sent.bin", "sent.cert", "--keep"]
+    put(folder, {"round.csv": ROUND, "sent.cert": b"older"})
+    other = wine.start(["plan", "-", "sent.bin", "other.cert"], folder)  # which waits for its pages
+    while not (folder / "other.cert").exists() and other.poll() is None:
+        time.sleep(0.05)
+    before, told = files_of(folder), wine.run([*words, "--verbose"], folder)
+    due = CANNOT_WRITE + b"pocsag: transmission sent.bin: Permission denied (os error 13)\n"
+    tally.check("a file that is open is not replaced", told == (3, b"", due), told)
+    tally.check("both files are back", before.items() <= files_of(folder).items(), sorted(files_of(folder)))
+    other.kill()
+    other.communicate()
+    for _ in range(100):  # Wine keeps each name of a file until nobody has it open.
+        time.sleep(0.05)
+        if files_of(folder) == before:
+            break
+    tally.check("nothing is left beside them", files_of(folder) == before, sorted(files_of(folder)))
+    native(["plan", "round.csv", "a.bin", "a.cert"], folder)
+    told = wine.run(words, folder)
+    tally.check("a closed file is replaced", told == PLANNED and (folder / "sent.bin").read_bytes() == (folder / "a.bin").read_bytes(), told)
+    (folder / "sent.bin").chmod(0o444)
+    before, told = files_of(folder), wine.run(words, folder)
+    due = b"pocsag: the new file cannot be given the owner, group and mode of the old one\n"
+    tally.check("a read-only file", told == (3, b"", due) and files_of(folder) == before, (told, sorted(files_of(folder))))
+
+
+def try_left(tally, room, wine):
+    """What killed runs left keeps no later run from its files, in a folder with ten thousand names; and stays there."""
+    folder = room / "left"
+    left = {f"sent.bin.pocsag.{number}.{ending}": b"left" for number in (4242, 1 << 31) for ending in ("new", "old")}
+    put(folder, {"round.csv": ROUND, **left, "sent.bin.pocsag.lock": b"", "sent.cert.pocsag.lock": b"", **{f"name {k}": b"" for k in range(10_000)}})
+    start = time.monotonic()
+    told = wine.run(["plan", "round.csv", "sent.bin", "sent.cert", "--keep"], folder)
+    tally.check("left-overs", told == PLANNED and time.monotonic() - start < 10, told)
+    found = {name: data for name, data in files_of(folder).items() if ".pocsag." in name}
+    tally.check("left-overs stay", found == left, sorted(found))
+
+
+def try_killed(tally, room, wine):
+    """A run with --keep that is killed leaves each file whole, and no new transmission beside an old certificate."""
+    folder, source, due = room / "killed", random.Random(80), {}
+    put(folder, {"round.csv": ROUND, "apart.csv": APART})
+    places = [folder / name for name in ("sent.bin", "sent.cert")]
+    for name in ("round", "apart"):
+        native(["plan", f"{name}.csv", "sent.bin", "sent.cert"], folder)
+        due[name] = tuple(place.read_bytes() for place in places)
+    old, new, seen = "apart", "round", set()
+    for _ in range(30):
+        process = wine.start(["plan", f"{new}.csv", "sent.bin", "sent.cert", "--keep"], folder)
+        time.sleep(source.uniform(0.02, 0.3))
+        process.kill()
+        process.communicate()
+        found = tuple(place.read_bytes() for place in places)
+        tally.check("killed", found in (due[old], due[new], (due[old][0], due[new][1])), tuple(map(len, found)))
+        seen.add(found == due[new])
+        if found == due[new]:
+            old, new = new, old
+        else:
+            for place, data in zip(places, due[old]):
+                place.write_bytes(data)
+    tally.check("some were killed before the end and some were not", seen == {True, False}, seen)
+
+
+def try_full(tally, room, wine):
+    """A file system without room, where one can be mounted."""
+    folder, small = room / "full", room / "full/folder"
+    put(folder, {"many.csv": HEADER + b"".join(b"%d,alpha,%s\n" % (8 * k + 1, b"w" * 90) for k in range(2_000))})
+    words = ["mount", "-t", "tmpfs", "-o", "size=64k", "tmpfs", str(small)]
+    if not shutil.which(words[0]) or subprocess.run(words, capture_output=True).returncode:
+        print("left out: a full file system, since none can be mounted here")
+        return
+    try:
+        (small / "sent.bin").write_bytes(b"older")
+        words = ["plan", "many.csv", "folder/sent.bin", "many.cert", "--always", "--verbose"]
+        due = CANNOT_WRITE + b"pocsag: transmission folder/sent.bin: No space left on device (os error 28)\n"
+        told = wine.run([*words, "--keep"], folder)
+        tally.check("a full file system, kept", told == (3, b"", due) and files_of(small) == {"sent.bin": b"older"}, (told, sorted(files_of(small))))
+        told = wine.run(words, folder)
+        tally.check("a full file system", told == (3, b"", due), told)
+    finally:
+        subprocess.run(["umount", "-l", str(small)], check=True, timeout=60)
+
+
+# ---- streams
+
+
+def try_streams(tally, room, wine):
+    folder, report = room / "streams", ["report", "round.csv", "--rate", "512"]
+    put(folder, {"round.csv": ROUND})
+    process = wine.start(["open"], folder)
+    for line, answers in ((b"add,8,tone0,\n", [b"ok 1\n"]), (b"list\r\n", [HEADER, b"8,tone0,\n", b"ok 1\n"]), (b"plan,a.bin,a.cert,open\n", [b"batches 1\n"])):
+        process.stdin.write(line)
+        process.stdin.flush()
+        told = [process.stdout.readline() for _ in answers]
+        tally.check(f"each line is answered: {line}", told == answers, told)
+    tally.check("the end of a pipe", ended(process) == (0, b"", b""))
+    read, write = os.pipe()
+    os.close(read)
+    told = wine.run(report, folder, stdout=write)
+    tally.check("a pipe that nobody reads", told == (3, b"", CANNOT_WRITE), told)
+    os.close(write)
+    with open("/dev/full", "wb") as full:
+        told = wine.run([*report, "--verbose"], folder, stdout=full)
+        due = CANNOT_WRITE + b"pocsag: standard output: No space left on device (os error 28)\n"
+        tally.check("a full device", told == (3, b"", due), told)
+        told = wine.run(["plan", "none.csv", "a.bin", "a.cert"], folder, stderr=full)
+        tally.check("a full device for faults", told == (3, b"", b""), told)
+    for stream, words, due in ((0, [], CANNOT_OPEN), (1, report, CANNOT_WRITE), (2, ["plan", "none.csv", "a.bin", "a.cert"], b"")):
+        told = wine.run(words, folder, preexec_fn=lambda stream=stream: os.close(stream))
+        tally.check(f"closed stream {stream}", told == (3, b"", due), told)
+
+
+def try_shell(tally, room, wine):
+    """The redirections of `cmd`, and words that name the file behind a stream."""
+    folder = room / "shell"
+    put(folder, {"round.csv": ROUND, "crlf.csv": ROUND.replace(b"\n", b"\r\n")})
+    native(["plan", "round.csv", "due.bin", "due.cert"], folder)
+    due = (folder / "due.bin").read_bytes()
+
+    def shell(line):
+        return ended(wine.start(["/c", line.replace("pocsag", f"..\\{windows.PROGRAM}")], folder, exe="cmd"))
+
+    told = shell("pocsag plan - - a.cert < crlf.csv > a.bin 2> told.txt")
+    tally.check("from a file into a file", told[0] == 0 and (folder / "a.bin").read_bytes() == due, told)
+    tally.check("lines in a file", (folder / "told.txt").read_bytes() == PLANNED[1], (folder / "told.txt").read_bytes())
+    shell("type round.csv | pocsag > piped.txt")
+    tally.check("from a pipe", (folder / "piped.txt").read_bytes() == PLANNED[1], files_of(folder).get("piped.txt"))
+    for line in ("plan round.csv a.bin b.cert > a.bin 2> why", "plan round.csv b.bin a.bin < a.bin 2> why", "plan round.csv - b.cert > why 2>&1"):
+        (folder / "a.bin").write_bytes(due)
+        told = shell(f"pocsag {line}")
+        tally.check(f"one file twice: {line}", told[0] == 1 and (folder / "why").read_bytes() == ONE_FILE, (told, (folder / "why").read_bytes()))
+    told = shell("pocsag report round.csv --rate 512 > NUL & pocsag < NUL")
+    tally.check("the device NUL as a stream", told == (1, b"", b"pocsag: the header must be address,kind,message\n"), told)
+
+
+# ---- what the module cannot do
+
+TRAPS = """(module
+  (import "env" "read" (func $read (param i32 i64 i64) (result i64)))
+  (memory (export "memory") 1)
+  (func $deeper (param i32) (result i32) (i32.add (i32.const 1) (call $deeper (local.get 0))))
+  (func (export "main") (param i32 i64) (result i32)
+    (drop (call $read (i32.const 0) (i64.const 0) (i64.const 1)))
+    (if (i32.eq (i32.load8_u (i32.const 0)) (i32.const 49)) (then (return (i32.load (i32.const 65536)))))
+    (call $deeper (i32.const 0))))
+"""
+
+
+def try_traps(tally, room, wine):
+    """A module that reads behind its memory, or calls without end, in place of the program's. Made twice, it has the same bytes."""
+    made = []
+    for folder in (room / "traps", room / "a folder of another name"):
+        put(folder, {"pocsag.wat": TRAPS.encode()})
+        subprocess.run(["wat2wasm", "pocsag.wat", "-o", "pocsag.wasm"], check=True, cwd=folder)
+        subprocess.run(["wasm2c", "-n", "pocsag", "pocsag.wasm", "-o", "pocsag.c"], check=True, cwd=folder)
+        (folder / "pocsag.c").write_text((folder / "pocsag.c").read_text().replace(windows.make.ALLOCA, ""))
+        windows.compile_in(folder, {path.name: path.read_bytes() for path in (*folder.glob("*.[ch]"), *windows.make.RUNTIME.iterdir())})
+        made.append((folder / windows.PROGRAM).read_bytes())
+    tally.check("the same bytes in two folders", made[0] == made[1])
+    for stdin, why in ((b"1", b"Out-of-bounds access in linear memory or a table"), (b"2", b"Call stack exhausted")):
+        told = ended(wine.start([], folder, exe=windows.PROGRAM), stdin)
+        tally.check(f"trap {why}", told == (3, b"", b"pocsag: %s\n" % why), told)
+
+
+PARTS = (
+    try_beside, try_rounds, try_names, try_paths, try_journal, try_kept, try_left, try_killed, try_full, try_streams, try_shell, try_traps,
+)  # fmt: skip
+
+
+def main():
+    missing = [it for it in TOOLS if not shutil.which(it)]
+    if missing:
+        print(f"left out: the program for Windows, since there is no {', no '.join(missing)}\n0 passed, 0 failed")
+        return 0
+    tally = Tally()
+    with tempfile.TemporaryDirectory() as name:
+        wine = Windows(pathlib.Path(name))
+        try:
+            for part in PARTS:
+                part(tally, pathlib.Path(name), wine)
+        finally:
+            wine.end()
+    return tally.end()
+
+
+if __name__ == "__main__":
+    sys.exit(main())

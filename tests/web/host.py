@@ -1,0 +1,244 @@
+"""What carries out the program's calls of the system, in Node and in memory: beside the native program, and what Node does otherwise."""
+
+import base64
+import json
+import os
+import re
+import shlex
+import shutil
+import subprocess
+import sys
+import time
+
+from tally import PROGRAM, TOP, as_nobody
+
+HEADER = b"address,kind,message\n"
+TONE = HEADER + b"8,tone0,\n"
+APART = HEADER + b"0,numeric," + b"1" * 75 + b"\n3,numeric," + b"1" * 75 + b"\n"
+OLD = {"pages.csv": TONE, "tx.bin": b"older", "cert.bin": b"older too"}
+PLAN = ["plan", "pages.csv", "tx.bin", "cert.bin"]
+CANNOT_OPEN = b"pocsag: cannot read or open a file\n"
+NOT_OWNER = b"pocsag: the new file cannot be given the owner, group and mode of the old one\n"
+# Scripts of the program that run over Node, with one of so many of their cases.
+SCRIPTS, ONE_IN = ("tests/program/run.py", "tests/capture/run.py"), 41
+# Words; what stands behind `<` is standard input: a file, or lines. Node refuses a journal.
+LINES = r"""
+< round.csv
+--strict < bad.csv
+plan round.csv a.bin a.cert --keep --verify --verbose
+plan round.csv round.bin round.cert --keep --verify
+plan bad.csv round.bin round.cert --keep
+plan - ward/a.bin ward/../a.cert < round.csv
+plan round.csv - a.cert
+plan round.csv round.bin round.cert --at-most 1 --rest rest.csv --why why.cert --oversized over.csv --keep
+plan none.csv a.bin a.cert --verbose
+plan '' a.bin a.cert --verbose
+plan round.csv '' a.cert --verbose
+plan round.csv a.bin '' --keep --verbose
+plan round.csv/ a.bin a.cert --verbose
+plan ward a.bin a.cert --verbose
+plan round.csv none/a.bin a.cert --verbose
+plan round.csv a.bin ward/../none/a.cert --keep --verbose
+check apart.csv round.cert
+report - --rate 512 --frames < round.csv
+explain apart.csv apart.cert --svg
+decode - --json < round.bin
+hear 11 round.bin --text 0
+show round.bin --capture --nth 1
+wav round.bin --rate 2400 --tail 0
+open round.csv --keep < plan,round.bin,round.cert\nplan,ward/a.bin,none/a.cert\nadd,16,tone0,\nlist\n
+open --journal new round.csv < add,16,tone0,\ndrop,3\nlist\n
+open --journal journal --verbose < add,24,tone0,\nplan,a.bin,a.cert\n
+open --journal round.csv
+open --journal ward
+"""
+
+
+def outcome(command, folder, stdin=b"", **how):
+    done = subprocess.run(command, cwd=folder, input=stdin, capture_output=True, timeout=300, **how)
+    return done.returncode, done.stdout, done.stderr
+
+
+def native(words, folder, stdin=b""):
+    return outcome([str(PROGRAM), *words], folder, stdin)
+
+
+class Node:
+    """The program in Node, as a command of its own."""
+
+    def __init__(self, room, made, node):
+        self.made, self.node, self.path = made, node, room / "pocsag"
+        self.path.write_text(f'#!/bin/sh\nexec "{node}" $FLAGS_OF_NODE "{made}/cli.mjs" "$@"\n')
+        self.path.chmod(0o755)
+
+    def run(self, words, folder, stdin=b"", before=(), **how):
+        return outcome([*before, str(self.path), *words], folder, stdin, **how)
+
+
+def held(folder):
+    return {str(path.relative_to(folder)): path.read_bytes() for path in folder.rglob("*") if path.is_file()}
+
+
+def fresh(room, name, files):
+    folder = room / name
+    for path, data in files.items():
+        (folder / path).parent.mkdir(parents=True, exist_ok=True)
+        (folder / path).write_bytes(data)
+    return folder
+
+
+def first_files(room):
+    """Rounds, a plan of two of them, a folder, and a journal."""
+    round_ = (TOP / "examples/round.csv").read_bytes()
+    folder = fresh(room, "first", {"round.csv": round_, "apart.csv": APART, "bad.csv": HEADER + b"2,tone9,\n", "ward/other.csv": TONE})
+    for name in ("round", "apart"):
+        native(["plan", f"{name}.csv", f"{name}.bin", f"{name}.cert"], folder)
+    native(["open", "--journal", "journal", "round.csv"], folder, b"add,32,tone0,\n")
+    return held(folder)
+
+
+def in_memory(node, runs, files):
+    """Status, output and errors of each run over these files, and the files that it leaves."""
+    packed, unpacked = lambda data: base64.b64encode(data).decode(), base64.b64decode
+    given = {name: packed(it) for name, it in files.items()}
+    lines = "".join(json.dumps({"words": words, "files": given, "input": packed(stdin)}) + "\n" for words, stdin in runs)
+    for line in outcome([node.node, str(TOP / "tests/web/memory.mjs"), str(node.made)], TOP, lines.encode())[1].splitlines():
+        told = json.loads(line)
+        yield (told["status"], unpacked(told["out"]), unpacked(told["err"])), {name: unpacked(it) for name, it in told["files"].items()}
+
+
+def try_beside(tally, room, node):
+    """Both hosts do what the native program does."""
+    files, runs = first_files(room), []
+    for line in LINES.strip().split("\n"):
+        words, _, stdin = (part.strip() for part in line.partition("<"))
+        runs.append((shlex.split(words), files.get(stdin, stdin.replace("\\n", "\n").encode())))
+    found = list(in_memory(node, runs, files))
+    for k, (words, stdin) in enumerate(runs):
+        folders = [fresh(room, f"{name} {k}", files) for name in ("native", "node")]
+        due = native(words, folders[0], stdin), held(folders[0])
+        tally.check(f"in memory {words}", found[k : k + 1] == [due], (found[k : k + 1], due))
+        if "--journal" not in words:
+            told = node.run(words, folders[1], stdin), held(folders[1])
+            tally.check(f"in Node {words}", told == due, (told, due))
+
+
+def try_locks(tally, room, node):
+    """Node has no locks: a journal is refused, `--keep` goes on, and nothing is removed that a killed run may have left."""
+    folder = fresh(room, "locks", {**OLD, "old": b"kept"})
+    before = held(folder)
+    for journal in ("new", "old"):
+        told = node.run(["open", "--journal", journal, "pages.csv", "--verbose"], folder)
+        due = 3, b"", CANNOT_OPEN + f"pocsag: journal {journal}: Operation not supported (os error 95)\n".encode()
+        tally.check(f"a journal is refused: {journal}", told == due and held(folder) == before, told)
+    fresh(room, "locks", {"tx.bin.pocsag.4194305.new": b"left", os.fsdecode(b"a\xff"): b"", **{str(k): b"" for k in range(10_000)}})
+    before, start = held(folder), time.monotonic()
+    told = node.run([*PLAN, "--keep", "--verify"], folder)
+    native(["plan", "pages.csv", "../tx", "../cert"], folder)
+    due = before | {"tx.bin": (room / "tx").read_bytes(), "cert.bin": (room / "cert").read_bytes()}
+    holds = told == (0, b"pages 1\nbatches 1\nverified\n", b"") and held(folder) == due and time.monotonic() - start < 20
+    tally.check("--keep without a lock, beside 10,000 files and what a killed run left", holds, told)
+
+
+def try_way_back(tally, room, node):
+    """Where a call fails that puts files in place the old files stand whole, also for a user who may not do it."""
+    failing = [("rename", 1), ("rename", 2), ("fsync", 1), ("fchmod", 1)] if shutil.which("strace") else []
+    for call, number in failing:
+        folder = fresh(room, f"{call} {number}", OLD)
+        trace = ["strace", "-f", "-qq", "-o", "/dev/null", "-e", f"trace={call}", "-e", f"inject={call}:error=EIO:when={number}"]
+        told = node.run([*PLAN, "--keep", "--verbose"], folder, before=trace)
+        holds = told[:2] == (3, b"") and told[2].endswith(b": Input/output error (os error 5)\n") and held(folder) == OLD
+        tally.check(f"the way back where {call} {number} fails", holds, (told, held(folder)))
+    folder, user = fresh(room, "another user", {**OLD, "shut.csv": TONE}), as_nobody(room)
+    folder.chmod(0o777)
+    (folder / "shut.csv").chmod(0)
+    for words, fault in (
+        (["plan", "shut.csv", "a", "b"], CANNOT_OPEN + b"pocsag: page file shut.csv: Permission denied (os error 13)\n"),
+        ([*PLAN, "--keep"], NOT_OWNER + b"pocsag: certificate cert.bin: Operation not permitted (os error 1)\n"),
+    ):
+        told = node.run([*words, "--verbose"], folder, before=user) if user else (3, b"", fault)
+        tally.check(f"another user: {words}", told == (3, b"", fault), told)
+
+
+def unready(node, words, folder, stdin):
+    """The status and the output where both pipes are set not to wait, and the other ends take their time."""
+    (source, ours), (theirs, sink) = os.pipe(), os.pipe()
+    for end in (source, sink):
+        os.set_blocking(end, False)
+    process = subprocess.Popen([str(node.path), *words], cwd=folder, stdin=source, stdout=sink)
+    os.close(source), os.close(sink)
+    for part in (stdin[:100], stdin[100:]):
+        time.sleep(0.5)
+        os.write(ours, part)
+    os.close(ours)
+    with open(theirs, "rb") as output:
+        time.sleep(0.5)
+        return process.poll(), output.read(), process.wait(60)
+
+
+def at_terminal(command, folder):
+    """What a command without words does where standard input is a terminal that gives a page file."""
+    ours, theirs = os.openpty()
+    os.write(ours, TONE + b"\x04")
+    done = subprocess.run(command, cwd=folder, stdin=theirs, capture_output=True, timeout=60)
+    os.close(ours), os.close(theirs)
+    return done.returncode, done.stdout, done.stderr
+
+
+def try_streams(tally, room, node):
+    """Pipes that are not ready, a terminal, and streams that are closed, which Node opens as /dev/null."""
+    folder = fresh(room, "streams", {"pages.csv": TONE})
+    native(PLAN, folder)
+    sound, told = native(["wav", "tx.bin"], folder)[1], unready(node, ["wav", "-"], folder, (folder / "tx.bin").read_bytes())
+    tally.check("pipes that are not ready", told == (None, sound, 0) and len(sound) > 1 << 16, told[::2])
+    told, due = (at_terminal(command, folder) for command in ([str(node.path)], [str(PROGRAM)]))
+    tally.check("no words at a terminal", told == due and told[1] == b"pages 1\nbatches 1\n", (told, due))
+    for words, closed, due in (
+        ("", "<&-", (1, b"", b"pocsag: the header must be address,kind,message\n")),
+        ("check pages.csv cert.bin", ">&-", (0, b"", b"")),
+        ("check none.csv cert.bin", "2>&-", (3, b"", b"")),
+        ("plan pages.csv a b", "<&- >&- 2>&-", (0, b"", b"")),
+    ):
+        told = outcome(["sh", "-c", f'"$0" {words} {closed}', str(node.path)], folder)
+        tally.check(f"{words} {closed}", told == due, told)
+    tally.check("a plan beside closed streams", (folder / "a").read_bytes() == (folder / "tx.bin").read_bytes())
+
+
+def try_limits(tally, room, node):
+    """Words that are no UTF-8, a module that is none, memory that is refused, and the largest files."""
+    folder = fresh(room, "limits", {"tones.csv": HEADER + b"".join(b"%d,tone0,\n" % k for k in range(20_000))})
+    for words in ([b"a\xff"], [b"check", b"\xc3", b"x"], [b"decode", b"\xed\xa0\x80", ""]):
+        told = node.run(words, folder)
+        tally.check(f"no UTF-8 {words}", told == native(words, folder) and told[0] == 2, told)
+    whole = (node.made / "program.wasm").read_bytes()
+    for module in ({}, *({"program.wasm": data} for data in (b"", whole[:8], whole[:-1000]))):
+        other = fresh(room, "other", {**module, **{it: (node.made / it).read_bytes() for it in ("cli.mjs", "system.mjs")}})
+        told = Node(other, other, node.node).run(["--version"], folder)
+        tally.check(f"no module {module.values()}"[:60], told[:2] == (3, b"") and re.fullmatch(rb"pocsag: [^\n]+\n", told[2]), told)
+    for pages, due in ((150, (3, b"", b"pocsag: out of memory\n")), (2_000, (0, b"pages 20000\nbatches 1250\n", b""))):
+        told = node.run(["plan", "tones.csv", "a", "b"], folder, env={**os.environ, "FLAGS_OF_NODE": f"--wasm-max-mem-pages={pages}"})
+        tally.check(f"{pages} pages of memory", told == due, told)
+    for size, due in ((2**28, (0, b"pages 1\nbatches 1\nverified\n", b"")), (2**28 + 1, (1, b"", b"pocsag: the file is too large\n"))):
+        (folder / "large.csv").write_bytes(HEADER + b"\n" * (size - len(TONE)) + b"8,tone0,\n")
+        told = node.run(["plan", "large.csv", "a", "b", "--verify"], folder)
+        tally.check(f"a page file of {size} bytes", told == due, told)
+
+
+def try_scripts(tally, node):
+    """The scripts that run the program, with this one."""
+    for script in SCRIPTS:
+        env = {**os.environ, "POCSAG_PROGRAM": str(node.path), "POCSAG_ONE_IN": str(ONE_IN)}
+        done = subprocess.run([sys.executable, script], cwd=TOP, env=env, capture_output=True, text=True)
+        passed, failed = map(int, (re.findall(r"^(\d+) passed, (\d+) failed$", done.stdout, re.M) or [(0, 1)])[-1])
+        tally.passed, tally.failed = tally.passed + passed, tally.failed + failed
+        print(done.stdout + done.stderr if done.returncode else f"{script} in Node: {passed} passed", flush=True)
+
+
+def try_hosts(tally, room, made, path):
+    """All of this, with the Node of a path."""
+    room.mkdir()
+    room.parent.chmod(0o755)
+    node = Node(room, made, path)
+    for part in (try_beside, try_locks, try_way_back, try_streams, try_limits):
+        part(tally, room, node)
+    try_scripts(tally, node)
