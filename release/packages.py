@@ -46,8 +46,12 @@ def folders(names):
     return sorted(found)
 
 
-def tar(files, top, seconds):
-    """The files below a folder, as tar writes them, compressed by xz."""
+def compressed(data):
+    return lzma.compress(data, preset=6 | lzma.PRESET_EXTREME)
+
+
+def tar(files, top, seconds, pack=compressed):
+    """The files below a folder, as tar writes them, compressed by xz or by gzip."""
     out = io.BytesIO()
     with tarfile.open(fileobj=out, mode="w", format=tarfile.USTAR_FORMAT) as archive:
 
@@ -63,13 +67,13 @@ def tar(files, top, seconds):
                 add(name, tarfile.SYMTYPE, 0o777, link=file.link)
             else:
                 add(name, tarfile.REGTYPE, file.rights, file.data)
-    return lzma.compress(out.getvalue(), preset=6 | lzma.PRESET_EXTREME)
+    return pack(out.getvalue())
 
 
 def untarred(data, top):
     """The files of a compressed tar file, by their names below the folder."""
     found = {}
-    with tarfile.open(fileobj=io.BytesIO(lzma.decompress(data))) as archive:
+    with tarfile.open(fileobj=io.BytesIO(data)) as archive:
         for member in archive:
             if not member.isdir():
                 rights = 0o777 if member.issym() else member.mode
@@ -99,8 +103,8 @@ def undeb(data):
     return found
 
 
-def wheel(files, seconds):
-    """A package for Python, with the list of its files last."""
+def zip_file(files, seconds):
+    """A package for Python, with the list of its files last, or one for Windows."""
     out = io.BytesIO()
     with zipfile.ZipFile(out, "w", zipfile.ZIP_DEFLATED) as archive:
         for name, file in sorted(files.items(), key=lambda it: (it[0].endswith("/RECORD"), it[0])):
@@ -110,7 +114,7 @@ def wheel(files, seconds):
     return out.getvalue()
 
 
-def unwheel(data):
+def unzipped(data):
     with zipfile.ZipFile(io.BytesIO(data)) as archive:
         return {it.filename: File(archive.read(it), it.external_attr >> 16 & 0o777) for it in archive.infolist()}
 
@@ -126,17 +130,19 @@ def record(files, name):
 
 def top_of(name):
     """The folder that all files of a tar file are in."""
-    return name.removesuffix(".tar.xz") + "/"
+    return "package/" if name.endswith(".tgz") else name.removesuffix(".tar.xz") + "/"
 
 
 def write(name, files, seconds):
     """The bytes of a package that holds the files, by the kind that its name says."""
     if name.endswith(".deb"):
         return deb(files, seconds)
-    if name.endswith(".whl"):
-        return wheel(files, seconds)
+    if name.endswith((".whl", ".zip")):
+        return zip_file(files, seconds)
     if name.endswith(".tar.xz"):
         return tar(files, top_of(name), seconds)
+    if name.endswith(".tgz"):
+        return tar(files, top_of(name), seconds, zipped)
     return files[name].data
 
 
@@ -144,8 +150,8 @@ def read(name, data):
     """The files that a package holds."""
     if name.endswith(".deb"):
         return undeb(data)
-    if name.endswith(".whl"):
-        return unwheel(data)
-    if name.endswith(".tar.xz"):
+    if name.endswith((".whl", ".zip")):
+        return unzipped(data)
+    if name.endswith((".tar.xz", ".tgz")):
         return untarred(data, top_of(name))
     return {name: File(data)}

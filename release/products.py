@@ -1,9 +1,10 @@
-"""What is packed for each processor: the program and the C library as the toolchain builds them of what is proved, and the
-files beside them."""
+"""What is packed for each processor: the program and the C library as the toolchain builds them of what is proved, or the
+program as C, and the files beside them."""
 
 import contextlib
 import dataclasses
 import functools
+import importlib.util
 import os
 import pathlib
 import shutil
@@ -24,11 +25,8 @@ from workspace import PROGRAM
 
 LIBRARY = make.CRATE.name
 CROSS = TOP / "out/aarch64"  # what the toolchain compiles for ARM64
+MINGW = "x86_64-w64-mingw32-gcc"
 C_FLAGS = ("-O2", "-fPIC", "-ffunction-sections", "-Wall", "-Wextra", "-Werror")
-
-
-class Missing(Exception):
-    """A tool that a build needs is not there, and which."""
 
 
 @dataclasses.dataclass(frozen=True)
@@ -47,8 +45,19 @@ class Processor:
         return f"{self.tools}gcc" if self.tools else "cc"
 
 
+def portable_make():
+    """The script that makes the program as C, whose name others have too."""
+    described = importlib.util.spec_from_file_location("portable_make", TOP / "portable/make.py")
+    made = importlib.util.module_from_spec(described)
+    described.loader.exec_module(made)
+    return made
+
+
+portable = portable_make()
+Missing = portable.Missing
 NATIVE = Processor("x86_64", "amd64", "x86_64-linux-gnu", "", "gcc libc6-dev")
 ARM = Processor("aarch64", "arm64", "aarch64-linux-gnu", "aarch64-linux-gnu-", "gcc-aarch64-linux-gnu libc6-dev-arm64-cross")
+ARMHF = Processor("armv7", "armhf", "arm-linux-gnueabihf", "arm-linux-gnueabihf-", "gcc-arm-linux-gnueabihf libc6-dev-armhf-cross")
 PROCESSORS = (NATIVE, ARM)
 
 
@@ -73,6 +82,21 @@ def linker_of(processor):
     if subprocess.run([processor.compiler, "-E", "c/memory.c"], cwd=HERE, capture_output=True).returncode:
         raise Missing(f"{processor.compiler} finds no C library; on Debian: apt-get install {processor.package}")
     return ", ".join(lines)
+
+
+def compiler_of_armhf():
+    """What makes the program for 32-bit ARM of the module, as it names itself."""
+    if not shutil.which("make"):
+        raise Missing("make is missing; on Debian: apt-get install make")
+    return f"{portable.tools()}, {linker_of(ARMHF)}"
+
+
+def compiler_of_windows():
+    """What makes the program for Windows of the module, as it names itself."""
+    if not shutil.which(MINGW):
+        raise Missing(f"{MINGW} is missing; on Debian: apt-get install gcc-mingw-w64-x86-64")
+    told = subprocess.run([MINGW, "--version"], check=True, capture_output=True, text=True).stdout
+    return f"{portable.tools()}, {told.splitlines()[0]}"
 
 
 def cross_task(crate, made):
@@ -138,6 +162,38 @@ def built(processor, room):
     return build.Product(crates, PROGRAM).path, build.Product(crates, LIBRARY).path, None
 
 
+def text(path, rights=0o644):
+    """A file of the repository as it is packed."""
+    return File((TOP / path).read_bytes(), rights)
+
+
+def beside(*names):
+    """The files beside a program, as they lie below a prefix, and these of the repository."""
+    return {
+        "share/bash-completion/completions/pocsag": text("completions/pocsag.bash"),
+        "share/fish/vendor_completions.d/pocsag.fish": text("completions/pocsag.fish"),
+        "share/zsh/site-functions/_pocsag": text("completions/pocsag.zsh"),
+        **{f"share/pocsag/examples/{it}": text(f"examples/{it}", 0o755) for it in ("enqueue", "next-slot")},
+        "share/man/man1/pocsag.1": text("docs/pocsag.1"),
+        **{pathlib.Path(it).name: text(it) for it in names},
+    }
+
+
+def in_c():
+    """The files of the program as C, which any machine can compile."""
+    return {name: File(data) for name, data in portable.sources().items()} | beside()
+
+
+def armhf_program():
+    """The program for 32-bit ARM, made of that as C. Beyond -O1 the compiler takes twice as long."""
+    return portable.program("armhf", f"CC={ARMHF.compiler}", "CFLAGS=-O1", "LDFLAGS=-s")
+
+
+def for_armhf():
+    """The files that are packed for 32-bit ARM."""
+    return {"bin/pocsag": File(armhf_program().read_bytes(), 0o755)} | beside()
+
+
 def tree(processor):
     """The files that are packed for a processor, as they lie below a prefix."""
     with tempfile.TemporaryDirectory() as name:
@@ -146,7 +202,6 @@ def tree(processor):
         made = room / "library"
         make.make(made, archive, memory, processor.tools)
         shared = (made / make.SONAME).read_bytes()
-        text = lambda path: File((TOP / path).read_bytes())
         return {
             "bin/pocsag": File(program.read_bytes(), 0o755),
             "include/pocsag.h": text("clib/pocsag.h"),
@@ -154,13 +209,8 @@ def tree(processor):
             "lib/libpocsag.so": File(shared, 0o777, make.SONAME),
             f"lib/{make.SONAME}": File(shared),
             "lib/pkgconfig/pocsag.pc": File(make.package_file("${pcfiledir}/../..", "${prefix}/lib", "${prefix}/include").encode()),
-            "python/pocsag.py": text("clib/pocsag.py"),
-            "share/bash-completion/completions/pocsag": text("completions/pocsag.bash"),
-            "share/fish/vendor_completions.d/pocsag.fish": text("completions/pocsag.fish"),
-            "share/zsh/site-functions/_pocsag": text("completions/pocsag.zsh"),
-            **{f"share/pocsag/examples/{it}": File((TOP / "examples" / it).read_bytes(), 0o755) for it in ("enqueue", "next-slot")},
-            "share/man/man1/pocsag.1": text("docs/pocsag.1"),
-            "LICENSE-APACHE": text("LICENSE-APACHE"),
-            "LICENSE-MIT": text("LICENSE-MIT"),
-            "README": text("release/README"),
+            **{f"python/{it}": text(f"clib/{it}") for it in make.MODULE},
+            **{f"share/pocsag/examples/{it}": text(f"clib/examples/{it}") for it in ("plan.c", "plan.py")},
+            "share/doc/pocsag/LIBRARY.md": text("docs/LIBRARY.md"),
+            **beside("LICENSE-APACHE", "LICENSE-MIT", "release/README"),
         }

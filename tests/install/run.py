@@ -23,9 +23,10 @@ PLACES = ["bin/pocsag", "share/man/man1/pocsag.1", "share/bash-completion/comple
 # The Python that runs `install` has the module in its own folder.
 PYTHON = shutil.which("python3")
 WORDS = [PYTHON, "-c", "import sys; print(*sys.version_info[:2], sep='.')"]
-MODULE = f"lib/python{subprocess.run(WORDS, capture_output=True, text=True).stdout.strip()}/site-packages/pocsag.py"
+MODULE = f"lib/python{subprocess.run(WORDS, capture_output=True, text=True).stdout.strip()}/site-packages/pocsag/__init__.py"
 PACKAGE = "lib/pkgconfig/pocsag.pc"
-LIBRARY = ["lib/libpocsag.a", "lib/libpocsag.so.1", "include/pocsag.h", MODULE, PACKAGE, "lib/libpocsag.so"]
+DOCUMENTS = ["share/doc/pocsag/LIBRARY.md", "share/pocsag/examples/plan.c", "share/pocsag/examples/plan.py"]
+LIBRARY = ["lib/libpocsag.a", "lib/libpocsag.so.1", "include/pocsag.h", MODULE, MODULE.replace("__init__.py", "py.typed"), PACKAGE, *DOCUMENTS, "lib/libpocsag.so"]
 
 
 def install(*words):
@@ -96,9 +97,9 @@ def python_of_system():
 def try_moved(tally, folder):
     """What is installed still finds itself where its folder is moved as a whole."""
     prefix, moved = folder / "prefix", folder / "moved"
-    tally.check("Python plans by the installed module", python(folder, prefix, pathlib.Path(MODULE).parent).stdout == "2\n", python(folder, prefix, pathlib.Path(MODULE).parent))
+    tally.check("Python plans by the installed module", python(folder, prefix, pathlib.Path(MODULE).parents[1]).stdout == "2\n", python(folder, prefix, pathlib.Path(MODULE).parents[1]))
     shutil.copytree(prefix, moved, symlinks=True)
-    ran = python(folder, moved, pathlib.Path(MODULE).parent)
+    ran = python(folder, moved, pathlib.Path(MODULE).parents[1])
     tally.check("and so from another folder", ran.stdout == "2\n", ran)
     text = (moved / PACKAGE).read_text()
     number = re.search(r"#define POCSAG_VERSION (\d+)u", (moved / "include/pocsag.h").read_text())[1]
@@ -122,7 +123,7 @@ def try_loader(tally, folder):
     prefix = folder / "prefix"
     environment = {**os.environ, "PATH": f"{fake}:{os.environ['PATH']}"}
     ran = subprocess.run([str(TOP / "install"), str(prefix)], capture_output=True, text=True, env=environment, timeout=600)
-    lines = [f"export {name}={prefix / path}" for name, path in (("LD_LIBRARY_PATH", "lib"), ("PYTHONPATH", pathlib.Path(MODULE).parent), ("PKG_CONFIG_PATH", "lib/pkgconfig"))]
+    lines = [f"export {name}={prefix / path}" for name, path in (("LD_LIBRARY_PATH", "lib"), ("PYTHONPATH", pathlib.Path(MODULE).parents[1]), ("PKG_CONFIG_PATH", "lib/pkgconfig"))]
     tally.check("the lines that are needed are printed", ran.returncode == 0 and all(line in ran.stderr for line in lines), ran.stderr)
     tally.check("the loader's list of another folder is left", "\n\n" not in f"\n{told.read_text()}" if told.exists() else True, told)
     script = "import importlib.machinery as m, pathlib, sys; i = m.SourceFileLoader('i', sys.argv[1]).load_module(); [i.list_for_loader(pathlib.Path(p)) for p in sys.argv[2:]]"

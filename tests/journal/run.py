@@ -6,6 +6,7 @@ Each start must list what the edits that were answered `ok` leave, or these and 
 gate left in crates/pocsag_app/out. The last line is 'N passed, M failed'.
 """
 
+import itertools
 import os
 import pathlib
 import random
@@ -510,6 +511,62 @@ def try_rights(tally, folder):
         tally.check(f"rights that are refused {more}: it stays", holds and os.listdir(place) == ["round.journal"], os.listdir(place))
 
 
+def try_failed_look(tally, folder):
+    """Where one look of the system at a file fails while the journal is written anew, its mode does not change."""
+    if not shutil.which("strace"):
+        return
+    place = folder / "failed look"
+    place.mkdir()
+    path = place / "round.journal"
+    for number in range(1, 100):
+        path.write_bytes(FIRST_LINE + b"add,8,tone0,\nadd,16,tone0,\ncancel,8\n")
+        path.chmod(0o640)
+        words = ["strace", "-f", "-qq", "-o", "trace", "-e", "trace=statx", "-e", f"inject=statx:error=EIO:when={number}", str(PROGRAM), "open", "--journal", "round.journal"]
+        done = subprocess.run(words, input=b"add,24,tone0,\n", capture_output=True, cwd=place, timeout=60)
+        tally.check(f"the mode where look {number} fails", rights(path)[2] == 0o640, (done, rights(path)))
+        due = HEADER + b"16,tone0,\n" + (b"24,tone0,\n" if b"ok" in done.stdout else b"")
+        found = run(place, [], "--read-only")
+        tally.check(f"the pages where look {number} fails", found[0] in (due, due + b"24,tone0,\n"), (done, found))
+        if "INJECTED" not in (place / "trace").read_text():
+            break
+    tally.check("looks failed", 4 < number < 99, number)
+
+
+def try_no_locks(tally, folder):
+    """A file system without locks: the journal is refused, and nothing that was made for it is left."""
+    if not shutil.which("strace"):
+        return
+    (folder / "no locks").mkdir()
+    for call, errors in (("flock", ("ENOLCK", "EOPNOTSUPP", "ENOSYS", "EIO")), ("fcntl", ("EMFILE",)), ("statx", ("EIO",))):
+        for error, text, number in itertools.product(errors, (None, FIRST_LINE, FIRST_LINE + b"add,8,tone0,\n", b""), range(1, 9) if call == "statx" else ["1+"]):
+            place = folder / "no locks" / f"{error} {text} {number}"
+            place.mkdir()
+            path = place / "round.journal"
+            (place / "pages.csv").write_bytes(HEADER + b"8,tone0,\n")
+            if text is not None:
+                path.write_bytes(text)
+            before = path.stat().st_ino if text is not None else None
+            words = [] if text else ["pages.csv"]
+            trace = ["strace", "-f", "-qq", "-o", str(folder / "trace"), "-e", f"trace={call}", "-e", f"inject={call}:error={error}:when={number}"]
+            done = subprocess.run([*trace, str(PROGRAM), "open", *words, "--journal", "round.journal"], cwd=place, input=b"list\n", capture_output=True, timeout=60)
+            if call == "flock":
+                tally.check(f"{call} {error} {text}", (done.returncode, done.stdout, done.stderr) == (3, b"", b"pocsag: cannot read or open a file\n"), done)
+            if done.returncode:
+                stays = path.exists() and (path.stat().st_ino, path.read_bytes()) == (before, text) if text is not None else not path.exists()
+                tally.check(f"{call} {error} {number} {text}: nothing is left", stays and set(os.listdir(place)) <= {"pages.csv", path.name}, (done, os.listdir(place)))
+
+
+def try_backups(tally, folder):
+    """A user's dated copies of the journal stay."""
+    place = folder / "backups"
+    place.mkdir()
+    copies = {f"round.journal.{name}" for name in ("20261128.old", "20261128.new", "1.old", "999999.new", "pocsag.old")}
+    for name in copies:
+        (place / name).touch()
+    found = run(place, [b"add,8,tone0,"])
+    tally.check("dated copies stay", found[2] == 0 and set(os.listdir(place)) == copies | {"round.journal"}, os.listdir(place))
+
+
 def try_read_only(tally, folder):
     """`--read-only` lists a journal that another program holds, one with a torn line, and one that may only be read; it
     changes nothing, and reads no line."""
@@ -811,7 +868,7 @@ def try_growth(tally, folder):
 
 
 def main():
-    return run_parts(try_first_use, try_kills, try_killed_slots, try_cuts, try_lost_sectors, try_lost_lines, try_synchronised, try_bad_lines, try_others, try_harms, try_rights, try_read_only, try_use, try_full_disk, try_full_system, try_verbose, try_verbose_later, try_many, try_growth)
+    return run_parts(try_first_use, try_kills, try_killed_slots, try_cuts, try_lost_sectors, try_lost_lines, try_synchronised, try_bad_lines, try_others, try_harms, try_rights, try_failed_look, try_no_locks, try_backups, try_read_only, try_use, try_full_disk, try_full_system, try_verbose, try_verbose_later, try_many, try_growth)
 
 
 if __name__ == "__main__":

@@ -10,7 +10,7 @@ import subprocess
 
 from tally import PROGRAM, TOP
 
-COMMANDS = ("cat", "cp", "flock", "ls", "mv", "rm", "sync", "tail", "wc")
+COMMANDS = ("cp", "find", "flock", "head", "ls", "mv", "rm", "sync", "tail", "tr", "wc", "xargs")
 HEADER = "address,kind,message\n"
 # Stands in PATH for each command. It lists the commands that a script starts, and gives the one whose turn it is the fault.
 STAND_IN = """#!/bin/sh
@@ -89,6 +89,11 @@ class Channel:
         out, err = process.communicate(timeout=120)
         return process.returncode, out, err
 
+    def run_program(self, *words):
+        """The status of the program, and what it prints."""
+        done = subprocess.run([str(PROGRAM), *words], cwd=self.folder, capture_output=True, text=True, timeout=60)
+        return done.returncode, done.stdout, done.stderr
+
     def send(self, **more):
         return self.run("next-slot", **more)
 
@@ -136,7 +141,14 @@ class Channel:
         """Whether no slot is under way, and each page that was added was sent once or waits once, in order."""
         sent = [page for slot in self.slots for page in sorted(slot, key=lambda it: int(it[0]))]
         under_way = {"slot.bin", "slot.sent", "rest.csv", "over.csv"} & {*os.listdir(self.folder)}
-        return not under_way and sent + self.waiting() == self.added
+        return not under_way and sent + self.waiting() == self.added and self.kept() == self.slots
+
+    def kept(self):
+        """The pages of each slot that `next-slot` kept, in the order of their numbers. Each has all three files."""
+        numbers = sorted(int(path.suffixes[0][1:]) for path in self.folder.glob("sent.*.bin"))
+        files = {f"sent.{number}.{ending}" for number in numbers for ending in ("bin", "cert", "csv")}
+        assert files == {name for name in os.listdir(self.folder) if name.startswith("sent.")}, os.listdir(self.folder)
+        return [pages_of((self.folder / f"sent.{number}.csv").read_bytes()) for number in numbers]
 
     def told(self):
         return self.slots[-3:], self.waiting()[:3], len(self.added), os.listdir(self.folder), os.listdir(self.outgoing)

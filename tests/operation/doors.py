@@ -175,8 +175,9 @@ def try_left_over(tally, folder):
     room = fresh(folder, "left over")
     left = subprocess.Popen(["true"])
     left.wait()
-    gone = {f"tx.bin.{left.pid}.new", f"cert.bin.{left.pid}.new", f"cert.bin.{left.pid}.old"}
-    kept = {f"tx.bin.{os.getpid()}.new", f"other.bin.{left.pid}.new", "tx.bin.x.new", f"tx.bin.{left.pid}.newer", f"tx.bin.{left.pid}", "tx.bin.+7.new"}
+    gone = {f"tx.bin.pocsag.{left.pid}.new", f"cert.bin.pocsag.{left.pid}.new", f"cert.bin.pocsag.{left.pid}.old"}
+    kept = {f"tx.bin.pocsag.{os.getpid()}.new", f"tx.bin.{left.pid}.new", f"cert.bin.{left.pid}.old", "tx.bin.20261128.new", "tx.bin.20261128.old",
+            "tx.bin.pocsag.x.new", f"tx.bin.pocsag.{left.pid}.newer", f"tx.bin.pocsag.{left.pid}", "tx.bin.pocsag.+7.new"}  # fmt: skip
     for name in gone | kept:
         (room / name).touch()
     done = run(["plan", "pages.csv", "tx.bin", "cert.bin", "--keep"], room)
@@ -191,6 +192,28 @@ def try_left_over(tally, folder):
         process.wait(60)
     done = run(["plan", "pages.csv", "tx.bin", "cert.bin", "--keep"], room)
     tally.check("after signals", done.returncode == 0 and names(room) == {"pages.csv", "tx.bin", "cert.bin"}, names(room))
+
+
+def try_folders(tally, folder):
+    """A folder in place of PAGES is refused as any file that cannot be read, and after the faults that come first."""
+    room = fresh(folder, "folders")
+    (room / "folder").mkdir()
+    (room / "bad.csv").write_bytes(HEADER + b"8,tone9,\n")
+    is_folder = CANNOT_OPEN + f"pocsag: page file folder: {os.strerror(21)} (os error 21)\n".encode()
+    for pages, note in (("folder", is_folder), ("/proc/self/mem", None)):
+        for name, data in zip(("tx.bin", "cert.bin"), OLD):
+            (room / name).write_bytes(data)
+        done = run(["plan", pages, "tx.bin", "cert.bin", "--verbose"], room)
+        holds = (done.returncode, done.stdout) == (3, b"") and done.stderr.startswith(CANNOT_OPEN) and note in (None, done.stderr)
+        tally.check(f"plan {pages}", holds and stand(room) == (b"", b""), (done, stand(room)))
+    for words in (["check", "folder", "cert.bin"], ["report", "folder", "--rate", "512"], ["open", "folder"], ["explain", "folder", "cert.bin"]):
+        done = run([*words, "--verbose"], room)
+        tally.check(f"{words}", (done.returncode, done.stdout, done.stderr) == (3, b"", is_folder), done)
+    done = run(["check", "bad.csv", "folder"], room)
+    tally.check("a fault of the page file comes first", (done.returncode, done.stderr) == (1, b"pocsag: record 1: unknown kind\n"), done)
+    for words in (["decode", "folder"], ["check", "pages.csv", "folder"], ["open", "--journal", "folder"], ["open", "--journal", "folder", "--read-only"]):
+        done = run(words, room)
+        tally.check(f"{words}", (done.returncode, done.stdout, done.stderr) == (3, b"", CANNOT_OPEN), done)
 
 
 def try_closed_pipe(tally, folder):
@@ -266,4 +289,4 @@ def try_strict(tally, folder):
         tally.check(f"usage: {words}", done.returncode == 2 and done.stderr.startswith(b"error: "), done)
 
 
-PARTS = (try_streams, try_rights, try_last_step, try_left_over, try_closed_pipe, try_file_size, try_strict)
+PARTS = (try_streams, try_rights, try_last_step, try_left_over, try_folders, try_closed_pipe, try_file_size, try_strict)

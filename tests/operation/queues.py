@@ -26,7 +26,7 @@ import time
 sys.dont_write_bytecode = True
 sys.path.insert(0, str(pathlib.Path(__file__).resolve().parents[1]))
 from channel import HEADER, KILLS, Channel, calls_of, can_trace, pages_of
-from tally import run_parts
+from tally import TOP, as_nobody, run_parts
 
 IS_EACH = sys.argv[1:] == ["--all"]
 RUNS = sum(int(word) for word in sys.argv[1:] if word.isdigit())  # of next-slot, where nothing else is tried
@@ -288,10 +288,14 @@ REFUSED = [
     ("an empty file", {"queue.csv": ""}, 1, "pocsag: the header must be address,kind,message"),
     ("no words of a slot", {"slot.options": "\n"}, 2, "error: "),
     ("wrong words of a slot", {"slot.options": "--at-most x\n"}, 2, "error: "),
+    ("no number of slots", {"slot.options": "--at-most 1\nkeep slots\n"}, 2, "next-slot: slot.options ends with "),
+    ("no slots", {"slot.options": "--at-most 1\nkeep 0 slots\n"}, 2, "next-slot: slot.options ends with "),
+    ("no unit", {"slot.options": "--at-most 1\nkeep 30\n"}, 2, "next-slot: slot.options ends with "),
+    ("a line behind what is kept", {"slot.options": "--at-most 1\nkeep 3 days\n--always\n"}, 2, "next-slot: slot.options ends with "),
     ("words that are files", {"slot.options": "*\n"}, 2, "error: "),
     ("each page is too long", {"queue.csv": HEADER + LONG}, 4, "pocsag: page 1 needs 23 batches"),
     ("no queue", {"queue.csv": None}, 3, "pocsag: cannot read or open a file"),
-    ("no words", {"slot.options": None}, 3, "cat: "),
+    ("no words", {"slot.options": None}, 3, f"{TOP}/examples/next-slot: "),
     ("no number", {"outgoing/.number": None}, 3, "next-slot: cannot read outgoing/.number"),
     ("a number of something else", {"outgoing/.number": "1e3\n"}, 3, "next-slot: outgoing/.number is not a number"),
     ("an octal number", {"outgoing/.number": "010\n"}, 3, "next-slot: outgoing/.number is not a number"),
@@ -356,10 +360,17 @@ def try_outgoing(tally, folder):
 
 
 MESSAGES = ['say "hi"', '"', '""', "a,b", "two\nlines\n", "back\\slash \\n $HOME `ls` '", " spaces", "\rreturn", "*", "-n", "%s"]
+USAGE = "usage: enqueue [--first] ADDRESS KIND MESSAGE"
 # What enqueue refuses, its status and the first line of the fault.
 NOT_ADDED = [
-    ((), 2, "usage: enqueue ADDRESS KIND MESSAGE"),
-    (("8", "tone0"), 2, "usage: enqueue ADDRESS KIND MESSAGE"),
+    ((), 2, USAGE),
+    (("8", "tone0"), 2, USAGE),
+    (("--first", "8", "tone0"), 2, USAGE),
+    (("--last", "8", "tone0", ""), 2, USAGE),
+    (("8", "tone0", "", ""), 2, USAGE),
+    (("--first", "8", "tone0", "", ""), 2, USAGE),
+    (("--help", ""), 2, USAGE),
+    (("--first", "9", "tone9", ""), 1, "pocsag: record 1: unknown kind"),
     (("9", "tone9", ""), 1, "pocsag: record 1: unknown kind"),
     (("9", "numeric", "x"), 1, "pocsag: record 1: "),
     (("2007664", "tone0", ""), 1, "pocsag: record 1: "),
@@ -402,6 +413,152 @@ def try_enqueue(tally, folder):
     queue.unlink()
     done = channel.run("enqueue", "9", "tone1", "")
     tally.check("there is no queue", done[0] == 3 and not queue.exists(), done)
+
+
+def try_words(tally, folder):
+    """`--help` sends nothing, and neither does any other word."""
+    channel = Channel(folder / "words")
+    channel.fill()
+    before = files_of(channel.folder)
+    for words, status in ((["--help"], 0), (["x"], 2), ([""], 2), (["--help", "x"], 2), (["-h"], 2)):
+        for script in ("next-slot", "enqueue"):
+            done = channel.run(script, *words)
+            usage, other = (done[1], done[2]) if status == 0 else (done[2], done[1])
+            holds = done[0] == status and usage.startswith(f"usage: {script}") and other == ""
+            tally.check(f"{script} {words}", holds and files_of(channel.folder) == before, done)
+
+
+def try_first(tally, folder):
+    """`enqueue --first` adds a page before all others, whatever the end of the header's line."""
+    channel = Channel(folder / "first", options="--at-most 9")
+    queue = channel.folder / "queue.csv"
+    for before, after in ((HEADER, ""), (HEADER.strip(), ""), (HEADER + "7,tone0,\n8,tone0,", "7,tone0,\n8,tone0,"), (HEADER[:-1] + "\r\n7,tone0,\r\n", "7,tone0,\r\n")):
+        queue.write_bytes(before.encode())
+        queue.chmod(0o640)
+        done = channel.run("enqueue", "--first", "9", "alpha", 'a "b"\nc')
+        head = before.partition("\n")[0] + "\n"
+        holds = done == (0, "", "") and queue.read_bytes() == (head + '9,alpha,"a ""b""\nc"\n' + after).encode()
+        tally.check(f"first in {before!r}", holds and queue.stat().st_mode & 0o777 == 0o640, (done, queue.read_bytes()))
+    for before in ("", "\n" + HEADER, HEADER.replace("\n", "\r") + "7,tone0,\r", "7,tone0,\n"):
+        queue.write_bytes(before.encode())
+        done = channel.run("enqueue", "--first", "9", "tone1", "")
+        holds = done[:2] == (4, "") and done[2].startswith("enqueue: the first line of queue.csv") and queue.read_bytes() == before.encode()
+        tally.check(f"no first line in {before!r}", holds, (done, queue.read_bytes()))
+    channel = Channel(folder / "urgent")
+    channel.fill()
+    queued = channel.added
+    urgent = ("8", "numeric", "112")
+    done = channel.run("enqueue", "--first", *urgent)
+    channel.send()
+    is_good = channel.take()
+    tally.check("an urgent page is sent first", done == (0, "", "") and is_good and urgent in channel.slots[0], channel.told())
+    channel.added = [*sorted([urgent, *queued][: len(channel.slots[0])], key=lambda it: int(it[0])), *[urgent, *queued][len(channel.slots[0]) :]]
+    tally.check("and the others then", channel.is_balanced(), channel.told())
+
+
+def try_quotes(tally, folder):
+    """Where `next-slot` will refuse the queue for a quote, `enqueue` does not say that a page was added."""
+    for number, record in enumerate(('8,alpha,"open\n', '8,alpha,say "hi"\n', '8,alpha,"a" b\n')):
+        for first in ((), ("--first",)):
+            channel = Channel(folder / f"quotes {number} {first}")
+            (channel.folder / "queue.csv").write_text(HEADER + record)
+            before = files_of(channel.folder)
+            done = channel.run("enqueue", *first, "9", "tone0", "")
+            tally.check(f"enqueue behind {record!r}", done[:2] == (4, "") and done[2].startswith("pocsag: record "), done)
+            sent = channel.send()
+            tally.check(f"next-slot at {record!r}", sent[0] == 1 and files_of(channel.folder) == before, sent)
+
+
+def try_link(tally, folder):
+    """A link at queue.csv is refused and stays a link."""
+    for name, is_there in (("link", True), ("dangling link", False)):
+        channel = Channel(folder / name)
+        channel.fill()
+        queue, other = channel.folder / "queue.csv", folder / f"{name}.csv"
+        queue.rename(other)
+        queue.symlink_to(other)
+        text = other.read_bytes()
+        if not is_there:
+            other.unlink()
+        for script, words in (("next-slot", ()), ("enqueue", ("9", "tone0", "")), ("enqueue", ("--first", "9", "tone0", ""))):
+            done = channel.run(script, *words)
+            holds = done[:2] == (3, "") and done[2].startswith(f"{script}: queue.csv is a link")
+            tally.check(f"{script} at a {name}", holds and queue.is_symlink() and other.exists() == is_there, done)
+        tally.check(f"a {name} leaves the queue", not is_there or other.read_bytes() == text, name)
+
+
+def try_kept(tally, folder):
+    """Each slot is kept with its pages and its certificate, once, however next-slot is ended, and as long as slot.options says."""
+    channel = Channel(folder / "kept", options="--at-most 1 --idle-last")
+    for turn in range(1, len(turns_of(channel)) + 1):
+        for how in (KILLS[2], KILLS[3]):
+            channel.fill()
+            channel.send(at=turn, fault=how)
+            channel.take()
+            last = channel.send()
+            holds = channel.take() and last == (0, "", "") and channel.is_balanced()
+            tally.check(f"what is kept after {how} at {turn}", holds, (last, channel.told()))
+    for path in channel.folder.glob("sent.*.cert"):
+        done = channel.run_program("check", path.with_suffix(".csv").name, path.name)
+        listed = channel.run_program("decode", path.with_suffix(".bin").name)
+        holds = done == (0, "at least 1 batches with an idle last\n", "") and listed == (0, path.with_suffix(".csv").read_text(), "")
+        tally.check(f"{path.name} is that of its pages", holds, (done, listed))
+    own = ["sent.1.2.bin", "sent.x1.bin", "sent. 1.bin", "sent.01.bin", "sent.1.bin.old", "other.1.bin", "sent.bin"]
+    for limit, days, due in (("keep 3 slots", 0, 3), ("keep 1 slots", 0, 1), ("keep 2 days", 1, 4), ("keep 2 days", 3, 1), ("", 99, 4)):
+        channel = Channel(folder / f"kept {limit} {days}", options=f"--at-most 1\r\n{limit}\r")
+        for name in own:
+            (channel.folder / name).touch()
+            os.utime(channel.folder / name, (0, 0))
+        for number in range(4):
+            for path in channel.folder.glob("sent.[1-9].*"):
+                os.utime(path, (time.time() - 86400 * days - 9,) * 2)
+            channel.fill()
+            done = channel.send()
+            channel.take()
+        kept = {name for name in os.listdir(channel.folder) if name.startswith("sent.") and name not in own}
+        wanted = {f"sent.{number}.{ending}" for number in range(5 - due, 5) for ending in ("bin", "cert", "csv")}
+        tally.check(f"{limit} after {days} days", done == (0, "", "") and kept == wanted, (done, kept))
+        tally.check(f"{limit}: no other file goes", {*own} <= {*os.listdir(channel.folder)}, os.listdir(channel.folder))
+
+
+def try_new_number(tally, folder):
+    """Where the disk of outgoing was lost and numbers begin again, nothing that was set aside or kept is overwritten."""
+    channel = Channel(folder / "new number")
+    queue = channel.folder / "queue.csv"
+    texts = ["a", "b", "c"]
+    for text in texts:
+        (channel.outgoing / ".number").write_text("0\n")
+        channel.last = ""
+        queue.write_text(HEADER + LONG.replace("x", text) + f"8,alpha,{text}\n")
+        done = channel.send()
+        tally.check(f"a slot after a new number, {text}", channel.take() and done[0] == 0, done)
+    aside = [pages_of((channel.folder / f"oversized.{number}.csv").read_bytes())[0][2][0] for number in (1, 2, 3)]
+    tally.check("all pages that were set aside are there", aside == texts, os.listdir(channel.folder))
+    tally.check("and all that was kept", [slot[0][2] for slot in channel.kept()] == texts, os.listdir(channel.folder))
+
+
+def try_other_owner(tally, folder):
+    """What the superuser left who ran a script once, or whose run was killed, does not block the channel of another user."""
+    folder.chmod(0o755)
+    others = as_nobody(folder)
+    if not others:
+        return
+    room = folder / "other owner"
+    commands = turns_of(Channel(room / "turns"))
+    for turn in range(len(commands) + 1):
+        channel = Channel(room / str(turn))
+        channel.fill()
+        for path in (channel.room, *channel.room.rglob("*")):
+            os.chown(path, 65534, 65534, follow_symlinks=False)
+        channel.add(at=turn, fault=KILLS[3])
+        channel.send(at=turn, fault=KILLS[3])
+        for path in ("slot.cert", "queue.rest", "plan.bin", "queue.new"):
+            (channel.folder / path).touch()
+        is_good = channel.take()
+        added = channel.add(trace=others)
+        sent = [channel.send(trace=others) for _ in range(2)]
+        holds = is_good and channel.take() and added == (0, "", "") and sent == 2 * [(0, "", "")] and channel.is_balanced()
+        tally.check(f"another user after the superuser's run, ended at {turn}", holds, (added, sent, channel.told()))
 
 
 def try_again(tally, folder):
@@ -449,7 +606,7 @@ def main():
     if RUNS:
         tempfile.tempdir = SECOND if os.path.isdir(SECOND) else None
         return run_parts(try_runs)
-    return run_parts(try_statuses, try_outgoing, try_enqueue, try_again, try_oversized, try_kills, try_calls, try_additions, try_random, try_full_disks)
+    return run_parts(try_statuses, try_outgoing, try_words, try_enqueue, try_first, try_quotes, try_link, try_kept, try_new_number, try_other_owner, try_again, try_oversized, try_kills, try_calls, try_additions, try_random, try_full_disks)
 
 
 if __name__ == "__main__":

@@ -312,7 +312,11 @@ def try_pipes(tally, folder):
 
 def try_terminal(tally, folder):
     """With no words at a terminal it says what it waits for."""
-    ours, theirs = pty.openpty()
+    try:
+        ours, theirs = pty.openpty()
+    except OSError as why:
+        print(f"skipped: a bare pocsag at a terminal, since there is no pseudo terminal: {why}")
+        return
     process = subprocess.Popen([str(PROGRAM)], cwd=folder, stdin=theirs, stdout=subprocess.PIPE, stderr=subprocess.PIPE)
     os.close(theirs)
     os.write(ours, TONE + b"\x04")

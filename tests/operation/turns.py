@@ -4,6 +4,7 @@ import contextlib
 import fcntl
 import os
 import pwd
+import resource
 import shutil
 import signal
 import stat
@@ -15,6 +16,7 @@ from tally import PROGRAM
 
 HEADER = b"address,kind,message\n"
 PAIRS = 200
+CONTAINERS = 1000
 ENDED = 40  # rounds that are ended, each with places of its own
 SECOND = "/dev/shm"  # a second file system
 CANNOT_WRITE = b"pocsag: cannot write\n"
@@ -109,10 +111,7 @@ def try_held(tally, folder):
         lock.chmod(mode)
         done = subprocess.run(plan(0), cwd=room, capture_output=True, timeout=60)
         tally.check(f"a lock of mode {mode:o} that is left", done.returncode == 0 and stand(room) == dues[0] and not left_in(room), (done, left_in(room)))
-    os.mkfifo(lock)
-    done = subprocess.run(plan(1), cwd=room, capture_output=True, timeout=60)
-    tally.check("a pipe in place of a lock", (done.returncode, done.stderr) == (3, CANNOT_WRITE) and stand(room) == dues[0], (done, left_in(room)))
-    lock.unlink()
+    try_failed_locks(tally, room, dues, lock)
     if not shutil.which("strace"):
         return
     for number in range(1, 5):
@@ -131,6 +130,129 @@ def try_held(tally, folder):
         trace = ["strace", "-f", "-qq", "-o", "/dev/null", "-e", "trace=flock", "-e", f"inject=flock:{fault}"]
         done = subprocess.run([*trace, *plan(0)], cwd=room, capture_output=True, timeout=60)
         tally.check(f"a file system without locks, {fault}", done.returncode == 0 and stand(room) == dues[0] and not left_in(room), (done, left_in(room)))
+
+
+def told_at_once(words, room, reason, **more):
+    """Whether a run ends at once, tells why the lock of cert.bin failed, and leaves the files as they were."""
+    before, start = stand(room), time.monotonic()
+    done = subprocess.run([*words, "--verbose"], cwd=room, capture_output=True, timeout=60, **more)
+    due = CANNOT_WRITE + f"pocsag: certificate cert.bin: cannot lock cert.bin.pocsag.lock: {reason}\n".encode()
+    return (done.returncode, done.stdout, done.stderr) == (3, b"", due) and stand(room) == before and time.monotonic() - start < 4, done
+
+
+def try_failed_locks(tally, room, dues, lock):
+    """A lock that cannot be had for another reason than a run that holds it: that is told, and at once."""
+    os.mkfifo(lock)
+    tally.check("a pipe in place of a lock", *told_at_once(plan(1), room, "no regular file"))
+    lock.unlink()
+    lock.symlink_to("nothing")
+    tally.check("a dangling link in place of a lock", *told_at_once(plan(1), room, "no regular file"))
+    lock.unlink()
+    lock.symlink_to("0.csv")
+    tally.check("a link in place of a lock", *told_at_once(plan(1), room, "no regular file"))
+    lock.unlink()
+    notes = set()
+    for most in range(5, 40):
+        start = time.monotonic()
+        done = subprocess.run(plan(1, "--verbose"), cwd=room, capture_output=True, timeout=60, preexec_fn=lambda: resource.setrlimit(resource.RLIMIT_NOFILE, (most, most)))
+        notes.update(done.stderr.splitlines())
+        if done.returncode == 0:
+            subprocess.run(plan(0), cwd=room, check=True, capture_output=True, timeout=60)
+            break
+        tally.check(f"at most {most} open files", stand(room) == dues[0] and not left_in(room) and time.monotonic() - start < 4, (done, left_in(room)))
+    due = b": Too many open files (os error 24)"
+    tally.check("too many open files for a lock", any(b"cannot lock " in note for note in notes) and all(note.endswith(due) for note in notes if b"cannot lock" in note), notes)
+    tally.check("no other cause is told", not any(b"another run" in note for note in notes), notes)
+    small = room.with_name("few inodes")
+    small.mkdir()
+    if subprocess.run(["mount", "-t", "tmpfs", "-o", "nr_inodes=7", "turns", str(small)], capture_output=True).returncode:
+        return
+    try:
+        for name in ("0.csv", "tx.bin", "cert.bin"):
+            shutil.copyfile(room / name, small / name)
+        words = [str(PROGRAM), "plan", "0.csv", "tx.bin", "cert.bin", "--keep", "--verbose"]
+        done = subprocess.run(words, cwd=small, capture_output=True, timeout=60)
+        due = CANNOT_WRITE + b"pocsag: transmission tx.bin: cannot lock tx.bin.pocsag.lock: No space left on device (os error 28)\n"
+        holds = (done.returncode, done.stdout, done.stderr) == (3, b"", due) and stand(small, NAMES[:2]) == stand(room, NAMES[:2])
+        tally.check("no inode for a lock", holds and not left_in(small), (done, left_in(small)))
+    finally:
+        subprocess.run(["umount", "-l", str(small)], check=True)
+
+
+# Has a command be process 1, as in a container.
+ALONE = ["unshare", "--pid", "--fork"]
+
+
+def try_containers(tally, folder):
+    """Runs that have one process number, in two containers that share a folder."""
+    if not shutil.which(ALONE[0]) or subprocess.run([*ALONE, "true"], capture_output=True).returncode:
+        print("left out: containers, since we may not make any")
+        return
+    room, dues = fresh(folder, "containers")
+    for number in range(CONTAINERS):
+        if number % 4 == 0:
+            for name in NAMES:
+                (room / name).unlink()
+        statuses = at_once([[*ALONE, *plan(0, "--verify")], [*ALONE, *plan(1, "--verify")]], room)
+        tally.check(f"pair {number} of containers", statuses == [0, 0] and stand(room) in dues, (statuses, [it in map(list, zip(*dues)) for it in stand(room)]))
+    tally.check("nothing is left of containers", not left_in(room), left_in(room))
+    held = room / "tx.bin.pocsag.1.new"
+    held.write_bytes(b"of another run")
+    with held.open("r") as file:
+        fcntl.flock(file, fcntl.LOCK_EX)
+        done = subprocess.run([*ALONE, *plan(0)], cwd=room, capture_output=True, timeout=60)
+    holds = done.returncode == 0 and stand(room) == dues[0] and held.read_bytes() == b"of another run" and left_in(room) == [held.name]
+    tally.check("a name that another run holds", holds, (done, left_in(room)))
+    kept = room / f"tx.bin.pocsag.{gone_number()}.old"
+    kept.write_bytes(b"what stood there")
+    with (room / "tx.bin.pocsag.lock").open("w") as file:
+        fcntl.flock(file, fcntl.LOCK_EX)
+        done = subprocess.run([*ALONE, *plan(1)], cwd=room, capture_output=True, timeout=60)
+        holds = done.returncode == 3 and kept.read_bytes() == b"what stood there"
+        tally.check("an older file that another run keeps", holds, (done, left_in(room)))
+    done = subprocess.run([*ALONE, *plan(1)], cwd=room, capture_output=True, timeout=60)
+    tally.check("and that no run keeps", done.returncode == 0 and stand(room) == dues[1] and not left_in(room), (done, left_in(room)))
+
+
+def gone_number():
+    """The number of a process that has ended."""
+    ended = subprocess.Popen(["true"])
+    ended.wait()
+    return ended.pid
+
+
+def try_taken_away(tally, folder):
+    """Another program puts a file of its own under the name of one that is to be renamed: it is not put at the place."""
+    if not shutil.which("strace"):
+        return
+    for name in NAMES:
+        room, dues = fresh(folder, f"taken away, {name}")
+        trace = ["strace", "-f", "-qq", "-o", "/dev/null", "-e", "trace=fsync", "-e", "inject=fsync:delay_enter=1500000:when=1"]
+        run = subprocess.Popen([*trace, *plan(0, "--verbose")], cwd=room, stdout=subprocess.DEVNULL, stderr=subprocess.PIPE)
+        time.sleep(1)
+        [made] = room.glob(f"{name}.pocsag.*.new")
+        made.unlink()
+        made.write_bytes(b"of another program")
+        err = run.communicate(timeout=60)[1]
+        holds = (run.returncode, stand(room)) == (3, dues[1]) and err.startswith(CANNOT_WRITE) and f"{name}: another program took away {made.name}".encode() in err
+        tally.check(f"the file beside {name} is taken away", holds and left_in(room) == [made.name], (run.returncode, err, left_in(room)))
+
+
+def try_failed_look(tally, folder):
+    """Where the system does not tell what an older file is, the new one does not get another mode."""
+    if not shutil.which("strace"):
+        return
+    room, dues = fresh(folder, "failed look")
+    for number in range(1, 1000):
+        for name in NAMES:
+            (room / name).chmod(0o600)
+        trace = ["strace", "-f", "-qq", "-o", "trace", "-e", "trace=statx", "-e", f"inject=statx:error=EIO:when={number}"]
+        done = subprocess.run([*trace, *plan(number % 2)], cwd=room, capture_output=True, timeout=60)
+        modes = {stat.S_IMODE((room / name).stat().st_mode) for name in NAMES}
+        tally.check(f"modes where look {number} fails", modes == {0o600} and stand(room) in dues, (done, modes))
+        if "INJECTED" not in (room / "trace").read_text():
+            break
+    tally.check("some looks failed", 20 < number < 999, number)
 
 
 def try_others(tally, folder):
@@ -195,8 +317,8 @@ def try_left(tally, folder):
     ended = subprocess.Popen(["true"])
     ended.wait()
     gone = {f"{place}.pocsag.{ended.pid}.new" for place in ("tx.bin", "cert.bin", "other.bin", "a.pocsag.b")}
-    gone |= {f"tx.bin.pocsag.{ended.pid}.old", f"tx.bin.{ended.pid}.new", "other.bin.pocsag.lock", "tx.bin.pocsag.lock"}
-    kept = {f"other.bin.{ended.pid}.new", f"report.{ended.pid}.old", f"other.bin.pocsag.{ended.pid}.old", f"other.bin.pocsag.{os.getpid()}.new",
+    gone |= {f"tx.bin.pocsag.{ended.pid}.old", "other.bin.pocsag.lock", "tx.bin.pocsag.lock"}
+    kept = {f"tx.bin.{ended.pid}.new", f"tx.bin.{ended.pid}.old", "tx.bin.20261128.new", "tx.bin.20261128.old", f"other.bin.{ended.pid}.new", f"report.{ended.pid}.old", f"other.bin.pocsag.{ended.pid}.old", f"other.bin.pocsag.{os.getpid()}.new",
             f"held.bin.pocsag.{ended.pid}.new", "held.bin.pocsag.lock", "other.bin.pocsag.x.new", "other.bin.pocsag.new", f"other.bin.pocsag.0{ended.pid}.new",
             f"other.bin.pocsag.{ended.pid}.newer", f"pipe.pocsag.{ended.pid}.new", f"link.pocsag.{ended.pid}.new", f"folder.pocsag.{ended.pid}.new"}  # fmt: skip
     for name in gone | kept:
@@ -233,4 +355,4 @@ def try_left(tally, folder):
     tally.check("at most those of the last ended round were there", len(left) <= 8, left)
 
 
-PARTS = (try_pairs, try_held, try_others, try_left)
+PARTS = (try_pairs, try_held, try_containers, try_taken_away, try_failed_look, try_others, try_left)

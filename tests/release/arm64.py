@@ -4,7 +4,6 @@
 Where the cross compiler of Debian or qemu-user is missing, it is left out. The last line is 'N passed, M failed'.
 """
 
-import os
 import pathlib
 import random
 import re
@@ -21,7 +20,8 @@ import make
 import products
 from tally import PROGRAM, Tally
 
-EMULATOR = "qemu-aarch64"
+EMULATORS = {products.ARM: "qemu-aarch64", products.ARMHF: "qemu-arm"}
+EMULATOR = EMULATORS[products.ARM]
 SCRIPTS = ("tests/program/run.py", "tests/program/open.py", "tests/journal/run.py", "tests/sound/run.py", "tests/vectors/run.py")
 ROUNDS = 10
 HEADER = "address,kind,message\n"
@@ -38,10 +38,10 @@ def why_not():
     return ""
 
 
-def emulated(folder, name, program):
-    """A script that runs a program for ARM64."""
+def emulated(folder, name, program, processor=products.ARM):
+    """A script that runs a program for a processor."""
     script = folder / name
-    script.write_text(f'#!/bin/sh\nexec {EMULATOR} -L /usr/{products.ARM.triple} "{program}" "$@"\n')
+    script.write_text(f'#!/bin/sh\nexec {EMULATORS[processor]} -L /usr/{processor.triple} "{program}" "$@"\n')
     script.chmod(0o755)
     return script
 
@@ -83,7 +83,7 @@ def try_beside(tally, folder, program):
     chance = random.Random(64)
     files = [path.read_text() for path in sorted((TOP / "examples").glob("*.csv"))] + [page_file(chance) for _ in range(ROUNDS)]
     for number, file in enumerate(files):
-        ours, theirs = answers(PROGRAM, folder / "x86-64", file), answers(program, folder / "arm64", file)
+        ours, theirs = answers(PROGRAM, folder / "native", file), answers(program, folder / "other", file)
         tally.check(f"round {number} as on x86-64", ours == theirs, [pair for pair in zip(ours, theirs) if pair[0] != pair[1]][:1])
 
 
@@ -99,10 +99,10 @@ def try_library(tally, folder, archive, memory):
         tally.check(f"the example in C with the {name}", ran.stdout == wanted, (built.stderr, ran))
 
 
-def try_scripts(tally, program):
-    """The scripts that run the program, with this one."""
-    os.environ.update(POCSAG_PROGRAM=str(program), POCSAG_ONE_IN="101")
-    for it in lanes.Lanes([lanes.Task(script, [sys.executable, script], TOP) for script in SCRIPTS]).run():
+def try_scripts(tally, program, scripts):
+    """The scripts that run the program, with this one, each with one in so many of its cases."""
+    words = lambda script, one_in: ["env", f"POCSAG_PROGRAM={program}", f"POCSAG_ONE_IN={one_in}", sys.executable, script]
+    for it in lanes.Lanes([lanes.Task(script, words(script, one_in), TOP) for script, one_in in scripts.items()]).run():
         counts = re.findall(r"^(\d+) passed, (\d+) failed$", it.text, re.M)
         passed, failed = map(int, counts[-1]) if counts else (0, 1)
         tally.passed += passed
@@ -124,7 +124,7 @@ def main():
         program = emulated(folder, "pocsag", linked)
         try_beside(tally, folder, program)
         try_library(tally, folder, archive, memory)
-        try_scripts(tally, program)
+        try_scripts(tally, program, dict.fromkeys(SCRIPTS, 101))
     return tally.end()
 
 

@@ -14,8 +14,8 @@ sys.path[:0] = [str(TESTS), str(TESTS.parent / "tools")]
 import workspace
 from tally import LIBRARY, TOP
 
-PARTS = ("VERSION", "LICENSE-APACHE", "LICENSE-MIT", "clib", "completions", "crates.txt", "docs/pocsag.1", "examples", "install",
-         "pocsag", "release", "tests/tally.py", "tools", "web")
+PARTS = ("VERSION", "LICENSE-APACHE", "LICENSE-MIT", "clib", "completions", "README.md", "crates.txt", "docs/LIBRARY.md", "docs/pocsag.1",
+         "examples", "install", "pocsag", "portable", "release", "tests/tally.py", "tools", "web")
 BUILT = ("crates/pocsag_app/out/pocsag_app", "crates/pocsag_c/out/libpocsag_c.a", "out/pocsag_app.built", "out/pocsag_c.built")
 # Runs release/make for the processor of this machine alone.
 NATIVE_ALONE = """
@@ -24,7 +24,8 @@ sys.dont_write_bytecode = True
 loader = importlib.machinery.SourceFileLoader("release_make", "release/make")
 module = importlib.util.module_from_spec(importlib.util.spec_from_loader("release_make", loader))
 loader.exec_module(module)
-module.contents.groups = lambda groups=module.contents.groups: [it for it in groups() if it[0] == module.products.NATIVE.name]
+module.contents.page = lambda: None
+module.contents.groups = lambda page=None, groups=module.contents.groups: [it for it in groups(page) if it[0] == module.products.NATIVE.name]
 sys.exit(module.main(sys.argv[1:]))
 """
 # What a machine has where nothing is installed. Which of the last three read packages differs.
@@ -59,7 +60,7 @@ class Copy:
         target = self.top / part
         target.parent.mkdir(parents=True, exist_ok=True)
         if (TOP / part).is_dir():
-            ignored = shutil.ignore_patterns("__pycache__", *(() if LIBRARY else ("*.tar.xz", "*.deb", "*.whl", "*.html", "MANIFEST", "SHA256SUMS")))
+            ignored = shutil.ignore_patterns("__pycache__", *(() if LIBRARY else ("*.tar.xz", "*.deb", "*.whl", "*.tgz", "*.zip", "*.html", "MANIFEST", "SHA256SUMS")))
             shutil.copytree(TOP / part, target, ignore=ignored)
         elif (TOP / part).is_file():
             shutil.copy2(TOP / part, target)

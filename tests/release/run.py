@@ -51,10 +51,14 @@ def try_versions(tally):
         ("crates/pocsag_shell/src/tables.rt", f'const VERSION: &str = "{version.VERSION}, proved by '),
         ("docs/pocsag.1", f'.TH POCSAG 1 "{version.DATE}" "pocsag {version.VERSION}"'),
         ("clib/pocsag.h", f'#define POCSAG_RELEASE "{version.VERSION}"\n'),
-        ("clib/pocsag.py", f'__version__ = "{python}"\n'),
+        ("clib/pocsag/__init__.py", f'__version__ = "{python}"\n'),
+        ("web/package.json", f'"version": "{version.VERSION}"'),
         ("CHANGELOG.md", version.VERSION),
         ("README.md", f"release/pocsag-{version.VERSION}-linux-x86_64.tar.xz"),
         ("README.md", f"release/pocsag_{version.DEBIAN}_amd64.deb"),
+        ("README.md", f"release/pocsag-{version.VERSION}-c.tar.xz"),
+        ("README.md", f"release/pocsag-{version.VERSION}-windows-x86_64.zip"),
+        ("docs/OPERATION.md", f"release/pocsag_{version.DEBIAN}_armhf.deb"),
         ("README.md", f"release/pocsag-{python}-py3-none-manylinux_2_17_x86_64.whl"),
     ]
     for path, text in places:
@@ -69,7 +73,7 @@ def try_kinds(tally):
     """Each kind of package holds what was put into it, and has the same bytes in whatever order that was."""
     files = {"usr/a": File(b"a", 0o755), "usr/share/b": File(bytes(range(256)) * 40), "usr/z": File(b"a", 0o777, "a")}
     plain = {name: file for name, file in files.items() if not file.link}
-    for name, held in (("x.tar.xz", files), ("x.deb", {**files, "DEBIAN/control": File(b"Package: x\n")}), ("x.whl", plain)):
+    for name, held in (("x.tar.xz", files), ("x.tgz", files), ("x.deb", {**files, "DEBIAN/control": File(b"Package: x\n")}), ("x.whl", plain)):
         made = packages.write(name, held, version.SECONDS)
         tally.check(f"{name} holds what was put into it", packages.read(name, made) == held)
         tally.check(f"{name} in another order", made == packages.write(name, dict(reversed(held.items())), version.SECONDS))
@@ -203,7 +207,7 @@ def try_other_sources(tally, copy):
     put_back(copy, files)
     status, out = copy.make("--check", PATH="/usr/bin:/bin")
     tally.check("without the toolchain", status == 0 and ("here is no toolchain" in out or LIBRARY), out)
-    put_back(copy, {path: data for path, data in files.items() if path.name not in ("MANIFEST", "SHA256SUMS") and not path.name.endswith((*ENDINGS, ".html"))})
+    put_back(copy, {path: data for path, data in files.items() if path.name not in ("MANIFEST", "SHA256SUMS") and not path.name.endswith((*ENDINGS, ".tgz", ".html"))})
     status, out = copy.make("--check")
     tally.check("no release", status == 0 and "is not packed" in out, out)
     put_back(copy, files)
@@ -355,6 +359,48 @@ def try_installed(tally, copy):
     copy.drop_built()
 
 
+# It stands in for the program as C, which takes minutes to compile.
+MAKEFILE = b"bin/pocsag: program\n\tmkdir -p bin\n\tcp program bin/pocsag\n"
+ELSEWHERE = ({"HOSTTYPE": "riscv64"}, {"HOSTTYPE": "arm", "OSTYPE": "linux-gnueabihf"}, {"OSTYPE": "linux-musl"})
+
+
+def try_in_c(tally, copy):
+    """Where the release has no package for a machine, the one in C is compiled once, if there is a compiler."""
+    files, native = kept(copy), copy.package(".tar.xz")
+    program = packages.read(native.name, native.read_bytes())
+    held = {name: file for name, file in program.items() if name.startswith("share/")}
+    held |= {"Makefile": File(MAKEFILE), "program": program["bin/pocsag"]}
+    path = copy.top / f"release/pocsag-{version.VERSION}-c.tar.xz"
+    path.write_bytes(packages.write(path.name, held, version.SECONDS))
+    renew_sums(copy)
+    user, bare = User(copy, READER, "cc", "make", "cp"), User(copy, READER, "make", "cp")
+    tally.check("the machine's own package comes first", user.run(*WORDS) == (0, PLANNED, ""))
+    copy.drop_built()
+    for machine in ELSEWHERE:
+        status, out, err = bare.run(*WORDS, **machine)
+        tally.check(f"{machine}, without a compiler", (status, out) == (3, "") and "nothing can be built" in err, (status, out, err))
+        status, out, err = user.run(*WORDS, **machine)
+        told = f"compiling {path.name}, once: one to four minutes"
+        tally.check(f"{machine}: compiled", (status, out) == (0, PLANNED) and told in err and err.count("\n") == 1, (status, out, err))
+        tally.check(f"{machine}: once", user.run(*WORDS, **machine) == (0, PLANNED, ""))
+        tally.check(f"{machine}: its version", user.run("--version", **machine)[1].endswith(", from release/\n"))
+        prefix = copy.top.parent / "prefix in C"
+        words = [sys.executable, str(copy.top / "install"), str(prefix)]
+        done = subprocess.run(words, env={"PATH": "/usr/bin:/bin", **machine}, capture_output=True, text=True)
+        tally.check(f"{machine}: installed", done.returncode == 0 and "has no C library for this machine" in done.stderr, done)
+        brought = sorted(it.name for it in prefix.glob("**/*") if it.is_file())
+        tally.check(f"{machine}: without the library", brought == ["_pocsag", "enqueue", "made", "next-slot", "pocsag", "pocsag", "pocsag.1", "pocsag.fish"], brought)
+        shutil.rmtree(prefix)
+        copy.drop_built()
+    spoiled = bytearray(path.read_bytes())
+    spoiled[len(spoiled) // 2] ^= 1
+    path.write_bytes(spoiled)
+    status, out, err = user.run(*WORDS, **ELSEWHERE[0])
+    tally.check("a spoiled package in C", (status, out) == (3, "") and "is not used" in err and "compiling" not in err, (status, out, err))
+    copy.drop_built()
+    put_back(copy, files)
+
+
 def try_wheel(tally, copy, folder):
     """Python installs the wheel and plans by it."""
     path, target = copy.package(".whl"), folder / "python"
@@ -411,7 +457,7 @@ def main():
             try_forged(tally, copy)
         try_spoiled(tally, copy)
         try_other_sources(tally, copy)
-        for part in (try_first_call, try_later_calls, try_edit, try_refused, try_at_once, try_installed):
+        for part in (try_first_call, try_later_calls, try_edit, try_refused, try_at_once, try_installed, try_in_c):
             part(tally, copy)
         try_wheel(tally, copy, folder)
         try_debian(tally, copy, folder)
