@@ -20,7 +20,8 @@ import run
 from basis import Basis
 from edits import Edit, given, narrowed, read_edits
 from prover import Planted, Said
-from sources import functions_of, texts_of
+from source import CLAUSE
+from sources import all_functions, functions_of, texts_of
 from tally import run_parts
 from workspace import below, read_crates
 
@@ -62,6 +63,25 @@ def test_fit(tally, _):
     for crate in crates.values():
         _, bad = read_edits(crate.edits(), texts_of(crate))
         tally.check(f"wrong bodies of {crate.name} can be planted", not bad, bad)
+
+
+def unfitting(edit, texts):
+    """The clauses beside the one that an edit names which a proof of all of them at once gives: that proof does not fit a contract of one."""
+    name, planted = edit.names()[0], edit.planted(texts)[0]
+    path, function = all_functions(planted)[name]
+    clauses = {it[1] for it in map(CLAUSE.match, planted[path].split("\n")[function.first:function.last]) if it} - {edit.clause}
+    answers = re.split(r"(?m)^pub ", planted.get(f"proofs/{name.replace('::', '/')}/Answers.antt", ""))
+    whole = " ".join(it for it in answers if it.startswith("returns") and "-clause-" not in it.split()[0])
+    return {it for it in clauses if re.search(rf"\b{it} = ", whole)}
+
+
+def test_clauses(tally, _):
+    """No wrong body names a clause whose function is proved by one record of all its clauses, as that would be refused whatever it does."""
+    for crate in read_crates().values():
+        texts = texts_of(crate)
+        for it in read_edits(crate.edits(), texts)[0]:
+            if it.clause and len(it.names()) == 1 and (it.is_copied or it.is_alone):
+                tally.check(f"{crate.name}/{it.name}", not unfitting(it, texts), unfitting(it, texts))
 
 
 def sections(name):
@@ -236,5 +256,5 @@ def test_copies(tally, _):
 
 
 if __name__ == "__main__":
-    parts = [test_rounds] if "--prover" in sys.argv else [test_fit, test_narrowing, test_copies, test_halving, test_sums, test_kept]
+    parts = [test_rounds] if "--prover" in sys.argv else [test_fit, test_clauses, test_narrowing, test_copies, test_halving, test_sums, test_kept]
     sys.exit(run_parts(*parts))
