@@ -1,16 +1,16 @@
 # Completions of pocsag for fish: commands, options and their values; any other word is a file's name.
-set -l commands plan check explain decode hear show wav open report help
+set -l commands plan check report explain decode hear show wav open help
 set -l options \
-    pocsag='--strict --verbose --help --version -h -V' \
-    plan='--limit --end --idle-last --expect --strict --always --verify --keep --at-most --airtime --rate --rest --why --later --oversized --verbose --help -h' \
-    check='--verbose --help -h' \
-    explain='--depth --json --svg --verbose --help -h' \
-    decode='--repair --capture --json --text --verbose --help -h' \
-    hear='--capture --json --text --verbose --help -h' \
-    show='--svg --list --rows --repair --capture --nth --verbose --help -h' \
-    wav='--rate --samples --invert --preamble --tail --verbose --help -h' \
-    open='--journal --read-only --expect --strict --always --keep --verbose --help -h' \
-    report='--rate --limit --end --idle-last --expect --strict --always --frames --verbose --help -h'
+    pocsag='--strict --verbose -h --help -V --version' \
+    plan='--limit --end --verbose --idle-last --expect --strict --always --verify --keep --at-most --airtime --rate --rest --why --later --oversized -h --help' \
+    check='--verbose -h --help' \
+    explain='--depth --json --verbose --svg -h --help' \
+    decode='--repair --capture --verbose --json --text -h --help' \
+    hear='--json --text --verbose --capture -h --help' \
+    show='--svg --rows --verbose --list --repair --capture --nth -h --help' \
+    wav='--rate --samples --verbose --invert --preamble --tail -h --help' \
+    open='--journal --read-only --verbose --expect --strict --always --keep -h --help' \
+    report='--rate --limit --verbose --end --idle-last --expect --strict --always --frames -h --help'
 
 # Whether the words before the cursor begin with this command; for pocsag, whether there are none.
 function __pocsag_is
@@ -27,7 +27,7 @@ for line in $options
                 set value -x -a 'open closed idle'
             case --rate
                 set value -x -a '512 1200 2400'
-            case --limit --expect --text --rows --nth --depth --samples --preamble --tail --at-most --airtime
+            case --limit --expect --at-most --airtime --depth --text --rows --nth --samples --preamble --tail
                 set value -x # no file names where no value is known
             case --rest --why --oversized --journal
                 set value -r

@@ -18,19 +18,19 @@ if ((CURRENT > 2)); then
     command=$words[2]
 fi
 local -A offered=(
-    [pocsag]='--strict --verbose --help --version -h -V'
-    [plan]='--limit --end --idle-last --expect --strict --always --verify --keep --at-most --airtime --rate --rest --why --later --oversized --verbose --help -h'
-    [check]='--verbose --help -h'
-    [explain]='--depth --json --svg --verbose --help -h'
-    [decode]='--repair --capture --json --text --verbose --help -h'
-    [hear]='--capture --json --text --verbose --help -h'
-    [show]='--svg --list --rows --repair --capture --nth --verbose --help -h'
-    [wav]='--rate --samples --invert --preamble --tail --verbose --help -h'
-    [open]='--journal --read-only --expect --strict --always --keep --verbose --help -h'
-    [report]='--rate --limit --end --idle-last --expect --strict --always --frames --verbose --help -h'
+    [pocsag]='--strict --verbose -h --help -V --version'
+    [plan]='--limit --end --verbose --idle-last --expect --strict --always --verify --keep --at-most --airtime --rate --rest --why --later --oversized -h --help'
+    [check]='--verbose -h --help'
+    [explain]='--depth --json --verbose --svg -h --help'
+    [decode]='--repair --capture --verbose --json --text -h --help'
+    [hear]='--json --text --verbose --capture -h --help'
+    [show]='--svg --rows --verbose --list --repair --capture --nth -h --help'
+    [wav]='--rate --samples --verbose --invert --preamble --tail -h --help'
+    [open]='--journal --read-only --verbose --expect --strict --always --keep -h --help'
+    [report]='--rate --limit --verbose --end --idle-last --expect --strict --always --frames -h --help'
     [help]=''
 )
-local named='plan check explain decode hear show wav open report help'
+local named='plan check report explain decode hear show wav open help'
 if [[ $words[CURRENT] == -* ]]; then
     compadd -- ${=offered[$command]-}
 elif ((CURRENT == 2)) || [[ $command == help && CURRENT -eq 3 ]]; then

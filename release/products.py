@@ -101,10 +101,7 @@ def compiler_of_windows():
 
 def cross_task(crate, made):
     """The command by which the toolchain compiles a proved crate for ARM64, over what its check kept."""
-    rtlib, unit = kit.script().rtlib, kit.crate_in(crate.folder)
-    words = [rtlib.RATTLE, "build", *unit.words(["--jobs", "2"]), "--target", "aarch64-unknown-linux-gnu"]
-    words += ["--toolchain", f"{rtlib.KIT}/toolchain", "--backend", "llvm", *rtlib.KEPT, "-o", str(made)]
-    return lanes.Task(crate.name, words, crate.folder)
+    return lanes.Task(crate.name, kit.cross_words(crate.folder, made, "aarch64-unknown-linux-gnu"), crate.folder)
 
 
 class Cross:

@@ -1,5 +1,7 @@
 """What the tests of the repository share."""
 
+import importlib.machinery
+import importlib.util
 import itertools
 import os
 import pathlib
@@ -18,6 +20,26 @@ ONE_IN = int(os.environ.get("POCSAG_ONE_IN") or 1)
 IS_EMULATED = ONE_IN > 1
 # The words that ask `plan` and `report` for each end.
 ENDS = {"open": ["--end", "open"], "closed": ["--end", "closed"], "idle": ["--idle-last"]}
+
+
+def module_at(name, path):
+    """A script as a module, by its path from the top."""
+    loader = importlib.machinery.SourceFileLoader(name, str(TOP / path))
+    module = importlib.util.module_from_spec(importlib.util.spec_from_loader(name, loader))
+    loader.exec_module(module)
+    return module
+
+
+def run(words, folder=None, stdin=b"", **more):
+    """A run of the program with these words in a folder, with bytes or a file as its input."""
+    if "input" not in more:
+        more["input" if isinstance(stdin, bytes) else "stdin"] = stdin
+    return subprocess.run([str(PROGRAM), *words], capture_output=True, cwd=folder, timeout=110, **more)
+
+
+def said(done):
+    """What a run ended with and printed."""
+    return done.returncode, done.stdout, done.stderr
 
 
 def sampled(cases, one_in=ONE_IN):

@@ -36,7 +36,7 @@ TEST_SECONDS = 3_600  # for each test: compiled with checks one of the greatest 
 FUNCTIONS_FOR_JOBS = 20  # in a crate with fewer a second job gains nothing
 LLVM, QUICK = "llvm", "rattle"  # the compilers by the names that `rt` has for them; the second is the toolchain's own
 TAKEN = "begins with what a check kept"  # the toolchain says so where another copy of the repository has proved a crate
-WAIT = "proving and building, once: 19 to 30 minutes on four processors, with 2 GB of memory for each of them and 6 GB of disk"
+WAIT = "proving and building, once: 19 to 30 minutes on four processors, with 2 GB of memory for each of them and 8.4 GB of disk"
 
 
 def say(text):

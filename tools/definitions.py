@@ -1,6 +1,11 @@
 #!/usr/bin/env python3
-"""Writes docs/DEFINITIONS.md from the files of specs/: for each word that a public clause cites, and each that a comment there
-names between asterisks, the comment above its definition. tests/words/run.py compares the page with the sources."""
+"""Prints what words of specs/ mean, and where they stand: definitions.py WORD.. | CRATE..
+
+Of a word it prints the comment above its definition, of a crate those of all words that a public clause cites or that a comment
+names between asterisks. A reader who believes these definitions needs to believe nothing else of this repository but the
+toolchain that checked the proofs. "A rule" is a rule of Recommendation ITU-R M.584-2, Annex 1 (Radio Paging Code No. 1),
+restated; all else is this project's own.
+"""
 
 import pathlib
 import re
@@ -10,15 +15,7 @@ sys.dont_write_bytecode = True
 sys.path[:0] = [str(pathlib.Path(__file__).resolve().parents[1] / folder) for folder in ("tools", "tests", "tests/words")]
 import workspace
 
-PAGE = workspace.TOP / "docs/DEFINITIONS.md"
 WIDTH = 120
-INTRODUCTION = """# Definitions
-
-All that is proved is proved of these definitions. A reader who believes them needs to believe nothing else of this repository
-but the toolchain that checked the proofs. Each word that a public contract cites is here, with what the comment at its
-definition says; `tools/definitions.py` writes this page from `crates/*/specs`. "A rule" is a rule of Recommendation ITU-R
-M.584-2, Annex 1 (Radio Paging Code No. 1), restated; all else is this project's own.
-"""
 GIVEN = re.compile(r"(?:(?:pub|record|data|abbrev|unfoldable) )+([^\s:{(]+)")
 TERM = re.compile(r"\*[A-Z][^*]*\*")  # what a comment defines, by its name in the field
 
@@ -85,12 +82,6 @@ def section(crate, cited):
     return "\n".join([f"## `{crate.name}`\n", *parts]) if parts else ""
 
 
-def page(cited):
-    """The whole page, of the words that are cited: (crate, file, name)."""
-    cited, crates = set(map(given_at, cited)), workspace.read_crates().values()
-    return "\n".join([INTRODUCTION, *filter(None, (section(crate, cited) for crate in crates))])
-
-
 def told():
     """Each word of specs/ that has a comment, as (crate, file, name)."""
     for crate in workspace.read_crates().values():
@@ -98,7 +89,25 @@ def told():
             yield from ((crate.name, file.stem, it.name) for it in read_file(file)[1] if it.comment)
 
 
-if __name__ == "__main__":
-    import run as words
+def places(word):
+    """The sentence of each word of specs/ that has this name, with its file."""
+    for crate in workspace.read_crates().values():
+        for file in sorted((crate.folder / "specs").glob("*.antt")):
+            yield from (filled("", "  ", f"{it.name} ({file.relative_to(workspace.TOP)}): {it.comment}") for it in read_file(file)[1] if it.name == word)
 
-    PAGE.write_text(page(words.wanted_words()))
+
+def main(words):
+    import run
+
+    crates, status = workspace.read_crates(), 0 if words else 2
+    if not words:
+        print(__doc__, end="", file=sys.stderr)
+    for word in words:
+        text = section(crates[word], set(map(given_at, run.wanted_words()))) if word in crates else "".join(places(word))
+        print(text or f"definitions.py: {word} is no word of specs/ and no crate", end="" if text else "\n", file=sys.stdout if text else sys.stderr)
+        status = status if text else 1
+    return status
+
+
+if __name__ == "__main__":
+    sys.exit(main(sys.argv[1:]))

@@ -4,7 +4,8 @@
 `rt lib` locks the folders of all crates that it reads, so of two crates that stand on a third one waits for the other.
 `rt all` locks all folders once and takes the same steps side by side, but for every crate, and each with one job. So
 `tools/build.py` locks the folders by the toolchain's own call, and this takes the steps for one crate. Where `rt` is not
-the script that this knows, the command itself is called, which locks and waits.
+the script that this knows, the command itself is called, which locks and waits (tests/gate tries both). No other file of this
+repository reads the toolchain's script.
 """
 
 import functools
@@ -47,6 +48,15 @@ def lock(folders):
 def is_laid_out(folder):
     """Whether `rt fmt` would leave the files of the crate in a folder as they are; it names the others. `rt ci` refuses them."""
     return script() is None or script().rtlib.fmt(str(folder), "--check", sys.stderr, diff=subprocess.DEVNULL) == 0
+
+
+def cross_words(folder, made, target):
+    """The command that compiles the proved crate in a folder for another processor, or None where `rt` is not known to do it."""
+    if script() is None:
+        return None
+    rtlib = script().rtlib
+    words = [rtlib.RATTLE, "build", *crate_in(folder).words(["--jobs", "2"]), "--target", target]
+    return [*words, "--toolchain", f"{rtlib.KIT}/toolchain", "--backend", "llvm", *rtlib.KEPT, "-o", str(made)]
 
 
 def check_words(folder, kept="out/incremental"):

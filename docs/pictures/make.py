@@ -7,36 +7,23 @@ It takes the binary that the gate left in crates/pocsag_app/out. `tests/pictures
 import csv
 import io
 import math
-import os
 import pathlib
 import subprocess
 import sys
 import tempfile
 
 TOP = pathlib.Path(__file__).resolve().parents[2]
+sys.path.append(str(TOP / "tests"))
+from codewords import IDLE, codewords_of, transmission
+from tally import PROGRAM
+
 HERE = pathlib.Path(__file__).resolve().parent
-PROGRAM = pathlib.Path(os.environ.get("POCSAG_PROGRAM") or TOP / "crates/pocsag_app/out/pocsag_app")
 ROUND = TOP / "examples/round.csv"
 APART = [TOP / "examples" / name for name in ("loops-apart.csv", "loops-apart.cert")]
-PREAMBLE = b"\xaa" * 72
-SYNC = bytes.fromhex("7CD215D8")
-IDLE = bytes.fromhex("7A89C197")
 
 
 def run(*words):
     return subprocess.run([str(PROGRAM), *map(str, words)], capture_output=True, check=True, timeout=110).stdout
-
-
-def codewords(sent):
-    """The codewords of a transmission, those of synchronisation left out."""
-    words = [sent[at : at + 4] for at in range(len(PREAMBLE), len(sent), 4)]
-    return [word for place, word in enumerate(words) if place % 17 != 0]
-
-
-def transmission(words):
-    words = words + [IDLE] * (-len(words) % 16)
-    batches = [words[at : at + 16] for at in range(0, len(words), 16)]
-    return PREAMBLE + b"".join(SYNC + b"".join(batch) for batch in batches)
 
 
 def places(path):
@@ -128,7 +115,7 @@ def pictures():
     with tempfile.TemporaryDirectory() as folder:
         sent, cert, ordered = (pathlib.Path(folder) / name for name in ("sent", "cert", "ordered"))
         run("plan", ROUND, sent, cert)
-        words, found = codewords(sent.read_bytes()), places(sent)
+        words, found = codewords_of(sent.read_bytes()), places(sent)
         with ROUND.open(newline="", encoding="latin-1") as file:
             addresses = [int(row["address"]) for row in csv.DictReader(file)]
         ordered.write_bytes(in_file_order(words, found, addresses))

@@ -18,9 +18,12 @@ import sys
 
 sys.dont_write_bytecode = True
 sys.path.insert(0, str(pathlib.Path(__file__).resolve().parents[1]))
+import codewords
+from codewords import PREAMBLE, digits, letters, number_of
 from tally import PROGRAM, run_parts
 
-SYNC, IDLE, ONES = 0x7CD215D8, 0x7A89C197, 0xFFFFFFFF
+SYNC, IDLE = (int.from_bytes(it, "big") for it in (codewords.SYNC, codewords.IDLE))
+ONES = 0xFFFFFFFF
 CAPTURES, DAMAGED = 2_000, 400
 NOISE_BYTES, NOISE_SECONDS = 100_000_000, 6.0  # on a busy host; BENCHMARKS.md has the speed
 KINDS = {0: "numeric", 1: "data1", 2: "data2", 3: "alpha"}
@@ -30,41 +33,15 @@ HEADER = b"address,kind,message,state\n"
 # ---- the keyer
 
 
-def codeword(data):
-    """The codeword of 21 bits: ten check bits and the parity."""
-    rest = data << 10
-    for bit in range(30, 9, -1):
-        if rest >> bit & 1:
-            rest ^= 0b11101101001 << (bit - 10)
-    word = (data << 10 | rest) << 1
-    return word | word.bit_count() & 1
-
-
 def is_codeword(word):
-    return codeword(word >> 11) == word
-
-
-def items_of(function, message):
-    """The message codewords' bits, twenty of each."""
-    if function == 0:
-        bits = "".join(f"{int(digit):04b}"[::-1] for digit in message)
-        bits += "0011" * (-len(message) % 5)
-    else:
-        bits = "".join(f"{ord(char):07b}"[::-1] for char in message)
-        bits += "0" * (-len(bits) % 20)
-    return [int(bits[i : i + 20], 2) for i in range(0, len(bits), 20)]
+    return number_of(word >> 11) == word
 
 
 def words_of(pages):
-    """The words of a transmission: each page starts at the next slot of its frame, and idles fill the batches."""
-    words = []
-    for address, function, message in pages:
-        while len(words) % 16 // 2 != address % 8:
-            words.append(IDLE)
-        words.append(codeword(address >> 3 << 2 | function))
-        words += [codeword(1 << 20 | item) for item in items_of(function, message)]
-    words += [IDLE] * (-len(words) % 16)
-    return [word for i in range(0, len(words), 16) for word in (SYNC, *words[i : i + 16])]
+    """The words of a transmission, as numbers, those of synchronisation among them."""
+    packed = ((address, function, letters(message) if function else digits(message)) for address, function, message in pages)
+    sent = codewords.sent(packed)
+    return [int.from_bytes(sent[at : at + 4], "big") for at in range(len(PREAMBLE), len(sent), 4)]
 
 
 def some_pages(chance, most):
@@ -375,7 +352,7 @@ def try_forms(tally, folder, name, found):
 
 def try_by_hand(tally, folder):
     """Cases worked by hand."""
-    tone, more = codeword(1 << 2), codeword(1 << 20 | 0x12345)  # address 8 in frame 0
+    tone, more = number_of(1 << 2), number_of(1 << 20 | 0x12345)  # address 8 in frame 0
     lost = more ^ 0b1011 << 7
     assert repaired(lost) is None
     batch = [SYNC, tone, more, more] + [IDLE] * 13

@@ -2,8 +2,8 @@
 quotes, line ends and fields are odd."""
 
 from checker import OPEN_END
+from codewords import HEADER
 
-HEADER = b"address,kind,message\n"
 BYTE_ORDER_MARK = b"\xef\xbb\xbf"
 NUMERIC = b"0123456789*U -]["
 

@@ -512,7 +512,7 @@ def try_planned(tally, folder):
 
 def try_frames(tally, folder):
     done = run("report", EXAMPLES / "round.csv", "--rate", "1200", "--frames")
-    # the pages by their addresses, the idles by the letters of `show` in README
+    # the pages by their addresses, the idles by the letters of `show`
     rows = [(0, 3, 5, 0), (3, 2, 13, 0), (5, 1, 6, 0), (6, 0, 0, 0), (7, 0, 0, 0), (1, 0, 0, 2), (4, 0, 0, 2), (2, 0, 0, 4)]
     wanted = [f"frame {frame} pages {pages} codewords {words} room {room}" for frame, pages, words, room in rows]
     told = done.stdout.decode().splitlines()

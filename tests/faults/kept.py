@@ -3,13 +3,13 @@
 import os
 import subprocess
 
+from codewords import HEADER
 from tally import PROGRAM
 
 LINES = [b"add,8,alpha,Ward 3", b"add,16,tone0,", b"add,16,tone0,", b"cancel,8", b"add,24,numeric,55"]
 # The journal has more than a megabyte once the line of this number is kept, and is written anew.
 LONG = [b"add,8,alpha," + b"A" * 4000, b"cancel,8"] * 265
 ANEW_AT = 521
-HEADER = b"address,kind,message\n"
 
 
 def after(pages, line):

@@ -5,9 +5,9 @@ import os
 import sys
 
 sys.dont_write_bytecode = True
+from codewords import HEADER
 from tally import PROGRAM
 
-HEADER = b"address,kind,message\n"
 TEXTS = {"ALLOC": b"pocsag: out of memory\n", "READ": b"pocsag: cannot read or open a file\n", "WRITE": b"pocsag: cannot write\n"}
 REASON = f": {os.strerror(5)} (os error 5)\n".encode()
 

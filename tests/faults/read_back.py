@@ -1,28 +1,19 @@
 """`plan --verify` where a file is read back as other bytes than were written."""
 
 import os
-import subprocess
 import sys
 
 sys.dont_write_bytecode = True
-from tally import ENDS, PROGRAM
+from codewords import APART, HEADER, HEADS, IDLE, ONES, SYNC, ZERO, transmission
+from tally import ENDS, run
 
-HEADER = b"address,kind,message\n"
-SYNC, IDLE, FIRST, MORE = "7CD215D8", "7A89C197", "00000000", "C44447B9"
-IDLES = bytes.fromhex(SYNC + 16 * IDLE)
-ROUND = HEADER + b"0,numeric," + b"1" * 75 + b"\n3,numeric," + b"1" * 75 + b"\n"
+IDLES = SYNC + 16 * IDLE
 NOT_THE_PAGES = b"pocsag: the transmission does not hold the pages of the page file\n"
 NOT_THE_BOUND = b"pocsag: the certificate does not show the batches of the transmission\n"
 NOT_THE_END = b"pocsag: the transmission does not end as was asked for\n"
 # The round's pages in three batches, the last message of which goes on to the end.
-OPEN_END = [SYNC, *6 * [IDLE], FIRST, *9 * [MORE], SYNC, *6 * [MORE], *10 * [IDLE], SYNC, FIRST, *15 * [MORE]]
+OPEN_END = transmission([*6 * [IDLE], ZERO, *15 * [ONES], *10 * [IDLE], ZERO, *15 * [ONES]])
 TOLD = b"pages 2\nbatches 3\n"
-# How the certificates of each end begin.
-HEADS = {"open": b"PCB2\0", "closed": b"PCB2\1", "idle": b"PCB4"}
-
-
-def run(words, folder, **more):
-    return subprocess.run([str(PROGRAM), *words], capture_output=True, cwd=folder, timeout=60, **more)
 
 
 def read_back(folder, library, end, always, kept, given):
@@ -39,7 +30,7 @@ def certificate(end, batches, tree):
 
 def try_read_back(tally, library, folder):
     """`--verify` of other bytes than were written: taken where they show as much, and else refused as they deserve."""
-    (folder / "pages.csv").write_bytes(ROUND)
+    (folder / "pages.csv").write_bytes(APART)
     cut, overloaded = "02 0001 30 0002 00 0001 00 8000", "00 FFFF"
     no_version = b"pocsag: unknown certificate version\n"
     for end, other in (("open", "closed"), ("closed", "idle"), ("idle", "open")):
@@ -66,17 +57,16 @@ def try_read_back(tally, library, folder):
 def try_transmissions(tally, library, folder, end):
     """Transmissions of other pages in the place of the one that was written."""
     others = [
-        ("another digit", ROUND.replace(b",1", b",2", 1)),
-        ("another address", ROUND.replace(b"3,num", b"11,num")),
-        ("a page less", ROUND[: ROUND.index(b"3,num")]),
-        ("a page more", ROUND + b"8,tone0,\n"),
+        ("another digit", APART.replace(b",1", b",2", 1)),
+        ("another address", APART.replace(b"3,num", b"11,num")),
+        ("a page less", APART[: APART.index(b"3,num")]),
+        ("a page more", APART + b"8,tone0,\n"),
         ("another function", HEADER + b"0,alpha,a\n3,numeric," + b"1" * 75 + b"\n"),
     ]
     run(["plan", "pages.csv", "tx.bin", "cert.bin", *ENDS[end]], folder)
     sent = (folder / "tx.bin").read_bytes()
     cases = [("what was written", sent, b""), ("a preamble more", b"\xaa" * 9 + sent, b"")]
-    last_message = b"\xaa" * 72 + bytes.fromhex("".join(OPEN_END))
-    cases += [("a message at the end", last_message, NOT_THE_END if end != "open" else b"")]
+    cases += [("a message at the end", OPEN_END, NOT_THE_END if end != "open" else b"")]
     cases += [("cut short", sent[:-1], b"pocsag: the transmission is cut short\n")]
     cases += [("a batch more", sent + IDLES, NOT_THE_BOUND)]
     cases += [("two batches more", sent + 2 * IDLES, NOT_THE_BOUND)]

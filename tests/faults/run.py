@@ -19,6 +19,7 @@ sys.path.insert(0, str(pathlib.Path(__file__).resolve().parent))
 import kept
 import noted
 import read_back
+from codewords import APART, HEADER, IDLE, MESSAGE, ZERO, codeword, digits, in_order, transmission
 from tally import ENDS, PROGRAM, TOP, Tally
 
 HERE = pathlib.Path(__file__).resolve().parent
@@ -137,26 +138,16 @@ def try_trial(tally, library):
     tally.check("trial: whose memory was wanting", in_layout > 0 and lacks[STREAM] == due, lacks[STREAM])
 
 
-def batches_in_order(frames, length):
-    """How many batches pages of one length take, each at the first slot of its frame."""
-    index = 0
-    for frame in frames:
-        while index % 16 // 2 != frame:
-            index += 1
-        index += length
-    return (index + 15) // 16
-
-
 class Numbers:
     """What is known of a round of so many pages of 1,400 items, and of as many tones, for the addresses from 0."""
 
     def __init__(self, count):
         self.count = count
-        self.in_order, self.tones_in_order = (batches_in_order((address % 8 for address in range(count)), it) for it in (1_401, 1))
+        self.in_order, self.tones_in_order = (in_order((address % 8, it) for address in range(count)) for it in (1_401, 1))
         # Half of each frame starts early: all slots are loaded alike, and the runs lead to every boundary. With the
         # closed end it takes one batch more, since no slot is left behind the last message.
         self.fewest = count * 1_401 // 16
-        self.listed = len("address,kind,message\n") + sum(len(f"{address},numeric,") + 7_001 for address in range(count))
+        self.listed = len(HEADER) + sum(len(f"{address},numeric,") + 7_001 for address in range(count))
         self.counts = f"{count} {count * 1_401} {self.in_order}"
 
 
@@ -171,7 +162,7 @@ def book_told(numbers, last):
 def try_large_trial(tally, library):
     """The calls at the largest sizes that their limits allow, and at one between, against numbers from outside."""
     done, _ = run([str(TRIAL)], library, stdin=b"x")
-    header = len("address,kind,message\n")
+    header = len(HEADER)
     data = [(8, 1_400), (16, 1_401), (24, 1_400), (32, 1_401)]
     data_listed = header + sum(len(f"{address},data1,") + 5 * items + 1 for address, items in data)
     # Two tones to a frame, the last alone: that of slot 2f is for address 8 + f.
@@ -241,7 +232,7 @@ def try_input(tally, library):
 def try_plan(tally, library, folder):
     """`plan` on files: after a refusal TX and then CERT hold a prefix, and the page file is never touched."""
     pages, tx, cert = folder / "pages.csv", folder / "tx.bin", folder / "cert.bin"
-    page_file = b"address,kind,message\n" + b"".join(b"%d,numeric,%d\n" % (k, 10**9 + k) for k in range(400))
+    page_file = HEADER + b"".join(b"%d,numeric,%d\n" % (k, 10**9 + k) for k in range(400))
     pages.write_bytes(page_file)
     command = [str(PROGRAM), "plan", str(pages), str(tx), str(cert)]
     ample, _ = run(command, library)
@@ -387,7 +378,7 @@ def try_open(tally, library, folder):
         b"add,8,tone1,", b"add,38,alpha,Gate", b"plan," + files, b"plan," + files + b",closed", b"plan," + files + b",idle", b"bogus", b"list",
         b"plan," + files + b",open,9", b"cancel,38", b"add,38,alpha,Gate", b"clear", b"plan," + files, b"add,7,tone3,", b"list",
     ]
-    (folder / "open.csv").write_bytes(b"address,kind,message\n")
+    (folder / "open.csv").write_bytes(HEADER)
     stdin = b"\n".join(edits) + b"\n"
     command = [str(PROGRAM), "open"]
     ample, _ = run(command, library, stdin=stdin)
@@ -429,7 +420,7 @@ def try_open_pages(tally, library, folder):
     """`open PAGES`: want of memory, or a read that fails, before the first line ends it."""
     pages = b"8,tone0,\n17,numeric,5550199\n26,alpha,Ward\n"
     path = folder / "open.csv"
-    path.write_bytes(b"address,kind,message\n" + pages)
+    path.write_bytes(HEADER + pages)
     command = [str(PROGRAM), "open", str(path)]
     due = path.read_bytes() + b"ok 3\n"
     for kind, said, least in (("ALLOC", OUT_OF_MEMORY, 5), ("READ", CANNOT_READ, 2)):
@@ -448,7 +439,7 @@ def try_late_growths(tally, library, folder):
     """What writes a file or a text takes all its memory before the first byte."""
     pages, sent, cert = folder / "late.csv", folder / "late.bin", folder / "late.cert"
     records = b"".join(b"%d,alpha,%s\n" % (k, b"Ward %d" % k * (1 + k % 7)) for k in range(900))
-    pages.write_bytes(b"address,kind,message\n" + records)
+    pages.write_bytes(HEADER + records)
     names = [str(path) for path in (pages, sent, cert)]
     plans = [["plan", *names, *end, *more] for end in ENDS.values() for more in ([], ["--always"])]
     others = [["check", names[0], names[2]], ["decode", names[1]], ["hear", "8", names[1]], ["wav", names[1]]]
@@ -476,13 +467,11 @@ def try_devices(tally, library, folder):
     tally.check("one number on one device", (done.returncode, done.stderr) == (1, b"pocsag: the same file is named twice\n"), done)
 
 
-LOOPS_APART = b"address,kind,message\n0,numeric," + b"1" * 75 + b"\n3,numeric," + b"1" * 75 + b"\n"
 CERTIFICATE = bytes.fromhex("5043423200000000030200013000020000010080 00".replace(" ", ""))
 
 
 # One page across two batches.
-IDLES = "7A89C197" * 15
-ACROSS = b"\xaa" * 72 + bytes.fromhex(f"7CD215D8{IDLES}00000000" + f"7CD215D8C261572C{IDLES}")
+ACROSS = transmission([*15 * [IDLE], ZERO, codeword(MESSAGE | digits("12345")[0])])
 
 
 def main():
@@ -498,12 +487,12 @@ def main():
             part(tally, library, folder)
         kept.try_kept(tally, library, folder, run)
         noted.try_noted(tally, run, each_refusal, library, folder)
-        files = {"pages.csv": LOOPS_APART, "cert.bin": CERTIFICATE}
+        files = {"pages.csv": APART, "cert.bin": CERTIFICATE}
         try_printing(tally, library, "check", ["check", "pages.csv", "cert.bin"], files, folder)
         try_printing(tally, library, "explain", ["explain", "pages.csv", "cert.bin"], files, folder)
         try_printing(tally, library, "explain --json", ["explain", "pages.csv", "cert.bin", "--json"], files, folder)
         try_printing(tally, library, "explain --svg", ["explain", "pages.csv", "cert.bin", "--svg"], files, folder)
-        files = {"pages.csv": LOOPS_APART}
+        files = {"pages.csv": APART}
         try_printing(tally, library, "report", ["report", "pages.csv", "--rate", "1200"], files, folder)
         try_printing(tally, library, "report --frames", ["report", "pages.csv", "--rate", "1200", "--frames"], files, folder)
         files = {"tx.bin": ACROSS}

@@ -14,7 +14,6 @@ import itertools
 import pathlib
 import random
 import re
-import subprocess
 import sys
 import tempfile
 from functools import lru_cache
@@ -25,14 +24,13 @@ sys.path.insert(0, str(HERE.parent))
 sys.path.insert(0, str(HERE.parent / "certificates"))
 import checker
 import fronts
+from codewords import IDLE, codewords_of, transmission
 from rounds import page_file
-from tally import ENDS, MEMORY, PROGRAM, Tally
+from tally import ENDS, MEMORY, Tally, run
 from trees import certificate
 
 ROUNDS = 1_500
 LARGER_ROUNDS = 1_000
-SYNC = "7cd215d8"
-IDLE = "7a89c197"
 TOLD = dict(zip(ENDS, checker.TOLD))
 
 # Rounds as (address, number of message codewords), and the fewest batches for each end.
@@ -91,14 +89,12 @@ def framed(pages):
 
 def pages_read(sent):
     """The pages (address, number of message codewords) that the bytes of a transmission say, read here."""
-    if sent[:72] != b"\xaa" * 72 or (len(sent) - 72) % 68 != 0:
-        return None
-    words = [sent[place : place + 4].hex() for place in range(72, len(sent), 4)]
-    if any(word != SYNC for word in words[::17]):
+    words = codewords_of(sent)
+    if len(words) % 16 or transmission(words) != sent:
         return None
     pages, is_open = [], False
-    for index, word in enumerate(word for place, word in enumerate(words) if place % 17):
-        number = int(word, 16)
+    for index, word in enumerate(words):
+        number = int.from_bytes(word, "big")
         if word == IDLE:
             is_open = False
         elif number >> 31:
@@ -113,11 +109,7 @@ def pages_read(sent):
 
 def ends_as(sent, end):
     """Whether the last codeword is what the end asks for: an idle one, or for the closed end no message codeword."""
-    return end == "open" or sent[-4:].hex() == IDLE or end == "closed" and sent[-4] >> 7 == 0
-
-
-def run(words, folder):
-    return subprocess.run([str(PROGRAM), *words], cwd=folder, capture_output=True, timeout=110)
+    return end == "open" or sent[-4:] == IDLE or end == "closed" and sent[-4] >> 7 == 0
 
 
 def one_more(text):
@@ -171,7 +163,7 @@ def try_examples(tally, folder):
         for end in ENDS:
             try_round(tally, folder, pages, end, [])
     words = (folder / "tx.bin").read_bytes()[72:]
-    tally.check("the tone in the last frame starts early", words[60:64].hex() != IDLE, words.hex())
+    tally.check("the tone in the last frame starts early", words[60:64] != IDLE, words.hex())
 
 
 def try_checks(tally, folder, source):

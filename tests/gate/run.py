@@ -169,6 +169,33 @@ def try_width(tally):
     os.environ["RT_JOBS"] = given
 
 
+# What stands in for a toolchain whose `rt` is not the script that tools/kit.py knows.
+UNKNOWN = """#!/bin/sh
+echo "$*" >> "$CALLS"
+"""
+STEPS = """
+import sys
+sys.path.insert(0, "tools")
+import kit
+print(kit.check_words("."), kit.cross_words(".", "made", "arm"), kit.lock(["."]), kit.is_laid_out("."), kit.prove_anew("."))
+"""
+
+
+def try_unknown(tally):
+    """Each step of the toolchain by its command alone, where `rt` is not the script that is known."""
+    with tempfile.TemporaryDirectory() as folder:
+        command, calls = pathlib.Path(folder, "rt"), pathlib.Path(folder, "calls")
+        command.write_text(UNKNOWN)
+        command.chmod(0o755)
+        settings = {**os.environ, "PATH": f"{folder}:{os.environ['PATH']}", "CALLS": str(calls)}
+        run = lambda *words: subprocess.run([sys.executable, *words], cwd=TOP, env=settings, capture_output=True, text=True)
+        done = [run("tools/kit.py", "lib", "2"), run("tools/kit.py", "run", "1", "--help"), run("-c", STEPS)]
+        tally.check("the commands for an unknown toolchain", [it.returncode for it in done] == [0, 0, 0], done)
+        told = calls.read_text().splitlines()
+        tally.check("what they call", told == ["lib --jobs 2", "run --jobs 1 -- --help", "lib --jobs 1"], told)
+        tally.check("what else is known of it", done[2].stdout == "['rt', 'check', '--jobs', '1'] None [] True 0\n", done[2].stdout)
+
+
 def try_layout(tally):
     """A crate with a file that `rt fmt` would change; without the toolchain all pass."""
     with tempfile.TemporaryDirectory() as folder:
@@ -193,6 +220,7 @@ def main():
     try_bill(tally)
     try_spent(tally)
     try_layout(tally)
+    try_unknown(tally)
     return tally.end()
 
 

@@ -13,16 +13,9 @@ import largest
 import pocsag
 import sizes
 from answers import attempt
-from forms import due_of, items_of
-from largest import HEADER, LARGEST, ROUNDS, repeated, texts, tone_batch
-
-
-def in_order(pages, codewords):
-    """How many batches pages of all frames in turn take, each at the first slot of its frame behind the page before it."""
-    index = 0
-    for page in range(pages):
-        index += (2 * (page % 8) - index) % 16 + codewords
-    return -(-index // 16)
+from codewords import HEADER, LARGEST, in_order, letters
+from forms import due_of
+from largest import ROUNDS, repeated, texts, tone_batch
 
 
 def try_rounds(tally, call):
@@ -31,7 +24,7 @@ def try_rounds(tally, call):
         data, full = HEADER + texts(0, pages, letters), pages * codewords // 16
         room = 72 + 68 * (full + 2), 4_096
         plan = attempt(call.plan, data, limit=1_000_000, end=pocsag.IDLE, sizes=room, strict=True)
-        numbers = pages, pages * codewords, in_order(pages, codewords), full + 1, full + 1
+        numbers = pages, pages * codewords, in_order((page % 8, codewords) for page in range(pages)), full + 1, full + 1
         told = isinstance(plan, pocsag.Plan) and plan[2:] == numbers and len(plan.transmission) == 72 + 68 * (full + 1)
         tally.check(f"plan of {pages} pages", told, str(plan)[:200])
         certificate = plan.certificate if told else b""
@@ -91,7 +84,7 @@ def told_by(call, words, size):
 
 def try_readings(tally, call):
     """The calls that read transmissions, whose pages of 4,000 characters are all of one address."""
-    pages = [(8, 3, items_of(b"a" * 4_000, 7, 0))]
+    pages = [(8, 3, letters(b"a" * 4_000))]
     address, plain, repaired, captured = map(ctypes.c_uint32, (8, pocsag.PLAIN, pocsag.REPAIRED, pocsag.CAPTURED))
     for size in (4_000_000, LARGEST):
         tx, count = repeated(pages, size)

@@ -33,6 +33,7 @@ import version
 import workspace
 from prover import Room
 from answers import TOLD, WORDS, attempt, program, run, said
+from codewords import HEADER, IDLE, TONE, transmission
 from tally import LIBRARY, run_parts
 
 EXAMPLES = TOP / "clib/examples"
@@ -409,11 +410,11 @@ def try_sounds(tally, library, plans, seed):
 
 def try_orders(tally, library, plans):
     """Transmissions in the order of the file: one worked by hand, and those of random rounds."""
-    idle, sync, call = bytes.fromhex("7a89c197"), bytes.fromhex("7cd215d8"), library.pocsag.lay_in_order
+    call = library.pocsag.lay_in_order
     # Address 9, tone1, starts in frame 1, and address 8, tone0, in frame 0, behind it in the next batch.
-    batches = sync + idle * 2 + bytes.fromhex("0000283f") + idle * 13 + sync + bytes.fromhex("000026ec") + idle * 15
+    due = transmission([IDLE, IDLE, bytes.fromhex("0000283f"), *[IDLE] * 13, TONE])
     sent = call(pocsag.HEADER + b"9,tone1,\n8,tone0,\n")
-    tally.check("two tones in the order of the file", sent == b"\xaa" * 72 + batches, sent.hex())
+    tally.check("two tones in the order of the file", sent == due, sent.hex())
     wrong = []
     for number, (pages, plan) in enumerate(plans):
         sent = call(pages)
@@ -459,18 +460,17 @@ def try_records(tally, library, seed):
     read = {int(row[0]): row[2].encode() for row in csv.reader(io.StringIO(file.decode(), newline=""))if row[0] != "address"}
     tally.check("another reader of CSV reads them alike", read == rows, [it for it in rows.items() if read.get(it[0]) != it[1]][:3])
     tally.check("each quote stands as it is to", attempt(library.pocsag.strict, file) is None)
-    header = b"address,kind,message\n"
     for tail, wanted, place in (
         (b'8,alpha,a"b\n', pocsag.QuoteInside, (1, 2)),
         (b'7,tone0,\n8,alpha,"a"b\n', pocsag.QuoteFollowed, (2, 3)),
         (b'7,tone0,\n\n8,alpha,"a\nb\n', pocsag.QuoteOpen, (2, 4)),
     ):
-        fault = attempt(library.pocsag.strict, header + tail)
+        fault = attempt(library.pocsag.strict, HEADER + tail)
         tally.check(f"the quote of {tail}", (type(fault), (fault.record_number, fault.at)) == (wanted, place), fault)
-        library.pages.write_bytes(header + tail)
+        library.pages.write_bytes(HEADER + tail)
         told = program("plan", library.pages, library.tx, library.cert, "--strict")
         tally.check(f"{tail} is told as the program tells it", told[0] != 0 and said(fault) == told[1], told)
-        fault = attempt(library.pocsag.plan, header + tail, strict=True)
+        fault = attempt(library.pocsag.plan, HEADER + tail, strict=True)
         tally.check(f"a plan of {tail} may be strict", type(fault) is wanted, fault)
     fault = attempt(library.pocsag.strict, b'"address,kind,message\n')
     tally.check("a quote of the header is that of record 0", str(fault) == "record 0: the quote in line 1 is not closed", str(fault))

@@ -1,10 +1,11 @@
 #!/usr/bin/env python3
 """The completions of three shells, beside the help of the program: the same words for each, and what each shell offers where it
-is installed.
+is installed. With --write it first writes these words into completions/, as the help has them.
 
 It takes the binary that the gate left in crates/pocsag_app/out. The last line is 'N passed, M failed'.
 """
 
+import functools
 import pathlib
 import re
 import shlex
@@ -25,12 +26,8 @@ SCRIPTS = {
     "fish": """source $argv[1]; complete -C "$argv[2]" | string replace -r "\\t.*" "" """,
 }
 NO_CONFIGURATION = {"bash": ["--norc"], "zsh": ["-f"], "fish": ["--no-config"]}
-COMMANDS = {"plan", "check", "explain", "decode", "hear", "show", "wav", "open", "report", "help"}
-# Options with a value, a command that has them, and what is offered for it.
-VALUES = [(option, "plan", set()) for option in ("--limit", "--expect", "--at-most", "--airtime")]
-VALUES += [("--depth", "explain", set()), ("--samples", "wav", set()), ("--preamble", "wav", set()), ("--tail", "wav", set()), ("--rows", "show", set()), ("--nth", "show", set()), ("--text", "decode", set())]
-VALUES += [("--end", "plan", {"open", "closed", "idle"}), ("--rate", "report", {"512", "1200", "2400"}), ("--rest", "plan", {"named.csv"})]
-VALUES += [("--why", "plan", {"named.csv"}), ("--oversized", "plan", {"named.csv"}), ("--journal", "open", {"named.csv"})]
+# What is offered for a value, by its name in the help; for any other value nothing.
+OFFERED = {"<END>": {"open", "closed", "idle"}, "<R>": {"512", "1200", "2400"}, **dict.fromkeys(("<REST>", "<FILE>", "<F>"), {"named.csv"})}
 
 
 def helped(*words):
@@ -44,24 +41,46 @@ def options_of(text):
     return dict(re.findall(r"(?<![\w<])(--?[\w-]+)(?: (<[\w-]+>))?", " ".join(spelled)))
 
 
+@functools.cache
+def commands():
+    """The commands, in the order of the help."""
+    return [line.split()[0] for line in re.search(r"^Commands:\n((?:  .*\n)+)", helped(), re.M)[1].splitlines()]
+
+
+@functools.cache
 def due():
     """The options of each command; those of the program itself as those of pocsag. The command help has none of its own."""
-    return {name: options_of(helped(*([] if name == "pocsag" else [name]))) for name in {"pocsag", *COMMANDS} - {"help"}}
+    return {name: options_of(helped(*([] if name == "pocsag" else [name]))) for name in ("pocsag", *commands()) if name != "help"}
+
+
+def values():
+    """Each option with a value, a command that has it, and what is offered for the value."""
+    return [(option, name, OFFERED.get(value, set())) for name, options in due().items() for option, value in options.items() if value]
+
+
+def written(text):
+    """A file of completions with the words of the help: the options of each command, the commands, and the options whose values
+    are offered as nothing or as files."""
+    for name, options in due().items():
+        text = re.sub(rf"^( +\[?{name}\]?)='[^']*'", rf"\1='{' '.join(options)}'", text, flags=re.M)
+    text = re.sub(r"((?:commands|named)[= ]'?)plan [\w ]*", rf"\1{' '.join(commands())}", text)
+    for first, wanted in ("--limit", set()), ("--rest", {"named.csv"}):
+        listed = dict.fromkeys(option for option, _, offered in values() if offered == wanted)
+        for before, between, sign in ("    ", r" \|", " | "), ("case ", "", " "):
+            text = re.sub(rf"({before}){first}(?:{between} --[-\w]+)+", rf"\1{sign.join(listed)}", text)
+    return text
 
 
 def try_words(tally, _folder):
     """Each option of each help stands in each file, and no other."""
-    named = {line.split()[0] for line in re.search(r"^Commands:\n((?:  .*\n)+)", helped(), re.M)[1].splitlines()}
-    tally.check("each command is tried here", named == COMMANDS, named)
-    with_value = {option for options in due().values() for option, value in options.items() if value}
-    tally.check("each option with a value is tried here", with_value == {option for option, _, _ in VALUES}, with_value)
     for shell, path in FILES.items():
         text = path.read_text()
+        tally.check(f"{shell}: the words of the help", text == written(text), "run tests/operation/completions.py --write")
         found = {name: set(options.split()) for name, options in re.findall(r"^ +\[?(\w+)\]?='([^']*)'", text, re.M) if options}
         for name, options in due().items():
             tally.check(f"{shell}: the options of {name}", found.get(name) == set(options), (found.get(name), options))
         listed = re.search(r"(?:commands|named)[= ]'?(plan [\w ]*)", text)[1]
-        tally.check(f"{shell}: the commands", set(listed.split()) == COMMANDS, listed)
+        tally.check(f"{shell}: the commands", listed.split() == commands(), listed)
 
 
 def offered(shell, line, folder):
@@ -78,14 +97,16 @@ def try_shells(tally, folder):
     for shell in FILES:
         if not shutil.which(shell):
             continue
-        rows = [("pocsag ", COMMANDS), ("pocsag re", {"report"}), ("pocsag help ", COMMANDS), ("pocsag plan --end c", {"closed"})]
+        rows = [("pocsag ", {*commands()}), ("pocsag re", {"report"}), ("pocsag help ", {*commands()}), ("pocsag plan --end c", {"closed"})]
         rows += [(f"pocsag {'' if name == 'pocsag' else name + ' '}-", set(options)) for name, options in due().items()]
-        rows += [(f"pocsag {name} ", {"named.csv"}) for name in COMMANDS - {"help"}]
-        rows += [(f"pocsag {name} {option} ", values) for option, name, values in VALUES]
+        rows += [(f"pocsag {name} ", {"named.csv"}) for name in due() if name != "pocsag"]
+        rows += [(f"pocsag {name} {option} ", offered_for) for option, name, offered_for in values()]
         for line, wanted in rows:
             found = offered(shell, line, folder)
             tally.check(f"{shell}: {shlex.quote(line)}", found == (wanted, ""), (found, wanted))
 
 
 if __name__ == "__main__":
+    for file in FILES.values() if sys.argv[1:] == ["--write"] else ():
+        file.write_text(written(file.read_text()))
     sys.exit(run_parts(try_words, try_shells))

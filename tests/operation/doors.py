@@ -7,9 +7,9 @@ import signal
 import stat
 import subprocess
 
-from tally import PROGRAM
+from codewords import HEADER
+from tally import PROGRAM, run
 
-HEADER = b"address,kind,message\n"
 TONE = HEADER + b"8,tone0,\n"
 OLD = (b"an older transmission", b"an older certificate")
 NAMED_TWICE = b"pocsag: the same file is named twice\n"
@@ -36,10 +36,6 @@ def stand(room):
 
 def names(room):
     return {path.name for path in room.iterdir()}
-
-
-def run(words, room, **more):
-    return subprocess.run([str(PROGRAM), *words], cwd=room, capture_output=True, timeout=60, **more)
 
 
 def shell(line, room, **more):

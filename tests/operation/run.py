@@ -25,18 +25,13 @@ sys.path.insert(0, str(pathlib.Path(__file__).resolve().parent))
 import doors
 import slots
 import turns
-from tally import PROGRAM, TOP, run_parts
+from codewords import APART, HEADER
+from tally import PROGRAM, TOP, run, run_parts
 
-HEADER = b"address,kind,message\n"
 TONE = HEADER + b"8,tone0,\n"
-APART = HEADER + b"0,numeric," + b"1" * 75 + b"\n3,numeric," + b"1" * 75 + b"\n"
 KILLS = 200
 NAMED_TWICE = b"pocsag: the same file is named twice\n"
 CANNOT_OPEN = b"pocsag: cannot read or open a file\n"
-
-
-def run(words, folder, stdin=b"", **more):
-    return subprocess.run([str(PROGRAM), *words], input=stdin, capture_output=True, cwd=folder, timeout=60, **more)
 
 
 def fresh(folder, name):

@@ -12,9 +12,9 @@ import subprocess
 import tempfile
 import time
 
+from codewords import HEADER
 from tally import PROGRAM
 
-HEADER = b"address,kind,message\n"
 PAIRS = 200
 CONTAINERS = 1000
 ENDED = 40  # rounds that are ended, each with places of its own

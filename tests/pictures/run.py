@@ -7,7 +7,6 @@ It takes the binary that the gate left in crates/pocsag_app/out. The last line i
 
 import bisect
 import csv
-import importlib.util
 import io
 import math
 import pathlib
@@ -19,14 +18,13 @@ import xml.etree.ElementTree as ElementTree
 
 sys.dont_write_bytecode = True
 sys.path.insert(0, str(pathlib.Path(__file__).resolve().parents[1]))
-from tally import PROGRAM, TOP, run_parts
+from codewords import IDLE, ONES as MESSAGE, TONE, ZERO, address_word, codewords_of, transmission
+from tally import PROGRAM, TOP, module_at, run_parts
 
 sys.path.insert(0, str(TOP / "docs/pictures"))
 import make
 
 SVG = "{http://www.w3.org/2000/svg}"
-IDLE, TONE, MESSAGE = (bytes.fromhex(word) for word in ("7A89C197", "000026EC", "C44447B9"))
-ZERO = bytes(4)
 HEAD = "       0  1  2  3  4  5  6  7"
 # Measures of the drawing: the left side of the first cell, a cell's width and height, the upper side of the first row,
 # and from row to row; how wide the dark part of an address codeword is, and the size of the legend.
@@ -111,12 +109,12 @@ def check_text(tally, folder):
     for trial in range(60):
         words = random_words(chance, 1 + trial // 2)
         path = folder / "tx"
-        path.write_bytes(make.transmission(words))
+        path.write_bytes(transmission(words))
         done = run("show", path)
         tally.check(f"text {trial}", done.returncode == 0 and done.stdout == text_of(words), done)
     for batches in (99, 100, 101, 300, 1_001, 10_001):
         words = random_words(chance, batches)
-        path.write_bytes(make.transmission(words))
+        path.write_bytes(transmission(words))
         done = run("show", path)
         tally.check(f"text of {batches} batches", done.returncode == 0 and done.stdout == text_of(words), done.stdout[:300])
 
@@ -141,7 +139,7 @@ def check_places(tally, folder, records):
     decoded = list(csv.reader(io.StringIO(run("decode", tx).stdout.decode())))
     tally.check("listing: header", listed[0] == ["batch", "frame", "slot", "codewords", *decoded[0]], listed)
     tally.check("listing: the decoder's fields", [row[4:] for row in listed] == decoded, (listed, decoded))
-    words = make.codewords(tx.read_bytes())
+    words = codewords_of(tx.read_bytes())
     starts = [place for place, word in enumerate(words) if word != IDLE and word[0] < 0x80]
     for start, row in zip(starts, listed[1:], strict=True):
         batch, frame, slot = int(row[0]), int(row[1]), int(row[2])
@@ -292,7 +290,7 @@ def check_svg(tally, folder):
         ("1250 batches", [TONE] * 20000),
         ("1250 mixed batches", random_words(chance, 1250)),
     ):
-        path.write_bytes(make.transmission(words))
+        path.write_bytes(transmission(words))
         done = run("show", path, "--svg")
         tally.check(f"{name}: status", done.returncode == 0 and done.stderr == b"", done.stderr)
         check_drawing(tally, name, done.stdout, words, path)
@@ -300,13 +298,13 @@ def check_svg(tally, folder):
     page_file.write_bytes(b'address,kind,message\n11,alpha,"<b>&amp; ""x"" ]]> \x01\x7f"\n')
     run("plan", page_file, path, folder / "cert")
     text = run("show", path, "--svg").stdout
-    root = check_drawing(tally, "escaped", text, make.codewords(path.read_bytes()), path)
+    root = check_drawing(tally, "escaped", text, codewords_of(path.read_bytes()), path)
     titles = [node.text for node in root.iter(SVG + "title")]
     tally.check("escaped message", 'A: address 11, alpha: <b>&amp; "x" ]]> \u2401\u2421' in titles, titles)
     every = bytes(range(1, 128)).replace(b'"', b'""')
     page_file.write_bytes(b'address,kind,message\n11,alpha,"%s"\n20,alpha,"\r\n\t"\n0,numeric,0123456789*U -][\n' % every)
     run("plan", page_file, path, folder / "cert")
-    root = check_drawing(tally, "all characters", run("show", path, "--svg").stdout, make.codewords(path.read_bytes()), path)
+    root = check_drawing(tally, "all characters", run("show", path, "--svg").stdout, codewords_of(path.read_bytes()), path)
     titles = [node.text for node in root.iter(SVG + "title")]
     due = "address 11, alpha: " + "".join(map(shown_byte, range(1, 128)))
     tally.check("each character of a message", any(title.endswith(due) for title in titles), titles)
@@ -316,7 +314,7 @@ def check_rows_wanted(tally, folder):
     """Some rows alone, of text and drawing; and words that name no rows."""
     chance, path = random.Random(28), folder / "tx"
     words = random_words(chance, 40)
-    path.write_bytes(make.transmission(words))
+    path.write_bytes(transmission(words))
     for word, first, last in (("3-7", 3, 7), ("3-", 3, None), ("5", 5, 5), ("1-1", 1, 1), ("38-99", 38, 99), ("40", 40, 40)):
         done = run("show", path, "--rows", word)
         tally.check(f"rows {word}", (done.returncode, done.stdout) == (0, text_of(words, first, last)), done.stdout)
@@ -348,23 +346,12 @@ def check_same_letters(tally, folder):
         chance.shuffle(shuffled)
         words = []
         for address in shuffled:
-            words += [IDLE] * (-len(words) % 16) + [bch(address // 8 << 13)] + [MESSAGE] * chance.randrange(1, 20)
-        path.write_bytes(make.transmission(words + [IDLE] * (-len(words) % 16)))
+            words += [IDLE] * (-len(words) % 16) + [address_word(address)] + [MESSAGE] * chance.randrange(1, 20)
+        path.write_bytes(transmission(words + [IDLE] * (-len(words) % 16)))
         root = ElementTree.fromstring(run("show", path, "--svg").stdout)
         groups = [(it.findtext(SVG + "title"), it.get("class")) for it in root.findall(SVG + "g") if it.find(SVG + "title") is not None]
         seen.append({title.split(",")[0]: hue for title, hue in groups})
     tally.check("letters and hues by address", seen[0] == seen[1] and len(seen[0]) == 60, seen)
-
-
-def bch(bits):
-    """The codeword with these high 21 bits below its highest: remainder by the generator, and even parity."""
-    word = bits & 0x7FFFF800
-    rest = word
-    for place in range(31, 10, -1):
-        if rest >> place & 1:
-            rest ^= 0b11101101001 << place - 10
-    word |= rest
-    return (word | bin(word).count("1") & 1).to_bytes(4, "big")
 
 
 def linear(part):
@@ -413,7 +400,7 @@ def check_hues(tally, folder):
     for one, other, due in SHARMA:
         tally.check(f"CIEDE2000 of {one} and {other}", abs(ciede2000(one, other) - due) < 1e-4, ciede2000(one, other))
     path = folder / "tx"
-    path.write_bytes(make.transmission([TONE]))
+    path.write_bytes(transmission([TONE]))
     style = ElementTree.fromstring(run("show", path, "--svg").stdout).findtext(SVG + "style")
     for scheme, rules, ink in zip(("light", "dark"), style.split("@media"), ("ffffff", "16181c"), strict=True):
         tints = dict(re.findall(r"\.p(\d+) rect\{fill:#(\w{6})\}", rules))
@@ -444,13 +431,13 @@ def luminance(colour):
 
 def check_faults(tally, folder):
     path = folder / "tx"
-    good = make.transmission([TONE] + [IDLE] * 15)
+    good = transmission([TONE] + [IDLE] * 15)
     for name, sent, said in (
         ("cut", good[:139], b"pocsag: the transmission is cut short\n"),
         ("short preamble", good[2:], b"pocsag: the preamble is too short\n"),
         ("no batch", good[:72], b"pocsag: the transmission has no batch\n"),
         ("wrong bit", good[:83] + bytes([good[83] ^ 1]) + good[84:], b"pocsag: codeword 1: not a codeword\n"),
-        ("orphan", make.transmission([MESSAGE] + [IDLE] * 15), b"pocsag: codeword 0: a message without an address\n"),
+        ("orphan", transmission([MESSAGE] + [IDLE] * 15), b"pocsag: codeword 0: a message without an address\n"),
         ("no synchronisation", good[:75] + b"\xd9" + good[76:], b"pocsag: batch 0: no synchronisation codeword\n"),
     ):
         path.write_bytes(sent)
@@ -474,18 +461,10 @@ def check_faults(tally, folder):
         tally.check(f"full device {words}", (done.returncode, done.stderr) == (3, b"pocsag: cannot write\n"), done)
 
 
-def refusals():
-    """The script that refuses memory and devices, as a module."""
-    spec = importlib.util.spec_from_file_location("refusals", TOP / "tests/faults/run.py")
-    module = importlib.util.module_from_spec(spec)
-    spec.loader.exec_module(module)
-    return module
-
-
 def check_large_writes(tally, folder, faults, library):
     """A transmission of many batches, each write of what shows it refused."""
     path = folder / "large"
-    path.write_bytes(make.transmission(random_words(random.Random(12), 400)))
+    path.write_bytes(transmission(random_words(random.Random(12), 400)))
     for asked in ([], ["--svg"], ["--list"]):
         command = [str(PROGRAM), "show", str(path), *asked]
         ample, _ = faults.run(command, library)
@@ -501,11 +480,11 @@ def check_large_writes(tally, folder, faults, library):
 
 def check_refusals(tally, folder):
     """Each growth, each read and each write refused: the answer with ample memory, or the fault of what was refused."""
-    faults = refusals()
+    faults = module_at("refusals", "tests/faults/run.py")
     library = faults.build(folder)
     path = folder / "tx"
     words = [ZERO, *[MESSAGE] * 5, TONE, *[MESSAGE] * 15, ZERO, *[MESSAGE] * 7, IDLE, IDLE]
-    path.write_bytes(make.transmission(words))
+    path.write_bytes(transmission(words))
     check_large_writes(tally, folder, faults, library)
     for asked in ([], ["--svg"], ["--list"]):
         command = [str(PROGRAM), "show", str(path), *asked]

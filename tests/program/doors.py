@@ -4,11 +4,10 @@ opened, emptied and judged."""
 import os
 import subprocess
 
-from tally import IS_EMULATED, PROGRAM, sampled
+from codewords import APART, HEADER
+from tally import IS_EMULATED, PROGRAM, run, said, sampled
 
-HEADER = b"address,kind,message\n"
 TONE = HEADER + b"8,tone0,\n"
-APART = HEADER + b"0,numeric," + b"1" * 75 + b"\n3,numeric," + b"1" * 75 + b"\n"
 BAD = HEADER + b"8,tone0,\n9,tone9,\n"
 QUOTE = HEADER + b'8,alpha,"Ward 3\n'
 OLD = b"older"
@@ -27,14 +26,6 @@ STOPPED = b"pocsag: search limit reached: at least 2 batches, 3 would do\n"
 NAMED_TWICE = b"pocsag: the same file is named twice\n"
 TOLD = b"pages 1\nbatches 1\n"
 PLAN = ["plan", "pages.csv", "tx.bin", "cert.bin"]
-
-
-def run(words, room, **more):
-    return subprocess.run([str(PROGRAM), *words], cwd=room, capture_output=True, timeout=110, **more)
-
-
-def said(done):
-    return done.returncode, done.stdout, done.stderr
 
 
 def fresh(folder, name):

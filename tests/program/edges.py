@@ -1,18 +1,11 @@
 """The program at the edges of its numbers: counts by the hundred, the largest files, the default limit of nodes."""
 
-import subprocess
 import sys
 
 sys.dont_write_bytecode = True
-from tally import IS_EMULATED, PROGRAM
+from codewords import HEADER, IDLE, LARGEST, SYNC, TONE
+from tally import IS_EMULATED, run
 
-HEADER = b"address,kind,message\n"
-SYNC, IDLE, TONE = "7CD215D8", "7A89C197", "000026EC"
-LARGEST = 268_435_456
-
-
-def run(words, folder, **more):
-    return subprocess.run([str(PROGRAM), *words], capture_output=True, cwd=folder, timeout=110, **more)
 
 
 def try_hundreds(tally, folder):
@@ -78,7 +71,7 @@ def places_of_faults(tally, folder):
         (folder / "pages.csv").write_bytes(HEADER + records)
         done = run(["plan", "pages.csv", "tx.bin", "cert.bin"], folder)
         tally.check(fault, (done.returncode, done.stdout, done.stderr) == (1, b"", b"pocsag: " + fault + b"\n"), done)
-    batch = bytes.fromhex(SYNC + 16 * IDLE)
+    batch = SYNC + 16 * IDLE
     start = b"\xaa" * 72 + 5000 * batch
     cases = [
         (b"\0" + batch[1:], b"batch 5000: no synchronisation codeword"),
@@ -107,7 +100,7 @@ def try_largest_files(tally, folder):
     """A page file and a transmission of as many bytes as may be, and of one more."""
     too_large = (1, b"", b"pocsag: the file is too large\n")
     listing = HEADER + b"8,tone0,\n"
-    batch = bytes.fromhex(SYNC + TONE + 15 * IDLE)
+    batch = SYNC + TONE + 15 * IDLE
     for size in (LARGEST, LARGEST + 1):
         path = folder / "largest"
         write_padded(path, size, b"", b"\xaa", batch)

@@ -9,14 +9,12 @@ import subprocess
 import sys
 
 sys.dont_write_bytecode = True
+import codewords
 import repair
-from tally import PROGRAM, sampled
+from codewords import IDLE, NUMERIC, SYNC, codeword, items_of, sent
+from tally import PROGRAM, run, sampled
 
-HEADER = "address,kind,message\n"
-GENERATOR = 0b11101101001
-IDLE, SYNC = bytes.fromhex("7A89C197"), bytes.fromhex("7CD215D8")
-MESSAGE = 1 << 20
-NUMERIC = "0123456789*U -]["
+HEADER = codewords.HEADER.decode()
 # The words for functions, in any order and number, and the functions that they name.
 TEXTS = {None: "", "0": "0", "1": "1", "2": "2", "0,1": "01", "2,0": "02", "1,1,1": "1", "2,1,0": "012"}
 REFUSED = ("", "3", "0,", ",1", "0,,1", "0 1", "0,4", "a", "+1", "00")
@@ -25,28 +23,6 @@ error: invalid value for '--text LIST': the functions are 0, 1 and 2, with comma
 between them, as in 0,1,2 or 1
 
 """
-
-
-def run(words, folder, stdin=b""):
-    return subprocess.run([str(PROGRAM), *words], input=stdin, capture_output=True, cwd=folder, timeout=110)
-
-
-def codeword(data):
-    """The codeword of 21 bits of data: ten check bits behind them and a bit of even parity."""
-    rest = data << 10
-    for place in range(30, 9, -1):
-        if rest >> place & 1:
-            rest ^= GENERATOR << place - 10
-    word = (data << 10 | rest) << 1
-    return (word | bin(word).count("1") & 1).to_bytes(4, "big")
-
-
-def items_of(codes, width, fill):
-    """The items of twenty bits of the codes, each code with its lowest bit first."""
-    bits = [code >> k & 1 for code in codes for k in range(width)]
-    while len(bits) % 20:
-        bits += [fill >> k & 1 for k in range(width)] if fill else [0]
-    return [int("".join(map(str, bits[k : k + 20])), 2) for k in range(0, len(bits), 20)]
 
 
 def codes_of(items, width):
@@ -69,19 +45,6 @@ def kind_and_message(function, items, texts):
     if function == 3:
         return "alpha", characters(items)
     return f"data{function}", "".join(f"{item:05X}" for item in items)
-
-
-def sent(pages):
-    """The transmission of pages (address, function, items), in this order."""
-    words = []
-    for address, function, items in pages:
-        while len(words) % 16 // 2 != address % 8:
-            words.append(IDLE)
-        words.append(codeword(address // 8 << 2 | function))
-        words += [codeword(MESSAGE | item) for item in items]
-    words += -len(words) % 16 * [IDLE]
-    batches = [SYNC + b"".join(words[k : k + 16]) for k in range(0, len(words), 16)]
-    return b"\xaa" * 72 + b"".join(batches)
 
 
 def random_pages(source):
@@ -179,7 +142,7 @@ def try_long(tally, folder):
 def try_words(tally, folder):
     """Words that are refused, and bytes that are: nothing is listed."""
     (folder / "tx.bin").write_bytes(sent([(11, 1, [5])]))
-    (folder / "short.bin").write_bytes(b"\xaa" * 71 + SYNC + 16 * IDLE)
+    (folder / "short.bin").write_bytes(codewords.PREAMBLE[1:] + SYNC + 16 * IDLE)
     for command in (["decode"], ["hear", "11"]):
         for word in REFUSED:
             for more in ([], ["--json"]):

@@ -3,11 +3,10 @@
 import itertools
 import os
 import random
-import subprocess
 
-from tally import PROGRAM, sampled
+from codewords import HEADER
+from tally import run, said, sampled
 
-HEADER = b"address,kind,message\n"
 LONG = b"1" * 75
 # Three pages: the first alone and the first two take two batches, and all take three.
 FILE = HEADER + b"3,numeric," + LONG + b"\n8,tone0,\n0,numeric," + LONG + b"\n"
@@ -16,19 +15,11 @@ NAMES = ("tx.bin", "cert.bin", "rest.csv", "why.bin")
 TWICE = b"pocsag: the same file is named twice\n"
 
 
-def run(words, folder, stdin=b""):
-    return subprocess.run([str(PROGRAM), *words], input=stdin, capture_output=True, cwd=folder, timeout=60)
-
-
 def fresh(folder, name):
     room = folder / name
     room.mkdir()
     (room / "pages.csv").write_bytes(FILE)
     return room
-
-
-def said(done):
-    return done.returncode, done.stdout, done.stderr
 
 
 def try_options(tally, folder):

@@ -14,23 +14,14 @@ sys.path[:0] = [str(HERE), *(str(HERE.parent / it) for it in (".", "calls", "cer
 import checker
 import sizes
 import trees
-from forms import IDLE, SYNC, codeword, due_of, items_of, sent
-from tally import MEMORY, PROGRAM, run_parts
+from codewords import HEADER, IDLE, LARGEST, PREAMBLE, SYNC, address_word, codeword, items_of, letters, sent
+from forms import due_of
+from tally import MEMORY, PROGRAM, run, run_parts, said
 
-HEADER = b"address,kind,message\n"
-LARGEST = 268_435_456
 PAGES = 20_000
 # The pages of a round, the letters of each, and the codewords that these take with their address. Each fills batches to the last slot,
 # since each frame has an even number of them, as many as the others; and so does each half.
 ROUNDS = [(3_200, 400, 141), (PAGES, 4_000, 1_401)]
-
-
-def run(words, folder, **more):
-    return subprocess.run([str(PROGRAM), *words], capture_output=True, cwd=folder, timeout=110, **more)
-
-
-def said(done):
-    return done.returncode, done.stdout, done.stderr
 
 
 def brief(done):
@@ -213,7 +204,7 @@ def repeated(pages, size):
 def try_readings(tally, folder):
     """Transmissions of pages of 4,000 letters, as text and, for function 0, as 7,000 digits: up to 4,000,000 bytes, whose answer is kept
     in memory, and LARGEST, whose answer is written as it is made."""
-    items = items_of(b"a" * 4_000, 7, 0)
+    items = letters(b"a" * 4_000)
     pages = [(8, 3, items), (8, 0, items)]
     forms = [
         (["decode", "tx.bin", "--repair", "--verbose"], "", False, b"pocsag: transmission tx.bin: corrected bits 0, words 0\n"),
@@ -240,8 +231,8 @@ def long_message(function, codes, width, batches):
 
     group = b"".join(map(batch, range(len(words))))
     times, rest = divmod(batches - 1, len(words))
-    first = SYNC + codeword(1 << 2 | function) + b"".join(words[place % len(words)] for place in range(15))
-    return b"\xaa" * 72 + first + times * group + b"".join(map(batch, range(rest))), 20 * (16 * batches - 1) // width
+    first = SYNC + address_word(8, function) + b"".join(words[place % len(words)] for place in range(15))
+    return PREAMBLE + first + times * group + b"".join(map(batch, range(rest))), 20 * (16 * batches - 1) // width
 
 
 def try_long_message(tally, folder):
@@ -258,7 +249,7 @@ def try_long_message(tally, folder):
 
 def try_shows(tally, folder):
     """The grid, the places and the drawing of transmissions, of which 89 batches show a page of 1,401 codewords and a tone of frame 1."""
-    pages = [(8, 3, items_of(b"a" * 4_000, 7, 0)), (9, 1, [])]
+    pages = [(8, 3, letters(b"a" * 4_000)), (9, 1, [])]
     for size in (4_000_000, LARGEST):
         tx, count = repeated(pages, size)
         (folder / "tx.bin").write_bytes(tx)
@@ -282,7 +273,7 @@ def try_shows(tally, folder):
 
 def tone_batch(address):
     """A batch that begins with a tone of frame 0 and is idle from there on."""
-    return SYNC + codeword(address // 8 << 2) + 15 * IDLE
+    return SYNC + address_word(address) + 15 * IDLE
 
 
 def try_captures(tally, folder):
@@ -306,10 +297,10 @@ def try_sounds(tally, folder):
     """A sound that is kept in memory, and the longest that a WAV file holds, which goes nowhere; each of a sample a bit: a header of
     44 bytes, and behind the bits 255 ms of silence, which are 612 bits."""
     words = ["wav", "tx.bin", "--rate", "2400", "--samples", "2400", "--invert", "--preamble", "584", "--tail", "255", "--verbose"]
-    (folder / "tx.bin").write_bytes(b"\xaa" * 72 + 20_000 * tone_batch(8))
+    (folder / "tx.bin").write_bytes(PREAMBLE + 20_000 * tone_batch(8))
     done, due = run(words, folder), 44 + 2 * (584 + 544 * 20_000 + 612)
     tally.check("wav of 20000 batches", (done.returncode, len(done.stdout), done.stderr) == (0, due, b""), (brief(done), due))
-    (folder / "tx.bin").write_bytes(b"\xaa" * 72 + 3_947_578 * tone_batch(8))
+    (folder / "tx.bin").write_bytes(PREAMBLE + 3_947_578 * tone_batch(8))
     with open("/dev/null", "wb") as nowhere:
         done = subprocess.run([str(PROGRAM), *words], cwd=folder, stdout=nowhere, stderr=subprocess.PIPE, timeout=110)
     tally.check("wav of 3947578 batches", (done.returncode, done.stderr) == (0, b""), done)

@@ -1,16 +1,15 @@
 """Every option of `plan`, `report` and `open` with every other that it can stand beside, on small rounds: what is
 told and written has to be what a brute force of tests/fewest and the other commands say of the round and the end."""
 
-import importlib.util
 import itertools
 import random
 import subprocess
 import sys
 
 sys.dont_write_bytecode = True
-from tally import PROGRAM, TOP, sampled
+from codewords import HEADER, in_order
+from tally import PROGRAM, module_at, sampled
 
-HEADER = b"address,kind,message\n"
 ENDS = ([], ["--end", "open"], ["--end", "closed"], ["--end=closed"], ["--idle-last"], ["--end", "idle"])
 LIMITS = ([], ["--limit", "100000"], ["--limit=1000000"], ["--limit", "1"])
 RATES = ("512", "1200", "2400")
@@ -26,15 +25,7 @@ def run(words, folder, stdin=b""):
     return done
 
 
-def brute_force():
-    """The script with the brute force, as a module."""
-    spec = importlib.util.spec_from_file_location("fewest", TOP / "tests/fewest/run.py")
-    module = importlib.util.module_from_spec(spec)
-    spec.loader.exec_module(module)
-    return module
-
-
-FEWEST = brute_force()
+FEWEST = module_at("fewest", "tests/fewest/run.py")  # has the brute force
 # Rounds as pages (address, message codewords): where the ends differ, where the least is one below the fewest, where
 # no search is needed; and some at random.
 ROUNDS = [
@@ -64,22 +55,13 @@ class Due:
         self.text = HEADER + "".join(FEWEST.record(*page) for page in pages).encode()
         self.codewords = sum(length for _, length in self.shapes)
 
-    def in_order(self):
-        """The batches of file order, which is the same for every end."""
-        index = 0
-        for frame, length in self.shapes:
-            while index % 16 // 2 != frame:
-                index += 1
-            index += length
-        return (index + 15) // 16
-
     def shown(self, bound):
         """What `check` prints of a certificate for the bound."""
         return b"at least %d batches%s\n" % (bound, FEWEST.TOLD[self.end].encode())
 
     def report(self, rate, batches):
         bits = 576 + 544 * batches
-        counts = (len(self.pages), self.codewords, self.in_order(), batches, 16 * batches - self.codewords, bits)
+        counts = (len(self.pages), self.codewords, in_order(self.shapes), batches, 16 * batches - self.codewords, bits)
         names = (b"pages", b"codewords", b"in_order", b"batches", b"idles", b"bits")
         lines = b"".join(b"%s %d\n" % pair for pair in zip(names, counts))
         return lines + b"airtime_ms %d\n" % -(-1000 * bits // int(rate))

@@ -2,19 +2,14 @@
 wrong bits in each word all is told that is told of the transmission itself, and a word with three stays a fault."""
 
 import random
-import subprocess
 import sys
 
 sys.dont_write_bytecode = True
-from tally import PROGRAM, sampled
+from codewords import HEADER
+from tally import run, sampled
 
-HEADER = b"address,kind,message\n"
 FRONT, WORD = 72, 4
 VIEWS = ([], ["--rows", "1"], ["--rows", "2-"], ["--svg"], ["--svg", "--rows", "1-2"], ["--list"])
-
-
-def run(words, folder):
-    return subprocess.run([str(PROGRAM), *words], capture_output=True, cwd=folder, timeout=110)
 
 
 def random_file(source):

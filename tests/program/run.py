@@ -6,7 +6,6 @@ It takes the binary that the gate left in crates/pocsag_app/out. The last line i
 
 import os
 import pathlib
-import subprocess
 import sys
 
 sys.dont_write_bytecode = True
@@ -20,26 +19,11 @@ import options
 import repair
 import usage
 import verbose
-from tally import ENDS, PROGRAM, run_parts, sampled
+from codewords import HEADER, HEADS, IDLE, ONES as MESSAGE, TONE, ZERO, transmission
+from tally import ENDS, run, run_parts, sampled
 
-HEADER = b"address,kind,message\n"
-PREAMBLE = b"\xaa" * 72
-SYNC = "7CD215D8"
-IDLE = "7A89C197"
-# How certificates begin, and what `check` prints of them, for each end.
-HEADS = {"open": b"PCB2\0", "closed": b"PCB2\1", "idle": b"PCB4"}
+# What `check` prints of a certificate for each end.
 TOLD = {"open": b"", "closed": b" with a closed end", "idle": b" with an idle last"}
-MESSAGE = "C44447B9"
-
-
-def run(words, folder, stdin=b""):
-    return subprocess.run(
-        [str(PROGRAM), *words], input=stdin, capture_output=True, cwd=folder, timeout=110
-    )
-
-
-def transmission(*batches):
-    return PREAMBLE + b"".join(bytes.fromhex("".join([SYNC, *words])) for words in batches)
 
 
 def ones(count):
@@ -48,19 +32,19 @@ def ones(count):
 
 def places(word, slots):
     """The transmissions of one batch with the word in one of the slots, and idles elsewhere."""
-    return [transmission(slot * [IDLE] + [word] + (15 - slot) * [IDLE]) for slot in slots]
+    return [transmission([*slot * [IDLE], word]) for slot in slots]
 
 
 # The rounds of the worked examples: the fewest batches with the open end and with the closed end, those of
 # file order, and where they are known the transmissions with the open end that are possible.
-EXACT_SENT = ["00000000"] + 5 * [MESSAGE] + ["00000000"] + 9 * [MESSAGE]
-TIGHT_SENT = (["00000000"] + 5 * [MESSAGE] + ["000026EC"] + 9 * [MESSAGE], 6 * [MESSAGE] + ["00000000"] + 9 * [MESSAGE])
+EXACT_SENT = [ZERO] + 5 * [MESSAGE] + [ZERO] + 9 * [MESSAGE]
+TIGHT_SENT = ([ZERO] + 5 * [MESSAGE] + [TONE] + 9 * [MESSAGE], 6 * [MESSAGE] + [ZERO] + 9 * [MESSAGE])
 ROUNDS = {
-    "lone-tone": (b"8,tone0,\n", 1, 1, 1, places("000026EC", (0, 1))),
-    "lone-address-7": (b"2007663,tone0,\n", 1, 1, 1, places("7A89A470", (14, 15))),
+    "lone-tone": (b"8,tone0,\n", 1, 1, 1, places(TONE, (0, 1))),
+    "lone-address-7": (b"2007663,tone0,\n", 1, 1, 1, places(bytes.fromhex("7A89A470"), (14, 15))),
     "five-digits": (b"0,numeric,12345\n", 1, 1, 1, None),
     "three-tones-one-frame": (b"5,tone0,\n13,tone0,\n21,tone0,\n", 2, 2, 2, None),
-    "one-full-batch": (b"0,numeric," + ones(75) + b"\n", 1, 2, 1, [transmission(["00000000"] + 15 * [MESSAGE])]),
+    "one-full-batch": (b"0,numeric," + ones(75) + b"\n", 1, 2, 1, [transmission([ZERO] + 15 * [MESSAGE])]),
     "loop-apart": (b"3,numeric," + ones(75) + b"\n", 2, 2, 2, None),
     "loops-apart": (b"0,numeric," + ones(75) + b"\n3,numeric," + ones(75) + b"\n", 3, 3, 3, None),
     "two-numeric-exact": (b"0,numeric," + ones(25) + b"\n3,numeric," + ones(45) + b"\n", 1, 2, 1, [transmission(EXACT_SENT)]),
@@ -69,7 +53,7 @@ ROUNDS = {
         2,
         3,
         3,
-        [transmission(*TIGHT_SENT)],
+        [transmission(sum(TIGHT_SENT, []))],
     ),
     "two-in-last-frame": (b"7,numeric,12345\n15,numeric,12345\n", 2, None, 2, None),
     "closed-mixed": (b"0,numeric," + ones(65) + b"\n7,tone0,\n15,numeric," + ones(80) + b"\n", 2, 2, 2, None),
@@ -84,11 +68,11 @@ ROUNDS = {
     "long-alpha": (b"0,alpha," + 4000 * b"A" + b"\n", 88, None, None, None),
     "file-order-2000": (b"".join(b"%d,tone0,\n" % k for k in range(2000)), 125, 125, 250, None),
     "round-size": (b"".join(b"%d,tone0,\n" % k for k in range(20000)), 1250, 1250, 2500, None),
-    "crlf": (b"8,tone0,\r\n", 1, 1, 1, places("000026EC", (0, 1))),
-    "empty-lines": (b"\n\n8,tone0,\n\n", 1, 1, 1, places("000026EC", (0, 1))),
-    "quoted-fields": (b'"8","tone0",""\n', 1, 1, 1, places("000026EC", (0, 1))),
-    "leading-zeros": (b"0000008,tone0,\n", 1, 1, 1, places("000026EC", (0, 1))),
-    "no-last-line-feed": (b"8,tone0,", 1, 1, 1, places("000026EC", (0, 1))),
+    "crlf": (b"8,tone0,\r\n", 1, 1, 1, places(TONE, (0, 1))),
+    "empty-lines": (b"\n\n8,tone0,\n\n", 1, 1, 1, places(TONE, (0, 1))),
+    "quoted-fields": (b'"8","tone0",""\n', 1, 1, 1, places(TONE, (0, 1))),
+    "leading-zeros": (b"0000008,tone0,\n", 1, 1, 1, places(TONE, (0, 1))),
+    "no-last-line-feed": (b"8,tone0,", 1, 1, 1, places(TONE, (0, 1))),
 }
 
 # Their fewest batches with an idle last.
@@ -143,7 +127,7 @@ def try_round(tally, folder, name, end):
     wrote = tx.read_bytes()
     holds = len(wrote) == 72 + 68 * batches and (end != "open" or sent is None or wrote in sent)
     tally.check(f"transmission of {name} {end}", holds, wrote[:200].hex())
-    holds = {"open": True, "closed": wrote[-4] < 128, "idle": wrote[-4:] == bytes.fromhex(IDLE)}[end]
+    holds = {"open": True, "closed": wrote[-4] < 128, "idle": wrote[-4:] == IDLE}[end]
     tally.check(f"last codeword of {name} {end}", holds, wrote[-4:])
     done = run(["check", "pages.csv", "cert.bin"], folder)
     told = b"at least %d batches" % batches + TOLD[end] + b"\n"
@@ -406,7 +390,7 @@ def try_check(tally, folder):
     tally.check("check too many nodes", done.returncode == 1 and done.stderr == told, done)
 
 
-LISTING = b"address,kind,message\n"
+LISTING = HEADER
 
 
 def flipped(words, *bits):
@@ -416,16 +400,17 @@ def flipped(words, *bits):
     return words[:72] + body
 
 
-LONE_TONE = transmission(["000026EC"] + 15 * [IDLE])
-ACROSS = transmission(15 * [IDLE] + ["00000000"], ["C261572C"] + 15 * [IDLE])
-FIVE_DIGITS = transmission(["00000000", "C261572C"] + 14 * [IDLE])
-WRONG_IDLE = transmission(["000026EC", "7A89C194"] + 14 * [IDLE])
+FIVE = bytes.fromhex("C261572C")  # the message codeword of 12345
+LONE_TONE = transmission([TONE])
+ACROSS = transmission([*15 * [IDLE], ZERO, FIVE])
+FIVE_DIGITS = transmission([ZERO, FIVE])
+WRONG_IDLE = transmission([TONE, bytes.fromhex("7A89C194")])
 WRONG_SYNC = LONE_TONE[:72] + bytes.fromhex("7CD215D9") + LONE_TONE[76:]
 DECODES = [
     ("lone-tone", LONE_TONE, LISTING + b"8,tone0,\n", b"", 0),
     ("longer preamble", b"\xaa" * 30 + LONE_TONE, LISTING + b"8,tone0,\n", b"", 0),
     ("page-across-batches", ACROSS, LISTING + b"7,numeric,12345\n", b"", 0),
-    ("trailing-spaces", transmission(["00000000", "C2199DEA"] + 14 * [IDLE]), LISTING + b"0,numeric,12\n", b"", 0),
+    ("trailing-spaces", transmission([ZERO, bytes.fromhex("C2199DEA")]), LISTING + b"0,numeric,12\n", b"", 0),
     ("idles", transmission(16 * [IDLE]), LISTING, b"", 0),
     ("cut to 139", LONE_TONE[:139], b"", b"the transmission is cut short", 1),
     ("cut to 72", LONE_TONE[:72], b"", b"the transmission has no batch", 1),
@@ -433,8 +418,8 @@ DECODES = [
     ("empty", b"", b"", b"the preamble is too short", 1),
     ("wrong-bit-in-idle", WRONG_IDLE, b"", b"codeword 1: not a codeword", 1),
     ("wrong-synchronisation", WRONG_SYNC, b"", b"batch 0: no synchronisation codeword", 1),
-    ("orphan", transmission([IDLE, "C261572C"] + 14 * [IDLE]), b"", b"codeword 1: a message without an address", 1),
-    ("orphan first", transmission([MESSAGE] + 15 * [IDLE]), b"", b"codeword 0: a message without an address", 1),
+    ("orphan", transmission([IDLE, FIVE]), b"", b"codeword 1: a message without an address", 1),
+    ("orphan first", transmission([MESSAGE]), b"", b"codeword 0: a message without an address", 1),
 ]
 HEARS = [
     ("lone-tone", b"8", LONE_TONE, LISTING + b"8,tone0,\n", b"", 0),

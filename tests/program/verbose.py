@@ -2,14 +2,12 @@
 system refused it, or the line and the text of the record that is refused."""
 
 import os
-import subprocess
 import sys
 
 sys.dont_write_bytecode = True
-from tally import PROGRAM, sampled
+from codewords import APART, HEADER, IDLE, PREAMBLE
+from tally import run, sampled
 
-HEADER = b"address,kind,message\n"
-APART = HEADER + b"0,numeric," + b"1" * 75 + b"\n3,numeric," + b"1" * 75 + b"\n"
 LATE = HEADER + b"3,numeric," + b"1" * 75 + b"\n"
 PLAN = ["plan", "p.csv", "tx.bin", "cert.bin"]
 
@@ -56,7 +54,7 @@ PAGE_FILES = [
 ]
 
 # A batch of idles whose synchronisation codeword has a wrong bit, and whose last word has two or three.
-TWICE_DAMAGED, BEYOND_REPAIR = (b"\xaa" * 72 + bytes.fromhex("7CD215D9" + "7A89C197" * 15 + last) for last in ("7A89C194", "7A89C190"))
+TWICE_DAMAGED, BEYOND_REPAIR = (PREAMBLE + bytes.fromhex("7CD215D9") + 15 * IDLE + bytes.fromhex(last) for last in ("7A89C194", "7A89C190"))
 
 # Files, words, standard input, status, what is told on standard output, the fault, and the notes.
 TWICE = "the same file is named twice"
@@ -139,10 +137,6 @@ CASES = [
      "ok 1\nrefused: cannot read or open a file\nrefused: cannot read or open a file\nok 2\nrefused: cannot write\n", None,
      [f"transmission none/tx.bin: {NO_FILE}", f"certificate none/c: {NO_FILE}", f"transmission /dev/full: {NO_SPACE}"]),
 ]
-
-
-def run(words, folder, stdin=b""):
-    return subprocess.run([str(PROGRAM), *words], input=stdin, capture_output=True, cwd=folder, timeout=110)
 
 
 def fresh(folder):

@@ -1,7 +1,5 @@
 """A copy of the repository with a release of its sources, for this processor alone, and those who run it."""
 
-import importlib.machinery
-import importlib.util
 import os
 import pathlib
 import re
@@ -36,14 +34,6 @@ echo "$*" >> "{calls}"
 [ "$1" = run ] || exit 0
 mkdir -p out && cd out && printf '#!/bin/sh\\necho built "$@"\\n' > "$(basename "$(dirname "$PWD")")" && chmod +x *
 """
-
-
-def made_of(path, name):
-    """A script without an ending as a module."""
-    loader = importlib.machinery.SourceFileLoader(name, str(path))
-    module = importlib.util.module_from_spec(importlib.util.spec_from_loader(name, loader))
-    loader.exec_module(module)
-    return module
 
 
 class Copy:

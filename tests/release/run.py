@@ -6,7 +6,6 @@ left out. The last line is 'N passed, M failed'.
 """
 
 import hashlib
-import io
 import lzma
 import os
 import pathlib
@@ -19,8 +18,8 @@ import time
 
 sys.dont_write_bytecode = True
 sys.path.insert(0, str(pathlib.Path(__file__).resolve().parent))
-from copies import Copy, User, made_of
-from tally import LIBRARY, TOP, Tally
+from copies import Copy, User
+from tally import LIBRARY, TOP, Tally, module_at
 
 sys.path[:0] = [str(TOP / "release"), str(TOP / "clib")]
 import packages
@@ -84,7 +83,7 @@ def try_kinds(tally):
 
 def renew_sums(copy):
     """MANIFEST and SHA256SUMS as they would be of the packages that are there now."""
-    module = made_of(copy.top / "release/make", "forger")
+    module = module_at("forger", copy.top / "release/make")
     folder = copy.top / "release"
     there = {it.name: it.read_bytes() for it in folder.iterdir() if it.name.endswith(ENDINGS)}
     kept = [line for line in (folder / "MANIFEST").read_text().splitlines(True) if "  " not in line]

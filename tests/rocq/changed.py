@@ -1,32 +1,18 @@
 """Changed transmissions, each made from one that carries its round in the fewest batches."""
 
-import struct
-
-SYNC, IDLE = 0x7CD215D8, 0x7A89C197
-PREAMBLE = b"\xaa" * 72
-
-
-def codewords(sent):
-    """The codewords of a transmission as the product writes it."""
-    words = [it for (it,) in struct.iter_unpack(">I", sent[len(PREAMBLE):])]
-    return [word for place, word in enumerate(words) if place % 17]
-
-
-def sent_from(words):
-    batches = (words[at:at + 16] for at in range(0, len(words), 16))
-    return PREAMBLE + b"".join(struct.pack(">17I", SYNC, *batch) for batch in batches)
+from codewords import IDLE, PREAMBLE, SYNC, codewords_of, transmission
 
 
 def pages_in(words):
     """Each page as its first index and the index behind it."""
-    begins = [at for at, word in enumerate(words) if word != IDLE and word < 1 << 31]
-    ends = [next((at for at in range(begin + 1, len(words)) if words[at] < 1 << 31), len(words)) for begin in begins]
+    begins = [at for at, word in enumerate(words) if word != IDLE and word[0] < 128]
+    ends = [next((at for at in range(begin + 1, len(words)) if words[at][0] < 128), len(words)) for begin in begins]
     return list(zip(begins, ends))
 
 
 def two_pages_exchanged(source, sent):
     """Two pages of one length in different frames, exchanged; none where there are no such pages."""
-    words = codewords(sent)
+    words = codewords_of(sent)
     found = pages_in(words)
     choices = [
         (a, b) for a in found for b in found
@@ -36,18 +22,18 @@ def two_pages_exchanged(source, sent):
     if not choices:
         return None
     (a, after_a), (b, after_b) = source.choice(choices)
-    return sent_from(words[:a] + words[b:after_b] + words[after_a:b] + words[a:after_a] + words[after_b:])
+    return transmission(words[:a] + words[b:after_b] + words[after_a:b] + words[a:after_a] + words[after_b:])
 
 
 def one_batch_more(source, sent):
-    return sent + struct.pack(">17I", SYNC, *[IDLE] * 16)
+    return sent + SYNC + 16 * IDLE
 
 
 def a_page_lost(source, sent):
     """Idles in place of a page."""
-    words = codewords(sent)
+    words = codewords_of(sent)
     begin, end = source.choice(pages_in(words))
-    return sent_from(words[:begin] + [IDLE] * (end - begin) + words[end:])
+    return transmission(words[:begin] + [IDLE] * (end - begin) + words[end:])
 
 
 def a_bit_wrong(source, sent):

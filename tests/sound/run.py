@@ -18,14 +18,13 @@ import wave
 
 sys.dont_write_bytecode = True
 sys.path.insert(0, str(pathlib.Path(__file__).resolve().parents[1]))
+from codewords import HEADER, IDLE, ONES, SYNC, TONE, transmission
 from tally import ENDS, PROGRAM, run_parts, sampled
 
-HEADER = b"address,kind,message\n"
 RATES = (512, 1200, 2400)
 SAMPLES = (2_400, 8_000, 22_050, 44_100, 48_000, 96_000, 192_000)
-SYNC, IDLE, TONE = (bytes.fromhex(word) for word in ("7CD215D8", "7A89C197", "000026EC"))
 # A tone in the first codeword of a batch.
-SENT = b"\xaa" * 72 + SYNC + TONE + 15 * IDLE
+SENT = transmission([TONE])
 ROUNDS = {
     "a tone": b"8,tone0,\n",
     "two pages": b"0,numeric,5550199\n11,alpha,\"Pump 4, hall B: pressure low\"\n",
@@ -149,7 +148,7 @@ def try_refused(tally, folder):
     first, rest = SENT[:72], SENT[72:]
     none = [
         b"", b"x", first[:71] + rest, first, SENT[:-1], SENT + SYNC, first + IDLE + rest[4:], first + SYNC + b"\x12\x34\x56\x78" + rest[8:],
-        first + SYNC + bytes.fromhex("C44447B9") + rest[8:],
+        first + SYNC + ONES + rest[8:],
     ]  # fmt: skip
     for bytes_ in none:
         decoded = subprocess.run([str(PROGRAM), "decode", "-"], input=bytes_, capture_output=True, timeout=60)

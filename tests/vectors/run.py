@@ -18,9 +18,9 @@ VECTORS = TOP / "vectors"
 sys.path[:0] = [str(TOP / "tests"), str(TOP / "tests/certificates"), str(VECTORS)]
 import checker
 import make
+from codewords import IDLE
 from tally import PROGRAM, run_parts, sampled
 
-IDLE = bytes.fromhex("7A89C197")
 FAULT = "pocsag: "
 TOLD = ("refused", "no certificate")  # the answers of the second checker where the product prints a fault
 

@@ -1,9 +1,9 @@
 #!/usr/bin/env python3
-"""Lists each word of specs/ that a public clause cites, and wants a comment above its definition, and docs/DEFINITIONS.md to be
-what these comments give; and wants each word of specs/ to have one meaning: no name is given in two modules. Of the code it wants that no
-two crates give a name to two things, a module aside, but for the names of twice.txt, which says of each why; that
-each line of a clause ends at column 120 (break_lines.py breaks longer ones); that `thiserror` derives each fault, and a
-table of tests has its text; and that a crate uses the libraries that crates.txt gives it.
+"""Lists each word of specs/ that a public clause cites, and wants a comment above its definition, which tools/definitions.py
+prints; and wants each word of specs/ to have one meaning: no name is given in two modules. Of the code it wants that no two
+crates give a name to two things, a module aside, but for the names of twice.txt, which says of each why; that each line of
+a clause ends at column 120 (break_lines.py breaks longer ones); that `thiserror` derives each fault, and a table of tests
+has its text; and that a crate uses the libraries that crates.txt gives it.
 
 A clause is public where it stands on a function that its crate passes on, on a method of a type that it
 passes on, on a method of a public trait, or on a command of the program. The last line is
@@ -17,6 +17,7 @@ import sys
 sys.dont_write_bytecode = True
 sys.path[:0] = [str(pathlib.Path(__file__).resolve().parents[1]), str(pathlib.Path(__file__).resolve().parents[2] / "tools")]
 import definitions
+import workspace
 from tally import TOP, Tally
 
 IMPORT = re.compile(r"ghost use Rattle\.(pocsag_\w+)\.specs\.([\w.]+)\.\{([^}]*)\};")
@@ -228,7 +229,10 @@ def main():
     wanted, told = wanted_words(), set(definitions.told())
     for word, cited in sorted(wanted.items()):
         tally.check(".specs.".join(word[:2]) + f".{word[2]}", definitions.given_at(word) in told, f"cited by {cited}: its definition has no comment")
-    tally.check("docs/DEFINITIONS.md", definitions.PAGE.read_text() == definitions.page(wanted), "tools/definitions.py writes another page")
+    crates, given = workspace.read_crates(), set(map(definitions.given_at, wanted))
+    for crate in sorted({word[0] for word in given}):
+        text = definitions.section(crates[crate], given)
+        tally.check(f"what tools/definitions.py prints of {crate}", all(f"`{name}`" in text for place, _, name in given if place == crate), text)
     return tally.end()
 
 

@@ -1,0 +1,81 @@
+"""Codewords, transmissions and page files, made by the rules of docs/CERTIFICATES.md and by no code of the product. A codeword is
+four bytes. A page is its address, its function, and the items of its message, each of twenty bits."""
+
+HEADER = b"address,kind,message\n"
+LARGEST = 268_435_456  # bytes of a page file or a transmission
+# Two pages that fill a batch each and need three.
+APART = HEADER + b"0,numeric," + b"1" * 75 + b"\n3,numeric," + b"1" * 75 + b"\n"
+# How the certificates of each end begin.
+HEADS = {"open": b"PCB2\0", "closed": b"PCB2\1", "idle": b"PCB4"}
+PREAMBLE = b"\xaa" * 72
+SYNC, IDLE = bytes.fromhex("7CD215D8"), bytes.fromhex("7A89C197")
+# The address codewords of a tone for 0 and for 8, and the message codeword of the digits 11111.
+ZERO, TONE, ONES = bytes.fromhex("00000000"), bytes.fromhex("000026EC"), bytes.fromhex("C44447B9")
+MESSAGE = 1 << 20
+NUMERIC = "0123456789*U -]["
+
+
+def number_of(data):
+    """The codeword of 21 bits, as a number: ten check bits behind them, which make it a multiple of 0x769, and a bit of even parity."""
+    rest = data << 10
+    for place in range(30, 9, -1):
+        if rest >> place & 1:
+            rest ^= 0x769 << place - 10
+    word = (data << 10 | rest) << 1
+    return word | word.bit_count() & 1
+
+
+def codeword(data):
+    return number_of(data).to_bytes(4, "big")
+
+
+def address_word(address, function=0):
+    return codeword(address // 8 << 2 | function)
+
+
+def items_of(codes, width, fill):
+    """The items of the codes, each code with its lowest bit first."""
+    bits = [code >> k & 1 for code in codes for k in range(width)]
+    while len(bits) % 20:
+        bits += [fill >> k & 1 for k in range(width)] if fill else [0]
+    return [int("".join(map(str, bits[k : k + 20])), 2) for k in range(0, len(bits), 20)]
+
+
+def digits(text):
+    """The items of a numeric message."""
+    return items_of(map(NUMERIC.index, text), 4, 12)
+
+
+def letters(text):
+    """The items of an alphanumeric message, a text or bytes."""
+    return items_of(text.encode("latin-1") if isinstance(text, str) else text, 7, 0)
+
+
+def transmission(words):
+    """The bytes of codewords, in batches, the last of which idles fill."""
+    words = [*words, *[IDLE] * (-len(words) % 16)]
+    return PREAMBLE + b"".join(SYNC + b"".join(words[at : at + 16]) for at in range(0, len(words), 16))
+
+
+def sent(pages):
+    """The transmission of pages in this order, each at the next slot of its frame."""
+    words = []
+    for address, function, items in pages:
+        while len(words) % 16 // 2 != address % 8:
+            words.append(IDLE)
+        words += [address_word(address, function), *(codeword(MESSAGE | item) for item in items)]
+    return transmission(words)
+
+
+def in_order(lengths):
+    """How many batches pages take in this order, each its frame and its codewords, at the first slot of its frame behind the one before."""
+    index = 0
+    for frame, length in lengths:
+        index += (2 * frame - index) % 16 * (index % 16 // 2 != frame) + length
+    return -(-index // 16)
+
+
+def codewords_of(sent):
+    """The codewords of a transmission with the shortest preamble."""
+    words = [sent[at : at + 4] for at in range(len(PREAMBLE), len(sent), 4)]
+    return [word for place, word in enumerate(words) if place % 17]
