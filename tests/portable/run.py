@@ -109,11 +109,12 @@ def limited(limit, program, *words):
 
 
 def try_memory(tally, room, program):
-    """Under each limit of memory the answer is that with ample memory, or that there is none."""
+    """Under each limit of memory the answer is that with ample memory, or that there is none. With less than the first the system does
+    not load the program."""
     pages = room / "many.csv"
     pages.write_text("address,kind,message\n" + "".join(f"{k},numeric,{k}\n" for k in range(8000)))
     found = []
-    for limit in (*range(8_000, 50_000, 2_000), 1_000_000):
+    for limit in (*range(12_000, 50_000, 2_000), 1_000_000):
         done = limited(f"-v {limit}", program, "report", "--rate", "1200", str(pages))
         found.append((done.returncode, done.stdout, done.stderr))
     number = found.index(found[-1])
@@ -209,7 +210,7 @@ def main(words):
     with tempfile.TemporaryDirectory() as name:
         room = pathlib.Path(name)
         room.chmod(0o755)
-        folder = compiled(room, "native")
+        folder = compiled(room, "native", "CFLAGS=-O1")
         program = shutil.copy(folder / "bin/pocsag", room / "pocsag")
         try_cases(tally, room, program)
         for part in (try_memory, try_stack):
