@@ -107,7 +107,9 @@ def sources():
 def program(name, *settings, of=None):
     """The program as a compiler makes it of the sources or these files, by settings of the Makefile, below a name of out/portable."""
     files = {file: data for file, data in (of or sources()).items() if file.endswith((".c", ".h", "Makefile"))}
-    with made_once(name, sum_of([], sorted(files.items()), settings)) as (folder, is_made):
+    compiler = next((it.removeprefix("CC=") for it in settings if it.startswith("CC=")), "cc")
+    version = subprocess.run([compiler, "--version"], check=True, capture_output=True, text=True).stdout
+    with made_once(name, sum_of([], sorted(files.items()), settings, version)) as (folder, is_made):
         if not is_made:
             for file, data in files.items():
                 (folder / file).write_bytes(data)
