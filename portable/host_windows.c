@@ -227,6 +227,7 @@ u64 Z_envZ_read(Host *host, u32 number, u64 to, u64 size)
             switch (GetLastError()) {
             case ERROR_BROKEN_PIPE: return 0;
             case ERROR_ACCESS_DENIED: return (s64)fail(host, LINUX_EBADF); /* It is open for writing. */
+            case ERROR_INVALID_FUNCTION: return (s64)fail(host, is_folder(file) ? LINUX_EISDIR : LINUX_ENOTSUP);
             default: return (s64)refused(host);
             }
     } while (got == 0 && size > 0 && PeekNamedPipe(file, 0, 0, 0, 0, 0));

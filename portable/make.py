@@ -104,11 +104,12 @@ def sources():
         return {it.name: it.read_bytes() for it in [*folder.iterdir(), *COPIED]}
 
 
-def program(name, *settings):
-    """The program as a compiler makes it, by settings of the Makefile, below a name of out/portable."""
-    files = sources()
-    total = hashlib.sha256(repr((sorted(files.items()), settings)).encode()).hexdigest()
-    with made_once(name, total) as (folder, is_made):
+def program(name, *settings, of=None):
+    """The program as a compiler makes it of the sources or these files, by settings of the Makefile, below a name of out/portable."""
+    files = {file: data for file, data in (of or sources()).items() if file.endswith((".c", ".h", "Makefile"))}
+    compiler = next((it.removeprefix("CC=") for it in settings if it.startswith("CC=")), "cc")
+    version = subprocess.run([compiler, "--version"], check=True, capture_output=True, text=True).stdout
+    with made_once(name, sum_of([], sorted(files.items()), settings, version)) as (folder, is_made):
         if not is_made:
             for file, data in files.items():
                 (folder / file).write_bytes(data)

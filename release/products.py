@@ -123,9 +123,7 @@ def cross_compiled():
     build.build(crates, [PROGRAM, LIBRARY])
     CROSS.mkdir(parents=True, exist_ok=True)
     made = {name: Cross(crates, name) for name in (PROGRAM, LIBRARY)}
-    with contextlib.ExitStack() as held:
-        for lock in kit.lock([crates[name].folder for name in made]) if any(it.is_old() for it in made.values()) else ():
-            held.callback(os.close, lock)
+    with kit.lock([crates[name].folder for name in made] if any(it.is_old() for it in made.values()) else []):
         for ended in lanes.Lanes([it.task for it in made.values() if it.is_old()]).run():
             if ended.status:
                 raise build.Refused(f"{ended.name} is not built for ARM64:\n{ended.text}")

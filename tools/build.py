@@ -127,19 +127,14 @@ def prove(crates, names):
         begun.append(name)
         say(f"{now()} proving {name} ({len(begun)} of {len(wanted)})")
 
-    held = kit.lock([it.folder for it in wanted])
-    try:
-        with contextlib.closing(lanes.Lanes([proof(crates, it) for it in wanted], tell_begun).run()) as ended:
-            for it in ended:
-                if it.status:
-                    print(it.text, end="", file=sys.stderr)
-                    raise Refused(f"{it.name} failed, as shown above")
-                busy[it.name] = it.busy
-                is_new = is_new and TAKEN not in it.text
-                say(f"{now()} {it.name} proved in {lanes.minutes(it.took)}, {lanes.minutes(it.busy)} of processors")
-    finally:
-        for it in held:
-            os.close(it)
+    with kit.lock([it.folder for it in wanted]), contextlib.closing(lanes.Lanes([proof(crates, it) for it in wanted], tell_begun).run()) as ended:
+        for it in ended:
+            if it.status:
+                print(it.text, end="", file=sys.stderr)
+                raise Refused(f"{it.name} failed, as shown above")
+            busy[it.name] = it.busy
+            is_new = is_new and TAKEN not in it.text
+            say(f"{now()} {it.name} proved in {lanes.minutes(it.took)}, {lanes.minutes(it.busy)} of processors")
     say(f"proved in {now()}" + (f", {sum(busy.values()) / busy[BASE]:.1f} times {BASE}" if is_new and busy[BASE] else ""))
 
 

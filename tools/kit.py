@@ -8,6 +8,7 @@ the script that this knows, the command itself is called, which locks and waits 
 repository reads the toolchain's script.
 """
 
+import contextlib
 import functools
 import importlib.machinery
 import importlib.util
@@ -41,8 +42,11 @@ def crate_in(folder):
 
 
 def lock(folders):
-    """Keeps other commands of the toolchain out of these crates' folders until what this gives is closed."""
-    return script().rtlib.lock([types.SimpleNamespace(folder=str(it)) for it in folders]) if script() else []
+    """Keeps other commands of the toolchain out of these crates' folders until what this gives, a context, is closed."""
+    held = contextlib.ExitStack()
+    for it in script().rtlib.lock([types.SimpleNamespace(folder=str(it)) for it in folders]) if script() else []:
+        held.callback(os.close, it)
+    return held
 
 
 def is_laid_out(folder):

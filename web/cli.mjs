@@ -34,11 +34,11 @@ function openSync(path, names, mode) {
   }
 }
 
-/* The words behind the name of this script. Of a word that is no UTF-8 Node keeps no more than that, but Linux shows its bytes. On Windows a
+/* The words behind the name of this script. Of a word that is no UTF-8 Node keeps no more than that, but Linux with /proc shows its bytes. On Windows a
  * path may have the stroke that the program does not know. */
 function words() {
   const given = process.argv.slice(2).map((word) => Buffer.from(IS_WINDOWS ? word.replaceAll("\\", "/") : word));
-  if (process.platform !== "linux") return given;
+  if (!fs.existsSync("/proc/self/cmdline")) return given;
   const shown = fs.readFileSync("/proc/self/cmdline", "latin1").split("\0").slice(0, -1);
   return shown.slice(shown.length - given.length).map((word) => Buffer.from(word, "latin1"));
 }

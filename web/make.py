@@ -101,9 +101,9 @@ def proved_code(module):
     crate = module.crate
     built, kept = crate / "out" / module.built, crate / "out" / f"{crate.name}.bc"
     record, total = kept.with_suffix(".bc.of"), hashlib.sha256(built.read_bytes()).hexdigest()
-    if kept.is_file() and record.is_file() and record.read_text() == total:
-        return kept
-    with tempfile.TemporaryDirectory() as name:
+    with tempfile.TemporaryDirectory() as name, kit.lock([crate]):
+        if kept.is_file() and record.is_file() and record.read_text() == total:
+            return kept
         room = pathlib.Path(name)
         words = kit.crate_in(str(crate)).words(["--jobs", "1"])
         made, copy = room / built.name, room / kept.name

@@ -7,64 +7,44 @@
  * is a string or bytes; bytes are a Uint8Array, another view or an ArrayBuffer. Each fault is an error: `name` is that of
  * pocsag.h, `message` the program's text, `recordNumber` and `at` the place. */
 
-/* The name and the text of each status. */
+/* The name and the text of each status, and those that tell of a record: quotes of some always, others where the page stands in a file. */
 const STATUSES = {
   0: ["OUT_OF_RANGE", "a whole number from 0 to 4294967295 is wanted"], // of this module, for numbers of which the library allows each
-  2: ["BAD_END", "the end must be open, closed or idle"],
-  3: ["OUT_OF_MEMORY", "out of memory"],
-  4: ["BAD_RATE", "the rate must be 512, 1200 or 2400"],
-  5: ["BAD_LIMIT", "the limit must be 1 to 1000000"],
+  2: ["BAD_END", "the end must be open, closed or idle"], 3: ["OUT_OF_MEMORY", "out of memory"],
+  4: ["BAD_RATE", "the rate must be 512, 1200 or 2400"], 5: ["BAD_LIMIT", "the limit must be 1 to 1000000"],
   6: ["SEARCH_LIMIT", "search limit reached: at least {least} batches, {found} would do"],
-  11: ["BAD_FORM", "the form must be words or json"],
-  12: ["FIRST_PAGE", "page 1 needs {found} batches"],
-  17: ["PAGES_TOO_LARGE", "the file is too large"],
-  18: ["BAD_HEADER", "the header must be address,kind,message"],
-  19: ["FIELD_COUNT", "record {recordNumber}: three fields are wanted"],
-  20: ["BAD_ADDRESS", "record {recordNumber}: bad address"],
-  21: ["RESERVED_ADDRESS", "record {recordNumber}: reserved address"],
-  22: ["BAD_KIND", "record {recordNumber}: unknown kind"],
-  23: ["MESSAGE_FOR_TONE", "record {recordNumber}: a tone page has no message"],
-  24: ["EMPTY_MESSAGE", "record {recordNumber}: the message is empty"],
-  25: ["BAD_CHARACTER", "record {recordNumber}: bad character at {at}"],
-  26: ["TOO_LONG", "record {recordNumber}: the message is too long"],
-  27: ["DUPLICATE_ADDRESS", "record {recordNumber}: the address is already there"],
-  28: ["TOO_MANY_PAGES", "record {recordNumber}: too many pages"],
-  29: ["BAD_PAYLOAD", "record {recordNumber}: bad payload"],
-  30: ["NO_PAGES", "there are no pages"],
-  32: ["NOT_CERTIFICATE", "not a certificate"],
-  33: ["CERT_VERSION", "unknown certificate version"],
-  34: ["CERT_TRUNCATED", "the certificate is cut short"],
-  35: ["CERT_TRAILING", "bytes after the certificate"],
-  36: ["CERT_BAD_TAG", "the certificate is malformed"],
-  37: ["CERT_BAD_FIELD", "the certificate is malformed"],
-  38: ["CERT_TOO_DEEP", "the certificate is too deep"],
-  39: ["CERT_TOO_MANY", "the certificate has too many nodes"],
-  41: ["QUOTE_OPEN", "record {recordNumber}: the quote in line {at} is not closed"],
-  42: ["QUOTE_INSIDE", "record {recordNumber}: the quote in line {at} stands inside a field that begins without one"],
-  43: ["QUOTE_FOLLOWED", "record {recordNumber}: text follows the closing quote in line {at}"],
-  48: ["SHORT_PREAMBLE", "the preamble is too short"],
-  49: ["NO_SYNC", "batch {at}: no synchronisation codeword"],
-  50: ["BAD_WORD", "codeword {at}: not a codeword"],
-  51: ["ORPHAN", "codeword {at}: a message without an address"],
-  52: ["TRUNCATED", "the transmission is cut short"],
-  53: ["NO_BATCH", "the transmission has no batch"],
-  56: ["CAPTURE_TOO_LARGE", "the capture is too large"],
-  57: ["BAD_ROWS", "there are no such batches"],
-  58: ["BAD_READING", "there is no such reading or picture"],
+  11: ["BAD_FORM", "the form must be words or json"], 12: ["FIRST_PAGE", "page 1 needs {found} batches"],
+  17: ["PAGES_TOO_LARGE", "the file is too large"], 18: ["BAD_HEADER", "the header must be address,kind,message"],
+  19: ["FIELD_COUNT", "three fields are wanted"], 20: ["BAD_ADDRESS", "bad address"], 21: ["RESERVED_ADDRESS", "reserved address"],
+  22: ["BAD_KIND", "unknown kind"], 23: ["MESSAGE_FOR_TONE", "a tone page has no message"], 24: ["EMPTY_MESSAGE", "the message is empty"],
+  25: ["BAD_CHARACTER", "bad character at {at}"], 26: ["TOO_LONG", "the message is too long"],
+  27: ["DUPLICATE_ADDRESS", "the address is already there"], 28: ["TOO_MANY_PAGES", "too many pages"], 29: ["BAD_PAYLOAD", "bad payload"],
+  30: ["NO_PAGES", "there are no pages"], 32: ["NOT_CERTIFICATE", "not a certificate"], 33: ["CERT_VERSION", "unknown certificate version"],
+  34: ["CERT_TRUNCATED", "the certificate is cut short"], 35: ["CERT_TRAILING", "bytes after the certificate"],
+  36: ["CERT_BAD_TAG", "the certificate is malformed"], 37: ["CERT_BAD_FIELD", "the certificate is malformed"],
+  38: ["CERT_TOO_DEEP", "the certificate is too deep"], 39: ["CERT_TOO_MANY", "the certificate has too many nodes"],
+  41: ["QUOTE_OPEN", "the quote in line {at} is not closed"],
+  42: ["QUOTE_INSIDE", "the quote in line {at} stands inside a field that begins without one"],
+  43: ["QUOTE_FOLLOWED", "text follows the closing quote in line {at}"], 48: ["SHORT_PREAMBLE", "the preamble is too short"],
+  49: ["NO_SYNC", "batch {at}: no synchronisation codeword"], 50: ["BAD_WORD", "codeword {at}: not a codeword"],
+  51: ["ORPHAN", "codeword {at}: a message without an address"], 52: ["TRUNCATED", "the transmission is cut short"],
+  53: ["NO_BATCH", "the transmission has no batch"], 56: ["CAPTURE_TOO_LARGE", "the capture is too large"],
+  57: ["BAD_ROWS", "there are no such batches"], 58: ["BAD_READING", "there is no such reading or picture"],
   60: ["BAD_SAMPLES", "the samples a second must be from the rate to 192000"],
   61: ["BAD_PREAMBLE", "the preamble must have 576 bits or more, a multiple of 8"],
-  62: ["TOO_LONG_FOR_WAV", "the sound is too long for a WAV file"],
-  64: ["PAGER_BAD_ADDRESS", "bad address"],
+  62: ["TOO_LONG_FOR_WAV", "the sound is too long for a WAV file"], 64: ["PAGER_BAD_ADDRESS", "bad address"],
   65: ["PAGER_RESERVED_ADDRESS", "reserved address"],
 };
+
+const OF_RECORD = [19, 20, 21, 22, 23, 24, 25, 26, 27, 28, 29], OF_QUOTES = [41, 42, 43];
 
 /* Why a call did nothing. It is an error by its prototype alone: of an object that the engine made as an error the message alone crosses
  * to another worker, and of any other all fields. */
 export class Fault {
   constructor(status, { recordNumber = 0, least = 0, found = 0, at = 0 } = {}) {
     const [name, text] = STATUSES[status] ?? ["UNKNOWN", `status ${status}`], place = { recordNumber, least, found, at };
-    const told = text.replace(/\{(\w+)\}/g, (_, word) => place[word]);
-    const message = status < 41 ? told.replace(/^record 0: /, "") : told; // a page that stands in no file has no record
+    const isOfRecord = (recordNumber && OF_RECORD.includes(status)) || OF_QUOTES.includes(status);
+    const told = text.replace(/\{(\w+)\}/g, (_, word) => place[word]), message = isOfRecord ? `record ${recordNumber}: ${told}` : told;
     Object.assign(this, place, { status, name: `POCSAG_${name}`, message });
     Error.captureStackTrace?.(this, Fault);
   }
@@ -77,8 +57,8 @@ export const HEADER = "address,kind,message\n";
 export const KINDS = ["tone0", "tone1", "tone2", "tone3", "numeric", "alpha"];
 const ENDS = ["open", "closed", "idle"], FORMS = ["words", "json"];
 const READINGS = ["plain", "repaired", "captured"], PICTURES = ["text", "list", "drawing"];
-const GREATEST = 2 ** 32 - 1;
-const MOST_BATCHES = 1_760_001;
+const GREATEST = 2 ** 32 - 1, MOST_BATCHES = 1_760_001;
+const TOO_SMALL = [7, 8, 9, 10, 13, 14]; // the statuses of a buffer
 const LARGE = 2 ** 26; // bytes: memory never shrinks, so an instance that holds more is not kept for the next call
 
 /* The fields of what a call tells, with their bytes; a place stands behind them. */
@@ -87,7 +67,6 @@ const fields = (size, ...names) => names.map((name) => [name, size]);
 const PLAN = fields(4, "pages", "codewords", "inOrder", "batches", "bound");
 const FRONT = fields(4, "pages", "left", "codewords", "inOrder", "batches", "bound", "beyond");
 const CHECK = fields(4, "end", "batches");
-const BATCHES = fields(4, "batches");
 const REPORT = [...PLAN, ...fields(8, "idles", "bits", "airtimeMs")];
 const FRAME = [...fields(4, "frame", "pages"), ...fields(8, "codewords", "room")];
 const NUMBERS = [0, 1, 2, 3, 4, 5, 6, 7];
@@ -104,11 +83,10 @@ function layout(listed, start = 0) {
   return { places, end: Math.ceil(end / 8) * 8 };
 }
 
-const isBuffer = (data) => Object.prototype.toString.call(data).endsWith("ArrayBuffer]"); // of whatever realm
 const bytesOf = (data) => {
   if (typeof data === "string") return new TextEncoder().encode(data);
   if (ArrayBuffer.isView(data)) return new Uint8Array(data.buffer, data.byteOffset, data.byteLength);
-  if (isBuffer(data)) return new Uint8Array(data);
+  if (Object.prototype.toString.call(data).endsWith("ArrayBuffer]")) return new Uint8Array(data); // of whatever realm
   throw new TypeError("a string or bytes are wanted");
 };
 const textOf = (bytes) => new TextDecoder("utf-8", { ignoreBOM: true }).decode(bytes);
@@ -120,9 +98,6 @@ function number(value, status = 0, greatest = GREATEST) {
   return value;
 }
 
-/* The number of a batch, which the library takes with 64 bits. */
-const wide = (value) => BigInt(number(value, 57, Number.MAX_SAFE_INTEGER));
-
 /* The number of a name; the fault of the status where it is none. */
 function placeIn(names, name, status) {
   if (!names.includes(name)) throw new Fault(status);
@@ -131,7 +106,7 @@ function placeIn(names, name, status) {
 
 /* Sizes of a transmission and of a certificate that suffice for the plan of so many bytes, as pocsag_plan_bound of pocsag.h
  * gives them; and of the pages that are left, with their quotes. */
-function bound(length, limit) {
+function sizesOf(length, limit) {
   const records = Math.floor(Math.max(Math.min(length, 2 ** 28) - 20, 0)), pages = Math.min(Math.floor(records / 9), 20_000);
   const codewords = Math.floor((records * 7) / 20) + 14 * pages, nodes = Math.min(Math.max(limit, 1), GREATEST_LIMIT);
   const batches = Math.min(Math.floor(codewords / 16) + 2, MOST_BATCHES);
@@ -222,7 +197,7 @@ export class Pocsag {
         const words = outs.flatMap((out) => [out.at, BigInt(out.size), out.length]);
         const status = exports[name](...head, ...read, ...first, ...words, ...numbers, at) >>> 0;
         const length = (out) => buffers.read(out.length, layout([["length", 8]])).length;
-        if (status >= 7 && status <= 14 && outs.some((out) => length(out) > out.size) && TOO_SMALL.has(status)) {
+        if (TOO_SMALL.includes(status) && outs.some((out) => length(out) > out.size)) {
           sizes = outs.map((out) => (out.size === 0 ? 0 : Math.max(out.size, length(out))));
           continue;
         }
@@ -258,28 +233,31 @@ export class Pocsag {
     return bytes;
   }
 
-  plan(pages, { limit = DEFAULT_LIMIT, end = "open", always = true, strict = false } = {}) {
+  /* The same with the numbers of a search, and the sizes that suffice for what it finds. */
+  #search(pages, { limit = DEFAULT_LIMIT, end = "open", always = true, strict = false } = {}) {
     const bytes = this.#pages(pages, strict), numbers = [number(limit, 5), placeIn(ENDS, end, 2), Number(Boolean(always))];
-    const { tx, cert } = bound(bytes.length, limit);
-    const { info, texts } = this.#call("pocsag_plan", PLAN, { reads: [bytes], sizes: [tx, cert], numbers });
+    return { reads: [bytes], numbers, ...sizesOf(bytes.length, limit) };
+  }
+
+  plan(pages, search) {
+    const { reads, numbers, tx, cert } = this.#search(pages, search);
+    const { info, texts } = this.#call("pocsag_plan", PLAN, { reads, sizes: [tx, cert], numbers });
     return { transmission: texts[0], certificate: texts[1], ...info };
   }
 
-  planAtMost(pages, batches, { limit = DEFAULT_LIMIT, end = "open", always = true, strict = false } = {}) {
-    const bytes = this.#pages(pages, strict), numbers = [number(limit, 5), placeIn(ENDS, end, 2), Number(Boolean(always))];
-    const { tx, cert, rest } = bound(bytes.length, limit), sizes = [tx, cert, rest, cert];
-    const { info, texts } = this.#call("pocsag_plan_at_most", FRONT, { reads: [bytes], first: [number(batches)], sizes, numbers });
+  planAtMost(pages, batches, search) {
+    const { reads, numbers, tx, cert, rest } = this.#search(pages, search), sizes = [tx, cert, rest, cert];
+    const { info, texts } = this.#call("pocsag_plan_at_most", FRONT, { reads, first: [number(batches)], sizes, numbers });
     return { transmission: texts[0], certificate: texts[1], rest: textOf(texts[2]), why: texts[3], ...info };
   }
 
-  report(pages, rate, { limit = DEFAULT_LIMIT, end = "open", always = true, strict = false } = {}) {
-    const first = [number(rate, 4), number(limit, 5), placeIn(ENDS, end, 2), Number(Boolean(always))];
-    return this.#call("pocsag_report", REPORT, { reads: [this.#pages(pages, strict)], first }).info;
+  report(pages, rate, search) {
+    const first = [number(rate, 4)];
+    return this.#call("pocsag_report", REPORT, { ...this.#search(pages, search), first }).info;
   }
 
-  frames(pages, { limit = DEFAULT_LIMIT, end = "open", always = true, strict = false } = {}) {
-    const first = [number(limit, 5), placeIn(ENDS, end, 2), Number(Boolean(always))];
-    const { info } = this.#call("pocsag_frames", FRAMES, { reads: [this.#pages(pages, strict)], first });
+  frames(pages, search) {
+    const { info } = this.#call("pocsag_frames", FRAMES, this.#search(pages, search));
     const frames = NUMBERS.map((k) => Object.fromEntries(FRAME.map(([name]) => [name, info[name + k]])));
     return { frames, batches: info.batches, bound: info.bound };
   }
@@ -296,19 +274,23 @@ export class Pocsag {
   }
 
   decode(transmission, reading = "plain") {
-    const bytes = bytesOf(transmission), head = [placeIn(READINGS, reading, 58)];
-    return this.#text("pocsag_decode_as", { head, reads: [bytes], sizes: [listing(bytes)] });
+    return this.#listed("pocsag_decode_as", transmission, reading);
   }
 
   hear(address, transmission, reading = "plain") {
-    const bytes = bytesOf(transmission), head = [placeIn(READINGS, reading, 58), number(address, 64)];
-    return this.#text("pocsag_hear_as", { head, reads: [bytes], sizes: [listing(bytes)] });
+    return this.#listed("pocsag_hear_as", transmission, reading, number(address, 64));
+  }
+
+  /* A listing of a transmission; the size suffices for most of so many bytes. */
+  #listed(name, transmission, reading, ...address) {
+    const bytes = bytesOf(transmission), head = [placeIn(READINGS, reading, 58), ...address];
+    return this.#text(name, { head, reads: [bytes], sizes: [Math.min(2 * bytes.length, 2 ** 24) + 64] });
   }
 
   show(transmission, { form = "text", first = 1, last = Number.MAX_SAFE_INTEGER, reading = "plain" } = {}) {
     const bytes = bytesOf(transmission), head = [placeIn(READINGS, reading, 58)];
-    const numbers = [placeIn(PICTURES, form, 58), wide(first), wide(last)];
-    return this.#text("pocsag_show", { head, reads: [bytes], first: numbers, sizes: [2 ** 16] });
+    const rows = [first, last].map((it) => BigInt(number(it, 57, Number.MAX_SAFE_INTEGER))), picture = placeIn(PICTURES, form, 58);
+    return this.#text("pocsag_show", { head, reads: [bytes], first: [picture, ...rows], sizes: [2 ** 16] });
   }
 
   wav(transmission, rate, { samples = 48_000, preamble = null, inverted = false } = {}) {
@@ -319,7 +301,7 @@ export class Pocsag {
   }
 
   layInOrder(pages, { strict = false } = {}) {
-    const bytes = this.#pages(pages, strict), sizes = [bound(bytes.length, 1).tx];
+    const bytes = this.#pages(pages, strict), sizes = [sizesOf(bytes.length, 1).tx];
     return this.#call("pocsag_lay_in_order", [], { reads: [bytes], sizes }).texts[0];
   }
 
@@ -333,15 +315,9 @@ export class Pocsag {
   }
 
   airtimeBatches(airtimeMs, rate) {
-    return this.#call("pocsag_airtime_batches", BATCHES, { head: [number(airtimeMs), number(rate, 4)] }).info.batches;
+    return this.#call("pocsag_airtime_batches", fields(4, "batches"), { head: [number(airtimeMs), number(rate, 4)] }).info.batches;
   }
 }
-
-/* The statuses of a buffer that is too small. */
-const TOO_SMALL = new Set([7, 8, 9, 10, 13, 14]);
-
-/* A size that suffices for the listings of most transmissions of so many bytes. */
-const listing = (bytes) => Math.min(2 * bytes.length, 2 ** 24) + 64;
 
 /* == From here on as an ES module: the library over the file beside this one. == */
 
@@ -351,20 +327,6 @@ async function compiled(place) {
 }
 
 const library = new Pocsag(await compiled(new URL("pocsag.wasm", import.meta.url)));
-export const version = () => library.version();
-export const plan = (pages, search) => library.plan(pages, search);
-export const planAtMost = (pages, batches, search) => library.planAtMost(pages, batches, search);
-export const report = (pages, rate, search) => library.report(pages, rate, search);
-export const frames = (pages, search) => library.frames(pages, search);
-export const check = (pages, certificate, how) => library.check(pages, certificate, how);
-export const explain = (pages, certificate, how) => library.explain(pages, certificate, how);
-export const decode = (transmission, reading) => library.decode(transmission, reading);
-export const hear = (address, transmission, reading) => library.hear(address, transmission, reading);
-export const show = (transmission, how) => library.show(transmission, how);
-export const wav = (transmission, rate, how) => library.wav(transmission, rate, how);
-export const layInOrder = (pages, how) => library.layInOrder(pages, how);
-export const writePage = (address, kind, message) => library.writePage(address, kind, message);
-export const strict = (pages) => library.strict(pages);
-export const airtimeBatches = (airtimeMs, rate) => library.airtimeBatches(airtimeMs, rate);
-export const statusText = (status) => library.statusText(status);
-export const release = () => library.release();
+const bound = (name) => [name, (...words) => library[name](...words)];
+export const { version, statusText, release, plan, planAtMost, report, frames, check, explain, decode, hear, show, wav, layInOrder, writePage,
+  strict, airtimeBatches } = Object.fromEntries(Object.getOwnPropertyNames(Pocsag.prototype).map(bound));

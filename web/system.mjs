@@ -32,7 +32,7 @@ export class Run {
   /* Runs the program of a module in a fresh instance, to its exit status. */
   status(module) {
     try {
-      const { exports } = new WebAssembly.Instance(module, { env: { ...this.#ofToolchain(), ...this.#ofFiles(), ...this.#ofPaths() } });
+      const { exports } = new WebAssembly.Instance(module, { env: this.#calls() });
       this.#memory = exports.memory;
       return exports.main(0, 0n) & 255;
     } catch (error) {
@@ -68,28 +68,16 @@ export class Run {
   };
   #wide = (call) => (...words) => BigInt(this.#narrow(call)(...words)); // the same of 64 bits
 
-  #ofToolchain() {
+  /* The calls that the module imports. */
+  #calls() {
+    const system = this.#system, [narrow, wide] = [this.#narrow, this.#wide];
+    const path = (at) => this.#path(at), flagsIn = (number) => Object.keys(FLAGS).filter((name) => number & FLAGS[name]);
     return {
       rattle_errno: () => this.#error,
       rattle_set_errno: (number) => void (this.#error = number),
-      rattle_arg: (index, at, size) => {
-        const word = this.#words[Number(index)];
-        if (!word || word.length > size) return word ? -2n : -1n;
-        this.#bytes(at, word.length).set(word);
-        return BigInt(word.length);
-      },
-      getpid: () => this.#system.pid,
-      nanosleep: (at) => {
-        const time = this.#view(at, 16), ms = Number(time.getBigInt64(0, true)) * 1e3 + Number(time.getBigInt64(8, true)) / 1e6;
-        this.#system.pause(ms);
-        return 0;
-      },
-    };
-  }
-
-  #ofFiles() {
-    const system = this.#system, [narrow, wide] = [this.#narrow, this.#wide];
-    return {
+      rattle_arg: (index, at, size) => this.#put(this.#words[Number(index)], at, size),
+      getpid: () => system.pid,
+      nanosleep: narrow((at) => void system.pause(this.#milliseconds(at))),
       host_fcntl: narrow((file, command) => (command === F_DUPFD_CLOEXEC ? system.duplicate(file) : refuse("EINVAL"))),
       close: narrow((file) => system.closeSync(file)),
       read: wide((file, at, size) => system.readSync(file, this.#bytes(at, size))),
@@ -101,21 +89,28 @@ export class Run {
       fsync: narrow((file) => system.fsyncSync(file)),
       fdatasync: narrow((file) => system.fsyncSync(file)),
       flock: narrow((file) => system.lock(file)),
+      host_open: narrow((at, flags, mode) => system.openSync(path(at), flagsIn(flags), mode)),
+      statx: narrow((file, at, flags, _, to) => this.#describe(this.#found(file, path(at), flags), to)),
+      link: narrow((from, to) => system.linkSync(path(from), path(to))),
+      rename: narrow((from, to) => system.renameSync(path(from), path(to))),
+      unlink: narrow((at) => system.unlinkSync(path(at))),
+      // The program reads a folder for what killed runs left there and nobody has locked. Without locks there is nothing of that.
+      rattle_open_dir_at: narrow(() => refuse("ENOSYS")),
+      getdents64: wide(() => refuse("ENOSYS")),
     };
   }
 
-  #ofPaths() {
-    const system = this.#system, narrow = this.#narrow, flagsIn = (number) => Object.keys(FLAGS).filter((name) => number & FLAGS[name]);
-    return {
-      host_open: narrow((at, flags, mode) => system.openSync(this.#path(at), flagsIn(flags), mode)),
-      statx: narrow((file, at, flags, _, to) => this.#describe(this.#found(file, this.#path(at), flags), to)),
-      link: narrow((from, to) => system.linkSync(this.#path(from), this.#path(to))),
-      rename: narrow((from, to) => system.renameSync(this.#path(from), this.#path(to))),
-      unlink: narrow((at) => system.unlinkSync(this.#path(at))),
-      // The program reads a folder for what killed runs left there and nobody has locked. Without locks there is nothing of that.
-      rattle_open_dir_at: narrow(() => refuse("ENOSYS")),
-      getdents64: this.#wide(() => refuse("ENOSYS")),
-    };
+  /* Puts a word there. Gives its length, -1 where there is none, or -2 where it has no room. */
+  #put(word, at, size) {
+    if (!word || word.length > size) return word ? -2n : -1n;
+    this.#bytes(at, word.length).set(word);
+    return BigInt(word.length);
+  }
+
+  /* A time of seconds and of nanoseconds. */
+  #milliseconds(at) {
+    const [seconds, rest] = [0, 8].map((place) => Number(this.#view(at, 16).getBigInt64(place, true)));
+    return seconds * 1e3 + rest / 1e6;
   }
 
   /* What is known of a file at a path, or of one that is open. */

@@ -20,11 +20,11 @@ sys.dont_write_bytecode = True
 sys.path.insert(0, str(pathlib.Path(__file__).resolve().parents[1]))
 import codewords
 from codewords import PREAMBLE, digits, letters, number_of
-from tally import PROGRAM, run_parts
+from tally import IS_EMULATED, ONE_IN, PROGRAM, run_parts
 
 SYNC, IDLE = (int.from_bytes(it, "big") for it in (codewords.SYNC, codewords.IDLE))
 ONES = 0xFFFFFFFF
-CAPTURES, DAMAGED = 2_000, 400
+CAPTURES, DAMAGED = 2_000 // ONE_IN, 400 // ONE_IN
 NOISE_BYTES, NOISE_SECONDS = 100_000_000, 6.0  # on a busy host; BENCHMARKS.md has the speed
 KINDS = {0: "numeric", 1: "data1", 2: "data2", 3: "alpha"}
 HEADER = b"address,kind,message,state\n"
@@ -508,4 +508,4 @@ def try_speed(tally, folder):
 
 
 if __name__ == "__main__":
-    sys.exit(run_parts(try_by_hand, try_words, try_captures, try_damaged, try_speed))
+    sys.exit(run_parts(try_by_hand, try_words, try_captures, try_damaged, *([] if IS_EMULATED else [try_speed])))

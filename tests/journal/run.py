@@ -18,7 +18,7 @@ import time
 
 sys.dont_write_bytecode = True
 sys.path.insert(0, str(pathlib.Path(__file__).resolve().parents[1]))
-from tally import IS_EMULATED, PROGRAM, as_nobody, run_parts, sampled
+from tally import IS_EMULATED, ONE_IN, PROGRAM, as_nobody, run_parts, sampled
 
 HEADER = b"address,kind,message\n"
 FIRST_LINE = b"pocsag journal,1\n"
@@ -517,11 +517,12 @@ def try_failed_look(tally, folder):
         return
     place = folder / "failed look"
     place.mkdir()
-    path = place / "round.journal"
-    for number in range(1, 100):
+    path, looks = place / "round.journal", "?statx,?newfstatat,?fstat"  # the program as C looks by others of these calls
+    for number in range(1, 100, 1 + ONE_IN // 20):  # an emulator of processors looks at many files of its own
         path.write_bytes(FIRST_LINE + b"add,8,tone0,\nadd,16,tone0,\ncancel,8\n")
         path.chmod(0o640)
-        words = ["strace", "-f", "-qq", "-o", "trace", "-e", "trace=statx", "-e", f"inject=statx:error=EIO:when={number}", str(PROGRAM), "open", "--journal", "round.journal"]
+        fault = ["-e", f"trace={looks}", "-e", f"inject={looks}:error=EIO:when={number}"]
+        words = ["strace", "-f", "-qq", "-o", "trace", *fault, str(PROGRAM), "open", "--journal", "round.journal"]
         done = subprocess.run(words, input=b"add,24,tone0,\n", capture_output=True, cwd=place, timeout=60)
         tally.check(f"the mode where look {number} fails", rights(path)[2] == 0o640, (done, rights(path)))
         due = HEADER + b"16,tone0,\n" + (b"24,tone0,\n" if b"ok" in done.stdout else b"")

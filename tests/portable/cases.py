@@ -169,8 +169,11 @@ CASES = [
         ls open mine
     """),
     ("no file can be opened any more", "Too many open files", """
-        (ulimit -n 5; pocsag plan p.csv t c --keep --verbose; echo "status $?")
-        (ulimit -n 3; pocsag plan p.csv t c --verbose; echo "status $?")
+        # With a limit of 3 the system cannot read the C library.
+        for most in 4 5 6 7 8 9; do
+            (ulimit -n $most; pocsag plan p.csv t c --verbose; echo "status $?")
+            (ulimit -n $most; pocsag plan p.csv t c --keep --verbose; echo "status $?"; ls)
+        done
     """),
     ("a limit of the size of files", "status 3", """
         (trap '' XFSZ; ulimit -f 0; pocsag plan p.csv t c --verbose; echo "status $?")

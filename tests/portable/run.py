@@ -4,8 +4,9 @@
     tests/portable/run.py          also compiled for 32-bit ARM, under an emulator
     tests/portable/run.py --all    and with musl, and for RISC-V
 
-It is made over the proofs that stand; without the toolchain it is the one of release/. Where a tool is missing, that part is left
-out and says so. The last line is 'N passed, M failed'.
+It is made over the proofs that stand; without the toolchain it is the one of release/. What is compiled is kept in out/portable,
+which release/make takes it from too. Where a tool is missing, that part is left out and says so.
+The last line is 'N passed, M failed'.
 """
 
 import os
@@ -27,7 +28,6 @@ from cases import CASES
 from tally import LIBRARY, PROGRAM, Tally, as_nobody
 
 HERE = pathlib.Path(__file__).resolve().parent
-PACKAGE = TOP / f"release/pocsag-{version.VERSION}-c.tar.xz"
 # The scripts that run the program, and of how many of their cases one is tried here: the host is not another in each.
 SCRIPTS = {"tests/program/run.py": 13, "tests/program/open.py": 1, "tests/journal/run.py": 7, "tests/sound/run.py": 13, "tests/capture/run.py": 13,
            "tests/explain/run.py": 13, "tests/pictures/run.py": 13, "tests/faults/run.py": 13, "tests/operation/queues.py": 1}
@@ -47,20 +47,27 @@ traced() {
 
 
 def what_is_missing():
-    """Why the program is not made as C here, or nothing."""
+    """Why the program is not compiled as C here, or nothing."""
+    missing = [it for it in ("cc", "make") if not shutil.which(it)]
     try:
-        return "" if LIBRARY else products.portable.tools() and ""
+        return f"{missing[0]} is missing" if missing else "" if LIBRARY else products.portable.tools() and ""
     except products.Missing as why:
         return str(why)
 
 
-def unpacked(room):
-    """The folder of the release's package in C, compiled."""
-    folder = room / "c"
-    for name, file in packages.read(PACKAGE.name, PACKAGE.read_bytes()).items():
-        (folder / name).parent.mkdir(parents=True, exist_ok=True)
-        (folder / name).write_bytes(file.data)
-    subprocess.run(["make", "-s", "-C", str(folder)], check=True)
+def released(name):
+    """The files of a package of the release."""
+    return packages.read(name, (TOP / "release" / name).read_bytes())
+
+
+def compiled(room, name, *settings):
+    """A folder with the package in C, compiled."""
+    files = released(f"pocsag-{version.VERSION}-c.tar.xz") if LIBRARY else products.in_c()
+    files, folder = {it: file.data for it, file in files.items()}, room / name
+    shutil.copytree(products.portable.program(name, *settings, of=files).parents[1], folder)
+    for it in files.keys() - {path.name for path in folder.iterdir()}:
+        (folder / it).parent.mkdir(parents=True, exist_ok=True)
+        (folder / it).write_bytes(files[it])
     return folder
 
 
@@ -102,11 +109,12 @@ def limited(limit, program, *words):
 
 
 def try_memory(tally, room, program):
-    """Under each limit of memory the answer is that with ample memory, or that there is none."""
+    """Under each limit of memory the answer is that with ample memory, or that there is none. With less than the first the system does
+    not load the program."""
     pages = room / "many.csv"
     pages.write_text("address,kind,message\n" + "".join(f"{k},numeric,{k}\n" for k in range(8000)))
     found = []
-    for limit in (*range(8_000, 50_000, 2_000), 1_000_000):
+    for limit in (*range(12_000, 50_000, 2_000), 1_000_000):
         done = limited(f"-v {limit}", program, "report", "--rate", "1200", str(pages))
         found.append((done.returncode, done.stdout, done.stderr))
     number = found.index(found[-1])
@@ -150,6 +158,9 @@ def try_package(tally, folder):
     tally.check("compiled otherwise it is refused", "compile it as the Makefile does" in done.stderr, done.stderr)
     done = subprocess.run(["make", "-s", "check"], cwd=folder, capture_output=True, text=True)
     tally.check("make check", done.returncode == 0 and done.stdout.endswith(" passed, 0 failed\n"), done)
+    done = subprocess.run(["make", "-s", "PREFIX=/usr", f"DESTDIR={folder}/there", "install"], cwd=folder, capture_output=True, text=True)
+    brought = [folder / "there/usr" / it for it in ("bin/pocsag", "share/man/man1/pocsag.1", "share/pocsag/examples/enqueue")]
+    tally.check("make install", done.returncode == 0 and all(it.is_file() for it in brought), done)
     (folder / "wrong").write_text('#!/bin/sh\n"$REAL" "$@" | sed "s/2/3/"\n')
     (folder / "wrong").chmod(0o755)
     environment = {**os.environ, "PROGRAM": str(folder / "wrong"), "REAL": str(folder / "bin/pocsag")}
@@ -159,15 +170,18 @@ def try_package(tally, folder):
 
 def try_armhf(tally, room):
     """The program for 32-bit ARM, under an emulator."""
+    emulator, native = arm64.EMULATORS[products.ARMHF], room / "native armhf"
     try:
-        products.compiler_of_armhf()
+        products.linker_of(products.ARMHF) if LIBRARY else products.compiler_of_armhf()
     except products.Missing as why:
         print(f"left out: {why}")
         return
-    if not shutil.which(arm64.EMULATORS[products.ARMHF]):
-        print(f"left out: {arm64.EMULATORS[products.ARMHF]} is missing; on Debian: apt-get install qemu-user")
+    if not shutil.which(emulator):
+        print(f"left out: {emulator} is missing; on Debian: apt-get install qemu-user")
         return
-    program = arm64.emulated(room, "armhf", products.armhf_program(), products.ARMHF)
+    native.write_bytes(released(f"pocsag_{version.DEBIAN}_armhf.deb")["usr/bin/pocsag"].data if LIBRARY else products.armhf_program().read_bytes())
+    native.chmod(0o755)
+    program = arm64.emulated(room, "armhf", native, products.ARMHF)
     arm64.try_beside(tally, room, program)
     arm64.try_scripts(tally, program, ON_ARM)
 
@@ -176,13 +190,13 @@ def try_armhf(tally, room):
 OTHERS = [("musl", "musl-gcc", ""), ("riscv", "riscv64-linux-gnu-gcc", "qemu-riscv64")]
 
 
-def try_others(tally):
+def try_others(tally, room):
     """`make check` on other systems, as static programs that are compiled in a short time."""
     for name, compiler, emulator in OTHERS:
         if not all(map(shutil.which, filter(None, (compiler, emulator)))):
             print(f"left out: {name}, since {compiler} or {emulator} is missing")
             continue
-        folder = products.portable.program(name, f"CC={compiler}", "CFLAGS=-O0", "LDFLAGS=-static").parents[1]
+        folder = compiled(room, name, f"CC={compiler}", "CFLAGS=-O0", "LDFLAGS=-static")
         done = subprocess.run(["make", "-s", f"EMULATOR={emulator}", "check"], cwd=folder, capture_output=True, text=True)
         tally.check(f"make check: {name}", done.returncode == 0 and done.stdout.endswith(" passed, 0 failed\n"), done)
 
@@ -196,7 +210,7 @@ def main(words):
     with tempfile.TemporaryDirectory() as name:
         room = pathlib.Path(name)
         room.chmod(0o755)
-        folder = unpacked(room) if LIBRARY else products.portable.program("native").parents[1]
+        folder = compiled(room, "native", "CFLAGS=-O1")
         program = shutil.copy(folder / "bin/pocsag", room / "pocsag")
         try_cases(tally, room, program)
         for part in (try_memory, try_stack):
@@ -205,10 +219,9 @@ def main(words):
         try_package(tally, folder)
         scripts = {it: one_in for it, one_in in SCRIPTS.items() if not LIBRARY or it != "tests/faults/run.py"}
         arm64.try_scripts(tally, program, scripts)
-        if not LIBRARY:
-            try_armhf(tally, room)
+        try_armhf(tally, room)
         if words == ["--all"]:
-            try_others(tally)
+            try_others(tally, room)
     return tally.end()
 
 

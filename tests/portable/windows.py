@@ -1,7 +1,8 @@
 #!/usr/bin/env python3
 """Runs the program for Windows under Wine: beside the native program with the same words and files, and in cases of its host.
 
-Texts, statuses and the bytes of all files are compared. Where Wine, mingw or wabt is missing it says so.
+Texts, statuses and the bytes of all files are compared. The program is made over the proofs that stand; without the toolchain
+it is that of release/. Where Wine, mingw or wabt is missing it says so.
 The last line is 'N passed, M failed'.
 """
 
@@ -14,15 +15,17 @@ import subprocess
 import sys
 import tempfile
 import time
+import zipfile
 
 sys.dont_write_bytecode = True
 TOP = pathlib.Path(__file__).resolve().parents[2]
-sys.path[:0] = [str(TOP / "tests"), str(TOP / "tests/program"), str(TOP / "portable")]
+sys.path[:0] = [str(TOP / it) for it in ("tests", "tests/program", "portable", "tools")]
 import run as program
+import version
 import windows
-from tally import ENDS, PROGRAM, Tally
+from tally import ENDS, LIBRARY, PROGRAM, Tally
 
-TOOLS = ("wine", "wineserver", "wasm2c", "wat2wasm", windows.COMPILER)
+TOOLS = {"wine": "wine", "wineserver": "wine", "wasm2c": "wabt", "wat2wasm": "wabt", windows.COMPILER: "gcc-mingw-w64-x86-64"}  # with Debian's packages
 STREAMS = ("stdin", "stdout", "stderr")
 HEADER, ROUND = program.HEADER, (TOP / "examples/round.csv").read_bytes()
 APART = HEADER + b"0,numeric," + b"1" * 75 + b"\n3,numeric," + b"1" * 75 + b"\n"
@@ -46,7 +49,7 @@ class Windows:
         quiet = dict.fromkeys(STREAMS, subprocess.DEVNULL)
         subprocess.run(["wine", "wineboot", "-i"], env=self.system, check=True, timeout=300, **quiet)
         self.exe = room / windows.PROGRAM
-        shutil.copyfile(windows.program(), self.exe)
+        self.exe.write_bytes(released() if LIBRARY else windows.program().read_bytes())
 
     def end(self):
         subprocess.run(["wineserver", "-k", "-w"], env=self.system, timeout=60)
@@ -57,6 +60,13 @@ class Windows:
 
     def run(self, words, folder, stdin=b"", **how):
         return ended(self.start(words, folder, **how), stdin)
+
+
+def released():
+    """The program of the release."""
+    name = f"pocsag-{version.VERSION}-windows-x86_64"
+    with zipfile.ZipFile(TOP / f"release/{name}.zip") as package:
+        return package.read(f"{name}/{windows.PROGRAM}")
 
 
 def ended(process, stdin=b""):
@@ -448,11 +458,11 @@ PARTS = (
 
 
 def main():
-    missing = [it for it in TOOLS if not shutil.which(it)]
+    tally, missing = Tally(), [it for it in TOOLS if not shutil.which(it)]
     if missing:
-        print(f"left out: the program for Windows, since there is no {', no '.join(missing)}\n0 passed, 0 failed")
-        return 0
-    tally = Tally()
+        print(f"skipped: missing in PATH: {' '.join(missing)}; on Debian: apt-get install {' '.join(dict.fromkeys(TOOLS[it] for it in missing))}")
+        tally.check("skipped", True)
+        return tally.end()
     with tempfile.TemporaryDirectory() as name:
         wine = Windows(pathlib.Path(name))
         try:

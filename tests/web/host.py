@@ -12,6 +12,9 @@ import time
 
 from tally import PROGRAM, TOP, as_nobody
 
+sys.path.insert(0, str(TOP / "tests/release"))
+import arm64
+
 HEADER = b"address,kind,message\n"
 TONE = HEADER + b"8,tone0,\n"
 APART = HEADER + b"0,numeric," + b"1" * 75 + b"\n3,numeric," + b"1" * 75 + b"\n"
@@ -20,7 +23,7 @@ PLAN = ["plan", "pages.csv", "tx.bin", "cert.bin"]
 CANNOT_OPEN = b"pocsag: cannot read or open a file\n"
 NOT_OWNER = b"pocsag: the new file cannot be given the owner, group and mode of the old one\n"
 # Scripts of the program that run over Node, with one of so many of their cases.
-SCRIPTS, ONE_IN = ("tests/program/run.py", "tests/capture/run.py"), 41
+SCRIPTS = {"tests/program/run.py": 41, "tests/capture/run.py": 41}
 # Words; what stands behind `<` is standard input: a file, or lines. Node refuses a journal.
 LINES = r"""
 < round.csv
@@ -224,16 +227,6 @@ def try_limits(tally, room, node):
         tally.check(f"a page file of {size} bytes", told == due, told)
 
 
-def try_scripts(tally, node):
-    """The scripts that run the program, with this one."""
-    for script in SCRIPTS:
-        env = {**os.environ, "POCSAG_PROGRAM": str(node.path), "POCSAG_ONE_IN": str(ONE_IN)}
-        done = subprocess.run([sys.executable, script], cwd=TOP, env=env, capture_output=True, text=True)
-        passed, failed = map(int, (re.findall(r"^(\d+) passed, (\d+) failed$", done.stdout, re.M) or [(0, 1)])[-1])
-        tally.passed, tally.failed = tally.passed + passed, tally.failed + failed
-        print(done.stdout + done.stderr if done.returncode else f"{script} in Node: {passed} passed", flush=True)
-
-
 def try_hosts(tally, room, made, path):
     """All of this, with the Node of a path."""
     room.mkdir()
@@ -241,4 +234,4 @@ def try_hosts(tally, room, made, path):
     node = Node(room, made, path)
     for part in (try_beside, try_locks, try_way_back, try_streams, try_limits):
         part(tally, room, node)
-    try_scripts(tally, node)
+    arm64.try_scripts(tally, node.path, SCRIPTS)
