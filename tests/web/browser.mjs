@@ -53,10 +53,15 @@ export class Browser {
     this.#heard.set(sessionId, (method, params) => page.hear(method, params));
     for (const domain of ["Page", "Runtime", "Log", "Network"]) await page.send(`${domain}.enable`);
     await page.size(width, height);
-    await page.send("Browser.setDownloadBehavior", { behavior: "allow", downloadPath: this.#folder, eventsEnabled: false });
+    await page.send("Browser.setDownloadBehavior", { behavior: "allow", downloadPath: this.#folder, eventsEnabled: true });
     page.downloads = this.#folder;
     await page.send("Page.navigate", { url });
     return page;
+  }
+
+  /* How many seconds processors were busy with its processes. */
+  async busy() {
+    return (await this.send("SystemInfo.getProcessInfo")).processInfo.reduce((sum, { cpuTime }) => sum + cpuTime, 0);
   }
 
   close() {
@@ -67,6 +72,7 @@ export class Browser {
 
 class Page {
   errors = [];
+  downloaded = 0;
   requests = [];
 
   constructor(browser, session) {
@@ -77,6 +83,7 @@ class Page {
     if (method === "Runtime.exceptionThrown") this.errors.push(params.exceptionDetails.exception?.description ?? params.exceptionDetails.text);
     if (method === "Runtime.consoleAPICalled" && ["error", "warning"].includes(params.type)) this.errors.push(JSON.stringify(params.args));
     if (method === "Log.entryAdded" && params.entry.level === "error") this.errors.push(params.entry.text);
+    if (method === "Browser.downloadProgress" && params.state === "completed") this.downloaded++;
     if (method === "Network.requestWillBeSent") this.requests.push(params.request.url);
   }
 
@@ -100,7 +107,7 @@ class Page {
   }
 
   /* Waits until an expression holds; whether it came to that. */
-  async comes(expression, seconds = 30) {
+  async comes(expression, seconds = 120) {
     for (const end = Date.now() + 1000 * seconds; Date.now() < end; await new Promise((done) => setTimeout(done, 20))) {
       if (await this.value(expression).catch(() => false)) return true; // what it names may not be there yet
     }

@@ -194,8 +194,11 @@ def try_streams(tally, room, node):
     native(PLAN, folder)
     sound, told = native(["wav", "tx.bin"], folder)[1], unready(node, ["wav", "-"], folder, (folder / "tx.bin").read_bytes())
     tally.check("pipes that are not ready", told == (None, sound, 0) and len(sound) > 1 << 16, told[::2])
-    told, due = (at_terminal(command, folder) for command in ([str(node.path)], [str(PROGRAM)]))
-    tally.check("no words at a terminal", told == due and told[1] == b"pages 1\nbatches 1\n", (told, due))
+    try:
+        told, due = (at_terminal(command, folder) for command in ([str(node.path)], [str(PROGRAM)]))
+        tally.check("no words at a terminal", told == due and told[1] == b"pages 1\nbatches 1\n", (told, due))
+    except OSError as why:
+        print(f"skipped: no words at a terminal, since there is no pseudo terminal: {why}")
     for words, closed, due in (
         ("", "<&-", (1, b"", b"pocsag: the header must be address,kind,message\n")),
         ("check pages.csv cert.bin", ">&-", (0, b"", b"")),

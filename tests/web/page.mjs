@@ -15,12 +15,14 @@ const pages = [];
 async function opened(width, height, at = url) {
   const page = await browser.open(at, width, height);
   pages.push(page);
-  tally.check(`a plan is shown at ${width} pixels`, await page.comes(`document.querySelector("#plan-title")?.textContent === "2 batches"`), await page.text("#status"));
+  tally.check(`a plan is shown at ${width} pixels`, await page.comes(`document.querySelector("#plan")`) && await title(page, "2 batches"), await page.text("#status"));
   return page;
 }
 
-const title = (page, text) => page.comes(`document.querySelector("#plan-title").textContent === ${JSON.stringify(text)}`);
-const says = (page, selector, text) => page.comes(`document.querySelector("${selector}").textContent.includes(${JSON.stringify(text)})`);
+/* Waits until the round is planned or refused, and then until an element says this. */
+const PLANNED = `document.querySelector("#plan").ariaBusy === "false"`;
+const title = (page, text) => page.comes(`${PLANNED} && document.querySelector("#plan-title").textContent === ${JSON.stringify(text)}`);
+const says = (page, selector, text, once = PLANNED) => page.comes(`${once} && document.querySelector("${selector}").textContent.includes(${JSON.stringify(text)})`);
 
 /* A new round, as a user types it. */
 async function round(page, text) {
@@ -39,11 +41,11 @@ async function drop(page, ...names) {
 }
 
 async function taken(page, name, box = "#files") {
+  const before = page.downloaded;
   rmSync(join(page.downloads, name), { force: true });
   await page.value(`[...document.querySelectorAll("${box} button")].find((it) => it.textContent === "${name}").click()`);
   const path = join(page.downloads, name);
-  for (let k = 0; k < 250 && !existsSync(path); k++) await new Promise((done) => setTimeout(done, 20));
-  await new Promise((done) => setTimeout(done, 100));
+  for (let k = 0; k < 6_000 && page.downloaded === before; k++) await new Promise((done) => setTimeout(done, 20));
   return existsSync(path) ? readFileSync(path) : Buffer.from("no file");
 }
 
@@ -287,7 +289,7 @@ async function tryLong(page) {
   await page.choose('[name="limit"]', "1000000");
   await page.click('[name="always"]');
   await round(page, HARD);
-  tally.check("a long search is told", await says(page, "#status", "searching: an edit ends it"), await page.text("#status"));
+  tally.check("a long search is told", await says(page, "#status", "searching: an edit ends it", "true"), await page.text("#status"));
   const begun = Date.now();
   await page.fill("#csv", HEADER + "8,tone0,\n");
   tally.check("an edit ends it", await title(page, "1 batch") && Date.now() - begun < 10_000, Date.now() - begun);
@@ -326,7 +328,9 @@ async function tryLong(page) {
 }
 
 async function tryLink(page) {
+  const before = await browser.busy();
   await round(page, HEADER + "5,tone0,\n13,tone0,\n21,alpha,\u00fc\n");
+  tally.check("twenty thousand lines are typed over at once", (await browser.busy()) - before < 20, (await browser.busy()) - before);
   await says(page, "#status", "record 3: bad character at 0");
   await page.fill("#csv", HEADER + "5,tone0,\n13,tone0,\n21,tone0,\n");
   await page.click('[name="end"][value="closed"]');
@@ -372,12 +376,14 @@ const LINK_WITHOUT_SUM = `(async () => {
 
 /* The program's own command line, over the files of the page. */
 async function tryCommand(page) {
-  const command = async (line, input, told) => {
+  const ended = `document.querySelector("#command pre").ariaBusy !== "true"`;
+  const command = async (line, input, told, once = ended) => {
     await page.fill('#command [name="line"]', line);
     await page.fill('#command [name="input"]', input);
     await page.value(`document.querySelector("#command form").requestSubmit()`);
-    tally.check(`the command line: ${line}`, await says(page, "#command pre", told), await page.text("#command pre"));
+    tally.check(`the command line: ${line}`, await says(page, "#command pre", told, once), await page.text("#command pre"));
   };
+  await page.click('[name="end"][value="open"]');
   await round(page, sample);
   await title(page, "2 batches");
   await page.click("#command summary");
@@ -391,9 +397,10 @@ async function tryCommand(page) {
   tally.check("its files", await page.comes(`${names} === "round.csv round.bin round.cert edits new.bin new.cert new.wav"`), await page.value(names));
   tally.check("the sound is the program's", (await taken(page, "new.wav", "#command")).equals(readFileSync(join(folder, "round.wav"))));
   await round(page, HARD);
-  await command("plan round.csv a.bin a.cert --limit 1000000", "", "$ pocsag plan round.csv a.bin a.cert --limit 1000000\n");
+  await command("plan round.csv a.bin a.cert --limit 1000000", "", "$ pocsag plan round.csv a.bin a.cert --limit 1000000\n", "true");
+  await command("--version", "", "one run at a time: Escape ends it\n", "true");
   await page.key("Escape");
-  tally.check("a long run is ended", await says(page, "#command pre", "ended; the files are as they were\n"), await page.text("#command pre"));
+  tally.check("a long run is ended", await says(page, "#command pre", "ended; the files are as they were\n", ended), await page.text("#command pre"));
   await command("report round.csv --rate 512 --limit 1 --always", "", "codewords 233\n");
   await round(page, sample);
   await title(page, "2 batches");
@@ -555,22 +562,20 @@ async function tryForced(page) {
   await page.send("Emulation.setEmulatedMedia", { features: [{ name: "forced-colors", value: "none" }] });
 }
 
-const page = await opened(1280, 1000);
-for (const part of [tryFirst, tryEditing, tryQuotes, tryWrongFiles, tryMany, tryFront, tryEnds, tryFiles, tryLong, tryLink, tryCommand, trySound]) {
-  try {
-    await part(page);
-  } catch (error) {
-    tally.check(part.name, false, error.stack);
+async function tryParts(...parts) {
+  const page = await opened(1280, 1000);
+  for (const part of parts) {
+    const before = await browser.busy();
+    try {
+      await part(page);
+    } catch (error) {
+      tally.check(part.name, false, error.stack);
+    }
+    console.log(`${part.name}: ${Math.round((await browser.busy()) - before)} s of processors`);
   }
 }
-const other = await opened(1280, 1000);
-for (const part of [tryKeys, tryLooks, tryTable]) {
-  try {
-    await part(other);
-  } catch (error) {
-    tally.check(part.name, false, error.stack);
-  }
-}
+await tryParts(tryFirst, tryEditing, tryQuotes, tryWrongFiles, tryMany, tryFront, tryEnds, tryFiles, tryLong, tryLink, tryCommand, trySound);
+await tryParts(tryKeys, tryLooks, tryTable);
 tally.is("nothing on the console", pages.flatMap(({ errors }) => errors), []);
 tally.is("no request but for the page itself", pages.flatMap(({ requests }) => requests).filter((it) => !it.startsWith("blob:") && it.split("#")[0] !== url), []);
 await browser.close();

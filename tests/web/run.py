@@ -10,6 +10,7 @@ The last line is 'N passed, M failed'.
 
 import importlib.util
 import json
+import os
 import pathlib
 import random
 import re
@@ -249,6 +250,13 @@ def try_page(tally, made, name, browser, least):
     tally.check(f"the page in {browser}", done.returncode == 0 and last and int(last[1]) > least, (done.returncode, done.stderr.decode()[-2000:]))
 
 
+def billed(part, *given):
+    """Runs a part, and says how long processors were busy with it."""
+    before = os.times()
+    part(*given)
+    print(f"{part.__name__}: {sum(os.times()[:4]) - sum(before[:4]):.0f} s of processors", flush=True)
+
+
 def has_node():
     """Whether there is a Node of version 20 or later."""
     return bool(NODE) and int(re.match(rb"v(\d+)", run(NODE, "--version").stdout)[1]) >= 20
@@ -262,18 +270,13 @@ def main(tally, room):
         tally.check("nothing to try", True)
         return
     made = Made(room)
-    if LIBRARY:
-        take_released(tally, made)
-    else:
-        try_made(tally, made)
-    try_rounds(tally, made)
-    try_large(tally, made)
-    try_node(tally, made)
-    package.try_package(tally, made.folder, room)
-    host.try_hosts(tally, room / "hosts", made.folder, NODE)
+    for part in (take_released if LIBRARY else try_made, try_rounds, try_large, try_node):
+        billed(part, tally, made)
+    billed(package.try_package, tally, made.folder, room)
+    billed(host.try_hosts, tally, room / "hosts", made.folder, NODE)
     for name, what, browser, least in (("page", "chromium", CHROMIUM, 60), ("firefox", "firefox", FIREFOX, 10)):
         if browser:
-            try_page(tally, made, name, browser, least)
+            billed(try_page, tally, made, name, browser, least)
         else:
             print(f"skipped: the page, since {what} is missing in PATH")
 

@@ -27,24 +27,36 @@ export class CommandLine {
     [this.#box, this.#ofPage, this.#begin, this.#save] = [box, ofPage, begin, save];
     box.ontoggle = () => (this.#program ??= begin());
     box.querySelector("form").onsubmit = (event) => (event.preventDefault(), this.#run());
-    box.onkeydown = async ({ key }) => key === "Escape" && (await this.#program).endCalls() && this.#print("ended; the files are as they were\n");
+    box.onkeydown = async ({ key }) => {
+      if (key !== "Escape" || !(await this.#program)?.endCalls()) return;
+      this.#log.ariaBusy = "false";
+      this.#print("ended; the files are as they were\n");
+    };
+  }
+
+  get #log() {
+    return this.#box.querySelector("pre");
   }
 
   #print(text) {
-    const box = this.#box.querySelector("pre");
-    box.textContent += text;
-    box.scrollTop = box.scrollHeight;
+    this.#log.textContent += text;
+    this.#log.scrollTop = this.#log.scrollHeight;
   }
 
   async #run() {
     const { elements } = this.#box.querySelector("form"), line = elements.line.value.replace(/^\s*pocsag\s/, "");
     const { words, from, to } = parted(line);
+    if (this.#log.ariaBusy === "true") return this.#print("one run at a time: Escape ends it\n"); // the next one takes on its files
     for (const [name, data] of Object.entries(this.#ofPage())) if (data !== this.#taken[name]) this.#files[name] = this.#taken[name] = data;
     this.#print(`$ pocsag ${line}\n`);
     if (from !== undefined && this.#files[from] === undefined) return this.#print(`there is no file ${from}\n`);
     const given = { input: from === undefined ? elements.input.value : this.#files[from] };
+    this.#log.ariaBusy = "true";
     const program = await (this.#program ??= this.#begin());
-    const { status, out, err, files } = (await program.ask("run", words, this.#files, given)).given;
+    const { given: told, message } = await program.ask("run", words, this.#files, given).catch((fault) => fault);
+    this.#log.ariaBusy = "false";
+    if (!told) return this.#print(`${message}\n`);
+    const { status, out, err, files } = told;
     this.#files = to === undefined ? files : { ...files, [to]: out };
     this.#print(`${to === undefined ? shown(out) : ""}${shown(err)}${status ? `status ${status}\n` : ""}`);
     const save = (name) => ({ textContent: name, ariaLabel: `save ${name}`, onclick: () => this.#save(name, this.#files[name]) });

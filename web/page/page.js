@@ -206,13 +206,13 @@ function options() {
   return { mostBatches: most[send.value], rate: Number(rate.value), search };
 }
 
-let timer = 0, slow = 0, isPlanning = false;
+let timer = 0, slow = 0;
 const waiting = []; // what is done when the round is planned, or refused
 
 function replan() {
-  library?.endCalls();
+  if (library?.endCalls() && player && !player.audio.src) stop(); // whose sound was among them
   for (const it of [timer, slow]) clearTimeout(it);
-  isPlanning = true;
+  element("plan").ariaBusy = "true";
   timer = setTimeout(plan, 40);
   element("linked").textContent = "";
   showRound();
@@ -236,7 +236,7 @@ async function plan() {
     showFault(fault);
   } finally {
     clearTimeout(slow);
-    isPlanning = false;
+    element("plan").ariaBusy = "false";
     waiting.splice(0).forEach((done) => done());
   }
 }
@@ -566,7 +566,7 @@ const VERDICTS = {
     return isShown ? `at least ${counted(batches, "batch", "batches")}${ENDINGS[end]}` : "not shown";
   },
   async transmission(file, { isAlone }) {
-    if (isPlanning) await new Promise((done) => waiting.push(done));
+    if (element("plan").ariaBusy === "true") await new Promise((done) => waiting.push(done));
     const { given: listing } = await library.ask("decode", await bytesOfFile(file));
     const planned = state.plan && (await library.ask("decode", state.plan.transmission)).given;
     const records = (text) => JSON.stringify(recordsOf(text).map(({ fields }) => fields).sort());
