@@ -69,7 +69,7 @@ def calls():
 
 # The library, with the stack that its header names and two calls for buffers; the program, with the stack that a process has.
 LIBRARY = Module(TOP / "crates/pocsag_c", "libpocsag_c.a", ("heap.c", "wide.c"), "-O3", 1 << 20, (*calls(), "pocsag_take", "pocsag_give"), ())
-PROGRAM = Module(TOP / "crates/pocsag_app", "pocsag_app.o", ("heap.c", "wide.c", "system.c"), "-O2", 8 << 20, ("main",), SYSTEM)
+PROGRAM = Module(TOP / "crates/pocsag_app", "pocsag_app", ("heap.c", "wide.c", "system.c"), "-O2", 8 << 20, ("main",), SYSTEM)
 
 
 def run(*words, **how):
@@ -95,6 +95,14 @@ def copying_toolchain(room, copy):
     return made
 
 
+def linked(made):
+    """The program of an object, as the toolchain links it."""
+    of_kit, program = toolchain().parent, made.with_suffix(".linked")
+    words = ["--target", "x86_64-unknown-linux-gnu", "--toolchain", toolchain(), "-o", program, made, *(of_kit / f"c/lib{it}_c.a" for it in ("os", "libc"))]
+    run(of_kit / "bin/rattle-link", *words, stdout=subprocess.DEVNULL)
+    return program
+
+
 def proved_code(module):
     """The code of a proved crate, as LLVM's bitcode. The toolchain writes it where it builds the crate once more, over the proofs that
     stand; what comes of it must be what stands. It is kept until that is another."""
@@ -109,7 +117,7 @@ def proved_code(module):
         made, copy = room / built.name, room / kept.name
         run(kit.script().rtlib.RATTLE, "build", *words, "--toolchain", copying_toolchain(room, copy), "--backend", "llvm",
             "--incremental", "out/incremental", "-o", made, cwd=crate, stdout=subprocess.DEVNULL)
-        if made.read_bytes() != built.read_bytes():
+        if (linked(made) if module is PROGRAM else made).read_bytes() != built.read_bytes():
             raise SystemExit(f"make.py: {built} is not what its sources give")
         record.unlink(missing_ok=True)
         shutil.copyfile(copy, kept)
