@@ -34,7 +34,7 @@ def run(words, folder=None, stdin=b"", **more):
     """A run of the program with these words in a folder, with bytes or a file as its input."""
     if "input" not in more:
         more["input" if isinstance(stdin, bytes) else "stdin"] = stdin
-    return subprocess.run([str(PROGRAM), *words], capture_output=True, cwd=folder, timeout=110, **more)
+    return subprocess.run([str(PROGRAM), *words], capture_output=True, cwd=folder, timeout=300, **more)
 
 
 def said(done):

@@ -302,7 +302,7 @@ def try_sounds(tally, folder):
     tally.check("wav of 20000 batches", (done.returncode, len(done.stdout), done.stderr) == (0, due, b""), (brief(done), due))
     (folder / "tx.bin").write_bytes(PREAMBLE + 3_947_578 * tone_batch(8))
     with open("/dev/null", "wb") as nowhere:
-        done = subprocess.run([str(PROGRAM), *words], cwd=folder, stdout=nowhere, stderr=subprocess.PIPE, timeout=110)
+        done = subprocess.run([str(PROGRAM), *words], cwd=folder, stdout=nowhere, stderr=subprocess.PIPE, timeout=300)
     tally.check("wav of 3947578 batches", (done.returncode, done.stderr) == (0, b""), done)
 
 
