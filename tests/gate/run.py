@@ -177,7 +177,7 @@ STEPS = """
 import sys
 sys.path.insert(0, "tools")
 import kit
-print(kit.check_words("."), kit.cross_words(".", "made", "arm"), kit.lock(["."]), kit.is_laid_out("."), kit.prove_anew("."))
+print(kit.check_words("."), kit.cross_words(".", "made", "arm"), type(kit.lock(["."])).__name__, kit.is_laid_out("."), kit.prove_anew("."))
 """
 
 
@@ -193,7 +193,7 @@ def try_unknown(tally):
         tally.check("the commands for an unknown toolchain", [it.returncode for it in done] == [0, 0, 0], done)
         told = calls.read_text().splitlines()
         tally.check("what they call", told == ["lib --jobs 2", "run --jobs 1 -- --help", "lib --jobs 1"], told)
-        tally.check("what else is known of it", done[2].stdout == "['rt', 'check', '--jobs', '1'] None [] True 0\n", done[2].stdout)
+        tally.check("what else is known of it", done[2].stdout == "['rt', 'check', '--jobs', '1'] None ExitStack True 0\n", done[2].stdout)
 
 
 def try_layout(tally):
