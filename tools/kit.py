@@ -4,8 +4,8 @@
 `rt lib` locks the folders of all crates that it reads, so of two crates that stand on a third one waits for the other.
 `rt all` locks all folders once and takes the same steps side by side, but for every crate, and each with one job. So
 `tools/build.py` locks the folders by the toolchain's own call, and this takes the steps for one crate. Where `rt` is not
-the script that this knows, the command itself is called, which locks and waits (tests/gate tries both). No other file of this
-repository reads the toolchain's script.
+the script that this knows, the command itself is called, which locks and waits (tests/gate tries both). Other files of this
+repository reach the toolchain's script through this one alone.
 """
 
 import contextlib

@@ -34,8 +34,8 @@ function openSync(path, names, mode) {
   }
 }
 
-/* The words behind the name of this script. Of a word that is no UTF-8 Node keeps no more than that, but Linux with /proc shows its bytes. On Windows a
- * path may have the stroke that the program does not know. */
+/* The words behind the name of this script. Of a word that is no UTF-8 Node keeps no more than that, but /proc of Linux shows its bytes.
+ * On Windows a path may have the stroke that the program does not know. */
 function words() {
   const given = process.argv.slice(2).map((word) => Buffer.from(IS_WINDOWS ? word.replaceAll("\\", "/") : word));
   if (!fs.existsSync("/proc/self/cmdline")) return given;

@@ -29,7 +29,7 @@ from tally import LIBRARY, PROGRAM, Tally, as_nobody
 
 HERE = pathlib.Path(__file__).resolve().parent
 # The scripts that run the program, and of how many of their cases one is tried here: the host is not another in each. Those of
-# tests/faults are not among them: they refuse memory of the C library's, of which the program as C takes none.
+# tests/faults are not among them: they refuse single calls for memory, and the program as C grows its memory by many pages at once.
 SCRIPTS = {"tests/program/run.py": 13, "tests/program/open.py": 1, "tests/journal/run.py": 7, "tests/sound/run.py": 13, "tests/capture/run.py": 13,
            "tests/explain/run.py": 13, "tests/pictures/run.py": 13, "tests/operation/queues.py": 1}
 ON_ARM = {"tests/program/run.py": 101, "tests/program/open.py": 101, "tests/journal/run.py": 101}
