@@ -16,11 +16,11 @@ OPEN_END = transmission([*6 * [IDLE], ZERO, *15 * [ONES], *10 * [IDLE], ZERO, *1
 TOLD = b"pages 2\nbatches 3\n"
 
 
-def read_back(folder, library, end, always, kept, given):
-    """`plan --verify` of the round, where one of its files is read back as other bytes."""
+def read_back(folder, library, end, asked, kept, given):
+    """`plan --verify` of the round, as is asked, where one of its files is read back as other bytes."""
     (folder / "given").write_bytes(given)
     environment = dict(os.environ, LD_PRELOAD=str(library), REFUSE_KEPT=kept, REFUSE_GIVEN="given")
-    words = ["plan", "pages.csv", "tx.bin", "cert.bin", "--verify", *ENDS[end], *always]
+    words = ["plan", "pages.csv", "tx.bin", "cert.bin", "--verify", *ENDS[end], *asked]
     return run(words, folder, env=environment)
 
 
@@ -81,3 +81,30 @@ def try_transmissions(tally, library, folder, end):
             wanted = (0, TOLD + b"verified\n", b"") if is_taken else (1, TOLD, fault)
             holds = (done.returncode, done.stdout, done.stderr) == wanted
             tally.check(f"{name} read back, {end} {always}", holds, (done, wanted))
+
+
+def try_fronts(tally, library, folder):
+    """`--verify` of a front: the first page of two, which has 16 codewords, so only the open end does without a batch more."""
+    (folder / "pages.csv").write_bytes(APART)
+    first, second = (HEADER + line + b"\n" for line in APART.splitlines()[1:])
+    for end in ENDS:
+        sent = {}
+        for name, text in (("first", first), ("second", second), ("both", APART)):
+            (folder / "other.csv").write_bytes(text)
+            run(["plan", "other.csv", "tx.bin", "cert.bin", *ENDS[end]], folder)
+            sent[name] = [(folder / file).read_bytes() for file in ("tx.bin", "cert.bin")]
+        cases = [
+            ("tx.bin", "what was written", sent["first"][0], b""),
+            ("tx.bin", "the page that is left", sent["second"][0], NOT_THE_PAGES),
+            ("tx.bin", "both pages", sent["both"][0], NOT_THE_PAGES),
+            ("tx.bin", "a batch more", sent["first"][0] + IDLES, NOT_THE_BOUND),
+            ("cert.bin", "what was written", sent["first"][1], b""),
+            ("cert.bin", "the certificate of both pages", sent["both"][1], NOT_THE_BOUND),
+            ("cert.bin", "a tree that is not accepted", certificate(end, 3, "00 FFFF"), NOT_THE_BOUND),
+        ]
+        told = b"pages 1\nbatches %d\nleft 1\n" % (1 if end == "open" else 2)
+        for file, name, given, fault in cases:
+            done = read_back(folder, library, end, ["--at-most", "2"], file, given)
+            wanted = (1, told, fault) if fault else (0, told + b"verified\n", b"")
+            holds = (done.returncode, done.stdout, done.stderr) == wanted
+            tally.check(f"{name} read back of a front, {end}", holds, (done, wanted))

@@ -483,7 +483,7 @@ def main():
             part(tally, library)
         try_lost(tally, library, folder)
         try_plan(tally, library, folder)
-        for part in (try_open, try_open_pages, try_late_growths, try_devices, read_back.try_read_back):
+        for part in (try_open, try_open_pages, try_late_growths, try_devices, read_back.try_read_back, read_back.try_fronts):
             part(tally, library, folder)
         kept.try_kept(tally, library, folder, run)
         noted.try_noted(tally, run, each_refusal, library, folder)
