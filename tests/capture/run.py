@@ -155,11 +155,30 @@ def words_read(bits, at, polarity, batches):
     return 17 * batches
 
 
+def has_slipped(bits, start, polarity, batches):
+    """Whether four words of the last batch in a row, or two or three at its end, are codewords one bit beside their places, and
+    none in them, unless it is an idle codeword that is beside."""
+    end = 17 * batches
+
+    def exact_at(at):
+        word = word_at(bits, at, polarity)
+        return word if word is not None and is_codeword(word) else None
+
+    def is_beside(place, aside):
+        at = start + 32 * place
+        word = exact_at(at + aside)
+        return word is not None and (word == IDLE or exact_at(at) is None)
+
+    firsts = range(end - 16, end - 1)
+    return any(all(is_beside(place, aside) for place in range(first, min(first + 4, end))) for first in firsts for aside in (-1, 1))
+
+
 def read_words(bits, start, polarity, batches, near):
     """What is told of a transmission: corrected bits, lost words and cut pages, and its pages."""
     corrected = lost = cut = 0
     behind = start + 544 * batches
-    is_out = any(near.get(at) == polarity for at in range(behind - 543, behind + 32))  # the last batch is out of step
+    # the last batch is out of step
+    is_out = any(at in near for at in range(behind - 543, behind + 32)) or has_slipped(bits, start, polarity, batches)
     pages, page = [], None  # an open page counts as cut until a codeword ends it
     end = words_read(bits, start, polarity, batches)
     for place in range(17 * batches):
@@ -197,8 +216,9 @@ def heard(bits):
             few = sum(mended_at(bits, first + 32 * k, polarity) is None for k in range(1, 17)) <= 5
             if not few or held > first + 31:
                 continue
-        held = last + 544
-        batches = (held - first) // 544 + is_like(bits, held, polarity)
+        own = (last + 544 - first) // 544
+        batches = own + is_like(bits, last + 544, polarity)
+        held = first + 32 * min(words_read(bits, first, polarity, batches), 17 * own)
         found.append((first, polarity, batches, *read_words(bits, first, polarity, batches, near)))
     return found
 
@@ -250,7 +270,9 @@ def with_states(some, cut):
     return rows
 
 
-def told_lines(found):
+def told_lines(found, likely=""):
+    if not found:
+        return f"pocsag: transmission air.bin: no transmission is in the capture{likely}\n".encode()
     return "".join(
         f"pocsag: transmission {k}: bit {bit}, {polarity}, batches {batches}, corrected bits {corrected}, lost words {lost}, cut pages {cut}\n"
         for k, (bit, polarity, batches, corrected, lost, cut) in enumerate(found, 1)
@@ -357,18 +379,24 @@ def try_by_hand(tally, folder):
     assert repaired(lost) is None
     batch = [SYNC, tone, more, more] + [IDLE] * 13
 
-    def listed(name, bits, due, told=None):
+    def listed(name, bits, due, told=None, likely=""):
         (folder / "air.bin").write_bytes(bits if isinstance(bits, bytes) else file_of(bits))
         done = run(["decode", "--capture", "air.bin", "--verbose"], cwd=folder)
-        holds = (done.returncode, rows_in(done.stdout)) == (0, due) and (told is None or done.stderr == told_lines(told))
+        holds = (done.returncode, rows_in(done.stdout)) == (0, due) and (told is None or done.stderr == told_lines(told, likely))
         tally.check(name, holds, (due, done))
 
     two = [["8", "numeric", numeric([0x12345, 0x12345]), "whole"]]
     one = [["8", "numeric", numeric([0x12345]), "whole"]]
     cut = [["8", "numeric", numeric([0x12345]), "cut"]]
     listed("nothing", b"", [], [])
+    for name, content, likely in (
+        ("one bit in each byte", bytes(map(int, bits_of(batch))), ": one bit in each byte, where eight are wanted"),
+        ("a digit for each bit", bits_of(batch).encode() + b"\n", ": a digit for each bit, where eight bits are wanted in each byte"),
+        ("a WAV file", b"RIFF" + bytes(100), ": a WAV file, not its bits"),
+    ):
+        listed(name, content, [], [], likely)
     listed("three bytes", b"\x7c\xd2\x15", [], [])
-    listed("all zeros", bytes(1_000), [], [])
+    listed("all zeros", bytes(1_000), [], [], ": one bit in each byte, where eight are wanted")
     listed("all ones", b"\xff" * 1_000, [], [])
     listed("a preamble alone", b"\xaa" * 500, [], [])
     listed("one batch from the first bit", bits_of(batch), two, [(0, "upright", 1, 0, 0, 0)])
@@ -424,7 +452,7 @@ def try_by_hand(tally, folder):
         listed(name, gap + after, [["8", "tone0", "", state], one[0]], told)
         told = [(0, "upright", 2, wrong, 0, int(state == "cut")), (544 + len(gap), "upright", 1, 0, 0, 0)]
         listed(f"{name}, in the second batch", before + gap + after, [["8", "tone0", "", "whole"], ["8", "tone0", "", state], one[0]], told)
-    listed("another behind it, inverted", before + inverted(after), [["8", "tone0", "", "whole"], one[0]])
+    listed("another behind it, inverted", before + inverted(after), [["8", "tone0", "", "cut"], one[0]])
     long_page = bits_of([SYNC, *[IDLE] * 15, tone])[:-1] + after
     listed("a page that is open where a bit is lost", long_page, [["15", "tone0", "", "cut"], one[0]])
     for count in (5, 6, 11):

@@ -16,7 +16,7 @@ use Rattle.pocsag_pager.proofs.Mended.{mended_same}
 use Rattle.pocsag_capture.specs.Bits.{capture_bits}
 use Rattle.pocsag_capture.specs.CapturedPages.{without_orphans}
 use Rattle.pocsag_capture.specs.ExtractedBytes.{ExtractsAll, ExtractsReception, PutsExtract, PutsExtracts}
-use Rattle.pocsag_capture.specs.Receptions.{AreFound, AreReceptions, IsReception, IsSyncRun, behind, counted, run_end, last_sync, nothing, passed, received, received_word}
+use Rattle.pocsag_capture.specs.Receptions.{AreFound, AreReceptions, IsReception, IsSyncRun, behind, counted, held_end, last_sync, nothing, passed, received, received_word}
 use Rattle.pocsag_capture.specs.declared.extract.Extracted.{Extracted}
 use Rattle.pocsag_capture.specs.declared.reception.ReceptionStats.{ReceptionStats}
 use Rattle.pocsag_capture.specs.declared.reception.Reception.{Reception}
@@ -45,7 +45,7 @@ receptions_short_from : (bytes : List ℕ) (first held : ℕ) (rs : List Recepti
     → AreFound (capture_bits bytes) first held rs → All IsShort rs
 receptions_short_from bytes first held rs few (nothing quiet) = All-nil IsShort
 receptions_short_from bytes first held rs few (counted u r more run counts is rest) =
-    All-cons IsShort r more (reception_short bytes first u r few run is) (receptions_short_from bytes (last_sync u + 1) (run_end u) more few rest)
+    All-cons IsShort r more (reception_short bytes first u r few run is) (receptions_short_from bytes (last_sync u + 1) (held_end u r) more few rest)
 receptions_short_from bytes first held rs few (passed u more run not rest) = receptions_short_from bytes (last_sync u + 1) held more few rest
 
 pub receptions_short : (bytes : List ℕ) (rs : List Reception) → length bytes ≤ input_limit → AreReceptions (capture_bits bytes) rs → All IsShort rs

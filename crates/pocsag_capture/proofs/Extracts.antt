@@ -8,7 +8,8 @@ use Rattle.pocsag_pages.specs.Bytes.{body_bytes}
 use Rattle.pocsag_capture.specs.Bits.{as_sent, word_on}
 use Rattle.pocsag_capture.specs.Extracted.{AreExtracted, count_cut}
 use Rattle.pocsag_capture.specs.ExtractedBytes.{IsExtract, PutsExtract, PutsExtracts}
-use Rattle.pocsag_capture.specs.Receptions.{AreInStep, received_word, sent_at}
+use Rattle.pocsag_capture.specs.Receptions.{received_word, sent_at}
+use Rattle.pocsag_capture.specs.Slips.{AreInStep}
 use Rattle.pocsag_capture.specs.TakenWords.{cut_by}
 use Rattle.pocsag_capture.specs.declared.polarity.Polarity.{Polarity}
 use Rattle.pocsag_capture.specs.declared.reception.ReceptionStats.{ReceptionStats}

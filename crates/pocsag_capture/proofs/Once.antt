@@ -19,7 +19,7 @@ use Rattle.pocsag_pager.proofs.Mended.{all_mended_same}
 use Rattle.pocsag_pager.proofs.Damage.{shown_is_chosen}
 use Rattle.pocsag_capture.specs.Bits.{capture_bits, word_on}
 use Rattle.pocsag_capture.specs.CapturedPages.{AreCaptured, HasCaptured, without_orphans}
-use Rattle.pocsag_capture.specs.Receptions.{AreFound, IsOnAir, HasBatches, IsBridged, IsInStep, IsReadTo, IsReception, IsSyncRun, IsSynchronised, counted, run_end, last_sync, nothing, passed, received}
+use Rattle.pocsag_capture.specs.Receptions.{AreFound, IsOnAir, HasBatches, IsBridged, IsInStep, IsReadTo, IsReception, IsSyncRun, IsSynchronised, counted, held_end, last_sync, nothing, passed, received}
 use Rattle.pocsag_capture.specs.declared.polarity.Polarity.{Polarity}
 use Rattle.pocsag_capture.specs.declared.polarity.Polarity.TheVariants.{Upright, Inverted}
 use Rattle.pocsag_capture.specs.declared.reception.Reception.{Reception}
@@ -124,10 +124,11 @@ same_found bits first held rs ss fits (counted u r more run counts is rest) (not
 same_found bits first held rs ss fits (counted u r more run counts is rest) (counted v s other runs count are rests) =
     let one = same_run bits first u v fits run runs in
     let back = sym one in
-    ap₂ (λ (a : Reception) (l : List Reception). a ∷ l)
-    (same_reception bits u r s is (subst (λ (q : Run). IsReception bits q s) back are))
-    (same_found bits (last_sync u + 1) (run_end u) more other fits rest
-    (subst (λ (q : Run). AreFound bits (last_sync q + 1) (run_end q) other) back rests))
+    let same = same_reception bits u r s is (subst (λ (q : Run). IsReception bits q s) back are) in
+    ap₂ (λ (a : Reception) (l : List Reception). a ∷ l) same
+    (same_found bits (last_sync u + 1) (held_end u r) more other fits rest
+    (subst (λ (a : Reception). AreFound bits (last_sync u + 1) (held_end u a) other) (sym same)
+    (subst (λ (q : Run). AreFound bits (last_sync q + 1) (held_end q s) other) back rests)))
 same_found bits first held rs ss fits (counted u r more run counts is rest) (passed v other runs not rests) =
     absurd (not (subst (IsOnAir bits held) (same_run bits first u v fits run runs) counts))
 same_found bits first held rs ss fits (passed u more run not rest) (nothing quiet) =

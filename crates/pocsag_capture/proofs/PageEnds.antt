@@ -25,7 +25,8 @@ use Rattle.pocsag_capture.specs.Bits.{capture_bits}
 use Rattle.pocsag_capture.specs.CapturedPages.{AreCaptured, HasCaptured, without_orphan, without_orphans}
 use Rattle.pocsag_capture.specs.Extracted.{count_cut, ends_cut, page_cuts}
 use Rattle.pocsag_capture.specs.PageEnds.{AreCutsOf, HasTransmissions, IsCapturedTransmission, IsPageEnd, UncutStandWhole, pages_captured}
-use Rattle.pocsag_capture.specs.Receptions.{AreInStep, received, received_word}
+use Rattle.pocsag_capture.specs.Receptions.{received, received_word}
+use Rattle.pocsag_capture.specs.Slips.{AreInStep}
 use Rattle.pocsag_capture.specs.TakenWords.{TakesWord, cut_by}
 use Rattle.pocsag_capture.specs.declared.captured_transmission.CapturedTransmission.{CapturedTransmission}
 use Rattle.pocsag_capture.specs.declared.corrector.WordCorrector.{WordCorrector}

@@ -5,7 +5,7 @@ use Rattle.std.proofs.lemmas.List.{append-nil}
 use Rattle.pocsag_words.specs.Codeword.{IsNear}
 use Rattle.pocsag_pages.specs.Bytes.{sync_word}
 use Rattle.pocsag_capture.specs.Bits.{as_sent, capture_bits, word_on}
-use Rattle.pocsag_capture.specs.Receptions.{AreFound, AreReceptions, IsClear, IsOnAir, IsBridged, IsInStep, IsQuiet, IsReception, IsSyncRun, IsSynchronised, counted, run_end, last_sync, nothing, passed}
+use Rattle.pocsag_capture.specs.Receptions.{AreFound, AreReceptions, IsOnAir, IsBridged, IsInStep, IsQuiet, IsReception, IsSyncRun, IsSynchronised, counted, held_end, last_sync, nothing, passed}
 use Rattle.pocsag_capture.specs.Runs.{BeginsRun, Steps}
 use Rattle.pocsag_capture.specs.declared.polarity.Polarity.{Polarity}
 use Rattle.pocsag_capture.specs.declared.reception.Reception.{Reception}
@@ -19,22 +19,6 @@ quiet_more bits first bit next before here = λ k low high polarity.
       | inl less ↦ before k low less polarity
       | inr more ↦ here k more high polarity
     ]
-
--- the same of one polarity
-pub clear_quiet : (bits : List ℕ) (p : Polarity) (first last : ℕ) → IsQuiet bits first last → IsClear bits p first last
-clear_quiet bits p first last quiet = λ k low high. quiet k low high p
-
-pub clear_more : (bits : List ℕ) (p : Polarity) (first bit next : ℕ) → IsClear bits p first bit → IsClear bits p bit next → IsClear bits p first next
-clear_more bits p first bit next before here = λ k low high.
-    elim (cases_lt k bit) [
-      | inl less ↦ before k low less
-      | inr more ↦ here k more high
-    ]
-
-pub clear_one : (bits : List ℕ) (p : Polarity) (bit : ℕ) → ¬ IsSynchronised bits bit p → IsClear bits p bit (bit + 1)
-clear_one bits p bit none = λ k low high there.
-    let same : k ≡ bit = omega arith in
-    none (subst (λ (n : ℕ). IsSynchronised bits n p) same there)
 
 -- a word that is known to be near in neither polarity, or in none but one
 abbrev Answers : Option Polarity → ℕ → Type 0
@@ -169,7 +153,7 @@ pub found_all : (bits : List ℕ) (first held : ℕ) (found : List Reception) �
 found_all bits first held found so_far quiet = subst (AreFound bits 0 0) (append-nil found) (so_far [] (nothing quiet))
 
 pub found_more : (bits : List ℕ) (first held : ℕ) (found now : List Reception) (u : Run) (r : Reception) → SoFar bits first held found
-    → IsSyncRun bits first u → IsOnAir bits held u → IsReception bits u r → now ≡ found ++ r ∷ [] → SoFar bits (last_sync u + 1) (run_end u) now
+    → IsSyncRun bits first u → IsOnAir bits held u → IsReception bits u r → now ≡ found ++ r ∷ [] → SoFar bits (last_sync u + 1) (held_end u r) now
 found_more bits first held found now u r before run counts is pushed = λ rest more.
     let all = before (r ∷ rest) (counted u r rest run counts is more) in
     subst (AreFound bits 0 0) (sym (append_assoc found (r ∷ []) rest) ∙ ap (λ (l : List Reception). l ++ rest) (sym pushed)) all

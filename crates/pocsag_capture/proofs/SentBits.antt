@@ -2,6 +2,7 @@
 use Rattle.std.proofs.Common.{◌≡◌, ◌≢◌, ◌⊎◌, ℕ, zero, suc, lit<, ◌+◌, ◌-◌, ◌*◌, ◌/◌, ◌%◌, ◌^◌, ◌<◌, ◌≤◌, ◌==◌, if◌then◌else◌, List, [], ◌∷◌, ◌++◌, length, map, take, drop, get_or, All, Option, Some, Bool, true, false, bit_xor, count_ones, refl, sym, ap, ap₂, subst, ◌∙◌, inl, inr, arith, append_assoc, eq-eqb}
 use Rattle.std.specs.List.{AllZip, flat_map, range_with_len}
 use Rattle.std.specs.Int.Bits.{xor_self}
+use Rattle.std.proofs.Math.Nat.{min-le_right}
 use Rattle.std.proofs.Math.Seq.{drop-append-add, get_or-append_seam}
 use Rattle.std.proofs.lemmas.Nat.{ones_le_self}
 use Rattle.std.proofs.lemmas.Bool.{cases_eq, cases_lt, ne_eqb}
@@ -33,7 +34,7 @@ use Rattle.pocsag_pager.proofs.Mended.{mended_back}
 use Rattle.pocsag_capture.specs.Bits.{as_sent, capture_bits, word_on}
 use Rattle.pocsag_capture.specs.CapturedPages.{AreCaptured, HasCaptured, stays_open, without_orphan, without_orphans}
 use Rattle.pocsag_capture.specs.Lost.{lost_words}
-use Rattle.pocsag_capture.specs.Receptions.{AreFound, HasFewLost, IsLikeSynchronised, IsQuiet, IsReception, IsSyncRun, IsSynchronised, counted, run_end, last_sync, nothing, passed, received, received_word, sent_at}
+use Rattle.pocsag_capture.specs.Receptions.{AreFound, HasFewLost, IsLikeSynchronised, IsQuiet, IsReception, IsSyncRun, IsSynchronised, counted, held_end, run_end, last_sync, nothing, passed, received, received_word, sent_at}
 use Rattle.pocsag_capture.specs.Sent.{HoldsSent, NothingFollows, IsReceived, StandAmong}
 use Rattle.pocsag_capture.specs.declared.polarity.Polarity.{Polarity}
 use Rattle.pocsag_capture.specs.declared.polarity.Polarity.TheVariants.{Upright, Inverted}
@@ -230,11 +231,11 @@ module _ (bits : List ℕ) (b : ℕ) (p : Polarity) (fits : WordsFit bits) (ther
         | inr more ↦ let some = run.some in on_step first ((b - u.bit) / 544) u run (omega arith) (omega arith) (omega arith)
       ]
 
-  end_early : (first : ℕ) (u : Run) → IsSyncRun bits first u → last_sync u < b → run_end u ≤ b + 31
-  end_early first u run before =
+  end_early : (first : ℕ) (u : Run) (r : Reception) → IsSyncRun bits first u → last_sync u < b → held_end u r ≤ b + 31
+  end_early first u r run before =
       let some = run.some in
       elim (cases_lt (last_sync u) (b - 544)) [
-        | inl early ↦ omega arith
+        | inl early ↦ omega (arith, min-le_right r.words (17 * u.batches))
         | inr late ↦ absurd (quiet (last_sync u) late before u.polarity run.last)
       ]
 
@@ -248,7 +249,7 @@ module _ (bits : List ℕ) (b : ℕ) (p : Polarity) (fits : WordsFit bits) (ther
     shown_from first held rs (here ∷ pss) low late (counted u r more run counts is rest) each =
         elim (cases_lt (last_sync u) b) [
           | inl before ↦
-              let next = shown_from (last_sync u + 1) (run_end u) more pss (omega arith) (end_early first u run before) rest each.1 in
+              let next = shown_from (last_sync u + 1) (held_end u r) more pss (omega arith) (end_early first u r run before) rest each.1 in
               record { front = here ++ next.front; back = next.back; whole = rw next.whole (simp append_assoc) }
           | inr after ↦
               let mine = shows first u r here run is (on_run first u run low after) each.0 in

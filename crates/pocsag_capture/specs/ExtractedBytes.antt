@@ -9,7 +9,8 @@ use Rattle.pocsag_decode.specs.Faults.{ReadsAs}
 use Rattle.pocsag_capture.specs.Bits.{capture_bits}
 use Rattle.pocsag_capture.specs.CapturedPages.{AreCaptured, HasCaptured}
 use Rattle.pocsag_capture.specs.Extracted.{AreExtracted}
-use Rattle.pocsag_capture.specs.Receptions.{AreInStep, AreReceptions, received}
+use Rattle.pocsag_capture.specs.Receptions.{AreReceptions, received}
+use Rattle.pocsag_capture.specs.Slips.{AreInStep}
 use Rattle.pocsag_capture.specs.declared.fault.CaptureFault.{CaptureFault}
 use Rattle.pocsag_capture.specs.declared.fault.CaptureFault.TheVariants as fault
 use Rattle.pocsag_capture.specs.declared.extract.Extracted.{Extracted}

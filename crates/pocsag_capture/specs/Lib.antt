@@ -7,4 +7,5 @@ pub mod PageEnds
 pub mod Receptions
 pub mod Runs
 pub mod Sent
+pub mod Slips
 pub mod TakenWords

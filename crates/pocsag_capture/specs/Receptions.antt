@@ -1,5 +1,5 @@
 -- Which transmissions a capture holds (this project's own), and the words of each.
-use Rattle.std.specs.Prelude.{◌≡◌, ◌⊎◌, ℕ, ◌+◌, ◌-◌, ◌*◌, ◌<◌, ◌≤◌, nat_le, nat_lt, if◌then◌else◌, List, [], ◌∷◌, length, map, Option, bit_xor, count_ones}
+use Rattle.std.specs.Prelude.{◌≡◌, ◌⊎◌, ℕ, ◌+◌, ◌-◌, ◌*◌, ◌<◌, ◌≤◌, nat_le, nat_lt, min, if◌then◌else◌, List, [], ◌∷◌, length, map, Option, bit_xor, count_ones}
 use Rattle.std.specs.List.{AllZip, range_with_len}
 use Rattle.pocsag_words.specs.Codeword.{HasNoneNear, IsNear}
 use Rattle.pocsag_words.specs.Frame.{batch_words}
@@ -72,7 +72,7 @@ pub record HasFewLost (bits : List ℕ) (u : Run) : Type 0 where
   pub few : lost_words mended ≤ 5
 
 -- On the air: a run that has a second synchronisation codeword, or one of whose batch few words are lost and which does not begin
--- inside the last batch of the one before it, which ends at a held bit; 31 bits may be missing there.
+-- inside what is read of the one before it, which ends at a held bit; 31 bits may be missing there.
 abbrev pub IsOnAir : (bits : List ℕ) → (held : ℕ) → Run → Type 0
 IsOnAir bits held u = (1 < u.batches) ⊎ ((held ≤ u.bit + 31) × HasFewLost bits u)
 
@@ -102,7 +102,11 @@ pub record IsReception (bits : List ℕ) (u : Run) (r : Reception) : Type 0 wher
   pub batches : HasBatches bits u r.batches
   pub words : IsReadTo bits u.polarity u.bit r.batches r.words
 
--- The receptions from a bit on, where the one before them ends at a held bit: those of the runs that are on the air. Each run is
+-- The bit behind the last word that is read of a run's batches.
+abbrev pub held_end : Run → Reception → ℕ
+held_end u r = u.bit + 32 * min r.words (batch_words * u.batches)
+
+-- The receptions from a bit on, where what is read of the one before them ends at a held bit: those of the runs that are on the air. Each run is
 -- searched behind the last synchronisation codeword of the run before it, and behind the last run there is none.
 pub data AreFound (bits : List ℕ) : (first held : ℕ) → List Reception → Type 0 where
   nothing : {first held : ℕ} → IsQuiet bits first (length bits) → AreFound bits first held []
@@ -111,7 +115,7 @@ pub data AreFound (bits : List ℕ) : (first held : ℕ) → List Reception → 
       IsSyncRun bits first u →
       IsOnAir bits held u →
       IsReception bits u r →
-      AreFound bits (last_sync u + 1) (run_end u) rs →
+      AreFound bits (last_sync u + 1) (held_end u r) rs →
       AreFound bits first held (r ∷ rs)
   passed :
       {first held : ℕ} (u : Run) (rs : List Reception) →
@@ -127,17 +131,6 @@ AreReceptions bits rs = AreFound bits 0 0 rs
 -- The bit behind a reception's last batch.
 abbrev pub behind : Reception → ℕ
 behind r = r.bit + batch_bits * r.batches
-
--- No bit from the first on, before the last, begins a synchronisation codeword in this polarity.
-abbrev pub IsClear : (bits : List ℕ) → Polarity → (first last : ℕ) → Type 0
-IsClear bits polarity first last = (bit : ℕ) → first ≤ bit → bit < last → ¬ IsSynchronised bits bit polarity
-
--- *In step*: so many batches of a reception are: all, or all but the last, where another synchronisation codeword of its polarity
--- begins inside the last batch or at most 31 bits behind it.
-abbrev pub AreInStep : (bits : List ℕ) → Reception → (batches : ℕ) → Type 0
-AreInStep bits r batches =
-    (IsClear bits r.polarity (behind r - 543) (behind r + 32) × (batches ≡ r.batches))
-    ⊎ ((¬ IsClear bits r.polarity (behind r - 543) (behind r + 32)) × (batches ≡ r.batches - 1))
 
 -- A word of a reception by its place, its first synchronisation codeword being at 0.
 abbrev pub received_word : (bits : List ℕ) → Reception → (place : ℕ) → ℕ

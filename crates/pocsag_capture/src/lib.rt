@@ -11,6 +11,7 @@ mod polarity;
 mod received_words;
 mod reception;
 mod search;
+mod slip;
 mod sync_table;
 
 pub use captured_transmission::{CapturedTransmission, capture_pages};

@@ -24,7 +24,7 @@ const FEW_LOST: u64 = 5;
 
 // The word from a bit on as it was sent.
 #[inline(always)]
-fn sent_at(capture: &[u8], polarity: Polarity, bit: u64) -> u32
+pub(crate) fn sent_at(capture: &[u8], polarity: Polarity, bit: u64) -> u32
     requires few { length capture.now ≤ input_limit }
     requires bit { bit < 2 ^ 61 }
     ensures { result ≡ sent_at (capture_bits capture.now) polarity bit }

@@ -25,8 +25,8 @@ pub struct Reception {
 #[derive(Clone, Copy, PartialEq, Eq, Debug)]
 pub struct ReceptionStats {
     pub reception: Reception,
-    /// How many of its batches are in step: all, or all but the last, where another synchronisation codeword of its polarity
-    /// begins inside the last one or at most 31 bits behind it.
+    /// How many of its batches are in step: all, or all but the last, where another synchronisation codeword, in either
+    /// polarity, begins inside the last one or at most 31 bits behind it, or a bit was lost or doubled in it.
     pub steady: u64,
     /// How many bits were wrong, in synchronisation codewords and in those that were repaired.
     pub corrected: u64,

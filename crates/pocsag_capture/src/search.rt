@@ -5,15 +5,18 @@ ghost use Rattle.pocsag_words.specs.Codeword.{IsNear};
 ghost use Rattle.pocsag_words.specs.Frame.{input_limit};
 ghost use Rattle.pocsag_pages.specs.Bytes.{sync_word};
 ghost use Rattle.pocsag_capture.specs.Bits.{as_sent, capture_bits};
-ghost use Rattle.pocsag_capture.specs.Receptions.{AreInStep, AreReceptions, IsClear, IsOnAir, IsQuiet, IsSynchronised, behind, run_end};
+ghost use Rattle.pocsag_capture.specs.Receptions.{AreReceptions, IsOnAir, IsQuiet, IsSynchronised, behind, run_end};
 ghost use Rattle.pocsag_capture.specs.Runs.{BeginsRun, Steps};
+ghost use Rattle.pocsag_capture.specs.Slips.{AreInStep};
 ghost use Rattle.pocsag_capture.specs.declared.polarity.Polarity.{Polarity};
 ghost use Rattle.pocsag_capture.specs.declared.reception.Run.{Run};
 
 use crate::bits::{window_on, word_in, word_on};
+use crate::corrector::BATCH;
 use crate::polarity::{NEAR_BITS, Polarity, polarity_of};
 use crate::received_words::{has_few_lost, reception_of};
 use crate::reception::{Reception, Run};
+use crate::slip::has_slipped;
 use crate::sync_table::may_begin;
 use pocsag_words::{BATCH_BITS, SYNC_WORD};
 use std::alloc::{AllocError, Global};
@@ -123,29 +126,13 @@ fn run_of(capture: &[u8], place: SyncPlace) -> Run
     }
 }
 
-// Whether a run is on the air, where the last batch of the one before it ends at a bit.
+// Whether a run is on the air, where what is read of the one before it ends at a bit.
 fn counts(capture: &[u8], held: u64, run: Run) -> bool
     requires few { length capture.now ≤ input_limit }
     requires end { run_end run < 2 ^ 60 }
     ensures { IsTrue result ↔ IsOnAir (capture_bits capture.now) held run }
 {
     run.batches > 1 || (held <= run.bit + WORD_SLACK && has_few_lost(capture, run))
-}
-
-// Whether no synchronisation codeword of the polarity begins from a bit on, before the last.
-fn is_clear_to(capture: &[u8], polarity: Polarity, first: u64, last: u64) -> bool
-    requires few { length capture.now ≤ input_limit }
-    requires first { first < 2 ^ 60 }
-    ensures { IsTrue result ↔ IsClear (capture_bits capture.now) polarity first last }
-{
-    let mut bit = first;
-    while let Some(place) = find(capture, bit, last) {
-        if is_synchronised(capture, place.bit, polarity) {
-            return false;
-        }
-        bit = place.bit + 1;
-    }
-    true
 }
 
 // How many batches of a reception are in step: all, or all but the last.
@@ -156,10 +143,14 @@ pub(crate) fn steady_batches(capture: &[u8], reception: Reception) -> u64
 {
     let behind = reception.bit + BATCH_BITS * reception.batches;
     let first = behind.saturating_sub(BATCH_BITS - 1);
-    if is_clear_to(capture, reception.polarity, first, behind + WORD_SLACK + 1) {
-        return reception.batches;
+    let shorter = reception.batches.saturating_sub(1);
+    if let Some(_other) = find(capture, first, behind + WORD_SLACK + 1) {
+        return shorter;
     }
-    reception.batches.saturating_sub(1)
+    if has_slipped(capture, reception) {
+        return shorter;
+    }
+    reception.batches
 }
 
 // The receptions of a capture.
@@ -175,8 +166,9 @@ pub(crate) fn receptions(alloc: Global, capture: &[u8]) -> Result<Vec<Reception>
         let run = run_of(capture, place);
         first = run.bit + BATCH_BITS * (run.batches - 1) + 1;
         if counts(capture, held, run) {
-            found.push(reception_of(capture, run))?;
-            held = run.bit + BATCH_BITS * run.batches;
+            let reception = reception_of(capture, run);
+            found.push(reception)?;
+            held = run.bit + 32 * reception.words.min(BATCH * run.batches);
         }
     }
     Ok(found)

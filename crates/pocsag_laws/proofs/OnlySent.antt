@@ -1,6 +1,7 @@
 -- A capture of transmissions and noise alone holds a reception of each and no others.
 use Rattle.std.proofs.Common.{◌≡◌, ◌≢◌, ◌⊎◌, ℕ, zero, suc, lit<, ◌+◌, ◌-◌, ◌*◌, ◌/◌, ◌%◌, ◌^◌, ◌<◌, ◌≤◌, List, [], ◌∷◌, ◌++◌, length, map, take, drop, get_or, All, Option, Some, Bool, true, false, bit_xor, count_ones, refl, sym, ap, ap₂, subst, ◌∙◌, inl, inr, arith, append_assoc, eq-eqb}
 use Rattle.std.specs.List.{AllZip, flat_map, range_with_len}
+use Rattle.std.proofs.Math.Nat.{min-eq_right}
 use Rattle.std.proofs.Math.Seq.{drop-append-add}
 use Rattle.std.proofs.lemmas.Bool.{cases_eq, cases_lt, ne_eqb}
 use Rattle.std.proofs.lemmas.Grind.{same_number_lists}
@@ -28,7 +29,7 @@ use Rattle.pocsag_pager.specs.Shown.{IsMended, said}
 use Rattle.pocsag_capture.specs.Bits.{as_sent, capture_bits, word_on}
 use Rattle.pocsag_capture.specs.CapturedPages.{AreCaptured, HasCaptured, without_orphans}
 use Rattle.pocsag_capture.specs.Lost.{lost_words}
-use Rattle.pocsag_capture.specs.Receptions.{AreFound, AreReceptions, HasFewLost, IsBridged, IsLikeSynchronised, IsOnAir, IsReception, IsSyncRun, IsSynchronised, counted, run_end, last_sync, nothing, passed, received, received_word, sent_at}
+use Rattle.pocsag_capture.specs.Receptions.{AreFound, AreReceptions, HasFewLost, IsBridged, IsLikeSynchronised, IsOnAir, IsReception, IsSyncRun, IsSynchronised, counted, held_end, run_end, last_sync, nothing, passed, received, received_word, sent_at}
 use Rattle.pocsag_capture.specs.Sent.{NothingFollows, IsReceived}
 use Rattle.pocsag_capture.specs.declared.polarity.Polarity.{Polarity}
 use Rattle.pocsag_capture.specs.declared.polarity.Polarity.TheVariants.{Upright, Inverted}
@@ -288,7 +289,7 @@ record IsFirst (bits : List ℕ) (b : ℕ) (p : Polarity) (rs : List Reception) 
   pub bit : run.bit ≡ b
   pub polarity : run.polarity ≡ p
   pub is : IsReception bits run reception
-  pub rest : AreFound bits (last_sync run + 1) (run_end run) back
+  pub rest : AreFound bits (last_sync run + 1) (held_end run reception) back
 
 -- a run that does not begin before a synchronisation codeword begins there
 module _ (bits : List ℕ) (first b : ℕ) (p : Polarity) (u : Run) (run : IsSyncRun bits first u) (there : IsSynchronised bits b p) (low : first ≤ b) (past : b ≤ u.bit) where
@@ -496,6 +497,9 @@ module _ (A R : List ℕ) (p : Polarity) (ps : List Page) (X : List ℕ) (f : Is
                 absurd (far (get_or (synced 0 f.codewords) r.words 0) near.codeword near.near)
           ]
 
+      held_over : held_end u r ≡ length A + 544 * f.batches
+      held_over = omega (arith, bit, run_batches, min-eq_right (subst (λ (n : ℕ). 17 * n ≤ r.words) (sym run_batches) least_words))
+
       own_words : received (A ++ (X ++ R)) r ≡ f.words
       own_words =
           let long = length-map-range_with_len (received_word (A ++ (X ++ R)) r) 0 (17 * r.batches) in
@@ -527,7 +531,7 @@ module _ (A R : List ℕ) (p : Polarity) (ps : List Page) (X : List ℕ) (f : Is
       let long = how_long in
       let there = begins_at (length A) 0 (omega arith) some in
       let holder = found_first (A ++ (X ++ R)) first first (length A) p rs fits there noisy few_at low (omega arith) found in
-      let end = run_over over holder.first holder.run holder.is_run holder.bit holder.polarity in
+      let end = held_over over holder.first holder.run holder.is_run holder.bit holder.polarity holder.reception holder.is in
       let bit = holder.bit in
       let batches = run_batches over holder.first holder.run holder.is_run holder.bit holder.polarity in
       let none = no_other_behind A (X ++ R) (length X) (length A + 544 * f.batches) (omega (arith, long.2)) (omega (arith, long.2)) holds in

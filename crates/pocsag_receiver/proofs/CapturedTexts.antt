@@ -13,8 +13,9 @@ use Rattle.pocsag_capture.specs.Bits.{capture_bits}
 use Rattle.pocsag_capture.proofs.SentBits.{shows_what_was_sent}
 use Rattle.pocsag_capture.specs.ExtractedBytes.{ExtractsOne}
 use Rattle.pocsag_capture.specs.PageEnds.{AreNumbered, IsCapturedTransmission, UncutStandWhole, pages_captured}
-use Rattle.pocsag_capture.specs.Receptions.{AreInStep, AreReceptions, received}
+use Rattle.pocsag_capture.specs.Receptions.{AreReceptions, received}
 use Rattle.pocsag_capture.specs.Sent.{HoldsSent}
+use Rattle.pocsag_capture.specs.Slips.{AreInStep}
 use Rattle.pocsag_capture.specs.declared.captured_transmission.CapturedTransmission.{CapturedTransmission}
 use Rattle.pocsag_capture.specs.declared.reception.ReceptionStats.{ReceptionStats}
 use Rattle.pocsag_capture.specs.declared.reception.Reception.{Reception}

@@ -6,8 +6,9 @@ use Rattle.pocsag_pages.specs.Bytes.{unsynced}
 use Rattle.pocsag_capture.specs.Bits.{capture_bits}
 use Rattle.pocsag_capture.specs.ExtractedBytes.{ExplainsNone, ExplainsUnextracted, ExtractsOne}
 use Rattle.pocsag_capture.specs.PageEnds.{AreNumbered, HasTransmissions, IsCapturedTransmission, UncutStandWhole, pages_captured}
-use Rattle.pocsag_capture.specs.Receptions.{AreInStep, AreReceptions, received}
+use Rattle.pocsag_capture.specs.Receptions.{AreReceptions, received}
 use Rattle.pocsag_capture.specs.Sent.{StandAmong}
+use Rattle.pocsag_capture.specs.Slips.{AreInStep}
 use Rattle.pocsag_capture.specs.declared.captured_transmission.CapturedTransmission.{CapturedTransmission}
 use Rattle.pocsag_capture.specs.declared.reception.ReceptionStats.{ReceptionStats}
 use Rattle.pocsag_capture.specs.declared.reception.Reception.{Reception}

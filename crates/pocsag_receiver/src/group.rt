@@ -141,6 +141,11 @@ fn receive(context: Context<'_>, mut asked: Receiving, mut tx: Loaded, names: Na
         Some(bytes) => bytes.len() <= KEPT_BYTES,
         None => true,
     };
+    let likely = if context.diagnostics.is_asked() {
+        likely_bytes(tx.lent().unwrap_or(&[]))
+    } else {
+        ""
+    };
     let status = if is_kept {
         let mut streams = MemoryStreams::new(context.alloc);
         let out = &mut streams.out;
@@ -164,7 +169,7 @@ fn receive(context: Context<'_>, mut asked: Receiving, mut tx: Loaded, names: Na
         status
     };
     if status == 0 {
-        print_received(context, &asked, names);
+        print_received(context, &asked, names, likely);
     }
     status
 }
@@ -192,17 +197,37 @@ fn carry_out<O: Sink, E: Sink + Drop>(
     }
 }
 
-// With `--verbose` reports how a transmission was received.
-fn print_received(context: Context<'_>, asked: &Receiving, names: Names<'_>) {
+// What bytes likely are that are no bits off the air, as a note says it.
+fn likely_bytes(bytes: &[u8]) -> &'static str {
+    match bytes {
+        [] => "",
+        [b'R', b'I', b'F', b'F', ..] => ": a WAV file, not its bits",
+        _ if bytes.iter().all(|byte| *byte < 2) => ": one bit in each byte, where eight are wanted",
+        _
+            if bytes
+                .iter()
+                .all(|byte| matches!(byte, b'0' | b'1' | b'\r' | b'\n')) => {
+            ": a digit for each bit, where eight bits are wanted in each byte"
+        }
+        _ => "",
+    }
+}
+
+// With `--verbose` reports how a transmission was received; of a capture without one, what its bytes likely are.
+fn print_received(context: Context<'_>, asked: &Receiving, names: Names<'_>, likely: &'static str) {
     match asked {
         Receiving::Hear(_) => {}
         Receiving::Decode(decoding) => note_repair(context, names, decoding.repairing),
         Receiving::Show(showing) => note_repair(context, names, showing.repairing),
-        Receiving::ListCapture(capture_listing) => print_heard(
-            context,
-            1,
-            capture_listing.heard.as_slice(),
-        ),
+        Receiving::ListCapture(capture_listing) => {
+            let heard = capture_listing.heard.as_slice();
+            if heard.is_empty() {
+                let place = names.place(Role::Transmission);
+                context.note(format_args!("{place}: no transmission is in the capture{likely}"));
+                context.print_more(names);
+            }
+            print_heard(context, 1, heard);
+        }
         Receiving::ShowCapture(viewing) => {
             print_heard(context, viewing.nth, viewing.heard.as_slice());
         }
