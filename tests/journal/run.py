@@ -22,7 +22,7 @@ from tally import IS_EMULATED, ONE_IN, PROGRAM, as_nobody, run_parts, sampled
 
 HEADER = b"address,kind,message\n"
 FIRST_LINE = b"pocsag journal,1\n"
-EDITS, KILLS = (500, 30) if IS_EMULATED else (5_000, 300)
+EDITS, KILLS, TURNS = (500, 30, 2_000) if IS_EMULATED else (5_000, 300, 20_000)
 SEED = 20261123
 LEAST = 1 << 20  # the least size at which a journal is written anew
 
@@ -845,6 +845,37 @@ def try_many(tally, folder):
     tally.check("many pages: written anew", err == read_line(20000, 20000), err)
 
 
+def turning_journal(pages, turns):
+    """A journal that adds so many pages, and then again and again takes the first one out and puts it behind the others."""
+    add = b"add,%d,alpha,Ward %d\n"
+    lines = [add % (number, number) for number in range(pages)]
+    for turn in range(turns):
+        number = turn % pages
+        lines += [b"sent,1\n" if turn % 2 else b"cancel,%d\n" % number, add % (number, number)]
+    return FIRST_LINE + b"".join(lines)
+
+
+def seconds_to_read(tally, place, pages, turns):
+    """The least processor time of three starts that read such a journal."""
+    journal, times = turning_journal(pages, turns), []
+    for _ in range(3):
+        (place / "round.journal").write_bytes(journal)
+        before = resource.getrusage(resource.RUSAGE_CHILDREN)
+        done = run(place, [])
+        times.append(resource.getrusage(resource.RUSAGE_CHILDREN).ru_utime - before.ru_utime)
+        tally.check(f"{pages} pages and {turns} turns are read", done == (b"", read_line(pages + 2 * turns, pages), 0), done)
+    return min(times)
+
+
+def try_long_start(tally, folder):
+    """What a line of a journal takes to read does not grow with the number of pages: a processor's cache may make it slower."""
+    place = folder / "long"
+    place.mkdir()
+    few = seconds_to_read(tally, place, 10, TURNS)
+    many = seconds_to_read(tally, place, 19_900, TURNS) - seconds_to_read(tally, place, 19_900, 0)
+    tally.check("a long journal: the time of a line", many < 3 * few + 0.1, (many, few))
+
+
 def try_growth(tally, folder):
     """A long day: the journal stays small, and stands for the pages."""
     place = folder / "growth"
@@ -869,7 +900,7 @@ def try_growth(tally, folder):
 
 
 def main():
-    return run_parts(try_first_use, try_kills, try_killed_slots, try_cuts, try_lost_sectors, try_lost_lines, try_synchronised, try_bad_lines, try_others, try_harms, try_rights, try_failed_look, try_no_locks, try_backups, try_read_only, try_use, try_full_disk, try_full_system, try_verbose, try_verbose_later, try_many, try_growth)
+    return run_parts(try_first_use, try_kills, try_killed_slots, try_cuts, try_lost_sectors, try_lost_lines, try_synchronised, try_bad_lines, try_others, try_harms, try_rights, try_failed_look, try_no_locks, try_backups, try_read_only, try_use, try_full_disk, try_full_system, try_verbose, try_verbose_later, try_many, try_long_start, try_growth)
 
 
 if __name__ == "__main__":

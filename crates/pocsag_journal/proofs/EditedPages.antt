@@ -73,10 +73,11 @@ added_keeps P address kind message before after d new =
       each = λ all. All-push P before d.page all (new d.page d.spelled may.good);
     })
 
-pub cancelled_keeps : (P : Page → Type 0) (spelling : List ℕ) (before after : List Page) → IsCancelled spelling before after → Keeps P before after
-cancelled_keeps P spelling before after d =
-    let stays : Page → Bool = λ (p : Page). not (nat_eq d.page.address p.address) in
-    let left : Keeps P before (without before d.page.address) = record {
+-- taking out the page of an address keeps that
+without_keeps : (P : Page → Type 0) (before : List Page) (a : ℕ) → Keeps P before (without before a)
+without_keeps P before a =
+    let stays : Page → Bool = λ (p : Page). not (nat_eq a p.address) in
+    record {
       stand = λ was. record {
         few = omega (arith, few_kept stays before, was.few);
         good = record {
@@ -85,8 +86,13 @@ cancelled_keeps P spelling before after d =
         };
       };
       each = λ all. All-filter stays P before all;
-    } in
-    subst (Keeps P before) (sym d.rest) left
+    }
+
+pub left_stand : (before : List Page) (a : ℕ) → MayStand before → MayStand (without before a)
+left_stand before a was = (without_keeps (λ p. Unit {0}) before a).stand was
+
+pub cancelled_keeps : (P : Page → Type 0) (spelling : List ℕ) (before after : List Page) → IsCancelled spelling before after → Keeps P before after
+cancelled_keeps P spelling before after d = subst (Keeps P before) (sym d.rest) (without_keeps P before d.page.address)
 
 pub sent_keeps : (P : Page → Type 0) (count : List ℕ) (before after : List Page) → IsSent count before after → Keeps P before after
 sent_keeps P count before after d =

@@ -1,6 +1,7 @@
 mod Beginnings
 pub mod ByteCounts
 pub mod Counts
+pub mod Drafts
 pub mod EditRuns
 pub mod EditedPages
 pub mod FieldLines

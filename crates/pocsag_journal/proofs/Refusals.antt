@@ -15,7 +15,7 @@ use Rattle.pocsag_journal.specs.declared.edits.Line.TheVariants as line
 use Rattle.pocsag_journal.specs.declared.refusal.Refusal.{Refusal}
 use Rattle.pocsag_journal.specs.declared.refusal.Refusal.TheVariants as refusal
 
-same_nat : (n : ℕ) → nat_eq n n ≡ true
+pub same_nat : (n : ℕ) → nat_eq n n ≡ true
 same_nat n = grind (arith)
 
 at_place : (pages : List Page) (k : ℕ) (d : Page) → k < length pages → has_address pages (slice_index_or pages k d).address ≡ true

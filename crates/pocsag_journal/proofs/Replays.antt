@@ -1,38 +1,31 @@
 -- Lines that are the text of edits.
 use Rattle.std.proofs.Common.{◌≡◌, ◌≢◌, ◌⊎◌, inl, inr, ℕ, ◌+◌, ◌<◌, ◌≤◌, add-one, arith, append_assoc, length, Bool, true, false, cond, List, [], ◌∷◌, ◌++◌, refl, sym, ap, ◌∙◌, subst}
 use Rattle.std.specs.List.{AllByRecursion}
-use Rattle.std.specs.Prelude.{Option, Some, None, codes}
+use Rattle.std.specs.Prelude.{Option, Some, None, IsSome, codes, option_map}
+use Rattle.std.specs.Borrow.{Bor}
 use Rattle.std.specs.Str.{bytes_eq}
 use Rattle.std.proofs.lemmas.List.{append-nil, length-append}
 use Rattle.std.proofs.lemmas.Option.{same_Some}
 use Rattle.std.proofs.lemmas.Slice.Eq.{bytes_eq-Decides}
-use Rattle.csv.specs.Machine.{line_feed, next_record}
-use Rattle.csv.specs.Reading.{default_config, records, records_from, strip_bom}
+use Rattle.csv.specs.Machine.{Read, line_feed, next_record}
+use Rattle.csv.specs.Reading.{default_config, strip_bom}
 use Rattle.csv.specs.Writing.{default_writer, row_text}
 use Rattle.csv.specs.declared.parser.State.TheVariants as st
-use Rattle.csv.proofs.RoundTrip.{read-write}
-use Rattle.pocsag_pages.specs.PageFile.{Row, only_row, rows_of}
+use Rattle.csv.specs.declared.reader.Reader.{Reader}
+use Rattle.csv.proofs.RoundTrip.{read-write, read-write-many}
+use Rattle.pocsag_pages.specs.PageFile.{Row}
+use Rattle.pocsag_pages.specs.Rows.{IsAtRecord}
 use Rattle.pocsag_pages.specs.declared.page.Page.{Page}
 use Rattle.pocsag_journal.specs.Runs.{Asked, IsDone, IsEdit, IsRefusedFor, IsRun, asked_of, cancel, clear, sent, wants_memory}
 use Rattle.pocsag_journal.specs.declared.refusal.Refusal.{Refusal}
 use Rattle.pocsag_journal.specs.LineTexts.{HasNoLineFeed, IsWholeLine}
 use Rattle.pocsag_journal.specs.Runs.{first_record}
-use Rattle.pocsag_journal.proofs.Fields.{edit_record, is_word}
-use Rattle.pocsag_pages.proofs.RowTexts.{none_left}
+use Rattle.pocsag_journal.proofs.Fields.{is_word}
+use Rattle.pocsag_journal.specs.Readers.{IsBefore, GivesRow}
 use Rattle.pocsag_journal.specs.Journals.{IsBadLine, IsFirstCut, IsLine, MakesLine, Replays, journal_text, rows_text}
-use Rattle.pocsag_journal.proofs.EditRuns.{edit_of, run_on}
+use Rattle.pocsag_journal.proofs.EditRuns.{run_on}
 use Rattle.pocsag_journal.proofs.Prefixes.{all_more, journal_more, short}
 use Rattle.pocsag_journal.proofs.TextLines.{back_is, first_line}
-
--- the record of a line, if it has one and no more
-abbrev pub first_of : List ℕ → Option Row
-first_of line = only_row (rows_of line)
-
--- a record that is read and leaves nothing is the only one
-only_read : (text : List ℕ) (row : Row) → next_record default_config st.StartRecord [] [] text ≡ Some (row, st.StartRecord, []) →
-    only_row (records default_config text) ≡ Some row
-unfolding records_from
-only_read text row e = rw (add-one, e, none_left (length text)) refl
 
 pub is_true : (b : Bool) (asked : Asked) (before after : List Page) → IsDone (cond b (Some asked) None) before after → b ≡ true
 is_true true asked before after d = refl
@@ -54,44 +47,42 @@ pair_word w a before after d = of_two (bytes_eq w (codes "cancel")) (bytes_eq w 
     of_two false true e f d = inr (is_word w (codes "sent") f)
     of_two false false e f d = absurd d
 
--- the text of an edit begins with no byte order mark
-starts_plain : (asked : Asked) → strip_bom (row_text default_writer (edit_record asked)) ≡ row_text default_writer (edit_record asked)
-unfolding strip_bom
-starts_plain clear = refl
-starts_plain asked = refl
+-- behind the text of an edit, the reader has read its record, and no more
+pub edit_is_read : (row : Row) (before after : List Page) (rest : List ℕ) → IsEdit row before after →
+    next_record default_config st.StartRecord [] [] (row_text default_writer row ++ rest) ≡ Some (row, st.StartRecord, rest)
+edit_is_read row before after rest d = rw (back_is row (edit_some row before after d)) at (read-write row rest)
 
--- the first record of an edit's text is that of the edit
-pub edit_is_read : (row : Row) (before after : List Page) → IsEdit row before after → first_of (row_text default_writer row) ≡ Some row
-edit_is_read row before after d =
-    let edit = edit_of row before after d in
-    let plain : strip_bom (row_text default_writer row) ≡ row_text default_writer row = rw edit.is (starts_plain edit.asked) in
-    let back = back_is row (edit_some row before after d) in
-    let read = rw (append-nil (row_text default_writer row), back) at (read-write row []) in
-    rw plain (only_read (row_text default_writer row) row read)
+line_read : (line : List ℕ) (row : Row) (before after : List Page) (rest : List ℕ) → row_text default_writer row ≡ line →
+    IsEdit row before after → next_record default_config st.StartRecord [] [] (line ++ rest) ≡ Some (row, st.StartRecord, rest)
+line_read line row before after rest e d =
+    subst (λ (l : List ℕ). next_record default_config st.StartRecord [] [] (l ++ rest) ≡ Some (row, st.StartRecord, rest)) e
+    (edit_is_read row before after rest d)
 
--- what is read of a line that is the text of an edit
-line_read : (line : List ℕ) (row : Row) (before after : List Page) → row_text default_writer row ≡ line → IsEdit row before after →
-    first_of line ≡ Some row
-line_read line row before after e d = subst (λ (l : List ℕ). first_of l ≡ Some row) e (edit_is_read row before after d)
+-- a line that is the text of an edit is read as that
+read_is : (line rest : List ℕ) (read : Row) (taker : Reader (Bor (List ℕ))) → GivesRow (Some read) (line ++ rest) taker →
+    (row : Row) (before after : List Page) → row_text default_writer row ≡ line → IsEdit row before after → read ≡ row
+read_is line rest read taker t row before after e d =
+    t.2 ∙ ap (λ (r : Read). r.0) (same_Some t.0 (row, st.StartRecord, rest) (sym t.1 ∙ line_read line row before after rest e d))
 
-pub none_made : (line : List ℕ) (before after : List Page) → None ≡ first_of line → MakesLine false line before after
-none_made line before after e = λ row other text d. cc (e ∙ line_read line row before other text d)
+pub none_made : (line rest : List ℕ) (taker : Reader (Bor (List ℕ))) (before after : List Page) → GivesRow None (line ++ rest) taker →
+    MakesLine false line before after
+none_made line rest taker before after t = λ row other text d. cc (sym t ∙ line_read line row before other rest text d)
 
 same_bytes : (line : List ℕ) → bytes_eq line line ≡ true
 same_bytes line = (bytes_eq-Decides line line).1 refl
 
-pub other_text : (line : List ℕ) (read : Row) (before after : List Page) → Some read ≡ first_of line →
-    bytes_eq (row_text default_writer read) line ≡ false → MakesLine false line before after
-other_text line read before after e n = λ row other text d.
-    let same = same_Some read row (e ∙ line_read line row before other text d) in
+pub other_text : (line rest : List ℕ) (read : Row) (taker : Reader (Bor (List ℕ))) (before after : List Page) →
+    GivesRow (Some read) (line ++ rest) taker → bytes_eq (row_text default_writer read) line ≡ false → MakesLine false line before after
+other_text line rest read taker before after t n = λ row other text d.
+    let same = read_is line rest read taker t row before other text d in
     let is : row_text default_writer read ≡ line = ap (λ (r : Row). row_text default_writer r) same ∙ text in
     let yes : bytes_eq (row_text default_writer read) line ≡ true = rw is (same_bytes line) in
     cc (sym yes ∙ n)
 
-pub edit_refused : (line : List ℕ) (read : Row) (before after : List Page) (why : Refusal) → Some read ≡ first_of line →
-    IsRefusedFor read before why → wants_memory why ≡ false → MakesLine false line before after
-edit_refused line read before after why e refused n = λ row other text d.
-    let same = same_Some read row (e ∙ line_read line row before other text d) in
+pub edit_refused : (line rest : List ℕ) (read : Row) (taker : Reader (Bor (List ℕ))) (before after : List Page) (why : Refusal) →
+    GivesRow (Some read) (line ++ rest) taker → IsRefusedFor read before why → wants_memory why ≡ false → MakesLine false line before after
+edit_refused line rest read taker before after why t refused n = λ row other text d.
+    let same = read_is line rest read taker t row before other text d in
     elim refused [
       | inl memory ↦ cc (sym memory ∙ n)
       | inr none ↦ none other (subst (λ (r : Row). IsEdit r before other) (sym same) d)
@@ -101,6 +92,17 @@ pub edit_made : (line : List ℕ) (read : Row) (before after : List Page) → by
     IsEdit read before after → MakesLine true line before after
 edit_made line read before after t d = (read, edit_some read before after d, is_word _ _ t, d)
 
+-- behind an edit that was made, the reader stands before the next line
+pub behind_edit : (line rest : List ℕ) (read : Row) (taker : Reader (Bor (List ℕ))) (before after : List Page) →
+    GivesRow (Some read) (line ++ rest) taker → bytes_eq (row_text default_writer read) line ≡ true → IsEdit read before after →
+    IsBefore taker rest
+behind_edit line rest read taker before after t text d =
+    let same = same_Some t.0 (read, st.StartRecord, rest) (sym t.1 ∙ line_read line read before after rest (is_word _ _ text) d) in
+    record {
+      state = t.3 ∙ ap (λ (r : Read). r.1) same;
+      source = t.4 ∙ ap (λ (r : Read). Some r.2) same;
+    }
+
 -- the lines so far were made
 pub record Made (bytes rest : List ℕ) (edits : ℕ) (pages : List Page) : Type 0 where
   pub rows : List Row
@@ -109,6 +111,37 @@ pub record Made (bytes rest : List ℕ) (edits : ℕ) (pages : List Page) : Type
   pub run : IsRun rows [] pages
   pub as_many : edits ≡ length rows
   pub few : edits + length rest ≤ length bytes
+
+-- they were made, and the reader stands behind them
+pub record Replaying (taker : Reader (Bor (List ℕ))) (bytes rest : List ℕ) (edits : ℕ) (pages : List Page) : Type 0 where
+  pub made : Made bytes rest edits pages
+  pub stands : IsAtRecord taker
+  pub before : IsBefore taker rest
+
+-- the first record is read of its line
+pub first_is_read : (rest : List ℕ) →
+    next_record default_config st.StartRecord [] [] (row_text default_writer first_record ++ rest) ≡ Some (first_record, st.StartRecord, rest)
+first_is_read rest = read-write-many (codes "pocsag journal") (codes "1") [] rest
+
+-- whose text begins with no byte order mark
+pub first_plain : (rest : List ℕ) → strip_bom (row_text default_writer first_record ++ rest) ≡ row_text default_writer first_record ++ rest
+unfolding strip_bom
+first_plain rest = refl
+
+-- a reader of a journal stands before its first line
+pub before_first : (bytes rest : List ℕ) (taker : Reader (Bor (List ℕ))) → bytes ≡ row_text default_writer first_record ++ rest →
+    IsBefore taker (strip_bom bytes) → IsBefore taker bytes
+before_first bytes rest taker e before = subst (IsBefore taker) (ap strip_bom e ∙ first_plain rest ∙ sym e) before
+
+-- and then before the edits
+pub behind_first : {A : Type 0} (f : A → Row) (bytes rest : List ℕ) (o : Option A) (taker : Reader (Bor (List ℕ))) →
+    bytes ≡ row_text default_writer first_record ++ rest → GivesRow (option_map f o) bytes taker → (IsSome o → IsAtRecord taker) →
+    IsAtRecord taker × IsBefore taker rest
+behind_first f bytes rest None taker e t at = cc (sym t ∙ ap (next_record default_config st.StartRecord [] []) e ∙ first_is_read rest)
+behind_first f bytes rest (Some row) taker e t at =
+    let same = same_Some t.0 (first_record, st.StartRecord, rest)
+    (sym t.1 ∙ ap (next_record default_config st.StartRecord [] []) e ∙ first_is_read rest) in
+    (at refl, record { state = t.3 ∙ ap (λ (r : Read). r.1) same; source = t.4 ∙ ap (λ (r : Read). Some r.2) same })
 
 pub nothing_read : (bytes : List ℕ) (pages : List Page) → pages ≡ [] → IsFirstCut bytes → Replays bytes 0 (length bytes) pages
 unfolding IsRun

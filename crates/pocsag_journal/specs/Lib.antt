@@ -1,5 +1,6 @@
 pub mod Asks
 pub mod Crashes
+pub mod Drafts
 pub mod Edited
 pub mod Faults
 pub mod Growth
@@ -8,6 +9,7 @@ pub mod Keepers
 pub mod LineTexts
 pub mod Moments
 pub mod PageLines
+pub mod Readers
 pub mod Restarts
 pub mod Runs
 pub mod Views

@@ -3,6 +3,7 @@ ghost use Rattle.csv.specs.Records.{fields_of};
 ghost use Rattle.pocsag_journal.specs.Edited.{IsAddRefused, IsAdded, IsEditRefused, IsMade};
 ghost use Rattle.pocsag_journal.specs.Runs.{IsEdit, IsReasonFor, IsRefusedFor, sent_record};
 
+use crate::editable::Editable;
 use crate::edits::{Line, line_of, spelled_count};
 use crate::refusal::Refusal;
 use csv::ByteRecord;
@@ -19,7 +20,21 @@ pub fn edit_row(alloc: Global, book: &mut Book, row: &ByteRecord) -> Result<(), 
     ensures reason { IfErr result (IsReasonFor (fields_of row.now) book.old) }
     ensures unchanged { OnErr result (book.new ≡ book.old) }
 {
-    edit(alloc, book, line_of(row))
+    edit_record(alloc, book, row)
+}
+
+/// Makes the edit that a record is of the pages, as `edit_row` does of a round.
+pub(crate) fn edit_record<P: Editable>(
+    alloc: Global,
+    pages: &mut P,
+    row: &ByteRecord,
+) -> Result<(), Refusal>
+    ensures made { OnOk result (IsEdit (fields_of row.now) (P.pages pages.old) (P.pages pages.new)) }
+    ensures refused { IfErr result (IsRefusedFor (fields_of row.now) (P.pages pages.old)) }
+    ensures reason { IfErr result (IsReasonFor (fields_of row.now) (P.pages pages.old)) }
+    ensures unchanged { OnErr result (P.pages pages.new ≡ P.pages pages.old) }
+{
+    edit(alloc, pages, line_of(row))
 }
 
 /// The record of the edit that takes so many first pages out.
@@ -30,61 +45,61 @@ pub fn sent_row(alloc: Global, count: u32) -> Result<ByteRecord, OutOfMemory>
     Ok(ByteRecord::from_fields(alloc, &[b"sent", count.as_bytes()])?)
 }
 
-/// Makes an edit of the round, which is as it was where it is refused.
-pub(crate) fn edit(alloc: Global, book: &mut Book, line: Line<'_>) -> Result<(), Refusal>
-    ensures made { OnOk result (IsMade line.entry book.old book.new) }
-    ensures refused { IfErr result (IsEditRefused line.entry book.old) }
-    ensures unchanged { OnErr result (book.new ≡ book.old) }
+/// Makes an edit of the pages, which are as they were where it is refused.
+pub(crate) fn edit<P: Editable>(alloc: Global, pages: &mut P, line: Line<'_>) -> Result<(), Refusal>
+    ensures made { OnOk result (IsMade line.entry (P.pages pages.old) (P.pages pages.new)) }
+    ensures refused { IfErr result (IsEditRefused line.entry (P.pages pages.old)) }
+    ensures unchanged { OnErr result (P.pages pages.new ≡ P.pages pages.old) }
 {
     match line {
         Line::Add {
             address,
             kind,
             message,
-        } => add_fields(alloc, book, address, kind, message),
+        } => add_fields(alloc, pages, address, kind, message),
         // What spells no address is that of no page.
         Line::Cancel { address: field } => {
             let Some(address) = parse_address(field) else {
                 return Err(Refusal::Cancel(NotThere));
             };
-            match book.cancel(address) {
+            match pages.take_out(address) {
                 Ok(_) => Ok(()),
                 Err(absent) => Err(Refusal::Cancel(absent)),
             }
         }
         // What is no count is that of more pages than there are.
         Line::Sent { count: field } => match spelled_count(field) {
-            Some(count) if count as usize <= book.len() => {
-                book.drop_first(count as usize);
+            Some(count) if count as usize <= pages.page_count() => {
+                pages.take_first(count as usize);
                 Ok(())
             }
             _ => Err(Refusal::Cancel(NotThere)),
         },
         Line::Clear => {
-            *book = Book::new(alloc);
+            pages.clear(alloc);
             Ok(())
         }
         _ => Err(Refusal::Unknown),
     }
 }
 
-fn add_fields(
+fn add_fields<P: Editable>(
     alloc: Global,
-    book: &mut Book,
+    pages: &mut P,
     address: &[u8],
     kind: &[u8],
     message: &[u8],
 ) -> Result<(), Refusal>
-    ensures made { OnOk result (IsAdded address.now kind.now message.now book.old book.new) }
-    ensures refused { IfErr result (IsAddRefused address.now kind.now message.now book.old) }
-    ensures unchanged { OnErr result (book.new ≡ book.old) }
+    ensures made { OnOk result (IsAdded address.now kind.now message.now (P.pages pages.old) (P.pages pages.new)) }
+    ensures refused { IfErr result (IsAddRefused address.now kind.now message.now (P.pages pages.old)) }
+    ensures unchanged { OnErr result (P.pages pages.new ≡ P.pages pages.old) }
 {
     let page = match page_of_fields(alloc, address, kind, message) {
         Ok(page) => page,
         Err(fault) => return Err(Refusal::Field(fault)),
     };
-    match book.add(page) {
+    match pages.put(page) {
         Ok(()) => Ok(()),
-        Err(refused) => Err(Refusal::Add(refused.fault)),
+        Err(fault) => Err(Refusal::Add(fault)),
     }
 }

@@ -5,7 +5,9 @@
 
 mod compaction;
 mod disk;
+mod draft;
 mod edit;
+mod editable;
 mod edits;
 mod fault;
 mod journal;
@@ -13,6 +15,7 @@ mod keeper;
 mod lines;
 mod list;
 mod quote;
+mod reader;
 mod refusal;
 mod replay;
 mod sizes;

@@ -1,15 +1,21 @@
-ghost use Rattle.std.specs.Prelude.{◌≡◌, ◌≤◌, ℕ, List, [], length, IfErr, IfOk, MatchResult, OnOk};
+ghost use Rattle.std.specs.Prelude.{◌≡◌, ◌≤◌, ◌++◌, ℕ, List, [], length, true, IfErr, IfOk, MatchResult, OnOk};
+ghost use Rattle.csv.specs.Writing.{default_writer, row_text};
+ghost use Rattle.pocsag_pages.specs.Rows.{IsAtRecord};
 ghost use Rattle.pocsag_pages.specs.PageFile.{Row};
 ghost use Rattle.pocsag_pages.specs.declared.page.Page.{Page};
-ghost use Rattle.pocsag_journal.specs.Runs.{IsRun};
+ghost use Rattle.pocsag_journal.specs.Readers.{IsBefore};
+ghost use Rattle.pocsag_journal.specs.Runs.{IsRun, first_record};
 ghost use Rattle.pocsag_journal.specs.Faults.{ExplainsReplay, IsPrinted, IsPrintedOf};
 ghost use Rattle.pocsag_journal.specs.Journals.{IsRead, MakesLine, Replays, ReplaysAs, journal_limit};
 
-use crate::edit::edit_row;
+use crate::draft::Draft;
+use crate::edit::edit_record;
 use crate::fault::JournalFault;
 use crate::lines::split_line;
+use crate::reader::{read_row, reader_of};
 use crate::text::{first_line, row_line};
-use pocsag_pages::{WholeFault, only_row, read_whole};
+use csv::Reader;
+use pocsag_pages::{WholeFault, read_whole};
 use pocsag_plan::Book;
 use pocsag_words::{OutOfMemory, Source};
 use std::alloc::Global;
@@ -53,33 +59,47 @@ pub fn read_journal<S: Source>(alloc: Global, source: &mut S) -> Result<Replayed
     }
 }
 
-// Makes the edits of the lines behind the first, one after another. Bytes that are only a part of the first line have none.
+// Reads the edits of a journal. Bytes that are only a part of the first line have none.
 pub(crate) fn replay(alloc: Global, bytes: &[u8]) -> Result<Replayed, JournalFault>
     requires { length bytes.now ≤ journal_limit }
     ensures read { IfOk result (λ replayed. Replays bytes.now replayed.edits replayed.torn replayed.book) }
     ensures told { IfErr result (λ e. IsPrinted bytes.now e) }
 {
     let first = first_line();
-    let Some(behind) = bytes.strip_prefix(first) else {
-        if first.starts_with(bytes) {
-            return Ok(Replayed {
-                book: Book::new(alloc),
-                edits: 0,
-                torn: bytes.len(),
-            });
-        }
-        if bytes.starts_with(FORMAT) {
-            return Err(JournalFault::OtherVersion);
-        }
-        return Err(JournalFault::NotJournal);
-    };
-    let mut book = Book::new(alloc);
+    if let Some(behind) = bytes.strip_prefix(first) {
+        return replay_lines(alloc, bytes, behind);
+    }
+    if first.starts_with(bytes) {
+        return Ok(Replayed {
+            book: Book::new(alloc),
+            edits: 0,
+            torn: bytes.len(),
+        });
+    }
+    if bytes.starts_with(FORMAT) {
+        return Err(JournalFault::OtherVersion);
+    }
+    Err(JournalFault::NotJournal)
+}
+
+// Makes the edits of the lines behind the first, one after another. One reader reads them all, and no edit takes longer
+// because there are many pages.
+fn replay_lines(alloc: Global, bytes: &[u8], behind: &[u8]) -> Result<Replayed, JournalFault>
+    requires few { length bytes.now ≤ journal_limit }
+    requires first { bytes.now ≡ row_text default_writer first_record ++ behind.now }
+    ensures read { IfOk result (λ replayed. Replays bytes.now replayed.edits replayed.torn replayed.book) }
+    ensures told { IfErr result (λ e. IsPrinted bytes.now e) }
+{
+    let mut reader = reader_of(alloc, bytes);
+    let _first = read_row(alloc, &mut reader)?;
+    let mut draft = Draft::new(alloc)?;
     let mut edits = 0;
     let mut rest = behind;
     loop {
         let next = match split_line(rest) {
             Some(parts) => parts,
             None => {
+                let book = draft.into_book(alloc)?;
                 return Ok(Replayed {
                     book,
                     edits,
@@ -87,7 +107,7 @@ pub(crate) fn replay(alloc: Global, bytes: &[u8]) -> Result<Replayed, JournalFau
                 });
             }
         };
-        let made = replay_line(alloc, &mut book, next.0)?;
+        let made = replay_line(alloc, &mut reader, &mut draft, next.0)?;
         if !made {
             return Err(JournalFault::BadLine(edits + 2));
         }
@@ -96,11 +116,22 @@ pub(crate) fn replay(alloc: Global, bytes: &[u8]) -> Result<Replayed, JournalFau
     }
 }
 
-// Makes the edit that a line is the text of, if it is that of one that the pages accept, and says whether it is.
-fn replay_line(alloc: Global, book: &mut Book, line: &[u8]) -> Result<bool, OutOfMemory>
-    ensures { IfOk result (λ made. MakesLine made line.now book.old book.new) }
+// Makes the edit that a line is the text of, if it is that of one that the pages accept, and says whether it is. The reader
+// stands before the line, and then behind it.
+fn replay_line(
+    alloc: Global,
+    reader: &mut Reader<&[u8]>,
+    draft: &mut Draft,
+    line: &[u8],
+) -> Result<bool, OutOfMemory>
+    requires { IsAtRecord reader.old }
+    ensures made { (rest : List ℕ) → IsBefore reader.old (line.now ++ rest) →
+        IfOk result (λ made. MakesLine made line.now draft.old draft.new) }
+    ensures stands { IfOk result (λ made. made ≡ true → IsAtRecord reader.new) }
+    ensures behind { (rest : List ℕ) → IsBefore reader.old (line.now ++ rest) →
+        IfOk result (λ made. made ≡ true → IsBefore reader.new rest) }
 {
-    let row = match only_row(alloc, line)? {
+    let row = match read_row(alloc, reader)? {
         Some(row) => row,
         None => return Ok(false),
     };
@@ -109,7 +140,7 @@ fn replay_line(alloc: Global, book: &mut Book, line: &[u8]) -> Result<bool, OutO
     if !same {
         return Ok(false);
     }
-    match edit_row(alloc, book, &row) {
+    match edit_record(alloc, draft, &row) {
         Ok(()) => Ok(true),
         Err(refusal) if refusal.wants_memory() => Err(OutOfMemory),
         Err(_) => Ok(false),

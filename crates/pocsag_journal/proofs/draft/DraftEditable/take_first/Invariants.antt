@@ -1,0 +1,5 @@
+use Rattle.std.proofs.Common.{◌≡◌, drop}
+use Rattle.pocsag_journal.proofs.draft.DraftEditable.take_first.Given as goal
+
+abbrev pub invariant-loop : goal.invariant-loop
+invariant-loop l = l.self ≡ drop l.counter l.initial.self
