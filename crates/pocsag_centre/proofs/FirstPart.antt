@@ -21,20 +21,14 @@ use Rattle.pocsag_tree.specs.declared.shape.Certificate.{Certificate}
 use Rattle.pocsag_plan.specs.declared.search.OnLimit.TheVariants.{Fewest}
 use Rattle.pocsag_plan.specs.declared.search.Search.{Search}
 use Rattle.pocsag_plan.specs.declared.front.FrontPlan.{FrontPlan}
-use Rattle.pocsag_plan.specs.Fronts.{ExplainsFront, IsFrontFor, IsLongestFront, IsWhyNoMore}
-use Rattle.pocsag_plan.specs.declared.fault.NoFront.{NoFront}
-use Rattle.pocsag_plan.specs.declared.fault.NoFront.TheVariants as front
-use Rattle.pocsag_plan.specs.declared.fault.PlanFault.TheVariants as planning
+use Rattle.pocsag_plan.specs.Fronts.{IsFrontFor, IsLongestFront, IsWhyNoMore}
 use Rattle.pocsag_centre.specs.declared.front.FrontAsked.{FrontAsked}
-use Rattle.pocsag_centre.specs.Faults.{fault_of_front}
-use Rattle.pocsag_centre.specs.Refusals.{OrDevice}
 use Rattle.pocsag_plan.specs.Headline.{RoundHeadline}
 use Rattle.pocsag_plan.specs.Plans.{IsPlanFor}
-use Rattle.pocsag_plan.specs.Streams.{HeadlineOf, WritesAllOf}
-use Rattle.pocsag_plan.proofs.Due.{all_as, asked_headline}
-use Rattle.pocsag_centre.specs.FrontFiles.{beyond_of, certificate_text, ExplainsNoFront, IsFrontRead, IsFrontPrinted, IsFrontWritten, IsPageFileOf, IsWhyWritten, why_text}
-use Rattle.pocsag_centre.specs.Lines.{below_text, left_text, plan_text}
-use Rattle.std.specs.Prelude.{IsOk, None, Ok, Option, Some}
+use Rattle.pocsag_plan.specs.Streams.{HeadlineOf}
+use Rattle.pocsag_plan.proofs.Due.{asked_headline}
+use Rattle.pocsag_centre.specs.FrontFiles.{beyond_of, certificate_text, front_text, IsFrontOf, IsFrontRead, IsFrontWritten, IsPageFileOf, IsWhyWritten}
+use Rattle.std.specs.Prelude.{None, Ok, Option, Some}
 
 module _ (R F S : List Page) (n : ℕ) (parts : F ++ S ≡ R) (long : n ≡ length F) where
   pub first_is : F ≡ take n R
@@ -132,10 +126,9 @@ why_written search R batches count (Some c) is =
       },
     )
 
--- What was written of a front is the front of its page file.
+-- A front that was read is what is due of its page file.
 module _ (file : List ℕ) (asked : FrontAsked) (front : FrontPlan) (is : IsFrontRead file asked front)
-    (tx tx' cert cert' rest rest' why why' : List ℕ) (sends : WritesAllOf (HeadlineOf front.round front.bounded) tx tx' cert cert')
-    (left : rest' ≡ rest ++ page_file front.rest.items) (shown : why' ≡ why ++ certificate_text front.why) where
+    (text : List ℕ) (printed : text ≡ front_text front.bounded (length front.rest.items) asked.batches (beyond_of front.why)) where
   abbrev count : ℕ
   count = front.bounded.plan.pages
 
@@ -151,8 +144,8 @@ module _ (file : List ℕ) (asked : FrontAsked) (front : FrontPlan) (is : IsFron
   behind : front.rest.items ≡ left_of (take count round) is.queue
   behind = is.left ∙ ap (λ (v : List Page). left_of v is.queue) first
 
-  pub front_written : IsFrontWritten file asked front.bounded.plan.pages tx tx' cert cert' rest rest' why why'
-  front_written = record {
+  pub front_of : IsFrontOf file asked front.bounded.plan.pages (page_file front.rest.items) (certificate_text front.why) text
+  front_of = record {
     queue = is.queue;
     read = is.read;
     front = subst (IsFrontFor asked.search round asked.batches) (sym long) is.front_for;
@@ -161,36 +154,21 @@ module _ (file : List ℕ) (asked : FrontAsked) (front : FrontPlan) (is : IsFron
     pages = refl;
     plan_of = subst (λ (ps : List Page). IsPlanFor asked.search ps front.bounded) first is.plan_of;
     within = is.within;
-    writes = subst
-        (λ (ps : List Page). WritesAllOf (RoundHeadline ps asked.search.end front.bounded.plan.batches front.bounded.bound (bound_tree_of front.bounded.plan.tree)) tx tx' cert cert')
-        first (all_as _ _ (asked_headline asked.search front.round front.bounded is.plan_of) tx tx' cert cert' sends);
-    others = page_file front.rest.items;
-    others_of = subst (λ (ps : List Page). IsPageFileOf asked.may_wait ps (page_file front.rest.items)) behind is.others_of;
-    rest = left;
+    rest_of = subst (λ (ps : List Page). IsPageFileOf asked.may_wait ps (page_file front.rest.items)) behind is.others_of;
     beyond = beyond_of front.why;
-    written = certificate_text front.why;
-    written_of = subst (λ (n : ℕ). IsWhyWritten asked.search round asked.batches n (beyond_of front.why) (certificate_text front.why)) (sym long)
+    why_of = subst (λ (n : ℕ). IsWhyWritten asked.search round asked.batches n (beyond_of front.why) (certificate_text front.why)) (sym long)
         (why_written asked.search round asked.batches (length front.round) front.why is.no_more);
-    why = shown;
+    printed = printed ∙ ap (λ (ps : List Page). front_text front.bounded (length ps) asked.batches (beyond_of front.why)) behind;
   }
 
-  pub front_told : (out out' : List ℕ) →
-      out' ≡ out ++ plan_text front.bounded.plan.pages front.bounded.plan.batches ++ below_text front.bounded.plan.batches front.bounded.bound
-      ++ left_text (length front.rest.items) ++ why_text asked.batches (beyond_of front.why) →
-      IsFrontPrinted file asked front.bounded.plan.pages tx tx' cert cert' rest rest' why why' out out'
-  unfolding front_written
-  front_told out out' printed = record {
-    front = front_written;
-    printed = printed
-        ∙ ap (λ (ps : List Page). out ++ plan_text front.bounded.plan.pages front.bounded.plan.batches ++ below_text front.bounded.plan.batches front.bounded.bound
-        ++ left_text (length ps) ++ why_text asked.batches (beyond_of front.why)) behind;
+  -- with what is sent of it
+  pub front_sent : (sent certificate : List ℕ) → HeadlineOf front.round front.bounded sent certificate →
+      IsFrontWritten file asked front.bounded.plan.pages
+      (record { tx = sent; cert = certificate; rest = page_file front.rest.items; why = certificate_text front.why }) text
+  unfolding front_of
+  front_sent sent certificate headline = record {
+    front = front_of;
+    headline = subst
+        (λ (ps : List Page). RoundHeadline ps asked.search.end front.bounded.plan.batches front.bounded.bound (bound_tree_of front.bounded.plan.tree) sent certificate)
+        first (asked_headline asked.search front.round front.bounded is.plan_of sent certificate headline);
   }
-
--- why there is no front of the round says why none of its page file is written
-pub front_unwritten : (file : List ℕ) (asked : FrontAsked) (Q : List Page) → held_pages asked.may_wait file ≡ Ok Q → (e : NoFront) →
-    ExplainsFront asked.search (firsts Q) asked.batches e → OrDevice (ExplainsNoFront file asked) (fault_of_front e)
-front_unwritten file asked Q read (front.Plan planning.BadLimit) said = said
-front_unwritten file asked Q read (front.Plan (planning.SearchLimit stop)) said =
-    (said.0, said.1, record { queue = Q; read = read; holds = (bound_tree_of stop.tree, said.2) })
-front_unwritten file asked Q read (front.Plan planning.OutOfMemory) said = (said, subst IsOk (sym read) refl)
-front_unwritten file asked Q read (front.FirstPage needed) said = (said.0, record { queue = Q; read = read; holds = said.1 })

@@ -1,5 +1,6 @@
--- What a verdict says of a page file and a certificate.
-use Rattle.std.proofs.Common.{◌≡◌, ℕ, List, false, Ok}
+-- What is printed of a verdict.
+use Rattle.std.proofs.Common.{◌≡◌, ℕ, Bool, List, false, true, Ok, refl}
+use Rattle.pocsag_words.specs.declared.device.Source.{Ghosts as Reader}
 use Rattle.pocsag_words.specs.declared.ending.End.{End}
 use Rattle.pocsag_pages.specs.declared.page.Page.{Page}
 use Rattle.pocsag_pages.specs.PageFile.{verdict}
@@ -7,20 +8,31 @@ use Rattle.pocsag_tree.specs.BoundTrees.{BoundTree}
 use Rattle.pocsag_tree.specs.CertificateText.{IsText}
 use Rattle.pocsag_check.specs.Acceptance.{IsAcceptedFor}
 use Rattle.pocsag_plan.specs.Plans.{NoneHasFewer}
-use Rattle.pocsag_centre.specs.Verdicts.{DoesNotShow, ShowsItsBatches}
+use Rattle.pocsag_centre.specs.Judgements.{PrintsVerdict}
 
-module _ (file text : List ℕ) (end : End) (batches : ℕ) (R : List Page) (tree : BoundTree) (read : verdict file ≡ Ok R)
-    (spelled : IsText end batches tree text) where
-  pub shows : IsAcceptedFor false end R batches tree → NoneHasFewer end R batches → ShowsItsBatches file text
-  shows accepted bound = record {
+module _ {P C : Type 0} (Pages : Reader P) (Cert : Reader C) (pages : P) (cert : C) (R : List Page) (end : End) (batches : ℕ) (tree : BoundTree)
+    (read : Pages.is_known → verdict (Pages.held pages) ≡ Ok R) (spelled : Cert.is_known → IsText end batches tree (Cert.held cert))
+    (Tells : (is_shown : Bool) → End → (batches : ℕ) → (text : List ℕ) → Type 0) (text : List ℕ) where
+  pub shown_told : (e : End) (b : ℕ) → e ≡ end → b ≡ batches → Tells true e b text → IsAcceptedFor false end R batches tree →
+      NoneHasFewer end R batches → PrintsVerdict Pages Cert Tells pages cert 0 text
+  shown_told e b same_end same_batches told accepted bound = record {
+    is_shown = true;
     end = end;
     batches = batches;
-    checked = record { round = R; read = read; tree = tree; text = spelled; accepted = accepted; bound = bound };
+    told = rw (← same_end, ← same_batches) told;
+    well = refl;
+    spelled = λ u. (tree, spelled u);
+    judged = λ k u. record { round = R; read = read k; tree = tree; text = spelled u; accepted = accepted; bound = bound };
   }
 
-  pub does_not_show : (¬ IsAcceptedFor false end R batches tree) → DoesNotShow file text
-  does_not_show refused = record {
+  pub not_shown_told : (e : End) (b : ℕ) → e ≡ end → b ≡ batches → Tells false e b text → (¬ IsAcceptedFor false end R batches tree) →
+      PrintsVerdict Pages Cert Tells pages cert 1 text
+  not_shown_told e b same_end same_batches told refused = record {
+    is_shown = false;
     end = end;
     batches = batches;
-    not_shown = record { round = R; read = read; tree = tree; spelled = spelled; refused = refused };
+    told = rw (← same_end, ← same_batches) told;
+    well = refl;
+    spelled = λ u. (tree, spelled u);
+    judged = λ k u. record { round = R; read = read k; tree = tree; spelled = spelled u; refused = refused };
   }

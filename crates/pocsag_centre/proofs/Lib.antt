@@ -1,9 +1,10 @@
 pub mod AsidePages
 pub mod Endings
 pub mod FirstPart
+pub mod FrontRuns
 mod Judged
+pub mod PlanFaults
 pub mod Plans
 pub mod QueueRounds
 pub mod ReportLines
-pub mod Shown
 pub mod Verified

@@ -1,7 +1,5 @@
 -- What was planned and reported.
 use Rattle.std.proofs.Common.{◌≡◌, ℕ, List, ◌++◌, Ok, refl}
-use Rattle.std.specs.Prelude.{IfNone, None, Option, Some}
-use Rattle.pocsag_words.specs.declared.ending.End.TheVariants.{Open}
 use Rattle.pocsag_pages.specs.PageFile.{verdict}
 use Rattle.pocsag_pages.specs.declared.page.Page.{Page}
 use Rattle.pocsag_tree.specs.Views.{bound_tree_of}
@@ -15,8 +13,8 @@ use Rattle.pocsag_centre.specs.Lines.{below_text, plan_text}
 use Rattle.pocsag_centre.specs.Refusals.{default_search}
 
 pub told_plan : (file : List ℕ) (R : List Page) (bounded : Bounded) → verdict file ≡ Ok R → IsPlanFor default_search R bounded →
-    (out out' : List ℕ) → out' ≡ out ++ plan_text bounded.plan.pages bounded.plan.batches → PrintedPlan file Open out out'
-told_plan file R bounded read is out out' printed = record {
+    (text : List ℕ) → text ≡ plan_text bounded.plan.pages bounded.plan.batches → PrintedPlan file text
+told_plan file R bounded read is text printed = record {
   plan = bounded.plan;
   plan_of = record { round = R; read = read; holds = tight_plan default_search R bounded refl is };
   printed = printed;
@@ -33,8 +31,8 @@ module _ (file : List ℕ) (search : Search) (tx tx' cert cert' : List ℕ) (bou
     headline = λ same. tight_stream _ _ _ _ _ _ _ _ _ same writes;
   }
 
-  pub told_planned : (out out' : List ℕ) →
-      out' ≡ out ++ plan_text bounded.plan.pages bounded.plan.batches ++ below_text bounded.plan.batches bounded.bound →
-      PlannedAndPrinted file search tx tx' cert cert' out out'
+  pub told_planned : (text : List ℕ) →
+      text ≡ plan_text bounded.plan.pages bounded.plan.batches ++ below_text bounded.plan.batches bounded.bound →
+      PlannedAndPrinted file search tx tx' cert cert' text
   unfolding planned
-  told_planned out out' printed = record { planned = planned; printed = printed }
+  told_planned text printed = record { planned = planned; printed = printed }

@@ -1,6 +1,6 @@
 -- What was read back, and what was found in its place.
 use Rattle.std.proofs.Common.{◌≡◌, ◌≢◌, ℕ, ◌<◌, ◌≤◌, ◌==◌, ◌&&◌, Bool, true, false, eq-eqb, tests, List, length, get_or, map, refl, sym, ap, ◌∙◌, subst, inl, inr, arith}
-use Rattle.std.specs.Prelude.{◌⊎◌, Contains, IsPermutation, Ok}
+use Rattle.std.specs.Prelude.{◌⊎◌, Contains, Err, IsPermutation, Ok}
 use Rattle.std.specs.Cmp.{ranks}
 use Rattle.std.specs.Cmp.Lexicographic.{pointwise}
 use Rattle.std.specs.Ordering.{MatchOrdering, nat_cmp, ordering_index}
@@ -12,20 +12,29 @@ use Rattle.std.proofs.lemmas.Bool.{cases_eq, cases_lt}
 use Rattle.std.proofs.lemmas.List.{get_or_default, length-map}
 use Rattle.std.proofs.lemmas.List.Sorted.{Contains-permutation, IsPermutation-sym, length_permutation}
 use Rattle.std.proofs.lemmas.List.Elements.{All-weaker}
+use Rattle.pocsag_pages.specs.declared.fault.RoundFault.{RoundFault}
+use Rattle.pocsag_pages.specs.declared.fault.RoundFault.TheVariants as round_fault
 use Rattle.pocsag_pages.specs.declared.page.Page.{Page}
 use Rattle.pocsag_pages.specs.PageFile.{verdict}
 use Rattle.pocsag_pages.specs.Pages.{IsRound}
 use Rattle.pocsag_pages.specs.Reading.{AreApart, EndsAs, IsBatchList}
 use Rattle.pocsag_pages.proofs.GoodPages.{apart_pages}
+use Rattle.pocsag_tree.specs.Answers.{given_before, IsFault, IsRefusal}
 use Rattle.pocsag_tree.specs.BoundTrees.{BoundTree}
 use Rattle.pocsag_tree.specs.CertificateText.{IsText}
+use Rattle.pocsag_tree.specs.Parts.{HasFirst}
+use Rattle.pocsag_tree.specs.declared.refusals.CertificateFault.{CertificateFault}
+use Rattle.pocsag_tree.specs.declared.refusals.CertificateFault.TheVariants as tree_fault
 use Rattle.pocsag_plan.specs.Plans.{NoneHasFewer}
+use Rattle.pocsag_plan.specs.Verdicts.{ExplainsRound}
+use Rattle.pocsag_words.specs.Devices.{HasFailed}
 use Rattle.pocsag_words.specs.Kinds.{kind_of}
+use Rattle.pocsag_words.specs.declared.device.Source.{Ghosts as Reader}
 use Rattle.pocsag_words.specs.declared.ending.End.{End}
 use Rattle.pocsag_slots.proofs.Rearranged.{rearranged}
 use Rattle.pocsag_decode.specs.Faults.{ReadsAs}
 use Rattle.pocsag_plan.specs.declared.search.Search.{Search}
-use Rattle.pocsag_centre.specs.Verification.{AreAmong, HasRival, IsTransmissionOf, ShowsExpected, Verified}
+use Rattle.pocsag_centre.specs.Verification.{AreAmong, HasRival, IsTransmissionOf, ShowsExpected, Verified, WasNoCertificate, WasNoRound}
 
 moved_pages : (ps qs : List Page) → IsPermutation ps qs → (R : List Page) → AreAmong qs R → AreAmong ps R
 moved_pages ps qs moved R among = record {
@@ -152,3 +161,42 @@ verified file search sent certificate R batches end bound tree read is text due 
   transmission = is;
   due = due.due;
 }
+
+-- why a reader gave no round,
+module _ {P : Type 0} (Pages : Reader P) (pages pages' : P) where
+  of_file : (e : RoundFault) → e ≢ round_fault.ReadFault → (e ≡ round_fault.OutOfMemory) ⊎ (e ≡ round_fault.ReadFault) ⊎ (verdict (Pages.held pages) ≡ Err e) →
+      ExplainsRound (Pages.held pages) e
+  of_file e other (inl same) = inl same
+  of_file e other (inr (inl same)) = absurd (other same)
+  of_file e other (inr (inr read)) = inr read
+
+  pub not_round : (e : RoundFault) →
+      (Pages.is_known → (e ≡ round_fault.OutOfMemory) ⊎ (e ≡ round_fault.ReadFault) ⊎ (verdict (Pages.held pages) ≡ Err e)) →
+      (e ≡ round_fault.ReadFault → HasFailed (Pages.failures pages) (Pages.failures pages')) → WasNoRound Pages pages pages' e
+  not_round round_fault.ReadFault why failed = failed refl
+  not_round round_fault.OutOfMemory why failed = λ k. inl refl
+  not_round round_fault.TooLarge why failed = λ k. of_file round_fault.TooLarge (λ e. cc (e)) (why k)
+  not_round round_fault.BadHeader why failed = λ k. of_file round_fault.BadHeader (λ e. cc (e)) (why k)
+  not_round (round_fault.Record n e) why failed = λ k. of_file (round_fault.Record n e) (λ e. cc (e)) (why k)
+  not_round round_fault.NoPages why failed = λ k. of_file round_fault.NoPages (λ e. cc (e)) (why k)
+
+-- and no certificate
+module _ {C : Type 0} (Cert : Reader C) (cert cert' : C) where
+  of_text : (e : CertificateFault) → ¬ IsRefusal e → IsFault e (Cert.held cert) → HasFirst e (Cert.held cert)
+  of_text e other (inl refused) = absurd (other refused)
+  of_text e other (inr first) = first
+
+  pub not_certificate : (e : CertificateFault) → (Cert.is_known → IsFault e (Cert.held cert)) →
+      (e ≡ tree_fault.ReadFault → HasFailed (Cert.failures cert) (Cert.failures cert')) →
+      (Cert.is_known → e ≡ tree_fault.OutOfMemory → HasFirst tree_fault.Truncated (given_before (Cert.held cert) (Cert.held cert'))) →
+      WasNoCertificate Cert cert cert' e
+  not_certificate tree_fault.ReadFault why failed room = failed refl
+  not_certificate tree_fault.OutOfMemory why failed room = λ k. room k refl
+  not_certificate tree_fault.NotCertificate why failed room = λ k. of_text tree_fault.NotCertificate (λ never. never) (why k)
+  not_certificate tree_fault.Version why failed room = λ k. of_text tree_fault.Version (λ never. never) (why k)
+  not_certificate tree_fault.Truncated why failed room = λ k. of_text tree_fault.Truncated (λ never. never) (why k)
+  not_certificate tree_fault.Trailing why failed room = λ k. of_text tree_fault.Trailing (λ never. never) (why k)
+  not_certificate tree_fault.BadTag why failed room = λ k. of_text tree_fault.BadTag (λ never. never) (why k)
+  not_certificate tree_fault.BadField why failed room = λ k. of_text tree_fault.BadField (λ never. never) (why k)
+  not_certificate tree_fault.TooDeep why failed room = λ k. of_text tree_fault.TooDeep (λ never. never) (why k)
+  not_certificate tree_fault.TooMany why failed room = λ k. of_text tree_fault.TooMany (λ never. never) (why k)

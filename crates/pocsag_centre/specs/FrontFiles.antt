@@ -21,7 +21,6 @@ use Rattle.pocsag_plan.specs.declared.front.FrontPlan.{FrontPlan}
 use Rattle.pocsag_plan.specs.Fronts.{FirstNeeds, IsFrontFor, IsLongestFront, IsUndecidedFor, IsWhyNoMore, StopsAtFront}
 use Rattle.pocsag_plan.specs.Headline.{RoundHeadline}
 use Rattle.pocsag_plan.specs.Plans.{IsPlanFor, MayStop}
-use Rattle.pocsag_plan.specs.Streams.{WritesAllOf}
 use Rattle.pocsag_shell.specs.declared.fault.FileFault.TheVariants as file_fault
 use Rattle.pocsag_centre.specs.Lines.{below_text, left_text, plan_text, undecided_text}
 use Rattle.pocsag_centre.specs.declared.front.FrontAsked.{FrontAsked}
@@ -45,6 +44,12 @@ ExplainsHeld may_wait file f = (f ≡ round_fault.OutOfMemory) ⊎ (held_pages m
 abbrev pub why_text : (batches : ℕ) → (beyond : Option ℕ) → List ℕ
 why_text batches None = []
 why_text batches (Some bound) = undecided_text batches bound
+
+-- The lines on a front of at most so many batches.
+abbrev pub front_text : Bounded → (left batches : ℕ) → (beyond : Option ℕ) → List ℕ
+front_text bounded left batches beyond =
+    plan_text bounded.plan.pages bounded.plan.batches ++ below_text bounded.plan.batches bounded.bound ++ left_text left
+    ++ why_text batches beyond
 
 -- The bytes are the certificate of a bound for the pages and the end, which the checker accepts. It is more batches than were
 -- asked for; or it is so many, and a planner that refuses no round did not decide between them and one more.
@@ -88,8 +93,8 @@ pub record IsFrontRead (file : List ℕ) (asked : FrontAsked) (front : FrontPlan
   -- The page file of the pages that are left holds them.
   pub others_of : IsPageFileOf asked.may_wait front.rest.items (page_file front.rest.items)
 
--- What is written of the front of a page file that so many batches carry.
-pub record IsFrontWritten (file : List ℕ) (asked : FrontAsked) (count : ℕ) (tx_before tx_after cert_before cert_after rest_before rest_after why_before why_after : List ℕ) : Type 0 where
+-- The front of a page file that so many batches carry: what REST and WHY are due of it, and the text that is printed.
+pub record IsFrontOf (file : List ℕ) (asked : FrontAsked) (count : ℕ) (rest why text : List ℕ) : Type 0 where
   -- The front: the first pages of the round, as many as so many batches carry; and their plan.
   pub queue : List Page
   pub read : held_pages asked.may_wait file ≡ Ok queue
@@ -99,26 +104,27 @@ pub record IsFrontWritten (file : List ℕ) (asked : FrontAsked) (count : ℕ) (
   pub pages : bounded.plan.pages ≡ count
   pub plan_of : IsPlanFor asked.search (take count (firsts queue)) bounded
   pub within : bounded.plan.batches ≤ asked.batches
-  -- The headline of these pages, with a bound;
-  pub writes : WritesAllOf (RoundHeadline (take count (firsts queue)) asked.search.end bounded.plan.batches bounded.bound (bound_tree_of bounded.plan.tree))
-      tx_before tx_after cert_before cert_after
-  -- the page file of the others, in the order of the file;
-  pub others : List ℕ
-  pub others_of : IsPageFileOf asked.may_wait (left_of (take count (firsts queue)) queue) others
-  pub rest : rest_after ≡ rest_before ++ others
-  -- and why the next page of the round is not in the front.
+  -- REST is the page file of the others, in the order of the file;
+  pub rest_of : IsPageFileOf asked.may_wait (left_of (take count (firsts queue)) queue) rest
+  -- WHY is why the next page of the round is not in the front;
   pub beyond : Option ℕ
-  pub written : List ℕ
-  pub written_of : IsWhyWritten asked.search (firsts queue) asked.batches count beyond written
-  pub why : why_after ≡ why_before ++ written
+  pub why_of : IsWhyWritten asked.search (firsts queue) asked.batches count beyond why
+  -- and the text is the counts of the plan, the bound where it is below the batches, how many pages are left, and what is shown
+  -- of one page more.
+  pub printed : text ≡ front_text bounded (length (left_of (take count (firsts queue)) queue)) asked.batches beyond
 
--- The same; and the counts of the plan were reported, the bound where it is below the batches, how many pages are left, and what is
--- shown of one page more.
-pub record IsFrontPrinted (file : List ℕ) (asked : FrontAsked) (count : ℕ) (tx_before tx_after cert_before cert_after rest_before rest_after why_before why_after out_before out_after : List ℕ) : Type 0 where
-  pub front : IsFrontWritten file asked count tx_before tx_after cert_before cert_after rest_before rest_after why_before why_after
-  pub printed : out_after ≡ out_before ++ plan_text count front.bounded.plan.batches
-      ++ below_text front.bounded.plan.batches front.bounded.bound ++ left_text (length (left_of (take count (firsts front.queue)) front.queue))
-      ++ why_text asked.batches front.beyond
+-- What the four files of a front are due.
+pub record FrontBytes : Type 0 where
+  pub tx : List ℕ
+  pub cert : List ℕ
+  pub rest : List ℕ
+  pub why : List ℕ
+
+-- The same, and TX and CERT are what the headline with its bound says of the first pages.
+pub record IsFrontWritten (file : List ℕ) (asked : FrontAsked) (count : ℕ) (due : FrontBytes) (text : List ℕ) : Type 0 where
+  pub front : IsFrontOf file asked count due.rest due.why text
+  pub headline : RoundHeadline (take count (firsts front.queue)) asked.search.end front.bounded.plan.batches front.bounded.bound
+      (bound_tree_of front.bounded.plan.tree) due.tx due.cert
 
 -- Why no front of a page file is written. The limit is judged before the file.
 abbrev pub ExplainsNoFront : (file : List ℕ) → FrontAsked → CentreFault → Type 0

@@ -2,12 +2,12 @@ pub mod Checks
 pub mod Commands
 pub mod Faults
 pub mod Frames
-pub mod FramesPrinted
 pub mod FrontFiles
+pub mod FrontWorks
 pub mod Judgements
 pub mod Lines
 pub mod Oversized
 pub mod Refusals
 pub mod Reports
-pub mod Verdicts
 pub mod Verification
+pub mod Works

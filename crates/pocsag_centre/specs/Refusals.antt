@@ -1,10 +1,8 @@
 -- Why each call on a page file refuses: the fault that it returns is one of that file, of what is asked for, or of memory.
 use Rattle.std.specs.Prelude.{ℕ, List, IsOk}
 use Rattle.pocsag_words.specs.declared.ending.End.TheVariants.{Open}
-use Rattle.pocsag_pages.specs.declared.fault.RoundFault.TheVariants as round
 use Rattle.pocsag_pages.specs.PageFile.{verdict}
 use Rattle.pocsag_tree.specs.BoundTrees.{BoundTree}
-use Rattle.pocsag_tree.specs.declared.refusals.CertificateFault.TheVariants as certificate
 use Rattle.pocsag_branch.specs.Found.{IsNodeLimit}
 use Rattle.pocsag_plan.specs.Plans.{MayStop}
 use Rattle.pocsag_plan.specs.Searches.{default_limit}
@@ -34,11 +32,3 @@ ExplainsNoPlan file search _ = ⊥
 abbrev pub ExplainsUnwritten : (file : List ℕ) → Search → CentreFault → Type 0
 ExplainsUnwritten file search fault.BadLimit = ¬ IsNodeLimit search.limit
 ExplainsUnwritten file search f = IsNodeLimit search.limit × ExplainsNoPlan file search f
-
--- A reader or a writer failed, or this is so of the fault.
-abbrev pub OrDevice : (Explains : CentreFault → Type 0) → CentreFault → Type 0
-OrDevice Explains (fault.Round round.ReadFault) = Unit {0}
-OrDevice Explains (fault.Certificate certificate.ReadFault) = Unit {0}
-OrDevice Explains (fault.File file_fault.Device) = Unit {0}
-OrDevice Explains (fault.File file_fault.Write) = Unit {0}
-OrDevice Explains f = Explains f

@@ -1,12 +1,35 @@
--- Why there is no report of a page file.
-use Rattle.std.specs.Prelude.{ℕ, List}
-use Rattle.pocsag_plan.specs.Reports.{IsPlannable, IsRate}
-use Rattle.pocsag_plan.specs.declared.search.Search.{Search}
+-- What `report` prints of a page file, and why it prints nothing.
+use Rattle.std.specs.Prelude.{◌≡◌, ℕ, List, [], ◌++◌, IsFalse, IsTrue, Ok}
+use Rattle.std.specs.List.{flat_map}
+use Rattle.pocsag_pages.specs.PageFile.{verdict}
+use Rattle.pocsag_pages.specs.declared.page.Page.{Page}
+use Rattle.pocsag_plan.specs.declared.airtime.Report.{Report}
+use Rattle.pocsag_plan.specs.declared.bounded.Bounded.{Bounded}
+use Rattle.pocsag_plan.specs.declared.frames.FrameRoom.{FrameRoom}
+use Rattle.pocsag_plan.specs.Plans.{IsPlanFor}
+use Rattle.pocsag_plan.specs.Reports.{IsPlannable, IsRate, IsReport, report_text}
+use Rattle.pocsag_centre.specs.Frames.{AreByRoom, frame_text}
+use Rattle.pocsag_centre.specs.Lines.{below_text}
 use Rattle.pocsag_centre.specs.Refusals.{ExplainsNoPlan}
 use Rattle.pocsag_centre.specs.declared.fault.CentreFault.{CentreFault}
 use Rattle.pocsag_centre.specs.declared.fault.CentreFault.TheVariants as fault
+use Rattle.pocsag_centre.specs.declared.report.ReportAsked.{ReportAsked}
+
+-- The text is the report at the rate of the plan that is required for what is asked of the page file's round, its bound where that
+-- is below the batches, and, where the frames are asked for, a line for each of that plan, the least room first.
+pub record IsReportPrinted (asked : ReportAsked) (file text : List ℕ) : Type 0 where
+  pub round : List Page
+  pub read : verdict file ≡ Ok round
+  pub bounded : Bounded
+  pub plan_of : IsPlanFor asked.search round bounded
+  pub report : Report
+  pub report_of : IsReport bounded.plan asked.rate report
+  pub rooms : List FrameRoom
+  pub none : IsFalse asked.frames → rooms ≡ []
+  pub all : IsTrue asked.frames → AreByRoom round bounded.plan.steps.items rooms
+  pub printed : text ≡ report_text report ++ below_text report.batches bounded.bound ++ flat_map frame_text rooms
 
 -- Why there is no report of a page file. The rate is judged last.
-abbrev pub ExplainsReporting : (file : List ℕ) → Search → (rate : ℕ) → CentreFault → Type 0
-ExplainsReporting file search rate fault.BadRate = (¬ IsRate rate) × IsPlannable file search
-ExplainsReporting file search rate f = ExplainsNoPlan file search f
+abbrev pub ExplainsReporting : ReportAsked → (file : List ℕ) → CentreFault → Type 0
+ExplainsReporting asked file fault.BadRate = (¬ IsRate asked.rate) × IsPlannable file asked.search
+ExplainsReporting asked file f = ExplainsNoPlan file asked.search f

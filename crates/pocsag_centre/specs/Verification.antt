@@ -1,26 +1,36 @@
 -- What `--verify` reads back where its exit status is 0, and what it finds where it is 1.
-use Rattle.std.specs.Prelude.{◌≡◌, ◌≢◌, ◌⊎◌, ℕ, ◌+◌, ◌<◌, false, List, length, map, All, Contains}
-use Rattle.pocsag_words.specs.Frame.{input_limit}
+use Rattle.std.specs.Prelude.{◌≡◌, ◌≢◌, ◌⊎◌, ℕ, ◌+◌, false, List, [], ◌∷◌, ◌++◌, codes, length, map, All, Contains, Ok}
+use Rattle.pocsag_words.specs.Devices.{HasFailed}
 use Rattle.pocsag_words.specs.Kinds.{kind_of}
+use Rattle.pocsag_words.specs.declared.device.Source.{Ghosts as Reader}
 use Rattle.pocsag_words.specs.declared.ending.End.{End}
 use Rattle.pocsag_pages.specs.declared.page.Page.{Page}
+use Rattle.pocsag_pages.specs.declared.fault.RoundFault.{RoundFault}
+use Rattle.pocsag_pages.specs.declared.fault.RoundFault.TheVariants as round_fault
+use Rattle.pocsag_pages.specs.PageFile.{verdict}
 use Rattle.pocsag_pages.specs.Bytes.{Sent}
 use Rattle.pocsag_pages.specs.Reading.{EndsAs, IsLegalList}
+use Rattle.pocsag_tree.specs.Answers.{given_before}
 use Rattle.pocsag_tree.specs.BoundTrees.{BoundTree}
 use Rattle.pocsag_tree.specs.CertificateText.{IsText}
+use Rattle.pocsag_tree.specs.Parts.{HasFirst}
+use Rattle.pocsag_tree.specs.declared.refusals.CertificateFault.{CertificateFault}
+use Rattle.pocsag_tree.specs.declared.refusals.CertificateFault.TheVariants as certificate_fault
 use Rattle.pocsag_check.specs.Acceptance.{IsAcceptedFor}
-use Rattle.pocsag_decode.specs.Faults.{HasFault, ReadsAs}
+use Rattle.pocsag_decode.specs.Faults.{HasFault, ReadsAs, WantsMemory}
 use Rattle.pocsag_decode.specs.declared.fault.DecodeFault.TheVariants as decoding
 use Rattle.pocsag_plan.specs.Streams.{IsOfRound}
 use Rattle.pocsag_plan.specs.declared.search.OnLimit.{OnLimit}
 use Rattle.pocsag_plan.specs.declared.search.OnLimit.TheVariants.{Fewest, Always}
 use Rattle.pocsag_plan.specs.declared.search.Search.{Search}
-use Rattle.pocsag_plan.specs.Verdicts.{Checked}
-use Rattle.pocsag_plan.specs.Verdicts.{ExplainsCertificate}
-use Rattle.pocsag_plan.specs.Verdicts.{ExplainsRound}
-use Rattle.pocsag_shell.specs.declared.fault.FileFault.TheVariants as file_fault
+use Rattle.pocsag_plan.specs.Verdicts.{Checked, ExplainsRound}
+use Rattle.pocsag_shell.specs.Readers.{IsSoOfHeld, WasNotRead}
+use Rattle.pocsag_shell.specs.Runs.{Work}
+use Rattle.pocsag_shell.specs.declared.fault.FileFault.{FileFault}
+use Rattle.pocsag_centre.specs.Works.{answered}
 use Rattle.pocsag_centre.specs.declared.fault.CentreFault.{CentreFault}
 use Rattle.pocsag_centre.specs.declared.fault.CentreFault.TheVariants as fault
+use Rattle.pocsag_centre.specs.declared.plan.PlanFiles.{PlanFiles}
 
 -- The pages are as many as the others, and each is among these.
 pub record AreAmong (others pages : List Page) : Type 0 where
@@ -83,31 +93,54 @@ pub record IsNotDue (search : Search) (round : List Page) (bytes certificate : L
   pub text : IsText end bound tree certificate
   pub undue : ¬ ShowsExpected search round batches end bound tree
 
--- Why bytes are not taken for a transmission of the round and the end: also where they are more than are read, or memory
--- refused them.
+-- Why bytes are not taken for a transmission of the round and the end.
 abbrev pub ExplainsReadback : (end : End) (round : List Page) (bytes : List ℕ) → CentreFault → Type 0
-ExplainsReadback end round bytes (fault.Transmission f) = (f ≡ decoding.OutOfMemory) ⊎ HasFault bytes f
+ExplainsReadback end round bytes (fault.Transmission f) = ((f ≡ decoding.OutOfMemory) × WantsMemory bytes) ⊎ HasFault bytes f
 ExplainsReadback end round bytes fault.NotThePages = HoldsOthers round bytes
 ExplainsReadback end round bytes fault.NotTheEnd = EndsOtherwise end bytes
-ExplainsReadback end round bytes (fault.File file_fault.TooLarge) = input_limit < length bytes
-ExplainsReadback end round bytes (fault.File file_fault.OutOfMemory) = Unit {0}
 ExplainsReadback end round bytes _ = ⊥
 
--- A fault that reading a transmission back answers.
-abbrev pub IsOfReadback : CentreFault → Type 0
-IsOfReadback (fault.Transmission f) = Unit {0}
-IsOfReadback fault.NotThePages = Unit {0}
-IsOfReadback fault.NotTheEnd = Unit {0}
-IsOfReadback (fault.File file_fault.Device) = Unit {0}
-IsOfReadback (fault.File file_fault.TooLarge) = Unit {0}
-IsOfReadback (fault.File file_fault.OutOfMemory) = Unit {0}
-IsOfReadback _ = ⊥
+-- And why a reader is not taken for one of such a transmission: it was not read, or this is so of its bytes.
+abbrev pub ExplainsUntaken : {T : Type 0} → Reader T → (end : End) (round : List Page) → (tx tx_after : T) → CentreFault → Type 0
+ExplainsUntaken Tx end round tx tx_after f =
+    ((e : FileFault) × (f ≡ fault.File e) × WasNotRead Tx tx tx_after e)
+    ⊎ IsSoOfHeld Tx tx (λ bytes. ExplainsReadback end round bytes f)
 
--- Why a transmission and a certificate are not verified for a page file: the first fault of the page file, of the
--- transmission, and of the certificate.
-abbrev pub ExplainsVerifying : (file : List ℕ) → Search → (sent certificate : List ℕ) → CentreFault → Type 0
-ExplainsVerifying file search sent certificate (fault.Round f) = ExplainsRound file f
-ExplainsVerifying file search sent certificate (fault.Certificate f) =
-    IsOfRound file (λ round. (batches : ℕ) × IsTransmissionOf search.end round batches sent) × ExplainsCertificate certificate f
-ExplainsVerifying file search sent certificate fault.NotTheBound = IsOfRound file (λ round. IsNotDue search round sent certificate)
-ExplainsVerifying file search sent certificate f = IsOfRound file (λ round. ExplainsReadback search.end round sent f)
+-- Why a reader gives no round, and no certificate: it failed, or this is so of its bytes. Memory for a certificate is wanted only
+-- where a byte more is.
+abbrev pub WasNoRound : {P : Type 0} → Reader P → (pages pages_after : P) → RoundFault → Type 0
+WasNoRound Pages pages pages_after round_fault.ReadFault = HasFailed (Pages.failures pages) (Pages.failures pages_after)
+WasNoRound Pages pages pages_after f = Pages.is_known → ExplainsRound (Pages.held pages) f
+
+abbrev pub WasNoCertificate : {C : Type 0} → Reader C → (cert cert_after : C) → CertificateFault → Type 0
+WasNoCertificate Cert cert cert_after certificate_fault.ReadFault = HasFailed (Cert.failures cert) (Cert.failures cert_after)
+WasNoCertificate Cert cert cert_after certificate_fault.OutOfMemory =
+    Cert.is_known → HasFirst certificate_fault.Truncated (given_before (Cert.held cert) (Cert.held cert_after))
+WasNoCertificate Cert cert cert_after f = Cert.is_known → HasFirst f (Cert.held cert)
+
+-- The page file that a reader holds is that of a round, of which this is so.
+abbrev pub IsSoOfRound : {P : Type 0} → Reader P → (pages : P) → (List Page → Type 0) → Type 0
+IsSoOfRound Pages pages Holds = (round : List Page) × (Pages.is_known → verdict (Pages.held pages) ≡ Ok round) × Holds round
+
+-- Why a transmission and a certificate are not verified for a page file: the first fault of the page file, of the transmission
+-- and of the certificate, and last that this does not show the bound that is due.
+pub data ExplainsVerifying {P T C : Type 0} (Pages : Reader P) (Tx : Reader T) (Cert : Reader C) (search : Search) (files files_after : PlanFiles P T C) (f : CentreFault) : Type 0 where
+  no_round : (e : RoundFault) → f ≡ fault.Round e → WasNoRound Pages files.pages files_after.pages e
+      → ExplainsVerifying Pages Tx Cert search files files_after f
+  not_taken : IsSoOfRound Pages files.pages (λ round. ExplainsUntaken Tx search.end round files.tx files_after.tx f)
+      → ExplainsVerifying Pages Tx Cert search files files_after f
+  no_certificate : (e : CertificateFault) → f ≡ fault.Certificate e → WasNoCertificate Cert files.cert files_after.cert e
+      → IsSoOfRound Pages files.pages (λ round. (batches : ℕ) × IsSoOfHeld Tx files.tx (IsTransmissionOf search.end round batches))
+      → ExplainsVerifying Pages Tx Cert search files files_after f
+  not_due : f ≡ fault.NotTheBound
+      → (Pages.is_known → Tx.is_known → Cert.is_known →
+      IsOfRound (Pages.held files.pages) (λ round. IsNotDue search round (Tx.held files.tx) (Cert.held files.cert)))
+      → ExplainsVerifying Pages Tx Cert search files files_after f
+
+-- `--verify`: reads a transmission and a certificate back, and prints that they are verified.
+abbrev pub verifies : {P T C : Type 0} → Reader P → Reader T → Reader C → Search → (files files_after : PlanFiles P T C) → Work CentreFault
+verifies Pages Tx Cert search files files_after = answered
+    (λ status text. (status ≡ 0) × (text ≡ codes "verified" ++ (10 ∷ []))
+    × (Pages.is_known → Tx.is_known → Cert.is_known →
+    Verified (Pages.held files.pages) search (Tx.held files.tx) (Cert.held files.cert)))
+    (ExplainsVerifying Pages Tx Cert search files files_after)

@@ -1,16 +1,14 @@
-ghost use Rattle.std.specs.Prelude.{◌≡◌, ◌≢◌, ◌⊎◌, ◌++◌, false, length, take, All, Err, IfErr, IfNone, IfOk, IfSome, IsErrOf, OnOk, Some};
-ghost use Rattle.pocsag_words.specs.Devices.{CountsFailures, HasFailed};
+ghost use Rattle.std.specs.Prelude.{◌≡◌, ◌++◌, false, length, take, All, IfErr, IfOk, OnOk};
+ghost use Rattle.pocsag_words.specs.Devices.{CountsFailures, Delivers};
 ghost use Rattle.pocsag_pages.specs.Listable.{IsListable};
 ghost use Rattle.pocsag_pages.specs.Queues.{firsts};
-ghost use Rattle.pocsag_pages.specs.declared.fault.RoundFault.TheVariants as round_fault;
 ghost use Rattle.pocsag_decode.specs.PageFiles.{page_file};
 ghost use Rattle.pocsag_branch.specs.Found.{IsNodeLimit};
 ghost use Rattle.pocsag_plan.specs.Plans.{IsBounded};
-ghost use Rattle.pocsag_centre.specs.Faults.{centre_status};
-ghost use Rattle.pocsag_centre.specs.FrontFiles.{beyond_of, certificate_text, ExplainsFirst, ExplainsNoFront, HasCertificateText, IsOfHeld, IsFrontRead, IsFrontPrinted, IsFrontWritten, IsPageFileOf, why_text};
+ghost use Rattle.pocsag_centre.specs.FrontFiles.{beyond_of, certificate_text, ExplainsFirst, front_text, HasCertificateText, IsOfHeld, IsFrontRead, IsPageFileOf, why_text};
+ghost use Rattle.pocsag_centre.specs.FrontWorks.{ExplainsOthers, ExplainsUnplanned, fronts, TookAll};
 ghost use Rattle.pocsag_centre.specs.Lines.{below_text, left_text, plan_text};
-ghost use Rattle.pocsag_centre.specs.Refusals.{OrDevice};
-ghost use Rattle.pocsag_shell.specs.ErrorStreams.{stream_of, printed_by};
+ghost use Rattle.pocsag_shell.specs.Runs.{IsAnswerOf, Ran};
 ghost use Rattle.pocsag_shell.specs.declared.fault.FileFault.TheVariants as file_fault;
 
 use crate::checks::refuse_bad_limit;
@@ -21,7 +19,7 @@ use pocsag_decode::{
 };
 use pocsag_pages::{Page, first_pages, held_pages, left_pages, read_pages, read_round};
 use pocsag_plan::{FrontPlan, Search, longest_front, send};
-use pocsag_shell::{ErrorStream, FileFault, print_numbers};
+use pocsag_shell::{CommandAnswer, ErrorStream, FileFault, print_answer, print_numbers};
 use pocsag_tree::{Certificate, write_text};
 use pocsag_words::{GrowingSink, Sink, Source};
 use std::alloc::Global;
@@ -64,50 +62,27 @@ pub fn run_front<P: Source + Drop, S: Sink + Drop, O: Sink, E: Sink + Drop>(
     out: &mut O,
     err: &mut ErrorStream<CentreFault, E>,
 ) -> u8
-    ensures written { P.is_known → S.is_known → IfNone (printed_by err.new)
-        (IsFrontWritten (P.held files.old.pages) asked files.new.count
-        (S.taken files.old.tx) (S.taken files.new.tx) (S.taken files.old.cert) (S.taken files.new.cert)
-        (S.taken files.old.rest) (S.taken files.new.rest) (S.taken files.old.why) (S.taken files.new.why)) }
-    ensures printed { P.is_known → S.is_known → O.is_known → IfNone (printed_by err.new)
-        (IsFrontPrinted (P.held files.old.pages) asked files.new.count
-        (S.taken files.old.tx) (S.taken files.new.tx) (S.taken files.old.cert) (S.taken files.new.cert)
-        (S.taken files.old.rest) (S.taken files.new.rest) (S.taken files.old.why) (S.taken files.new.why)
-        (O.taken out.old) (O.taken out.new)) }
-    ensures done { IfNone (printed_by err.new) ((result ≡ 0) × (stream_of err.new ≡ stream_of err.old)) }
-
-    // When each fault comes, and what it leaves.
-    ensures status { IfSome (printed_by err.new) (λ e. result ≡ centre_status e) }
-    ensures explained { P.is_known → IfSome (printed_by err.new)
-        (OrDevice (ExplainsNoFront (P.held files.old.pages) asked)) }
-    ensures refused { IfSome (printed_by err.new) (λ e. e ≢ CentreFault.File file_fault.Write →
-        (files.new.tx ≡ files.old.tx) × (files.new.cert ≡ files.old.cert)
-        × (files.new.rest ≡ files.old.rest) × (files.new.why ≡ files.old.why) × (out.new ≡ out.old)) }
-
-    // A device's fault is reported only where that device failed.
-    ensures read_failed { printed_by err.new ≡ Some (CentreFault.Round round_fault.ReadFault) →
-        HasFailed (P.failures files.old.pages) (P.failures files.new.pages) }
-    ensures write_failed { printed_by err.new ≡ Some (CentreFault.File file_fault.Write) →
-        HasFailed (S.failures files.old.rest) (S.failures files.new.rest)
-        ⊎ HasFailed (S.failures files.old.why) (S.failures files.new.why)
-        ⊎ HasFailed (S.failures files.old.tx) (S.failures files.new.tx)
-        ⊎ HasFailed (S.failures files.old.cert) (S.failures files.new.cert)
-        ⊎ HasFailed (O.failures out.old) (O.failures out.new) }
+    ensures ran { Ran (fronts P.Source S.Sink asked files.old files.new) O.Sink E.Sink
+        result out.old out.new err.old err.new }
 {
-    let front = match read_front(alloc, asked, &mut files.pages) {
-        Ok(front) => front,
-        Err(fault) => return err.end(Err(fault)),
-    };
+    print_answer(answer_front(alloc, asked, files), out, err)
+}
+
+// What `plan --at-most` answers, once its files have all that is due. Its text is made before the first file is written.
+fn answer_front<P: Source + Drop, S: Sink + Drop>(
+    alloc: Global,
+    asked: FrontAsked,
+    files: &mut FrontFiles<P, S>,
+) -> Result<CommandAnswer, CentreFault>
+    ensures answers { IsAnswerOf (fronts P.Source S.Sink asked files.old files.new) result }
+{
+    let front = read_front(alloc, asked, &mut files.pages)?;
+    let text = text_of_front(alloc, &front, asked.batches)?;
     files.count = front.bounded.plan.pages;
-    if let Err(fault) = put_others(alloc, &front, files) {
-        return err.end(Err(CentreFault::File(fault)));
-    }
+    put_others(alloc, &front, &mut files.rest, &mut files.why)?;
     match send(&front.round, &front.bounded, &mut files.tx, &mut files.cert) {
-        Ok(()) => {}
-        Err(_) => return err.end(Err(CentreFault::File(FileFault::Write))),
-    }
-    match print_front(&front, asked.batches, out) {
-        Ok(()) => err.end(Ok(0)),
-        Err(fault) => err.end(Err(CentreFault::File(fault))),
+        Ok(()) => Ok(CommandAnswer { status: 0, text }),
+        Err(_) => Err(CentreFault::File(FileFault::Write)),
     }
 }
 
@@ -122,13 +97,9 @@ fn read_front<P: Source>(
         IsBounded front.bounded.plan.end front.round front.bounded.plan front.bounded.bound) }
     ensures listable { IfOk result (λ front. All IsListable front.rest.items) }
     ensures texts { IfOk result (λ front. HasCertificateText front.why) }
-    ensures limited { P.is_known → OnOk result
-        (ExplainsNoFront (P.held pages.old) asked (CentreFault.File file_fault.OutOfMemory)) }
-    ensures explained { P.is_known → IfErr result
-        (OrDevice (ExplainsNoFront (P.held pages.old) asked)) }
-    ensures read_failed { IsErrOf result (CentreFault.Round round_fault.ReadFault) →
-        HasFailed (P.failures pages.old) (P.failures pages.new) }
-    ensures unwritten { ¬ IsErrOf result (CentreFault.File file_fault.Write) }
+    ensures limited { OnOk result
+        (ExplainsUnplanned P.Source asked pages.old pages.new (CentreFault.File file_fault.OutOfMemory)) }
+    ensures explained { IfErr result (ExplainsUnplanned P.Source asked pages.old pages.new) }
 {
     page_files_are_read_back();
     pages_of_files_are_spellable();
@@ -153,12 +124,9 @@ fn queue_front<P: Source>(
         IsBounded front.bounded.plan.end front.round front.bounded.plan front.bounded.bound) }
     ensures listable { IfOk result (λ front. All IsListable front.rest.items) }
     ensures texts { IfOk result (λ front. HasCertificateText front.why) }
-    ensures limited { P.is_known → OnOk result
-        (ExplainsNoFront (P.held pages.old) asked (CentreFault.File file_fault.OutOfMemory)) }
-    ensures explained { P.is_known → IfErr result (OrDevice (ExplainsNoFront (P.held pages.old) asked)) }
-    ensures read_failed { IsErrOf result (CentreFault.Round round_fault.ReadFault) →
-        HasFailed (P.failures pages.old) (P.failures pages.new) }
-    ensures unwritten { ¬ IsErrOf result (CentreFault.File file_fault.Write) }
+    ensures limited { OnOk result
+        (ExplainsUnplanned P.Source asked pages.old pages.new (CentreFault.File file_fault.OutOfMemory)) }
+    ensures explained { IfErr result (ExplainsUnplanned P.Source asked pages.old pages.new) }
 {
     page_files_are_read_back();
     pages_of_files_are_spellable();
@@ -185,28 +153,21 @@ fn queue_front<P: Source>(
 }
 
 // Writes the page file of the pages that are left, and then the certificate of one page more.
-fn put_others<P: Drop, S: Sink + Drop>(
+fn put_others<S: Sink>(
     alloc: Global,
     front: &FrontPlan,
-    files: &mut FrontFiles<P, S>,
+    rest: &mut S,
+    why: &mut S,
 ) -> Result<(), FileFault>
     requires listable { All IsListable front.now.rest.items }
     requires texts { HasCertificateText front.now.why }
-    ensures rest { S.is_known → OnOk result
-        (S.taken files.new.rest ≡ S.taken files.old.rest ++ page_file front.now.rest.items) }
-    ensures why { S.is_known → OnOk result
-        (S.taken files.new.why ≡ S.taken files.old.why ++ certificate_text front.now.why) }
-    ensures others { (files.new.pages ≡ files.old.pages) × (files.new.count ≡ files.old.count)
-        × (files.new.tx ≡ files.old.tx) × (files.new.cert ≡ files.old.cert) }
-    ensures fault { IfErr result (λ e. (e ≡ FileFault.Write) ⊎ (e ≡ FileFault.OutOfMemory)) }
-    ensures memory { result ≡ Err FileFault.OutOfMemory →
-        (files.new.rest ≡ files.old.rest) × (files.new.why ≡ files.old.why) }
-    ensures failed { result ≡ Err FileFault.Write →
-        HasFailed (S.failures files.old.rest) (S.failures files.new.rest)
-        ⊎ HasFailed (S.failures files.old.why) (S.failures files.new.why) }
+    ensures rest { S.is_known → OnOk result (TookAll S.Sink rest.old rest.new (page_file front.now.rest.items)) }
+    ensures why { S.is_known → OnOk result (TookAll S.Sink why.old why.new (certificate_text front.now.why)) }
+    ensures explained { IfErr result (ExplainsOthers S.Sink rest.old rest.new why.old why.new
+        (page_file front.now.rest.items) (certificate_text front.now.why)) }
 {
-    match write_page_file(alloc, front.rest.as_slice(), &mut files.rest) {
-        Ok(()) => put_why(&front.why, &mut files.why),
+    match write_page_file(alloc, front.rest.as_slice(), rest) {
+        Ok(()) => put_why(&front.why, why),
         Err(ListFault::OutOfMemory) => Err(FileFault::OutOfMemory),
         Err(_) => Err(FileFault::Write),
     }
@@ -215,7 +176,8 @@ fn put_others<P: Drop, S: Sink + Drop>(
 // Writes the certificate, if there is one.
 fn put_why<S: Sink>(why: &Option<Certificate>, sink: &mut S) -> Result<(), FileFault>
     requires { HasCertificateText why.now }
-    ensures written { S.is_known → OnOk result (S.taken sink.new ≡ S.taken sink.old ++ certificate_text why.now) }
+    ensures delivers { S.is_known →
+        Delivers result (S.taken sink.old) (S.taken sink.new) (certificate_text why.now) }
     ensures lost { IfErr result (λ e. e ≡ FileFault.Write) }
     ensures failures { CountsFailures result (S.failures sink.old) (S.failures sink.new) }
 {
@@ -261,9 +223,22 @@ pub(crate) fn written_pages(alloc: Global, pages: &[Page]) -> Result<Vec<u8>, Ce
     Ok(sink.into_bytes())
 }
 
+// The counts of a front, as `print_front` prints them.
+fn text_of_front(alloc: Global, front: &FrontPlan, batches: u32) -> Result<Vec<u8>, CentreFault>
+    ensures text { IfOk result (λ text. text.items
+        ≡ front_text front.now.bounded (length front.now.rest.items) batches (beyond_of front.now.why)) }
+    ensures memory { IfErr result (λ e. e ≡ CentreFault.File file_fault.OutOfMemory) }
+{
+    let mut text = GrowingSink::new(alloc);
+    match print_front(front, batches, &mut text) {
+        Ok(()) => Ok(text.into_bytes()),
+        Err(_) => Err(CentreFault::File(FileFault::OutOfMemory)),
+    }
+}
+
 // Prints the counts of a front, with its bound where that is below its batches; how many pages are left; and what is shown
 // of one page more, where that is no more than the batches that were asked for.
-#[tactic(auto, unfolding(crate::specs::Lines::left_text, crate::specs::Lines::undecided_text))]
+#[tactic(auto, unfolding(crate::specs::Lines::left_text))]
 fn print_front<O: Sink>(front: &FrontPlan, batches: u32, out: &mut O) -> Result<(), FileFault>
     ensures printed { O.is_known → OnOk result (O.taken out.new ≡ O.taken out.old
         ++ plan_text front.now.bounded.plan.pages front.now.bounded.plan.batches
@@ -274,7 +249,18 @@ fn print_front<O: Sink>(front: &FrontPlan, batches: u32, out: &mut O) -> Result<
 {
     print_bounded(&front.bounded, out)?;
     print_numbers(out, &[("left ", front.rest.len() as u64)], "\n")?;
-    let Some(why) = &front.why else {
+    print_why(&front.why, batches, out)
+}
+
+// Prints what is shown of one page more, where there is one and it is no more than the batches that were asked for.
+#[tactic(auto, unfolding(crate::specs::Lines::undecided_text))]
+fn print_why<O: Sink>(why: &Option<Certificate>, batches: u32, out: &mut O) -> Result<(), FileFault>
+    ensures delivers { O.is_known →
+        Delivers result (O.taken out.old) (O.taken out.new) (why_text batches (beyond_of why.now)) }
+    ensures lost { IfErr result (λ e. e ≡ FileFault.Write) }
+    ensures failures { CountsFailures result (O.failures out.old) (O.failures out.new) }
+{
+    let Some(why) = why else {
         return Ok(());
     };
     if batches < why.batches {

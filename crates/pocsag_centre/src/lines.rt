@@ -1,5 +1,5 @@
-ghost use Rattle.std.specs.Prelude.{◌≡◌, ◌++◌, IfErr, OnOk};
-ghost use Rattle.pocsag_words.specs.Devices.{CountsFailures};
+ghost use Rattle.std.specs.Prelude.{◌≡◌, IfErr};
+ghost use Rattle.pocsag_words.specs.Devices.{CountsFailures, Delivers};
 ghost use Rattle.pocsag_centre.specs.Lines.{below_text, bound_text, plan_text};
 
 use pocsag_shell::{FileFault, print_numbers};
@@ -8,7 +8,7 @@ use pocsag_words::{End, Sink};
 /// Prints the pages and the batches of a plan.
 #[tactic(auto, unfolding(crate::specs::Lines::plan_text))]
 pub(crate) fn print_plan<O: Sink>(pages: u32, batches: u32, out: &mut O) -> Result<(), FileFault>
-    ensures printed { O.is_known → OnOk result (O.taken out.new ≡ O.taken out.old ++ plan_text pages batches) }
+    ensures delivers { O.is_known → Delivers result (O.taken out.old) (O.taken out.new) (plan_text pages batches) }
     ensures lost { IfErr result (λ e. e ≡ FileFault.Write) }
     ensures failures { CountsFailures result (O.failures out.old) (O.failures out.new) }
 {
@@ -19,7 +19,7 @@ pub(crate) fn print_plan<O: Sink>(pages: u32, batches: u32, out: &mut O) -> Resu
 /// Prints that fewer batches do not suffice.
 #[tactic(auto, unfolding(crate::specs::Lines::bound_text))]
 pub(crate) fn print_bound<O: Sink>(end: End, batches: u32, out: &mut O) -> Result<(), FileFault>
-    ensures printed { O.is_known → OnOk result (O.taken out.new ≡ O.taken out.old ++ bound_text end batches) }
+    ensures delivers { O.is_known → Delivers result (O.taken out.old) (O.taken out.new) (bound_text end batches) }
     ensures lost { IfErr result (λ e. e ≡ FileFault.Write) }
     ensures failures { CountsFailures result (O.failures out.old) (O.failures out.new) }
 {
@@ -34,7 +34,7 @@ pub(crate) fn print_bound<O: Sink>(end: End, batches: u32, out: &mut O) -> Resul
 /// Prints the bound of a plan where it is below its batches.
 #[tactic(auto, unfolding(crate::specs::Lines::below_text, crate::specs::Lines::bound_text))]
 pub(crate) fn print_below<O: Sink>(batches: u32, bound: u32, out: &mut O) -> Result<(), FileFault>
-    ensures printed { O.is_known → OnOk result (O.taken out.new ≡ O.taken out.old ++ below_text batches bound) }
+    ensures delivers { O.is_known → Delivers result (O.taken out.old) (O.taken out.new) (below_text batches bound) }
     ensures lost { IfErr result (λ e. e ≡ FileFault.Write) }
     ensures failures { CountsFailures result (O.failures out.old) (O.failures out.new) }
 {

@@ -1,6 +1,5 @@
-ghost use Rattle.std.specs.Prelude.{◌≡◌, ◌≢◌, ◌⊎◌, ◌++◌, IfErr, IfNone, IfOk, IfSome, IsErrOf, OnOk, Ok, Some};
-ghost use Rattle.pocsag_words.specs.Devices.{CountsFailures, HasFailed};
-ghost use Rattle.pocsag_words.specs.declared.ending.End.TheVariants.{Open as open_end};
+ghost use Rattle.std.specs.Prelude.{◌≡◌, ◌++◌, IfErr, IfOk, IsErrOf, OnOk, Ok};
+ghost use Rattle.pocsag_words.specs.Devices.{CountsFailures, Delivers, HasFailed};
 ghost use Rattle.pocsag_pages.specs.PageFile.{verdict};
 ghost use Rattle.pocsag_pages.specs.declared.fault.RoundFault.TheVariants as round_fault;
 ghost use Rattle.pocsag_tree.specs.Views.{bound_tree_of};
@@ -8,12 +7,10 @@ ghost use Rattle.pocsag_branch.specs.Found.{IsNodeLimit};
 ghost use Rattle.pocsag_plan.specs.Plans.{IsPlanFor};
 ghost use Rattle.pocsag_plan.specs.Streams.{ExplainsStream, fault_in, IsCertificate, IsOfRound, IsTransmission, WritesBounded, WritesCertificatePart, WritesInTurn, WritesPart};
 ghost use Rattle.pocsag_plan.specs.declared.fault.StreamFault.TheVariants as stream_fault;
-ghost use Rattle.pocsag_shell.specs.declared.fault.FileFault.TheVariants as file_fault;
-ghost use Rattle.pocsag_shell.specs.ErrorStreams.{stream_of, printed_by};
-ghost use Rattle.pocsag_centre.specs.Commands.{LeavesOutputs, Planned, PlannedAndPrinted, PrintedPlan};
-ghost use Rattle.pocsag_centre.specs.Faults.{centre_status};
+ghost use Rattle.pocsag_shell.specs.Runs.{IsAnswerOf, IsStreamOf, Ran};
 ghost use Rattle.pocsag_centre.specs.Lines.{below_text, plan_text};
-ghost use Rattle.pocsag_centre.specs.Refusals.{ExplainsNoPlan, ExplainsUnwritten, OrDevice, default_search};
+ghost use Rattle.pocsag_centre.specs.Refusals.{ExplainsNoPlan};
+ghost use Rattle.pocsag_centre.specs.Works.{OrFailed, counts_plan, plans};
 
 use crate::fault::CentreFault;
 use crate::lines::{print_below, print_plan};
@@ -22,8 +19,8 @@ use pocsag_plan::{
     Bounded, DEFAULT_LIMIT, OnLimit, Search, StreamFault, bounded_plan, plan_stream,
     plan_stream_always,
 };
-use pocsag_shell::{ErrorStream, FileFault};
-use pocsag_words::{End, Sink, Source};
+use pocsag_shell::{CommandAnswer, ErrorStream, FileFault, print_answer};
+use pocsag_words::{End, GrowingSink, Sink, Source};
 use std::alloc::Global;
 
 // What is asked of the planner where there are no words.
@@ -60,10 +57,8 @@ pub(crate) fn read_plan<P: Source>(
     ensures read { P.is_known → IfOk result (λ found. verdict (P.held pages.old) ≡ Ok found.round) }
     ensures plan { IfOk result (λ found. IsPlanFor search found.round found.bounded) }
     ensures limited { OnOk result (IsNodeLimit search.limit) }
-    ensures explained { P.is_known → IfErr result (OrDevice (ExplainsNoPlan (P.held pages.old) search)) }
-    ensures read_failed { IsErrOf result (CentreFault.Round round_fault.ReadFault) →
-        HasFailed (P.failures pages.old) (P.failures pages.new) }
-    ensures unwritten { ¬ IsErrOf result (CentreFault.File file_fault.Write) }
+    ensures explained { IfErr result (OrFailed (HasFailed (P.failures pages.old) (P.failures pages.new)) ⊥ ⊥
+        (λ f. P.is_known → ExplainsNoPlan (P.held pages.old) search f)) }
 {
     let round = read_round(alloc, pages)?;
     let bounded = bounded_plan(alloc, &round, search)?;
@@ -78,30 +73,24 @@ pub fn run_input<I: Source, O: Sink, E: Sink + Drop>(
     out: &mut O,
     err: &mut ErrorStream<CentreFault, E>,
 ) -> u8
-    ensures printed { I.is_known → O.is_known → IfNone (printed_by err.new)
-        (PrintedPlan (I.held input.old) open_end (O.taken out.old) (O.taken out.new)) }
-    ensures done { IfNone (printed_by err.new) ((result ≡ 0) × (stream_of err.new ≡ stream_of err.old)) }
-
-    // When each fault comes, and what it leaves.
-    ensures status { IfSome (printed_by err.new) (λ e. result ≡ centre_status e) }
-    ensures explained { I.is_known →
-        IfSome (printed_by err.new) (OrDevice (ExplainsNoPlan (I.held input.old) default_search)) }
-    ensures refused { IfSome (printed_by err.new) (λ e. e ≢ CentreFault.File file_fault.Write → out.new ≡ out.old) }
-
-    // A device's fault is reported only where that device failed.
-    ensures read_failed { printed_by err.new ≡ Some (CentreFault.Round round_fault.ReadFault) →
-        HasFailed (I.failures input.old) (I.failures input.new) }
-    ensures write_failed { printed_by err.new ≡ Some (CentreFault.File file_fault.Write) →
-        HasFailed (O.failures out.old) (O.failures out.new) }
+    ensures ran { Ran (counts_plan I.Source input.old input.new) O.Sink E.Sink result out.old out.new err.old err.new }
 {
-    let found = match read_plan(alloc, input, DEFAULT_SEARCH) {
-        Ok(found) => found,
-        Err(fault) => return err.end(Err(fault)),
-    };
+    print_answer(answer_input(alloc, input), out, err)
+}
+
+// What the program answers with no words.
+fn answer_input<I: Source>(alloc: Global, input: &mut I) -> Result<CommandAnswer, CentreFault>
+    ensures answers { IsAnswerOf (counts_plan I.Source input.old input.new) result }
+{
+    let found = read_plan(alloc, input, DEFAULT_SEARCH)?;
     let plan = &found.bounded.plan;
-    match print_plan(plan.pages, plan.batches, out) {
-        Ok(()) => err.end(Ok(0)),
-        Err(fault) => err.end(Err(CentreFault::File(fault))),
+    let mut text = GrowingSink::new(alloc);
+    match print_plan(plan.pages, plan.batches, &mut text) {
+        Ok(()) => Ok(CommandAnswer {
+            status: 0,
+            text: text.into_bytes(),
+        }),
+        Err(_) => Err(CentreFault::File(FileFault::OutOfMemory)),
     }
 }
 
@@ -115,42 +104,29 @@ pub fn run_plan<P: Source + Drop, T: Sink + Drop, C: Sink + Drop, O: Sink, E: Si
     out: &mut O,
     err: &mut ErrorStream<CentreFault, E>,
 ) -> u8
-    // The headline with a bound; and where the bound is the batches, the headline.
-    ensures planned { P.is_known → T.is_known → C.is_known → IfNone (printed_by err.new)
-        (Planned (P.held files.old.pages) search (T.taken files.old.tx) (T.taken files.new.tx)
-        (C.taken files.old.cert) (C.taken files.new.cert)) }
-    ensures printed { P.is_known → T.is_known → C.is_known → O.is_known → IfNone (printed_by err.new)
-        (PlannedAndPrinted (P.held files.old.pages) search (T.taken files.old.tx) (T.taken files.new.tx)
-        (C.taken files.old.cert) (C.taken files.new.cert) (O.taken out.old) (O.taken out.new)) }
-    ensures done { IfNone (printed_by err.new) ((result ≡ 0) × (stream_of err.new ≡ stream_of err.old)) }
+    ensures ran { Ran (plans P.Source T.Sink C.Sink search files.old files.new) O.Sink E.Sink
+        result out.old out.new err.old err.new }
+{
+    err.end(plan_and_print(alloc, search, files, out))
+}
 
-    // When each fault comes, and what it leaves.
-    ensures status { IfSome (printed_by err.new) (λ e. result ≡ centre_status e) }
-    ensures explained { P.is_known →
-        IfSome (printed_by err.new) (OrDevice (ExplainsUnwritten (P.held files.old.pages) search)) }
-    ensures refused { IfSome (printed_by err.new) (λ e. e ≢ CentreFault.File file_fault.Write →
-        (files.new.tx ≡ files.old.tx) × (files.new.cert ≡ files.old.cert) × (out.new ≡ out.old)) }
-    ensures leaves { P.is_known → T.is_known → C.is_known →
-        LeavesOutputs (P.held files.old.pages) search (T.taken files.old.tx) (T.taken files.new.tx)
-        (C.taken files.old.cert) (C.taken files.new.cert) }
-
-    // A device's fault is reported only where that device failed.
-    ensures read_failed { printed_by err.new ≡ Some (CentreFault.Round round_fault.ReadFault) →
-        HasFailed (P.failures files.old.pages) (P.failures files.new.pages) }
-    ensures write_failed { printed_by err.new ≡ Some (CentreFault.File file_fault.Write) →
-        HasFailed (T.failures files.old.tx) (T.failures files.new.tx)
-        ⊎ HasFailed (C.failures files.old.cert) (C.failures files.new.cert)
-        ⊎ HasFailed (O.failures out.old) (O.failures out.new) }
+// Plans the page file, writes both outputs, and prints the counts of the plan.
+fn plan_and_print<P: Source + Drop, T: Sink + Drop, C: Sink + Drop, O: Sink>(
+    alloc: Global,
+    search: Search,
+    files: &mut PlanFiles<P, T, C>,
+    out: &mut O,
+) -> Result<u8, CentreFault>
+    ensures streams { IsStreamOf (plans P.Source T.Sink C.Sink search files.old files.new) O.Sink
+        out.old out.new result }
 {
     let PlanFiles { pages, tx, cert } = files;
     let bounded = match stream_asked(alloc, pages, tx, cert, search) {
         Ok(bounded) => bounded,
-        Err(fault) => return err.end(Err(CentreFault::from(fault))),
+        Err(fault) => return Err(CentreFault::from(fault)),
     };
-    match print_bounded(&bounded, out) {
-        Ok(()) => err.end(Ok(0)),
-        Err(fault) => err.end(Err(CentreFault::File(fault))),
-    }
+    print_bounded(&bounded, out)?;
+    Ok(0)
 }
 
 // The stream that is asked for: of the plan with the fewest batches, or of one for every round.
@@ -198,8 +174,8 @@ fn stream_asked<P: Source, T: Sink, C: Sink>(
 
 /// Prints the counts of a plan, and its bound where that is below the batches.
 pub(crate) fn print_bounded<O: Sink>(bounded: &Bounded, out: &mut O) -> Result<(), FileFault>
-    ensures printed { O.is_known → OnOk result
-        (O.taken out.new ≡ O.taken out.old ++ plan_text bounded.now.plan.pages bounded.now.plan.batches
+    ensures delivers { O.is_known → Delivers result (O.taken out.old) (O.taken out.new)
+        (plan_text bounded.now.plan.pages bounded.now.plan.batches
         ++ below_text bounded.now.plan.batches bounded.now.bound) }
     ensures lost { IfErr result (λ e. e ≡ FileFault.Write) }
     ensures failures { CountsFailures result (O.failures out.old) (O.failures out.new) }

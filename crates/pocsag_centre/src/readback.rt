@@ -1,19 +1,14 @@
-ghost use Rattle.std.specs.Prelude.{◌≡◌, ◌≢◌, ◌⊎◌, ◌↔◌, ◌++◌, [], ◌∷◌, List, ℕ, Contains, codes, map, IfErr, IfNone, IfOk, IfSome, IsErrOf, IsFalse, IsTrue, OnOk, Some};
+ghost use Rattle.std.specs.Prelude.{◌≡◌, ◌⊎◌, ◌↔◌, List, ℕ, Contains, map, IfErr, IfOk, IsFalse, IsTrue};
 ghost use Rattle.std.specs.List.Sorted.{IsNonDecreasingBy};
-ghost use Rattle.pocsag_words.specs.Devices.{HasFailed};
 ghost use Rattle.pocsag_words.specs.Kinds.{kind_of};
 ghost use Rattle.pocsag_pages.specs.Bytes.{Sent};
 ghost use Rattle.pocsag_pages.specs.Pages.{IsRound};
 ghost use Rattle.pocsag_pages.specs.Reading.{EndsAs, EndsIdle};
-ghost use Rattle.pocsag_pages.specs.declared.fault.RoundFault.TheVariants as round_fault;
 ghost use Rattle.pocsag_tree.specs.Views.{bound_tree_of};
-ghost use Rattle.pocsag_tree.specs.declared.refusals.CertificateFault.TheVariants as tree_fault;
-ghost use Rattle.pocsag_shell.specs.declared.fault.FileFault.TheVariants as file_fault;
-ghost use Rattle.pocsag_shell.specs.ErrorStreams.{stream_of, printed_by};
+ghost use Rattle.pocsag_shell.specs.Readers.{IsSoOfHeld};
+ghost use Rattle.pocsag_shell.specs.Runs.{IsStreamOf, Ran};
 ghost use Rattle.pocsag_plan.specs.Plans.{NoneHasFewer};
-ghost use Rattle.pocsag_centre.specs.Faults.{centre_status};
-ghost use Rattle.pocsag_centre.specs.Refusals.{OrDevice};
-ghost use Rattle.pocsag_centre.specs.Verification.{AreAmong, ExplainsReadback, ExplainsVerifying, HasRival, IsExpectedBound, IsOfReadback, IsTransmissionOf, ShowsExpected, Verified};
+ghost use Rattle.pocsag_centre.specs.Verification.{AreAmong, ExplainsReadback, ExplainsUntaken, HasRival, IsExpectedBound, IsTransmissionOf, ShowsExpected, verifies};
 
 use crate::fault::CentreFault;
 use crate::plan::PlanFiles;
@@ -39,47 +34,35 @@ pub fn run_verify<P: Source + Drop, T: Source + Drop, C: Source + Drop, O: Sink,
     out: &mut O,
     err: &mut ErrorStream<CentreFault, E>,
 ) -> u8
-    ensures verified { P.is_known → T.is_known → C.is_known → IfNone (printed_by err.new)
-        (Verified (P.held files.old.pages) search (T.held files.old.tx) (C.held files.old.cert)) }
-    ensures printed { O.is_known → IfNone (printed_by err.new)
-        (O.taken out.new ≡ O.taken out.old ++ codes "verified" ++ 10 ∷ []) }
-    ensures done { IfNone (printed_by err.new) ((result ≡ 0) × (stream_of err.new ≡ stream_of err.old)) }
+    ensures ran { Ran (verifies P.Source T.Source C.Source search files.old files.new) O.Sink E.Sink
+        result out.old out.new err.old err.new }
+{
+    err.end(verify(alloc, search, files, out))
+}
 
-    // When each fault comes, and what it leaves.
-    ensures status { IfSome (printed_by err.new) (λ e. result ≡ centre_status e) }
-    ensures explained { P.is_known → T.is_known → C.is_known → IfSome (printed_by err.new) (OrDevice
-        (ExplainsVerifying (P.held files.old.pages) search (T.held files.old.tx) (C.held files.old.cert))) }
-    ensures refused { IfSome (printed_by err.new) (λ e. e ≢ CentreFault.File file_fault.Write → out.new ≡ out.old) }
-
-    // A device's fault is reported only where that device failed.
-    ensures read_failed { printed_by err.new ≡ Some (CentreFault.Round round_fault.ReadFault) →
-        HasFailed (P.failures files.old.pages) (P.failures files.new.pages) }
-    ensures device_failed { printed_by err.new ≡ Some (CentreFault.File file_fault.Device) →
-        HasFailed (T.failures files.old.tx) (T.failures files.new.tx) }
-    ensures certificate_failed { printed_by err.new ≡ Some (CentreFault.Certificate tree_fault.ReadFault) →
-        HasFailed (C.failures files.old.cert) (C.failures files.new.cert) }
-    ensures write_failed { printed_by err.new ≡ Some (CentreFault.File file_fault.Write) →
-        HasFailed (O.failures out.old) (O.failures out.new) }
+// The same, whose fault is still to be printed. The text is written without memory for it.
+fn verify<P: Source + Drop, T: Source + Drop, C: Source + Drop, O: Sink>(
+    alloc: Global,
+    search: Search,
+    files: &mut PlanFiles<P, T, C>,
+    out: &mut O,
+) -> Result<u8, CentreFault>
+    ensures streams { IsStreamOf (verifies P.Source T.Source C.Source search files.old files.new) O.Sink
+        out.old out.new result }
 {
     let PlanFiles { pages, tx, cert } = files;
-    let round = match read_round(alloc, pages) {
-        Ok(round) => round,
-        Err(fault) => return err.end(Err(CentreFault::Round(fault))),
-    };
-    let batches = match read_batches(alloc, tx, &round, search.end) {
-        Ok(batches) => batches,
-        Err(fault) => return err.end(Err(fault)),
-    };
+    let round = read_round(alloc, pages)?;
+    let batches = read_batches(alloc, tx, &round, search.end)?;
     let certificate = match read_certificate(alloc, cert) {
         Ok(certificate) => certificate,
-        Err(fault) => return err.end(Err(CentreFault::Certificate(fault))),
+        Err(fault) => return Err(CentreFault::Certificate(fault)),
     };
     if !shows_due(&round, &certificate, batches, search) {
-        return err.end(Err(CentreFault::NotTheBound));
+        return Err(CentreFault::NotTheBound);
     }
     match put_whole(out, b"verified\n") {
-        Ok(()) => err.end(Ok(0)),
-        Err(fault) => err.end(Err(CentreFault::File(fault))),
+        Ok(()) => Ok(0),
+        Err(fault) => Err(CentreFault::File(fault)),
     }
 }
 
@@ -90,11 +73,8 @@ fn read_batches<T: Source>(
     round: &Round,
     end: End,
 ) -> Result<usize, CentreFault>
-    ensures taken { T.is_known → IfOk result (λ batches. IsTransmissionOf end round.now batches (T.held tx.old)) }
-    ensures explained { T.is_known → IfErr result (OrDevice (ExplainsReadback end round.now (T.held tx.old))) }
-    ensures alone { IfErr result IsOfReadback }
-    ensures device_failed { IsErrOf result (CentreFault.File file_fault.Device) →
-        HasFailed (T.failures tx.old) (T.failures tx.new) }
+    ensures taken { IfOk result (λ batches. IsSoOfHeld T.Source tx.old (IsTransmissionOf end round.now batches)) }
+    ensures explained { IfErr result (ExplainsUntaken T.Source end round.now tx.old tx.new) }
 {
     let Some(bytes) = tx.lent() else {
         return match read_whole(alloc, tx, INPUT_LIMIT) {
@@ -127,7 +107,6 @@ fn shows_due(round: &Round, certificate: &Certificate, batches: usize, search: S
 fn read_back(alloc: Global, bytes: &[u8], round: &Round, end: End) -> Result<usize, CentreFault>
     ensures taken { IfOk result (λ batches. IsTransmissionOf end round.now batches bytes.now) }
     ensures explained { IfErr result (ExplainsReadback end round.now bytes.now) }
-    ensures alone { IfErr result (λ e. IsOfReadback e × (e ≢ CentreFault.File file_fault.Device)) }
 {
     let mut sent = match decode(alloc, bytes) {
         Ok(sent) => sent,

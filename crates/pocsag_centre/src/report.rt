@@ -1,25 +1,19 @@
-ghost use Rattle.std.specs.Prelude.{◌≡◌, ◌≢◌, ◌++◌, [], IfErr, IfNone, IfOk, IfSome, IsErrOf, IsFalse, IsTrue, OnOk, Some};
+ghost use Rattle.std.specs.Prelude.{◌≡◌, ◌++◌, [], IfErr, IfOk, IsFalse, IsTrue, OnOk};
 ghost use Rattle.std.specs.List.{flat_map};
-ghost use Rattle.pocsag_words.specs.Devices.{CountsFailures, HasFailed};
-ghost use Rattle.pocsag_pages.specs.declared.fault.RoundFault.TheVariants as round_fault;
+ghost use Rattle.pocsag_words.specs.Devices.{CountsFailures};
 ghost use Rattle.pocsag_plan.specs.Frames.{HasClasses};
 ghost use Rattle.pocsag_plan.specs.Reports.{report_text};
-ghost use Rattle.pocsag_shell.specs.declared.fault.FileFault.TheVariants as file_fault;
-ghost use Rattle.pocsag_shell.specs.ErrorStreams.{stream_of, printed_by};
-ghost use Rattle.pocsag_centre.specs.Commands.{Reported};
-ghost use Rattle.pocsag_centre.specs.Faults.{centre_status};
+ghost use Rattle.pocsag_shell.specs.Runs.{IsAnswerOf, Ran};
 ghost use Rattle.pocsag_centre.specs.Frames.{frame_text, AreByRoom};
-ghost use Rattle.pocsag_centre.specs.FramesPrinted.{ReportedFrames};
 ghost use Rattle.pocsag_centre.specs.Lines.{below_text};
-ghost use Rattle.pocsag_centre.specs.Refusals.{OrDevice};
-ghost use Rattle.pocsag_centre.specs.Reports.{ExplainsReporting};
+ghost use Rattle.pocsag_centre.specs.Works.{reports};
 
 use crate::fault::CentreFault;
 use crate::lines::print_below;
 use crate::plan::{RoundPlan, read_plan};
 use pocsag_plan::{FrameRoom, Report, Search, frames_of, report};
-use pocsag_shell::{ErrorStream, FileFault, print_numbers};
-use pocsag_words::{OutOfMemory, Sink, Source};
+use pocsag_shell::{CommandAnswer, ErrorStream, FileFault, print_answer, print_numbers};
+use pocsag_words::{GrowingSink, OutOfMemory, Sink, Source};
 use std::alloc::Global;
 
 /// What a report is asked for.
@@ -41,39 +35,36 @@ pub fn run_report<P: Source, O: Sink, E: Sink + Drop>(
     out: &mut O,
     err: &mut ErrorStream<CentreFault, E>,
 ) -> u8
-    ensures printed { P.is_known → O.is_known → IsFalse asked.frames → IfNone (printed_by err.new)
-        (Reported (P.held pages.old) asked.search asked.rate (O.taken out.old) (O.taken out.new)) }
-    ensures told_frames { P.is_known → O.is_known → IsTrue asked.frames → IfNone (printed_by err.new)
-        (ReportedFrames (P.held pages.old) asked.search asked.rate (O.taken out.old) (O.taken out.new)) }
-    ensures done { IfNone (printed_by err.new) ((result ≡ 0) × (stream_of err.new ≡ stream_of err.old)) }
-
-    // When each fault comes, and what it leaves. The page file is judged first, and the rate last.
-    ensures status { IfSome (printed_by err.new) (λ e. result ≡ centre_status e) }
-    ensures explained { P.is_known →
-        IfSome (printed_by err.new) (OrDevice (ExplainsReporting (P.held pages.old) asked.search asked.rate)) }
-    ensures refused { IfSome (printed_by err.new) (λ e. e ≢ CentreFault.File file_fault.Write → out.new ≡ out.old) }
-
-    // A device's fault is reported only where that device failed.
-    ensures read_failed { printed_by err.new ≡ Some (CentreFault.Round round_fault.ReadFault) →
-        HasFailed (P.failures pages.old) (P.failures pages.new) }
-    ensures write_failed { printed_by err.new ≡ Some (CentreFault.File file_fault.Write) →
-        HasFailed (O.failures out.old) (O.failures out.new) }
+    ensures ran { Ran (reports P.Source asked pages.old pages.new) O.Sink E.Sink
+        result out.old out.new err.old err.new }
 {
-    let found = match read_plan(alloc, pages, asked.search) {
-        Ok(found) => found,
-        Err(fault) => return err.end(Err(fault)),
-    };
+    print_answer(answer_report(alloc, asked, pages), out, err)
+}
+
+// What `report` answers.
+fn answer_report<P: Source>(
+    alloc: Global,
+    asked: ReportAsked,
+    pages: &mut P,
+) -> Result<CommandAnswer, CentreFault>
+    ensures answers { IsAnswerOf (reports P.Source asked pages.old pages.new) result }
+{
+    let found = read_plan(alloc, pages, asked.search)?;
     let report = match report(&found.bounded.plan, asked.rate) {
         Ok(report) => report,
-        Err(_) => return err.end(Err(CentreFault::BadRate)),
+        Err(_) => return Err(CentreFault::BadRate),
     };
     let rooms = match rooms_asked(alloc, &found, asked.frames) {
         Ok(rooms) => rooms,
-        Err(_) => return err.end(Err(CentreFault::File(FileFault::OutOfMemory))),
+        Err(_) => return Err(CentreFault::File(FileFault::OutOfMemory)),
     };
-    match print_frames(report, found.bounded.bound, rooms.as_slice(), out) {
-        Ok(()) => err.end(Ok(0)),
-        Err(fault) => err.end(Err(CentreFault::File(fault))),
+    let mut text = GrowingSink::new(alloc);
+    match print_frames(report, found.bounded.bound, rooms.as_slice(), &mut text) {
+        Ok(()) => Ok(CommandAnswer {
+            status: 0,
+            text: text.into_bytes(),
+        }),
+        Err(_) => Err(CentreFault::File(FileFault::OutOfMemory)),
     }
 }
 

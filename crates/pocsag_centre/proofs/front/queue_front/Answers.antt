@@ -1,13 +1,11 @@
-use Rattle.std.proofs.Common.{◌≡◌, List, ◌++◌, true, take, length, All, refl, sym, ap, subst, ◌∙◌}
-use Rattle.std.specs.Prelude.{Ok}
+use Rattle.std.proofs.Common.{◌≡◌, List, All, refl, sym, ap, subst, ◌∙◌}
 use Rattle.std.proofs.lemmas.Result.{err_from_is_err_and}
 use Rattle.pocsag_pages.specs.declared.page.Page.{Page}
 use Rattle.pocsag_pages.specs.Listable.{IsListable}
-use Rattle.pocsag_pages.specs.Queues.{firsts, held_pages, left_of}
+use Rattle.pocsag_pages.specs.Queues.{firsts, left_of}
 use Rattle.pocsag_plan.specs.Fronts.{ExplainsFront}
-use Rattle.pocsag_centre.specs.FrontFiles.{IsPageFileOf}
-use Rattle.pocsag_decode.specs.PageFiles.{page_file}
-use Rattle.pocsag_centre.proofs.FirstPart.{first_is, front_read, front_unwritten}
+use Rattle.pocsag_centre.proofs.FirstPart.{first_is, front_read}
+use Rattle.pocsag_centre.proofs.FrontRuns.{front_unwritten}
 use Rattle.pocsag_centre.proofs.QueueRounds.{held_spellable, left_back, left_listable}
 use Rattle.pocsag_centre.proofs.front.queue_front.Goals as goal
 
@@ -36,11 +34,11 @@ returns-clause-listable g c =
     subst (All IsListable) (sym left) (left_listable Q front.round c.in_ok-queue.ensures.queue)
 
 pub returns-in_err-front-clause-explained : goal.returns-in_err-front-clause-explained
-returns-in_err-front-clause-explained g c = λ t.
+returns-in_err-front-clause-explained g c =
     let p = err_from_is_err_and c.from_residual-in_err-front.result c.from_residual-in_err-front.ensures.1 in
     let refused = c.in_err-front.field-0.0 in
     let same : c.in-Ok.firsts ≡ firsts c.in_ok-queue.queue.items =
     c.in-Ok.ensures ∙ ap firsts c.as_slice.ensures.value in
     rw (p.1, p.2)
-    (front_unwritten _ c.args.asked c.in_ok-queue.queue.items (c.in_ok-queue.ensures.ok t) refused
+    (front_unwritten g.P.Source c.args.asked _ _ c.in_ok-queue.queue.items (λ t. c.in_ok-queue.ensures.ok t) refused
     (subst (λ (v : List Page). ExplainsFront c.args.asked.search v c.args.asked.batches refused) same c.in_err-front.ensures.fault))

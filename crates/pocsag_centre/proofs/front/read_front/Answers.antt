@@ -1,13 +1,13 @@
-use Rattle.std.proofs.Common.{◌≡◌, List, ◌++◌, false, take, length, refl, sym, ap, subst, ◌∙◌}
-use Rattle.std.specs.Prelude.{Ok}
+use Rattle.std.proofs.Common.{◌≡◌, List, false, length, refl, sym, subst}
 use Rattle.std.proofs.lemmas.Result.{err_from_is_err_and}
 use Rattle.pocsag_pages.specs.declared.page.Page.{Page}
 use Rattle.pocsag_pages.specs.Pages.{AreGood}
-use Rattle.pocsag_pages.specs.Queues.{firsts, held_pages, left_of}
+use Rattle.pocsag_pages.specs.Queues.{left_of}
 use Rattle.pocsag_plan.specs.Fronts.{ExplainsFront}
 use Rattle.pocsag_centre.specs.FrontFiles.{IsPageFileOf}
 use Rattle.pocsag_decode.specs.PageFiles.{page_file}
-use Rattle.pocsag_centre.proofs.FirstPart.{first_is, front_read, front_unwritten, left_held, rest_listable}
+use Rattle.pocsag_centre.proofs.FirstPart.{first_is, front_read, left_held, rest_listable}
+use Rattle.pocsag_centre.proofs.FrontRuns.{front_unwritten}
 use Rattle.pocsag_centre.proofs.QueueRounds.{round_firsts, round_held, round_left}
 use Rattle.pocsag_centre.proofs.front.read_front.Goals as goal
 
@@ -36,12 +36,11 @@ returns-clause-listable g c =
     rest_listable c.in_ok-round.round front.round front.rest.items (length front.round) c.in_ok-longest_front.ensures.parts refl c.keeps_rules.ensures
 
 pub returns-in_err-longest_front-clause-explained : goal.returns-in_err-longest_front-clause-explained
-returns-in_err-longest_front-clause-explained g c = λ t.
+returns-in_err-longest_front-clause-explained g c =
     let p = err_from_is_err_and c.from_residual-in_err-longest_front.result c.from_residual-in_err-longest_front.ensures.1 in
     let refused = c.in_err-longest_front.field-0.0 in
     let R = c.in_ok-round.round in
-    let held = round_held c.args.asked.may_wait _ R c.if-asked.false (c.in_ok-round.ensures.ok t) in
     rw (p.1, p.2)
-    (front_unwritten _ c.args.asked R held refused
+    (front_unwritten g.P.Source c.args.asked _ _ R (λ t. round_held c.args.asked.may_wait _ R c.if-asked.false (c.in_ok-round.ensures.ok t)) refused
     (subst (λ (v : List Page). ExplainsFront c.args.asked.search v c.args.asked.batches refused)
     (sym (round_firsts R c.keeps_rules.ensures.good)) c.in_err-longest_front.ensures.fault))

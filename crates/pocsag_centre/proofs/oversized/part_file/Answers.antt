@@ -1,8 +1,8 @@
-use Rattle.std.proofs.Common.{◌≡◌, ◌∙◌, List, Bool, All, length, not, sym, ap, subst, rules}
+use Rattle.std.proofs.Common.{◌≡◌, ◌∙◌, Bool, All, length, not, sym, ap, subst, rules}
 use Rattle.std.proofs.lemmas.List.Elements.{All-filter}
 use Rattle.pocsag_pages.specs.declared.page.Page.{Page}
 use Rattle.pocsag_pages.specs.Listable.{IsListable}
-use Rattle.pocsag_centre.specs.Oversized.{aside_of, is_aside, planned_of}
+use Rattle.pocsag_centre.specs.Oversized.{is_aside}
 use Rattle.pocsag_centre.proofs.AsidePages.{part_back, queue_listable}
 use Rattle.pocsag_centre.proofs.QueueRounds.{AreReadBack, held_spellable}
 use Rattle.pocsag_centre.proofs.oversized.part_file.Goals as goal

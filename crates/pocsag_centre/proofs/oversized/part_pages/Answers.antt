@@ -1,10 +1,8 @@
-use Rattle.std.proofs.Common.{◌≡◌, ◌∙◌, ◌∷◌, [], ◌++◌, List, Bool, false, filter, length, not, refl, sym, ap, append_assoc, arith}
+use Rattle.std.proofs.Common.{◌≡◌, ◌∙◌, Bool, false, sym, ap}
 use Rattle.std.specs.List.{list_any}
-use Rattle.std.proofs.lemmas.List.{append-nil}
-use Rattle.std.specs.Vec.Iter.{into_iter_items}
 use Rattle.pocsag_pages.specs.declared.page.Page.{Page}
-use Rattle.pocsag_centre.specs.Oversized.{aside_of, fits_alone, is_aside, planned_of}
-use Rattle.pocsag_centre.proofs.AsidePages.{all_planned, aside_is, nothing_aside, planned_is, taken_push, taken_same}
+use Rattle.pocsag_centre.specs.Oversized.{fits_alone}
+use Rattle.pocsag_centre.proofs.AsidePages.{all_planned, nothing_aside}
 use Rattle.pocsag_centre.proofs.oversized.part_pages.Goals as goal
 
 pub returns-then-not-has_fitting-clause-planned : goal.returns-then-not-has_fitting-clause-planned

@@ -1,0 +1,57 @@
+-- Why `plan` prints nothing, by the fault of its stream.
+use Rattle.std.proofs.Common.{◌≡◌, ◌≢◌, ◌⊎◌, ℕ, List, Err, Some, inl, inr, refl}
+use Rattle.pocsag_words.specs.Devices.{HasFailed}
+use Rattle.pocsag_words.specs.declared.device.Sink.{Ghosts as Writer}
+use Rattle.pocsag_words.specs.declared.device.Source.{Ghosts as Reader}
+use Rattle.pocsag_pages.specs.PageFile.{verdict}
+use Rattle.pocsag_pages.specs.declared.fault.RoundFault.{RoundFault}
+use Rattle.pocsag_pages.specs.declared.fault.RoundFault.TheVariants as round
+use Rattle.pocsag_tree.specs.Views.{bound_tree_of}
+use Rattle.pocsag_plan.specs.Streams.{ExplainsStream, IsCertificate, IsTransmission, WritesCertificatePart, WritesInTurn, WritesPart}
+use Rattle.pocsag_plan.specs.Verdicts.{ExplainsRound}
+use Rattle.pocsag_plan.specs.declared.fault.PlanFault.TheVariants as planning
+use Rattle.pocsag_plan.specs.declared.fault.StreamFault.{StreamFault}
+use Rattle.pocsag_plan.specs.declared.fault.StreamFault.TheVariants as stream
+use Rattle.pocsag_plan.specs.declared.search.Search.{Search}
+use Rattle.pocsag_centre.specs.Faults.{fault_of_stream}
+use Rattle.pocsag_centre.specs.Works.{ExplainsPlanFiles}
+use Rattle.pocsag_centre.specs.declared.plan.PlanFiles.{PlanFiles}
+
+of_file : (file : List ℕ) (f : RoundFault) → f ≢ round.ReadFault → (f ≡ round.OutOfMemory) ⊎ (f ≡ round.ReadFault) ⊎ (verdict file ≡ Err f) → ExplainsRound file f
+of_file file f other (inl e) = inl e
+of_file file f other (inr (inl e)) = absurd (other e)
+of_file file f other (inr (inr e)) = inr e
+
+module _ {P T C : Type 0} (Pages : Reader P) (Tx : Writer T) (Cert : Writer C) (search : Search) (files files' : PlanFiles P T C) where
+  pub why_unplanned : (f : StreamFault) →
+      (Pages.is_known → ExplainsStream search.on_limit (Pages.held files.pages) search.end search.limit f) →
+      WritesInTurn Tx.failures Cert.failures files.tx files'.tx files.cert files'.cert (Some f) →
+      (Pages.is_known → Tx.is_known → IsTransmission f →
+      WritesPart search.on_limit (Pages.held files.pages) search.end (Tx.taken files.tx) (Tx.taken files'.tx)) →
+      (Pages.is_known → Tx.is_known → Cert.is_known → IsCertificate f →
+      WritesCertificatePart search.on_limit (Pages.held files.pages) search.end (Tx.taken files.tx) (Tx.taken files'.tx)
+      (Cert.taken files.cert) (Cert.taken files'.cert)) →
+      (f ≡ stream.Round round.ReadFault → HasFailed (Pages.failures files.pages) (Pages.failures files'.pages)) →
+      ExplainsPlanFiles Pages Tx Cert search files files' (fault_of_stream f)
+  why_unplanned (stream.Plan planning.BadLimit) why turns part whole read =
+      ((turns.untouched tt).0, (turns.untouched tt).1, λ k. why k)
+  why_unplanned (stream.Plan (planning.SearchLimit stop)) why turns part whole read =
+      ((turns.untouched tt).0, (turns.untouched tt).1, λ k. ((why k).1, ((why k).0, (why k).1, (bound_tree_of stop.tree, (why k).2))))
+  why_unplanned (stream.Plan planning.OutOfMemory) why turns part whole read =
+      ((turns.untouched tt).0, (turns.untouched tt).1, λ k. ((why k).0, why k))
+  why_unplanned (stream.Round round.ReadFault) why turns part whole read =
+      ((turns.untouched tt).0, (turns.untouched tt).1, read refl)
+  why_unplanned (stream.Round round.OutOfMemory) why turns part whole read =
+      ((turns.untouched tt).0, (turns.untouched tt).1, λ k. ((why k).0, inl refl))
+  why_unplanned (stream.Round round.TooLarge) why turns part whole read =
+      ((turns.untouched tt).0, (turns.untouched tt).1, λ k. ((why k).0, of_file _ round.TooLarge (λ e. cc (e)) (why k).1))
+  why_unplanned (stream.Round round.BadHeader) why turns part whole read =
+      ((turns.untouched tt).0, (turns.untouched tt).1, λ k. ((why k).0, of_file _ round.BadHeader (λ e. cc (e)) (why k).1))
+  why_unplanned (stream.Round (round.Record n e)) why turns part whole read =
+      ((turns.untouched tt).0, (turns.untouched tt).1, λ k. ((why k).0, of_file _ (round.Record n e) (λ e. cc (e)) (why k).1))
+  why_unplanned (stream.Round round.NoPages) why turns part whole read =
+      ((turns.untouched tt).0, (turns.untouched tt).1, λ k. ((why k).0, of_file _ round.NoPages (λ e. cc (e)) (why k).1))
+  why_unplanned (stream.Transmission f) why turns part whole read =
+      inl (turns.write_failed tt, turns.not_begun tt, λ k t. part k t tt)
+  why_unplanned (stream.Certificate f) why turns part whole read =
+      inr (turns.certificate_failed tt, λ k t c. whole k t c tt)

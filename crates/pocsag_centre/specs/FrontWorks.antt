@@ -1,0 +1,88 @@
+-- `plan --at-most`: what it does over the bytes of a page file, and what its four other files take.
+use Rattle.std.specs.Prelude.{◌≡◌, ◌⊎◌, ℕ, List, ◌++◌}
+use Rattle.pocsag_words.specs.Devices.{HasFailed, TookPrefix}
+use Rattle.pocsag_words.specs.declared.device.Sink.{Ghosts as Writer}
+use Rattle.pocsag_words.specs.declared.device.Source.{Ghosts as Reader}
+use Rattle.pocsag_branch.specs.Found.{IsNodeLimit}
+use Rattle.pocsag_shell.specs.Runs.{Work}
+use Rattle.pocsag_shell.specs.declared.fault.FileFault.{FileFault}
+use Rattle.pocsag_shell.specs.declared.fault.FileFault.TheVariants as file
+use Rattle.pocsag_centre.specs.FrontFiles.{ExplainsNoFront, FrontBytes, IsFrontOf, IsFrontWritten}
+use Rattle.pocsag_centre.specs.Works.{OrFailed, answered}
+use Rattle.pocsag_centre.specs.declared.fault.CentreFault.{CentreFault}
+use Rattle.pocsag_centre.specs.declared.fault.CentreFault.TheVariants as fault
+use Rattle.pocsag_centre.specs.declared.front.FrontAsked.{FrontAsked}
+use Rattle.pocsag_centre.specs.declared.front.FrontFiles.{FrontFiles}
+
+-- Why no front is planned: the reader failed, behind a limit that is one, or this is so of the bytes.
+abbrev pub ExplainsUnplanned : {P : Type 0} → Reader P → FrontAsked → (pages pages_after : P) → CentreFault → Type 0
+ExplainsUnplanned Pages asked pages pages_after =
+    OrFailed (IsNodeLimit asked.search.limit × HasFailed (Pages.failures pages) (Pages.failures pages_after)) ⊥ ⊥
+    (λ f. Pages.is_known → ExplainsNoFront (Pages.held pages) asked f)
+
+-- A writer took more: all that is due, or a prefix of it.
+abbrev pub TookAll : {S : Type 0} → Writer S → (before after : S) → (due : List ℕ) → Type 0
+TookAll Out before after due = Out.taken after ≡ Out.taken before ++ due
+
+abbrev pub TookSome : {S : Type 0} → Writer S → (before after : S) → (due : List ℕ) → Type 0
+TookSome Out before after due = TookPrefix (Out.taken before) (Out.taken after) due
+
+-- Why REST and then WHY did not take these bytes, and what they took: memory was refused before, or one of both failed.
+abbrev pub ExplainsOthers : {S : Type 0} → Writer S → (rest rest_after why why_after : S) → (due_rest due_why : List ℕ) → FileFault → Type 0
+ExplainsOthers Out rest rest_after why why_after due_rest due_why file.OutOfMemory = (rest_after ≡ rest) × (why_after ≡ why)
+ExplainsOthers Out rest rest_after why why_after due_rest due_why file.Write =
+    (HasFailed (Out.failures rest) (Out.failures rest_after) × (why_after ≡ why)
+    × (Out.is_known → TookSome Out rest rest_after due_rest))
+    ⊎ (HasFailed (Out.failures why) (Out.failures why_after)
+    × (Out.is_known → TookAll Out rest rest_after due_rest × TookSome Out why why_after due_why))
+ExplainsOthers Out rest rest_after why why_after due_rest due_why _ = ⊥
+
+-- Why nothing is printed of a front, and what its files took then.
+pub data ExplainsFrontFiles {P S : Type 0} (Pages : Reader P) (Out : Writer S) (asked : FrontAsked) (files files_after : FrontFiles P S) (f : CentreFault) : Type 0 where
+  -- No front is planned, or memory is refused behind the plan: nothing was written.
+  unwritten : ExplainsUnplanned Pages asked files.pages files_after.pages f
+      → (files_after.rest ≡ files.rest) × (files_after.why ≡ files.why) × (files_after.tx ≡ files.tx) × (files_after.cert ≡ files.cert)
+      → ExplainsFrontFiles Pages Out asked files files_after f
+  -- REST failed behind a prefix of what is due, and the others are as they were.
+  rest_failed : f ≡ fault.File file.Write → HasFailed (Out.failures files.rest) (Out.failures files_after.rest)
+      → (files_after.why ≡ files.why) × (files_after.tx ≡ files.tx) × (files_after.cert ≡ files.cert)
+      → (Pages.is_known → (rest : List ℕ) × (why : List ℕ) × (text : List ℕ)
+      × IsFrontOf (Pages.held files.pages) asked files_after.count rest why text
+      × (Out.is_known → TookSome Out files.rest files_after.rest rest))
+      → ExplainsFrontFiles Pages Out asked files files_after f
+  -- WHY did so, behind all of REST.
+  why_failed : f ≡ fault.File file.Write → HasFailed (Out.failures files.why) (Out.failures files_after.why)
+      → (files_after.tx ≡ files.tx) × (files_after.cert ≡ files.cert)
+      → (Pages.is_known → (rest : List ℕ) × (why : List ℕ) × (text : List ℕ)
+      × IsFrontOf (Pages.held files.pages) asked files_after.count rest why text
+      × (Out.is_known → TookAll Out files.rest files_after.rest rest × TookSome Out files.why files_after.why why))
+      → ExplainsFrontFiles Pages Out asked files files_after f
+  -- TX did so, behind all of these,
+  tx_failed : f ≡ fault.File file.Write → HasFailed (Out.failures files.tx) (Out.failures files_after.tx) → files_after.cert ≡ files.cert
+      → (Pages.is_known → Out.is_known → (due : FrontBytes) × (text : List ℕ)
+      × IsFrontWritten (Pages.held files.pages) asked files_after.count due text
+      × TookAll Out files.rest files_after.rest due.rest × TookAll Out files.why files_after.why due.why
+      × TookSome Out files.tx files_after.tx due.tx)
+      → ExplainsFrontFiles Pages Out asked files files_after f
+  -- and last CERT.
+  cert_failed : f ≡ fault.File file.Write → HasFailed (Out.failures files.cert) (Out.failures files_after.cert)
+      → (Pages.is_known → Out.is_known → (due : FrontBytes) × (text : List ℕ)
+      × IsFrontWritten (Pages.held files.pages) asked files_after.count due text
+      × TookAll Out files.rest files_after.rest due.rest × TookAll Out files.why files_after.why due.why
+      × TookAll Out files.tx files_after.tx due.tx × TookSome Out files.cert files_after.cert due.cert)
+      → ExplainsFrontFiles Pages Out asked files files_after f
+
+-- Each of the four files took all that is due of the front, and so is the text.
+pub record IsFrontDone {P S : Type 0} (Pages : Reader P) (Out : Writer S) (asked : FrontAsked) (files files_after : FrontFiles P S) (text : List ℕ) : Type 0 where
+  pub due : FrontBytes
+  pub front : IsFrontWritten (Pages.held files.pages) asked files_after.count due text
+  pub rest : TookAll Out files.rest files_after.rest due.rest
+  pub why : TookAll Out files.why files_after.why due.why
+  pub tx : TookAll Out files.tx files_after.tx due.tx
+  pub cert : TookAll Out files.cert files_after.cert due.cert
+
+-- Writes the front of a page file into its files, and prints its counts.
+abbrev pub fronts : {P S : Type 0} → Reader P → Writer S → FrontAsked → (files files_after : FrontFiles P S) → Work CentreFault
+fronts Pages Out asked files files_after = answered
+    (λ status text. (status ≡ 0) × (Pages.is_known → Out.is_known → IsFrontDone Pages Out asked files files_after text))
+    (ExplainsFrontFiles Pages Out asked files files_after)
