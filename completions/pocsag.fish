@@ -10,7 +10,7 @@ set -l options \
     show='--svg --rows --verbose --list --repair --capture --nth -h --help' \
     wav='--rate --samples --verbose --invert --preamble --tail -h --help' \
     open='--journal --read-only --verbose --expect --strict --always --keep -h --help' \
-    report='--rate --limit --verbose --end --idle-last --expect --strict --always --frames -h --help'
+    report='--rate --limit --verbose --end --idle-last --expect --strict --always --frames --at-most --airtime --later --oversized -h --help'
 
 # Whether the words before the cursor begin with this command; for pocsag, whether there are none.
 function __pocsag_is

@@ -27,7 +27,7 @@ local -A offered=(
     [show]='--svg --rows --verbose --list --repair --capture --nth -h --help'
     [wav]='--rate --samples --verbose --invert --preamble --tail -h --help'
     [open]='--journal --read-only --verbose --expect --strict --always --keep -h --help'
-    [report]='--rate --limit --verbose --end --idle-last --expect --strict --always --frames -h --help'
+    [report]='--rate --limit --verbose --end --idle-last --expect --strict --always --frames --at-most --airtime --later --oversized -h --help'
     [help]=''
 )
 local named='plan check report explain decode hear show wav open help'

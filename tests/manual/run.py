@@ -84,7 +84,8 @@ def compare(tally, text):
     for name in sorted(told - {"help"}):
         helped = options(help_of(name))
         own = {word: value for word, value in helped.items() if word not in EVERYWHERE}
-        asked.update(own)
+        # A word may have a value in one command alone.
+        asked.update({word: value or asked.get(word, "") for word, value in own.items()})
         written = {word for word in lines.get(name, []) if word.startswith("--")}
         tally.check(f"the options of {name}", written == set(own), (written, own))
         usage = re.search(r"^Usage: (.*)$", help_of(name), re.M)[1]

@@ -1,4 +1,4 @@
-"""`plan --at-most` and `--airtime`: the front, the rest, and each option beside them."""
+"""`plan --at-most` and `--airtime`: the front, the rest, and each option beside them; and `report` of the same."""
 
 import itertools
 import os
@@ -212,4 +212,95 @@ def try_runs(tally, folder):
         tally.check(f"the pages of {address} in their order", mine[0] == mine[1], mine)
 
 
-PARTS = (try_options, try_limits, try_refusals, try_later, try_oversized, try_runs)
+# What `report` says of the fronts of FILE, worked by hand. Its pages have 16, 1 and 16 codewords. In file order the first starts in slot 6 and
+# ends before slot 6 of the second batch; the tone waits for the third; and the last one ends in slot 0 of the fourth. A batch has 544 bits
+# behind a preamble of 576.
+ONE = b"pages 1\ncodewords 1\nin_order 1\nbatches 1\nidles 15\nbits 1120\nairtime_ms 934\n"
+TWO = b"pages 2\ncodewords 17\nin_order 3\nbatches 2\nidles 15\nbits 1664\nairtime_ms %d\n"
+THREE = b"pages 3\ncodewords 33\nin_order 4\nbatches 3\nidles 15\nbits 2208\nairtime_ms 1840\n"
+TONES_ONLY = b"pages 2\ncodewords 2\nin_order 1\nbatches 1\nidles 14\nbits 1120\nairtime_ms 934\n"
+# Two pages of a batch each that need three together, which the first node of the search does not show.
+APART = b"0,numeric," + LONG + b"\n3,numeric," + LONG + b"\n"
+ALL_APART = b"pages 2\ncodewords 32\nin_order 3\nbatches 3\nidles 16\nbits 2208\nairtime_ms 1840\nat least 2 batches\nleft 0\n"
+ONE_APART = b"pages 1\ncodewords 16\nin_order 1\nbatches 1\nidles 0\nbits 1120\nairtime_ms 934\nleft 1\nat least 2 batches with one page more\n"
+SLOTS = [
+    ("pages.csv", "--at-most 2 --rate 1200", TWO % 1387 + b"left 1\n"),
+    ("pages.csv", "--at-most 2 --rate 512", TWO % 3250 + b"left 1\n"),
+    ("pages.csv", "--at-most 2 --rate 1200 --idle-last --always --strict --expect 3", TWO % 1387 + b"left 1\n"),
+    ("pages.csv", "--at-most 3 --rate 1200", THREE + b"left 0\n"),
+    ("pages.csv", "--at-most 4294967295 --rate 1200 --end closed", THREE + b"left 0\n"),
+    ("pages.csv", "--airtime 1387 --rate 1200", TWO % 1387 + b"left 1\n"),
+    ("pages.csv", "--airtime 1839 --rate 1200", TWO % 1387 + b"left 1\n"),
+    ("pages.csv", "--airtime 1840 --rate 1200", THREE + b"left 0\n"),
+    ("pages.csv", "--airtime 694 --rate 2400", TWO % 694 + b"left 1\n"),
+    ("pages.csv", "--at-most 1 --rate 1200 --oversized", ONE + b"left 1\noversized 1\n"),
+    ("pages.csv", "--at-most 2 --rate 1200 --oversized", TWO % 1387 + b"left 1\noversized 0\n"),
+    ("queue.csv", "--rate 1200 --later", THREE + b"left 2\n"),
+    ("queue.csv", "--at-most 2 --rate 1200 --later --expect 5", TWO % 1387 + b"left 3\n"),
+    ("queue.csv", "--airtime 934 --rate 1200 --later --oversized", TONES_ONLY + b"left 2\noversized 1\n"),
+    ("apart.csv", "--at-most 3 --rate 1200 --always --limit 1", ALL_APART),
+    ("apart.csv", "--at-most 2 --rate 1200 --always --limit 1", ONE_APART),
+]
+# The lines that `report` has and `plan` has not.
+COUNTS = (b"codewords ", b"in_order ", b"idles ", b"bits ", b"airtime_ms ")
+
+
+def planned(file, words):
+    """The words of `plan` for the same."""
+    words = words.replace("--later", "--later --rest rest.csv").replace("--oversized", "--oversized over.csv").split()
+    if "--airtime" not in words:
+        at = words.index("--rate")
+        del words[at : at + 2]
+    return ["plan", file, "tx.bin", "cert.bin", *words]
+
+
+def try_slots(tally, folder):
+    """`report` of a front prints what `plan` would print and what it takes on the air, with the same faults, and writes no file."""
+    room, other = fresh(folder, "slots"), fresh(folder, "plans of slots")
+    for place in (room, other):
+        (place / "queue.csv").write_bytes(QUEUE)
+        (place / "apart.csv").write_bytes(HEADER + APART)
+        (place / "bad.csv").write_bytes(FILE + b"9,tone9,\n")
+    files = sorted(os.listdir(room))
+    for file, words, told in SLOTS:
+        done = run(["report", file, *words.split()], room)
+        tally.check(f"slot {file} {words}", said(done) == (0, told, b""), (done, told))
+        lines = b"".join(line for line in done.stdout.splitlines(True) if not line.startswith(COUNTS))
+        plan = run(planned(file, words), other)
+        tally.check(f"its plan {file} {words}", said(plan) == (0, lines, b""), (plan, lines))
+    first, rate = b"page 1 needs 2 batches", b"the rate must be 512, 1200 or 2400"
+    limit = b"the limit must be 1 to 1000000"
+    faults = [
+        ("pages.csv", "--at-most 1 --rate 1200", first),
+        ("pages.csv", "--at-most 0 --rate 1200 --oversized", first),
+        ("pages.csv", "--airtime 1386 --rate 1200", first),
+        ("queue.csv", "--at-most 2 --rate 1200", NO_LATER[len("pocsag: "):-1]),
+        ("queue.csv", "--at-most 2 --rate 1200 --later --expect 3", b"pages 5, where 3 were expected"),
+        ("apart.csv", "--at-most 3 --rate 1200 --limit 1", b"search limit reached: at least 2 batches, 3 would do"),
+        ("bad.csv", "--at-most 1 --rate 1200", b"record 4: unknown kind"),
+        ("bad.csv", "--at-most 1 --rate 1200 --limit 0", limit),
+        ("bad.csv", "--at-most 1 --rate 1200 --limit 0 --oversized", limit),
+        ("bad.csv", "--airtime 9 --rate 600 --limit 0", rate),
+    ]
+    for file, words, fault in faults:
+        for more in ([], ["--verbose"]):
+            done = run(["report", file, *words.split(), *more], room)
+            holds = (done.returncode, done.stdout) == (1, b"") and done.stderr.startswith(b"pocsag: " + fault + b"\n")
+            tally.check(f"no slot {file} {words} {more}", holds, done)
+            plan = run([*planned(file, words), *more], other)
+            tally.check(f"no plan {file} {words} {more}", (plan.returncode, plan.stderr) == (1, done.stderr), (plan, done))
+    # The rate bounds nothing here, and is judged last.
+    for file, fault in (("bad.csv", b"record 4: unknown kind"), ("pages.csv", rate)):
+        done = run(["report", file, "--at-most", "2", "--rate", "600"], room)
+        tally.check(f"another rate, {file}", said(done) == (1, b"", b"pocsag: " + fault + b"\n"), done)
+    done = run(["report", "-", "--at-most", "2", "--rate", "1200"], room, FILE)
+    tally.check("a slot of standard input", said(done) == (0, TWO % 1387 + b"left 1\n", b""), done)
+    for words in ("--at-most 2", "--later", "--airtime 9", "--rate 512 --at-most 2 --airtime 9", "--rate 512 --at-most x",
+                  "--rate 512 --frames --at-most 2", "--rate 512 --frames --airtime 9", "--rate 512 --frames --later", "--rate 512 --oversized",
+                  "--rate 512 --later --oversized", "--rate 512 --at-most 2 --oversized=f", "--rate 512 --at-most 2 --rest r"):  # fmt: skip
+        done = run(["report", "pages.csv", *words.split()], room)
+        tally.check(f"wrong words of a slot {words}", done.returncode == 2 and done.stdout == b"", done)
+    tally.check("no file is written", sorted(os.listdir(room)) == files, os.listdir(room))
+
+
+PARTS = (try_options, try_limits, try_refusals, try_later, try_oversized, try_runs, try_slots)

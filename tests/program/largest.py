@@ -53,6 +53,12 @@ def try_fronts(tally, folder):
         done = run([*plan, "--rest", "rest.csv", "--why", "why.bin", "--verify"], folder)
         due = (0, b"pages %d\nbatches %d\nleft %d\nverified\n" % (first, batches, pages - first), b"")
         tally.check(f"a front of {first} of {pages} {kind}", said(done) == due, brief(done))
+        told = run(["report", "pages.csv", "--rate", "2400", "--at-most", str(batches)], folder)
+        airtime = -(-(576 + 544 * batches) * 1_000 // 2_400)
+        lines = told.stdout.splitlines()
+        holds = (told.returncode, lines[:1], lines[3:4]) == (0, [b"pages %d" % first], [b"batches %d" % batches])
+        holds = holds and lines[6:] == [b"airtime_ms %d" % airtime, b"left %d" % (pages - first)]
+        tally.check(f"a slot of {first} of {pages} {kind}", holds, brief(told))
         left = (folder / "rest.csv").read_bytes() if (folder / "rest.csv").exists() else b""
         tally.check(f"the other {pages - first} {kind}", left == HEADER + records(first, pages), len(left))
         (folder / "front.csv").write_bytes(HEADER + records(0, first))
@@ -80,6 +86,10 @@ def try_queues(tally, folder):
         left = 2 * len(fitting) - 1
         due = (0, b"pages 1\nbatches %d\nleft %d\noversized %d\nverified\n" % (batches, left, 2 * len(aside)), b"")
         tally.check(f"a queue of {pages} pages", said(done) == due and len(fitting) > pages // 10, (brief(done), due))
+        slot = [*words[:5], "--oversized", "--strict", "--always", "--verbose", "--expect", str(pages)]
+        done = run(["report", "pages.csv", *slot], folder)
+        lines = [b"airtime_ms %d" % airtime, b"left %d" % left, b"oversized %d" % (2 * len(aside))]
+        tally.check(f"a slot of a queue of {pages} pages", done.returncode == 0 and done.stdout.splitlines()[6:] == lines, (brief(done), lines))
         for name, wanted in (("rest.csv", [*fitting[1:], *fitting]), ("over.csv", [*aside, *aside])):
             found = (folder / name).read_bytes() if (folder / name).exists() else b""
             tally.check(f"{name} of a queue of {pages} pages", found == b"".join([HEADER, *wanted]), len(found))

@@ -67,32 +67,29 @@ module _ {P S : Type 0} (Pages : Reader P) (Out : Writer S) (asked : FrontAsked)
   abbrev rest : List ℕ
   rest = page_file front.rest.items
 
-  abbrev why : List ℕ
-  why = certificate_text front.why
-
-  this_front : Pages.is_known → IsFrontOf (Pages.held files.pages) asked files'.count rest why text
+  this_front : Pages.is_known → IsFrontOf (Pages.held files.pages) asked files'.count rest (certificate_text front.why) text
   this_front k = rw counted (front_of (Pages.held files.pages) asked front (is k) text printed)
 
   this_sent : Pages.is_known → (sent certificate : List ℕ) → HeadlineOf front.round front.bounded sent certificate →
-      IsFrontWritten (Pages.held files.pages) asked files'.count (record { tx = sent; cert = certificate; rest = rest; why = why }) text
+      IsFrontWritten (Pages.held files.pages) asked files'.count (record { tx = sent; cert = certificate; rest = rest; why = certificate_text front.why }) text
   this_sent k sent certificate headline =
       rw counted (front_sent (Pages.held files.pages) asked front (is k) text printed sent certificate headline)
 
-  pub others_told : (e : FileFault) → ExplainsOthers Out files.rest files'.rest files.why files'.why rest why e →
+  pub others_told : (e : FileFault) → ExplainsOthers Out files.rest files'.rest files.why files'.why rest (certificate_text front.why) e →
       files'.tx ≡ files.tx → files'.cert ≡ files.cert →
       ExplainsUnplanned Pages asked files.pages files'.pages (fault.File file.OutOfMemory) →
       ExplainsFrontFiles Pages Out asked files files' (fault.File e)
   others_told file.OutOfMemory same tx cert memory = unwritten memory (same.0, same.1, tx, cert)
   others_told file.Write (inl first) tx cert memory =
-      rest_failed refl first.0 (first.1, tx, cert) (λ k. (rest, why, text, this_front k, first.2))
+      rest_failed refl first.0 (first.1, tx, cert) (λ k. (rest, certificate_text front.why, text, this_front k, first.2))
   others_told file.Write (inr second) tx cert memory =
-      why_failed refl second.0 (tx, cert) (λ k. (rest, why, text, this_front k, second.1))
+      why_failed refl second.0 (tx, cert) (λ k. (rest, certificate_text front.why, text, this_front k, second.1))
   others_told file.EqualPaths never tx cert memory = absurd never
   others_told file.Device never tx cert memory = absurd never
   others_told file.Owner never tx cert memory = absurd never
   others_told file.TooLarge never tx cert memory = absurd never
 
-  module _ (others : Out.is_known → TookAll Out files.rest files'.rest rest × TookAll Out files.why files'.why why) where
+  module _ (others : Out.is_known → TookAll Out files.rest files'.rest rest × TookAll Out files.why files'.why (certificate_text front.why)) where
     pub unsent_told : (f : StreamFault) → IsUnsent f →
         WritesInTurn Out.failures Out.failures files.tx files'.tx files.cert files'.cert (Some f) →
         (Out.is_known → IsTransmission f → WritesPartOf (HeadlineOf front.round front.bounded) (Out.taken files.tx) (Out.taken files'.tx)) →
@@ -102,7 +99,7 @@ module _ {P S : Type 0} (Pages : Reader P) (Out : Writer S) (asked : FrontAsked)
     unsent_told (stream.Transmission f) unsent turns part whole =
         tx_failed refl (turns.write_failed tt) (turns.not_begun tt) (λ k u.
         let p = part u tt in (
-          record { tx = p.sent; cert = p.certificate; rest = rest; why = why },
+          record { tx = p.sent; cert = p.certificate; rest = rest; why = certificate_text front.why },
           text,
           this_sent k p.sent p.certificate p.headline,
           (others u).0,
@@ -112,7 +109,7 @@ module _ {P S : Type 0} (Pages : Reader P) (Out : Writer S) (asked : FrontAsked)
     unsent_told (stream.Certificate f) unsent turns part whole =
         cert_failed refl (turns.certificate_failed tt) (λ k u.
         let p = whole u tt in (
-          record { tx = p.sent; cert = p.certificate; rest = rest; why = why },
+          record { tx = p.sent; cert = p.certificate; rest = rest; why = certificate_text front.why },
           text,
           this_sent k p.sent p.certificate p.headline,
           (others u).0,
@@ -128,7 +125,7 @@ module _ {P S : Type 0} (Pages : Reader P) (Out : Writer S) (asked : FrontAsked)
     front_done sends k u =
         let p = sends u in
         record {
-          due = record { tx = p.sent; cert = p.certificate; rest = rest; why = why };
+          due = record { tx = p.sent; cert = p.certificate; rest = rest; why = certificate_text front.why };
           front = this_sent k p.sent p.certificate p.headline;
           rest = (others u).0;
           why = (others u).1;

@@ -9,5 +9,6 @@ pub mod Lines
 pub mod Oversized
 pub mod Refusals
 pub mod Reports
+pub mod Slots
 pub mod Verification
 pub mod Works

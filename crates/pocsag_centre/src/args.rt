@@ -7,7 +7,7 @@ use crate::words::{
 use clap::ArgMatches;
 use pocsag_findings::Format;
 use pocsag_plan::{OnLimit, Search};
-use pocsag_shell::{ALWAYS, CERT, EXPECT, KEEP, PAGES, STRICT, SVG, TX, path_of};
+use pocsag_shell::{ALWAYS, CERT, EXPECT, KEEP, PAGES, STANDARD, STRICT, SVG, TX, path_of};
 use pocsag_words::End;
 
 /// What is asked of the planner, and of the page file.
@@ -64,6 +64,8 @@ pub(crate) struct ReportArgs<'a> {
     pub(crate) search: SearchArgs,
     /// Whether the frames are reported too.
     pub(crate) frames: bool,
+    /// The plan of a front that is reported, where not the whole round is. It writes no file.
+    pub(crate) slot: Option<PlanArgs<'a>>,
 }
 
 fn search_in(found: &ArgMatches<'_>) -> Option<SearchArgs> {
@@ -91,16 +93,20 @@ fn search_in(found: &ArgMatches<'_>) -> Option<SearchArgs> {
     })
 }
 
+// What bounds the front, where one is asked for.
+fn front_in(found: &ArgMatches<'_>) -> Option<FrontLimit> {
+    if let Some(batches) = found.get_one::<u32>(AT_MOST) {
+        return Some(FrontLimit::Batches(batches));
+    }
+    let Some(ms) = found.get_one::<u32>(AIRTIME) else {
+        return found.get_flag(LATER).then_some(FrontLimit::All);
+    };
+    let rate = found.get_one::<u32>(RATE)?;
+    Some(FrontLimit::Airtime { ms, rate })
+}
+
 /// The order of the words of `plan`; none where a word is not there, which clap has seen to.
 pub(crate) fn plan_args<'a>(found: &ArgMatches<'a>) -> Option<PlanArgs<'a>> {
-    let front = if let Some(batches) = found.get_one::<u32>(AT_MOST) {
-        Some(FrontLimit::Batches(batches))
-    } else if let Some(ms) = found.get_one::<u32>(AIRTIME) {
-        let rate = found.get_one::<u32>(RATE)?;
-        Some(FrontLimit::Airtime { ms, rate })
-    } else {
-        found.get_flag(LATER).then_some(FrontLimit::All)
-    };
     Some(PlanArgs {
         pages: path_of(found.get_str(PAGES)?),
         tx: found.get_str(TX)?,
@@ -108,7 +114,7 @@ pub(crate) fn plan_args<'a>(found: &ArgMatches<'a>) -> Option<PlanArgs<'a>> {
         search: search_in(found)?,
         verify: found.get_flag(VERIFY),
         keep: found.get_flag(KEEP),
-        front,
+        front: front_in(found),
         rest: found.get_str(REST),
         oversized: found.get_str(OVERSIZED),
         why: found.get_str(WHY),
@@ -117,11 +123,26 @@ pub(crate) fn plan_args<'a>(found: &ArgMatches<'a>) -> Option<PlanArgs<'a>> {
 
 /// The same of `report`.
 pub(crate) fn report_args<'a>(found: &ArgMatches<'a>) -> Option<ReportArgs<'a>> {
+    let (pages, search) = (path_of(found.get_str(PAGES)?), search_in(found)?);
+    let (front, oversized) = (front_in(found), found.get_flag(OVERSIZED));
+    let slot = PlanArgs {
+        pages,
+        tx: STANDARD,
+        cert: STANDARD,
+        search,
+        verify: false,
+        keep: false,
+        front,
+        rest: None,
+        oversized: oversized.then_some(STANDARD),
+        why: None,
+    };
     Some(ReportArgs {
-        pages: path_of(found.get_str(PAGES)?),
+        pages,
         rate: found.get_one::<u32>(RATE)?,
-        search: search_in(found)?,
+        search,
         frames: found.get_flag(EACH_FRAME),
+        slot: (front.is_some() || oversized).then_some(slot),
     })
 }
 

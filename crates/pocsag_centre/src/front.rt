@@ -65,11 +65,11 @@ pub fn run_front<P: Source + Drop, S: Sink + Drop, O: Sink, E: Sink + Drop>(
     ensures ran { Ran (fronts P.Source S.Sink asked files.old files.new) O.Sink E.Sink
         result out.old out.new err.old err.new }
 {
-    print_answer(answer_front(alloc, asked, files), out, err)
+    print_answer(answer_of_front(alloc, asked, files), out, err)
 }
 
 // What `plan --at-most` answers, once its files have all that is due. Its text is made before the first file is written.
-fn answer_front<P: Source + Drop, S: Sink + Drop>(
+fn answer_of_front<P: Source + Drop, S: Sink + Drop>(
     alloc: Global,
     asked: FrontAsked,
     files: &mut FrontFiles<P, S>,
@@ -87,7 +87,7 @@ fn answer_front<P: Source + Drop, S: Sink + Drop>(
 }
 
 // The front of a page file.
-fn read_front<P: Source>(
+pub(crate) fn read_front<P: Source>(
     alloc: Global,
     asked: FrontAsked,
     pages: &mut P,

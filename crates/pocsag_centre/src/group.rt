@@ -1,12 +1,15 @@
-use crate::args::{ReportArgs, SearchArgs, plan_args, report_args, wanted_format};
+use crate::args::{
+    FrontLimit, PlanArgs, ReportArgs, SearchArgs, plan_args, report_args, wanted_format,
+};
 use crate::check::run_check;
 use crate::explain::{ExplainFiles, run_explain};
 use crate::fault::CentreFault;
-use crate::note::{note_file, quote_asked};
+use crate::note::{note_file, note_first, quote_asked};
 use crate::plan::{DEFAULT_SEARCH, run_input};
-use crate::plan_files::{Streams, plan_command, refuse_unmet};
+use crate::plan_files::{Streams, front_asked, plan_command, refuse_unmet, set_aside};
 use crate::report::{ReportAsked, run_report};
-use crate::texts::EARLY_STRICT;
+use crate::slot::{SlotAsked, run_slot_report};
+use crate::texts::{BAD_SLOT, EARLY_STRICT};
 use crate::words::{
     CHECK, CHECK_COMMAND, EXPLAIN, EXPLAIN_COMMAND, OVERSIZED, PLAN, PLAN_COMMAND, REPORT,
     REPORT_COMMAND, REST, STRICT_FLAG, WHY,
@@ -72,15 +75,20 @@ impl Group for Centre {
 
 // The words for the files of a call. A command that has not all of these words has none for the others.
 fn names_of<'a>(call: Call<'a, '_>) -> Names<'a> {
-    if call.name.is_none() {
+    let found = call.found;
+    let pages = match call.name {
+        None => Some(STANDARD),
+        Some(_) => found.get_str(PAGES),
+    };
+    // A flag of `report` has the name of a file of `plan`.
+    if matches!(call.name, None | Some(REPORT)) {
         return Names {
-            pages: Some(STANDARD),
+            pages,
             ..Names::NONE
         };
     }
-    let found = call.found;
     Names {
-        pages: found.get_str(PAGES),
+        pages,
         tx: found.get_str(TX),
         cert: found.get_str(CERT),
         rest: found.get_str(REST),
@@ -168,6 +176,9 @@ fn report_path(
     args: ReportArgs<'_>,
     streams: &mut Streams,
 ) -> Result<u8, CentreFault> {
+    if let Some(slot) = args.slot {
+        return report_slot(context, args.rate, slot, streams);
+    }
     let mut pages = load_file(context, Role::PageFile, args.pages, PAGES_READ)?;
     refuse_unmet(context, args.pages, &pages, args.search)?;
     let quote = quote_asked(context, &pages);
@@ -184,5 +195,40 @@ fn report_path(
         &mut streams.err,
     );
     note_file(context, args.pages, &pages, quote, streams.err.fault());
+    Ok(status)
+}
+
+// Reports what a plan of the front of a page file would send.
+fn report_slot(
+    context: Context<'_>,
+    rate: u32,
+    slot: PlanArgs<'_>,
+    streams: &mut Streams,
+) -> Result<u8, CentreFault> {
+    let limit = slot.front.unwrap_or(FrontLimit::All);
+    if slot.oversized.is_some() && matches!(limit, FrontLimit::All) {
+        let _ = print(&mut context.err(), BAD_SLOT);
+        return Ok(2);
+    }
+    let front = front_asked(slot, limit)?;
+    let pages = load_file(context, Role::PageFile, slot.pages, PAGES_READ)?;
+    refuse_unmet(context, slot.pages, &pages, slot.search)?;
+    let quote = quote_asked(context, &pages);
+    let mut aside = set_aside(context, slot, front, pages)?;
+    let asked = SlotAsked {
+        rate,
+        front,
+        aside: slot.oversized.is_some().then_some(aside.count),
+    };
+    let status = run_slot_report(
+        context.alloc,
+        asked,
+        &mut aside.pages,
+        &mut streams.out,
+        &mut streams.err,
+    );
+    let fault = streams.err.fault();
+    note_file(context, slot.pages, &aside.pages, quote, fault);
+    note_first(context, slot, front, aside.begins, fault);
     Ok(status)
 }

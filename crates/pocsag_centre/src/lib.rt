@@ -16,6 +16,7 @@ mod plan;
 mod plan_files;
 mod readback;
 mod report;
+mod slot;
 mod texts;
 mod words;
 
@@ -29,3 +30,4 @@ pub use oversized::{PartedFile, part_file};
 pub use plan::{PlanFiles, run_input, run_plan};
 pub use readback::run_verify;
 pub use report::{ReportAsked, run_report};
+pub use slot::{SlotAsked, run_slot_report};

@@ -242,8 +242,11 @@ fn write_front<O: Sink>(
     Ok((status, Some(first)))
 }
 
-// What is asked of a front.
-fn front_asked(args: PlanArgs<'_>, limit: FrontLimit) -> Result<FrontAsked, CentreFault> {
+/// What is asked of a front.
+pub(crate) fn front_asked(
+    args: PlanArgs<'_>,
+    limit: FrontLimit,
+) -> Result<FrontAsked, CentreFault> {
     let batches = match limit {
         FrontLimit::All => u32::MAX,
         FrontLimit::Batches(batches) => batches,
@@ -258,19 +261,19 @@ fn front_asked(args: PlanArgs<'_>, limit: FrontLimit) -> Result<FrontAsked, Cent
     })
 }
 
-// The page file that is planned, the page file of the pages that are set aside, and how many these are; and, where `--verbose`
-// asks for it, how the page file begins.
+/// The page file that is planned, the page file of the pages that are set aside, and how many these are; and, where `--verbose`
+/// asks for it, how the page file begins.
 #[derive(Drop)]
-struct Aside {
-    pages: Loaded,
+pub(crate) struct Aside {
+    pub(crate) pages: Loaded,
     file: Vec<u8>,
-    count: usize,
-    begins: Option<String>,
+    pub(crate) count: usize,
+    pub(crate) begins: Option<String>,
 }
 
-// Sets the pages aside that alone need too many batches, where that is asked for. What cannot be read is for the command to
-// refuse.
-fn set_aside(
+/// Sets the pages aside that alone need too many batches, where that is asked for. What cannot be read is for the command to
+/// refuse.
+pub(crate) fn set_aside(
     context: Context<'_>,
     args: PlanArgs<'_>,
     asked: FrontAsked,

@@ -73,6 +73,25 @@ stands inside a field";
 pub(crate) const EARLY_STRICT: &str =
     "--strict stands behind the name of its command, plan or report";
 
+pub(crate) const SLOT_HELP: &str = "\
+Reports on the first pages, as many as B batches carry,
+as plan sends them; adds the line 'left L'";
+
+pub(crate) const SLOT_LATER_HELP: &str = "\
+Leaves each page whose address an earlier page of the
+file has: no such page is a fault then";
+
+pub(crate) const SLOT_OVERSIZED_HELP: &str = "\
+Leaves out the pages that alone need more batches;
+adds the line 'oversized N'";
+
+// What refuses it where nothing bounds the batches.
+pub(crate) const BAD_SLOT: &str = "\
+error: --oversized goes with --at-most or --airtime
+
+For more information, try 'pocsag report --help'.
+";
+
 pub(crate) const FRAMES_HELP: &str = "\
 Adds a line for each frame: its pages, their codewords,
 and the idles in its two slots, the least room first";

@@ -4,7 +4,7 @@ use crate::texts::{
     AIRTIME_HELP, AT_MOST_HELP, CHECK_ABOUT, DEPTH_HELP, END_HELP, EXPECT_HELP, EXPLAIN_ABOUT,
     EXPLAIN_MANUAL, FRAMES_HELP, IDLE_LAST_HELP, JSON_HELP, LATER_HELP, LIMIT_HELP, OVERSIZED_HELP,
     PICTURE_HELP, PLAN_ABOUT, PLAN_MANUAL, PLAN_RATE_HELP, RATE_HELP, REPORT_ABOUT, REST_HELP,
-    STRICT_HELP, VERIFY_HELP, WHY_HELP,
+    SLOT_HELP, SLOT_LATER_HELP, SLOT_OVERSIZED_HELP, STRICT_HELP, VERIFY_HELP, WHY_HELP,
 };
 use pocsag_shell::{
     ALWAYS_FLAG, CERT_PLACE, Content, EXPECT, FLAG, Given, KEEP_FLAG, LineWord, PAGES_PLACE, PLACE,
@@ -111,6 +111,7 @@ const VERIFY_FLAG: LineWord = LineWord {
 const EACH_FRAME_FLAG: LineWord = LineWord {
     id: EACH_FRAME,
     help: FRAMES_HELP,
+    excludes: &[AT_MOST, AIRTIME, LATER],
     ..FLAG
 };
 
@@ -203,6 +204,24 @@ pub(crate) const CHECK_COMMAND: Shape = Shape {
     words: &[PAGES_PLACE, CERT_PLACE],
 };
 
+// The words for the front that `report` reports on. It writes no file, so none of them names one.
+const SLOT_OPTION: LineWord = LineWord {
+    help: SLOT_HELP,
+    ..AT_MOST_OPTION
+};
+
+const SLOT_LATER_FLAG: LineWord = LineWord {
+    help: SLOT_LATER_HELP,
+    needs: &[],
+    ..LATER_FLAG
+};
+
+const SLOT_OVERSIZED_FLAG: LineWord = LineWord {
+    id: OVERSIZED,
+    help: SLOT_OVERSIZED_HELP,
+    ..FLAG
+};
+
 pub(crate) const REPORT_COMMAND: Shape = Shape {
     name: REPORT,
     about: REPORT_ABOUT,
@@ -217,6 +236,10 @@ pub(crate) const REPORT_COMMAND: Shape = Shape {
         STRICT_FLAG,
         ALWAYS_FLAG,
         EACH_FRAME_FLAG,
+        SLOT_OPTION,
+        AIRTIME_OPTION,
+        SLOT_LATER_FLAG,
+        SLOT_OVERSIZED_FLAG,
     ],
 };
 

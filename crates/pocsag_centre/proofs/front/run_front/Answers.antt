@@ -2,4 +2,4 @@ use Rattle.pocsag_shell.proofs.Runs.{ran_as}
 use Rattle.pocsag_centre.proofs.front.run_front.Goals as goal
 
 pub returns : goal.returns
-returns g c = record { ran = ran_as _ c.answer_front.ensures.answers c.print_answer.ensures.ran }
+returns g c = record { ran = ran_as _ c.answer_of_front.ensures.answers c.print_answer.ensures.ran }

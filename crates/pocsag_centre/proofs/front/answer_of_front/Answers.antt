@@ -2,7 +2,7 @@ use Rattle.std.proofs.Common.{refl}
 use Rattle.std.proofs.lemmas.Result.{err_from_is_err_and}
 use Rattle.pocsag_centre.specs.FrontWorks.ExplainsFrontFiles.{unwritten}
 use Rattle.pocsag_centre.proofs.FrontRuns.{front_done, others_told, unsent_told}
-use Rattle.pocsag_centre.proofs.front.answer_front.Goals as goal
+use Rattle.pocsag_centre.proofs.front.answer_of_front.Goals as goal
 
 pub returns-in_err-front : goal.returns-in_err-front
 returns-in_err-front g c =

@@ -1,0 +1,27 @@
+use Rattle.std.proofs.Common.{◌∙◌, inr, refl}
+use Rattle.pocsag_centre.proofs.slot.answer_slot.Goals as goal
+
+pub returns-in-Err : goal.returns-in-Err
+returns-in-Err g c = record {
+  answers = (
+    λ _. tt,
+    inr (refl, c.in-Err.ensures.bad.0 refl, λ known. (c.in_ok-front.front, c.in_ok-front.ensures.front known)),
+  );
+}
+
+pub returns-in-Ok-print_slot : goal.returns-in-Ok-print_slot
+returns-in-Ok-print_slot g c = record {
+  answers = (
+    λ _. (
+      refl,
+      λ known. record {
+        front = c.in_ok-front.front;
+        read = c.in_ok-front.ensures.front known;
+        report = c.in-Ok.report;
+        report_of = c.in-Ok.ensures.report;
+        printed = c.into_bytes.ensures ∙ rw c.new-text.ensures.kept at c.in-Ok-print_slot.ensures.printed tt;
+      },
+    ),
+    tt,
+  );
+}

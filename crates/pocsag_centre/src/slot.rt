@@ -1,0 +1,102 @@
+ghost use Rattle.std.specs.Prelude.{◌≡◌, ◌++◌, length, OnOk};
+ghost use Rattle.pocsag_plan.specs.Reports.{report_text};
+ghost use Rattle.pocsag_shell.specs.Runs.{IsAnswerOf, Ran};
+ghost use Rattle.pocsag_centre.specs.FrontFiles.{beyond_of, why_text};
+ghost use Rattle.pocsag_centre.specs.Lines.{below_text, left_text};
+ghost use Rattle.pocsag_centre.specs.Slots.{aside_text, reports_slot};
+
+use crate::fault::CentreFault;
+use crate::front::{FrontAsked, read_front};
+use crate::lines::print_below;
+use pocsag_plan::{FrontPlan, Report, report};
+use pocsag_shell::{CommandAnswer, ErrorStream, FileFault, print, print_answer, print_numbers};
+use pocsag_words::{GrowingSink, Sink, Source};
+use std::alloc::Global;
+
+/// What the report of a slot is asked for.
+#[derive(Clone, Copy)]
+pub struct SlotAsked {
+    /// Bits a second.
+    pub rate: u32,
+    pub front: FrontAsked,
+    /// How many pages were set aside, where that is reported too.
+    pub aside: Option<usize>,
+}
+
+/// `report PAGES --rate R --at-most B`: reports what `plan` with `--at-most B` would send, and writes no file: what the transmission
+/// of the front takes on the air at a rate, its bound where that is below the batches, how many pages are left, what is shown of one
+/// page more, and how many pages were set aside. Faults in order: those of `run_front`, and `BadRate` behind them. Returns the exit
+/// status.
+pub fn run_slot_report<P: Source, O: Sink, E: Sink + Drop>(
+    alloc: Global,
+    asked: SlotAsked,
+    pages: &mut P,
+    out: &mut O,
+    err: &mut ErrorStream<CentreFault, E>,
+) -> u8
+    ensures ran { Ran (reports_slot P.Source asked pages.old pages.new) O.Sink E.Sink
+        result out.old out.new err.old err.new }
+{
+    print_answer(answer_slot(alloc, asked, pages), out, err)
+}
+
+// What it answers.
+fn answer_slot<P: Source>(
+    alloc: Global,
+    asked: SlotAsked,
+    pages: &mut P,
+) -> Result<CommandAnswer, CentreFault>
+    ensures answers { IsAnswerOf (reports_slot P.Source asked pages.old pages.new) result }
+{
+    let front = read_front(alloc, asked.front, pages)?;
+    let report = match report(&front.bounded.plan, asked.rate) {
+        Ok(report) => report,
+        Err(_) => return Err(CentreFault::BadRate),
+    };
+    let mut text = GrowingSink::new(alloc);
+    match print_slot(asked, &front, report, &mut text) {
+        Ok(()) => Ok(CommandAnswer {
+            status: 0,
+            text: text.into_bytes(),
+        }),
+        Err(_) => Err(CentreFault::File(FileFault::OutOfMemory)),
+    }
+}
+
+// Prints the report of a front, and behind it what `plan` prints of one.
+#[tactic(auto, unfolding(crate::specs::Lines::left_text, crate::specs::Slots::aside_text))]
+fn print_slot<O: Sink>(
+    asked: SlotAsked,
+    front: &FrontPlan,
+    report: Report,
+    out: &mut O,
+) -> Result<(), FileFault>
+    ensures printed { O.is_known → OnOk result (O.taken out.new ≡ O.taken out.old ++ report_text report
+        ++ below_text report.batches front.now.bounded.bound ++ left_text (length front.now.rest.items)
+        ++ why_text asked.front.batches (beyond_of front.now.why) ++ aside_text asked.aside) }
+{
+    print(out, report)?;
+    print_below(report.batches, front.bounded.bound, out)?;
+    print_numbers(out, &[("left ", front.rest.len() as u64)], "\n")?;
+    print_beyond(asked.front.batches, front, out)?;
+    let Some(count) = asked.aside else {
+        return Ok(());
+    };
+    print_numbers(out, &[("oversized ", count as u64)], "\n")
+}
+
+// Prints what is shown of one page more, where that is no more than the batches that were asked for.
+#[tactic(auto, unfolding(crate::specs::Lines::undecided_text))]
+fn print_beyond<O: Sink>(batches: u32, front: &FrontPlan, out: &mut O) -> Result<(), FileFault>
+    ensures printed { O.is_known → OnOk result
+        (O.taken out.new ≡ O.taken out.old ++ why_text batches (beyond_of front.now.why)) }
+{
+    let Some(why) = &front.why else {
+        return Ok(());
+    };
+    if batches < why.batches {
+        return Ok(());
+    }
+    let number = [("at least ", why.batches as u64)];
+    print_numbers(out, &number, " batches with one page more\n")
+}
