@@ -22,7 +22,7 @@ elapses_synced past now synced more le = record {
   keeps = λ t left before since. since;
 }
 
-either_way : (n m : ℕ) → (n ≤ m) ⊎ (m < n)
+pub either_way : (n m : ℕ) → (n ≤ m) ⊎ (m < n)
 either_way zero m = inl (omega arith)
 either_way (suc n) zero = inr (omega arith)
 either_way (suc n) (suc m) = ⊎_elim (λ le. inl (omega (arith, le))) (λ lt. inr (omega (arith, lt))) (either_way n m)

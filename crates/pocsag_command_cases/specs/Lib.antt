@@ -1,1 +1,2 @@
+pub mod CrashFolders
 pub mod Disks

@@ -9,6 +9,7 @@ mod centre_tests;
 #[cfg(test)]
 pub mod comparison;
 mod crash_disk;
+mod crash_folder;
 #[cfg(test)]
 mod fault_texts;
 #[cfg(test)]

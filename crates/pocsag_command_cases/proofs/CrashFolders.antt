@@ -1,0 +1,148 @@
+-- What a change does to a folder over memory.
+use Rattle.std.proofs.Common.{◌≡◌, ◌≢◌, ◌⊎◌, inl, inr, ⊎_elim, ℕ, ◌+◌, ◌≤◌, Bool, true, false, List, [], ◌∷◌, ◌++◌, length, take, bytes_eq, Option, None, Some, option_map, if◌then◌else◌, string_bytes, sym, ◌∙◌, ap, subst, arith, refl, length-append}
+use Rattle.std.proofs.lemmas.Bool.{false_from_ne_true}
+use Rattle.std.proofs.lemmas.List.{take-append-le, take_all}
+use Rattle.std.proofs.lemmas.Slice.Eq.{bytes_eq-Decides}
+use Rattle.pocsag_shell.specs.Folders.{IsSameButTwo, Left, MayGo, MayMove, StepsBy, Stored, on_disk}
+use Rattle.pocsag_command_cases.proofs.Disks.{either_way}
+use Rattle.pocsag_command_cases.specs.CrashFolders.{FolderLeaves, FolderLeftSince, IsChanged, LeavesChanges, changed, standing, stands_after}
+use Rattle.pocsag_command_cases.specs.declared.crash_folder.Change.{Change}
+use Rattle.pocsag_command_cases.specs.declared.crash_folder.CrashFolder.{CrashFolder}
+
+stands_more : (changes : List Change) (change : Change) (before : Option (List ℕ)) (path : List ℕ) →
+    stands_after before (changes ++ change ∷ []) path ≡ changed change path (stands_after before changes path)
+stands_more [] change before path = refl
+stands_more (first ∷ changes) change before path = stands_more changes change (changed first path before) path
+
+eq_true : (one two : List ℕ) → one ≡ two → bytes_eq one two ≡ true
+eq_true one two same = let decides = bytes_eq-Decides one two in decides.1 same
+
+eq_false : (one two : List ℕ) → one ≢ two → bytes_eq one two ≡ false
+eq_false one two differ = let decides = bytes_eq-Decides one two in false_from_ne_true (bytes_eq one two) (λ same. differ (decides.0 same))
+
+-- the same by other names
+pub changed_as : (was was_too now : List Change) (gone to gone_too to_too : List ℕ) (file file_too : Option (List ℕ)) →
+    IsChanged was now gone to file → was ≡ was_too → gone ≡ gone_too → to ≡ to_too → file ≡ file_too →
+    IsChanged was_too now gone_too to_too file_too
+changed_as was was_too now gone to gone_too to_too file file_too is same same_gone same_to same_file = record {
+  change = is.change;
+  more = is.more ∙ ap (λ (l : List Change). l ++ is.change ∷ []) same;
+  gone_is = is.gone_is ∙ same_gone;
+  to_is = is.to_is ∙ same_to;
+  file_is = is.file_is ∙ same_file;
+}
+
+-- *Makes*: what stands at each path once the file stands at `to`, and none at `gone`.
+pub record Makes (gone to : List ℕ) (file : Option (List ℕ)) (was now : Left) : Type 0 where
+  pub there : now to ≡ file
+  pub taken : gone ≢ to → now gone ≡ None
+  pub others : IsSameButTwo gone to was now
+
+pub makes : (was now : List Change) (gone to : List ℕ) (file : Option (List ℕ)) → IsChanged was now gone to file →
+    Makes gone to file (standing was) (standing now)
+makes was now gone to file is =
+    let change = is.change in
+    let after : (path : List ℕ) → standing now path ≡ changed change path (standing was path) =
+    λ path. ap (λ (l : List Change). standing l path) is.more ∙ stands_more was change None path in
+    let file_of : Option (List ℕ) = option_map (λ bytes. bytes.items) change.file in
+    let or_gone : (path : List ℕ) → Option (List ℕ) = λ path. if bytes_eq (string_bytes change.gone) path then None else standing was path in
+    record {
+      there = after to
+          ∙ (ap (λ (b : Bool). if b then file_of else or_gone to) (eq_true (string_bytes change.to) to is.to_is) ∙ is.file_is);
+      taken = λ differ. after gone
+          ∙ (ap (λ (b : Bool). if b then file_of else or_gone gone)
+          (eq_false (string_bytes change.to) gone (λ same. differ (sym same ∙ is.to_is)))
+          ∙ ap (λ (b : Bool). if b then None else standing was gone) (eq_true (string_bytes change.gone) gone is.gone_is));
+      others = λ other apart differ. after other
+          ∙ (ap (λ (b : Bool). if b then file_of else or_gone other)
+          (eq_false (string_bytes change.to) other (λ same. differ (sym same ∙ is.to_is)))
+          ∙ ap (λ (b : Bool). if b then None else standing was other)
+          (eq_false (string_bytes change.gone) other (λ same. apart (sym same ∙ is.gone_is))));
+    }
+
+-- after all changes a crash leaves what stands now
+left_more : (was : List Change) (change : Change) (t : ℕ) (left : Left) → LeavesChanges (was ++ change ∷ []) t left →
+    LeavesChanges was t left ⊎ ((path : List ℕ) → left path ≡ standing (was ++ change ∷ []) path)
+left_more was change t left (n, least, is) = ⊎_elim
+    (λ le. inl (n, least, λ path. is path ∙ ap (λ (l : List Change). standing l path) (take-append-le n was (change ∷ []) le)))
+    (λ lt. inr (λ path. is path ∙ ap (λ (l : List Change). standing l path)
+    (take_all n (was ++ change ∷ []) (omega (arith, lt, length-append was (change ∷ []))))))
+    (either_way n (length was))
+
+left_now : (changes : List Change) (settled : ℕ) → LeavesChanges changes settled (standing changes)
+left_now changes settled = (
+  settled + length changes,
+  omega arith,
+  λ path. ap (λ (l : List Change). standing l path) (sym (take_all (settled + length changes) changes (omega arith))),
+)
+
+-- A crash leaves nothing else where all changes are on the disk.
+pub only_left : (changes : List Change) (settled : ℕ) → length changes ≤ settled → (left : Left) → LeavesChanges changes settled left →
+    (path : List ℕ) → left path ≡ standing changes path
+only_left changes settled all left (n, least, is) path =
+    is path ∙ ap (λ (l : List Change). standing l path) (take_all n changes (omega (arith, all, least)))
+
+-- No name is changed.
+pub steps_same : (old new : CrashFolder) (Step : Left → Left → Type 0) → ((left : Left) → Step left left) →
+    new.changes.items ≡ old.changes.items → old.settled ≤ new.settled →
+    StepsBy (λ (folder : CrashFolder). folder.settled) FolderLeftSince FolderLeaves old new Step
+steps_same old new Step stays same later =
+    let earlier : (t : ℕ) (left : Left) → FolderLeftSince new t left → FolderLeftSince old t left =
+    λ t left since. subst (λ (l : List Change). LeavesChanges l t left) same since in
+    record {
+      later = later;
+      each = λ left since. (left, earlier old.settled left since, stays left);
+      before = λ t left le since. inl (earlier t left since);
+    }
+
+-- A name is changed.
+pub steps_changed : (old new : CrashFolder) (gone to : List ℕ) (file : Option (List ℕ)) (Step : Left → Left → Type 0) →
+    ((left : Left) → Step left left) → IsChanged old.changes.items new.changes.items gone to file → new.settled ≡ old.settled →
+    ((left : Left) → Makes gone to file (standing old.changes.items) left → Step (standing old.changes.items) left) →
+    StepsBy (λ (folder : CrashFolder). folder.settled) FolderLeftSince FolderLeaves old new Step
+steps_changed old new gone to file Step stays is same step =
+    let made = makes old.changes.items new.changes.items gone to file is in
+    let now : (left : Left) → ((path : List ℕ) → left path ≡ standing (old.changes.items ++ is.change ∷ []) path) →
+    Makes gone to file (standing old.changes.items) left =
+    λ left leaves. let here : (path : List ℕ) → left path ≡ standing new.changes.items path =
+    λ path. leaves path ∙ ap (λ (l : List Change). standing l path) (sym is.more) in record {
+      there = here to ∙ made.there;
+      taken = λ differ. here gone ∙ made.taken differ;
+      others = λ other apart differ. here other ∙ made.others other apart differ;
+    } in
+    let at : (t : ℕ) (left : Left) → FolderLeftSince new t left →
+    FolderLeftSince old t left ⊎ ((was : Left) × FolderLeaves old was × Step was left) =
+    λ t left since. ⊎_elim (λ earlier. inl earlier)
+    (λ leaves. inr (standing old.changes.items, left_now old.changes.items old.settled, step left (now left leaves)))
+    (left_more old.changes.items is.change t left (subst (λ (l : List Change). LeavesChanges l t left) is.more since)) in
+    record {
+      later = omega (arith, same);
+      each = λ left since. ⊎_elim (λ earlier. (left, earlier, stays left)) (λ step. step) (at old.settled left since);
+      before = λ t left le since. at t left since;
+    }
+
+bytes_of : Option Stored → Option (List ℕ)
+bytes_of None = None
+bytes_of (Some file) = Some file.bytes
+
+bytes_on_disk : (bytes : Option (List ℕ)) → bytes_of (on_disk bytes) ≡ bytes
+unfolding bytes_of
+bytes_on_disk None = refl
+bytes_on_disk (Some bytes) = refl
+
+-- A file on the disk has one content.
+pub one_file : (one two : Option (List ℕ)) → on_disk one ≡ on_disk two → one ≡ two
+one_file one two same = sym (bytes_on_disk one) ∙ (ap bytes_of same ∙ bytes_on_disk two)
+
+-- A crash leaves no more where nothing is changed.
+pub leaves_same : (old new : CrashFolder) → new.changes.items ≡ old.changes.items → new.settled ≡ old.settled →
+    (left : Left) → FolderLeaves new left → FolderLeaves old left
+leaves_same old new same settled left (n, least, is) =
+    (n, omega (arith, settled, least), λ path. is path ∙ ap (λ (l : List Change). standing (take n l) path) same)
+
+-- Where nothing is done nothing else may be left.
+pub may_stay : (from to : List ℕ) (file : Option Stored) (left : Left) → MayMove from to file left left
+may_stay from to file left = record { others = λ other one two. refl; there = inl refl }
+
+pub may_go_nowhere : (path : List ℕ) (left : Left) → MayGo path left left
+may_go_nowhere path left = record { others = λ other differ. refl; there = inl refl }

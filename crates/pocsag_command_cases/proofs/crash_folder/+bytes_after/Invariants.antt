@@ -1,0 +1,5 @@
+use Rattle.std.proofs.Common.{length}
+use Rattle.pocsag_command_cases.proofs.crash_folder.+bytes_after.Given as goal
+
+abbrev pub decreases-bytes_after : goal.decreases-bytes_after
+decreases-bytes_after l = length l.changes.now
