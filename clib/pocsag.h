@@ -440,7 +440,7 @@ static inline void pocsag_front_bound(size_t pages_len, uint32_t limit, size_t *
 #define POCSAG_SHOW_LIST_BOUND(tx_len) (48 + 480 * ((tx_len) / 68))
 #define POCSAG_SHOW_DRAWING_BOUND(tx_len) (20000 + 4200 * ((tx_len) / 68))
 #define POCSAG_WAV_BOUND(tx_len, rate, samples, preamble) \
-    (46 + 2 * (8 * (uint64_t)(tx_len) + (preamble) + 544) * (samples) / (rate))
+    (46 + 2 * (8ull * (tx_len) + (preamble) + 544) * (samples) / (rate))
 
 #ifdef __cplusplus
 }

@@ -109,9 +109,9 @@ export class Fault extends Error {
   found: number;
 }
 
-/** The calls over a compiled module. Each is done when it returns. */
+/** The calls over a compiled `WebAssembly.Module`, a type that not every choice of libraries has. Each is done when it returns. */
 export class Pocsag {
-  constructor(module: WebAssembly.Module);
+  constructor(module: object);
   /** The number of the library's interface. */
   version(): number;
   /** The transmission of a page file, and the certificate that there are no fewer batches than `bound`. */

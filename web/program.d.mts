@@ -22,8 +22,8 @@ export interface Options {
  * as it is. It returns when the program has ended, so call it from a worker where a search may be long. */
 export function run(words: readonly string[], files?: Files, options?: Options): Result;
 
-/** The program of a module that you compiled yourself, for instance in a worker. */
+/** The program of a `WebAssembly.Module` that you compiled yourself, for instance in a worker. */
 export class Program {
-  constructor(module: WebAssembly.Module);
+  constructor(module: object);
   run(words: readonly string[], files?: Files, options?: Options): Result;
 }

@@ -295,10 +295,10 @@ def raised(status: int, place: Place) -> Fault:
     return FAULTS.get(status, Fault)(status, place)
 
 
-def number_in(value: int, status: int) -> int:
+def number_in(value: int, status: int, greatest: int = GREATEST) -> int:
     """A number that C holds; the fault of the status where it does not."""
     value = operator.index(value)
-    if not 0 <= value <= GREATEST:
+    if not 0 <= value <= greatest:
         raise raised(status, Place())
     return value
 
@@ -312,11 +312,11 @@ def choice_in(value: Union[int, str], names: Sequence[str], status: int) -> int:
     return names.index(value)
 
 
-def small_number(value: int, name: str, greatest: int = GREATEST) -> int:
+def small_number(value: int, name: str) -> int:
     """A number that C holds, of which the library allows each."""
     value = operator.index(value)
-    if not 0 <= value <= greatest:
-        raise ValueError(f"{name} must be 0 to {greatest}, not {value}")
+    if not 0 <= value <= GREATEST:
+        raise ValueError(f"{name} must be 0 to {GREATEST}, not {value}")
     return value
 
 
@@ -367,7 +367,10 @@ def default_library() -> str:
 
 
 class Pocsag:
-    """The calls of the library, by its path; where none is given, the one that is installed. It may be pickled."""
+    """The calls of the library, by its path; where none is given, the one that is installed. It may be pickled.
+
+    Any number of threads may call at one time; each needs a mebibyte of stack, which `threading.stack_size` may take away. A call
+    cannot be interrupted: Control+C is seen when it returns."""
 
     def __init__(self, library: Union[str, os.PathLike[str], None] = None) -> None:
         self.path = os.fspath(library or default_library())
@@ -406,7 +409,7 @@ class Pocsag:
         read, info, tx, cert = self._pages(pages, strict), PlanInfo(), Text(tx_size), Text(cert_size)
         status = self.library.pocsag_plan(*read, *tx.words, *cert.words, *search_in(limit, end, always), ctypes.byref(info))
         if status in (7, 8):
-            return self.plan(read[0], limit, end, always, (tx.length, cert.length))
+            return Pocsag.plan(self, read[0], limit, end, always, (tx.length, cert.length))
         if status:
             raise raised(status, info.place)
         return Plan(tx.written(), cert.written(), *(getattr(info, name) for name in Plan._fields[2:]))
@@ -433,7 +436,7 @@ class Pocsag:
         if status in (7, 8, 13, 14):
             tx, cert, rest, why = (text.length for text in texts)
             wanted = tx, cert, rest_size and rest, why_size and why  # no byte of these two is asked for by the size 0
-            return self.plan_at_most(read[0], batches, limit, end, always, wanted)
+            return Pocsag.plan_at_most(self, read[0], batches, limit, end, always, wanted)
         if status:
             raise raised(status, info.place)
         written = [text.written() if text.length <= text.size else None for text in texts]
@@ -475,7 +478,7 @@ class Pocsag:
         asked = choice_in(form, FORMS, 11), small_number(depth, "the depth")
         status = self.library.pocsag_explain(*read, *bytes_in(certificate), *asked, *text.words, ctypes.byref(info))
         if status == 10:
-            return self.explain(read[0], certificate, form, depth, text.length)
+            return Pocsag.explain(self, read[0], certificate, form, depth, text.length)
         if status > 1:
             raise raised(status, info.place)
         return Explanation(status == 0, info.end, info.batches, text.written())
@@ -494,13 +497,13 @@ class Pocsag:
     ) -> bytes:
         """A picture of the same: a letter for each codeword, where each page stands, or a drawing in SVG; of the batches from one to
         another, counted from 1."""
-        first, last = (small_number(batch, "a batch", 2**64 - 1) for batch in batches)
+        first, last = (number_in(batch, 57, 2**64 - 1) for batch in batches)
         read, chosen = bytes_in(transmission), choice_in(reading, READINGS, 58)
         return self._placed_text(self.library.pocsag_show, chosen, *read, choice_in(form, PICTURES, 58), first, last)
 
     def wav(self, transmission: Data, rate: int, samples: int = 48_000, preamble: Optional[int] = None, inverted: bool = False) -> bytes:
         """The sound that a transmitter is keyed with, as a WAV file; with so many bits of preamble in place of its own."""
-        asked = 0 if preamble is None else number_in(preamble or 1, 61)  # no preamble has 0 bits or 1
+        asked = 0 if preamble is None else number_in(preamble, 61) or 1  # no preamble has 0 bits or 1
         keyed = number_in(rate, 4), number_in(samples, 60), asked, int(bool(inverted))
         return self._placed_text(self.library.pocsag_wav, *bytes_in(transmission), *keyed)
 
@@ -532,7 +535,7 @@ class Pocsag:
         """The bytes of a page file, which may be refused for a quote."""
         read = utf8_in(pages)
         if strict:
-            self.strict(read[0])
+            Pocsag.strict(self, read[0])
         return read
 
     def _placed_text(self, call: Callable[..., Any], *words: Any) -> bytes:

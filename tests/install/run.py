@@ -163,6 +163,9 @@ def try_refused(tally, folder):
         tally.check(f"no folder is usage: {words}", status == 2 and "PREFIX" in err and not out, (status, out, err))
     status, out, err = install("--help")
     tally.check("help", status == 0 and "PREFIX" in out and not err, (status, out, err))
+    for script in ("install", "test"):
+        ran = subprocess.run(["/bin/sh", str(TOP / script)], env={"PATH": str(folder / "none")}, capture_output=True, text=True)
+        tally.check(f"./{script} where Python is missing", (ran.returncode, ran.stderr) == (1, f"{script}: python3 is missing; on Debian: apt-get install python3\n"), ran)
     (folder / "file").write_text("")
     status, out, err = install(folder / "file/below")
     told = [line for line in err.splitlines() if not line.startswith("pocsag: ")]

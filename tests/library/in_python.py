@@ -150,10 +150,38 @@ def try_numbers(tally, call):
     tally.check("no bytes", raises(TypeError, call.plan, 5) and raises(TypeError, call.decode, sample.decode()))
     for sizes in ((65_536, 65_536), (9,), [9] * 5, 9):
         tally.check(f"sizes of a front: {sizes}", raises((ValueError, TypeError), call.plan_at_most, sample, 1, sizes=sizes))
+    for batches in ((-1, 2), (1, 2**64), (0, 1)):
+        tally.check(f"there are no batches {batches}", type(attempt(call.show, plan.transmission, batches=batches)) is pocsag.BadRows)
+    for preamble in (0.0, "", []):
+        tally.check(f"no bits of preamble: {preamble!r}", raises(TypeError, call.wav, plan.transmission, 1200, preamble=preamble))
     for batches in ((1,), (1, 2, 3), 1):
         tally.check(f"batches that are shown: {batches}", raises((ValueError, TypeError), call.show, plan.transmission, batches=batches))
     fault = attempt(call.plan, b"address,kind,message\n8,numeric,12x4\n")
     tally.check("a fault tells record and place", str(fault) == "record 1: bad character at 2", str(fault))
+
+
+class Own(pocsag.Pocsag):
+    """Calls with other parameters, whose buffers are too small at first."""
+
+    def plan(self, pages):
+        return super().plan(pages, sizes=(0, 0), strict=True)
+
+    def plan_at_most(self, pages):
+        return super().plan_at_most(pages, 1, sizes=(0, 0, 1, 1), strict=True)
+
+    def explain(self, pages):
+        return super().explain(pages, self.plan(pages).certificate, size=0)
+
+    def strict(self):
+        raise NotImplementedError
+
+
+def try_own(tally, library):
+    """A class of a user, whose calls have parameters of their own."""
+    call, own, pages = pocsag.Pocsag(library), Own(library), HEADER + "8,tone0,\n16,tone0,\n24,tone0,\n"
+    plan = call.plan(pages)
+    given = own.plan(pages), own.plan_at_most(pages), own.explain(pages)
+    tally.check("a class over the calls", given == (plan, call.plan_at_most(pages, 1), call.explain(pages, plan.certificate)), given)
 
 
 def try_pools(tally, library, room):
@@ -188,6 +216,7 @@ def try_python(tally, library, header, room):
     try_copies(tally, call)
     try_names(tally, call)
     try_numbers(tally, call)
+    try_own(tally, library)
     try_pools(tally, library, room)
     try_types(tally, room)
     ran = run(sys.executable, HERE / "values.py", library, 20_000)

@@ -511,7 +511,8 @@ def try_examples(tally, folder, room):
     try_large(tally, room)
     if shutil.which("c++"):
         lines = ['#include "pocsag.h"', "int main() {", "size_t tx, cert;", "pocsag_plan_bound(0, 1, &tx, &cert);"]
-        lines += ["return pocsag_version() == POCSAG_VERSION && tx == 208 && cert == 12 && *pocsag_status_text(0) == 'd' ? 0 : 1;", "}", ""]
+        lines += ["bool fits = POCSAG_LISTING_BOUND(tx) > 0 && POCSAG_SHOW_DRAWING_BOUND(tx) > 0 && POCSAG_WAV_BOUND(tx, 512u, 8000u, 0u) > tx;"]
+        lines += ["return fits && pocsag_version() == POCSAG_VERSION && tx == 208 && cert == 12 && *pocsag_status_text(0) == 'd' ? 0 : 1;", "}", ""]
         (room / "plan.cc").write_text("\n".join(lines))
         flags = ["-Wall", "-Wextra", "-Wold-style-cast", "-Wuseless-cast", "-Wconversion", "-Wno-unknown-warning-option", "-Werror", f"-I{folder}"]
         built = run("c++", *flags, room / "plan.cc", folder / "libpocsag.a", "-o", room / "plan_cc")

@@ -5,6 +5,7 @@ Without the toolchain it takes the release that is there. Where `lintian`, `dpkg
 left out. The last line is 'N passed, M failed'.
 """
 
+import email
 import hashlib
 import lzma
 import os
@@ -410,10 +411,29 @@ def try_wheel(tally, copy, folder):
         tally.check("pip installs the wheel", done.returncode == 0, done)
     else:
         shutil.unpack_archive(str(path), str(target), "zip")
+    try_python(tally, copy, target, target / "pocsag/libpocsag.so.1")
+    files = packages.read(path.name, path.read_bytes())
+    (about,) = (email.message_from_bytes(file.data) for name, file in files.items() if name.endswith(".dist-info/METADATA"))
+    wanted = {"Name": "pocsag", "Version": version.PYTHON, "License-Expression": "Apache-2.0 OR MIT", "Requires-Python": ">=3.8"}
+    tally.check("what it says of itself", {name: about[name] for name in wanted} == wanted and "Pocsag().plan(" in about.get_payload(), about)
+    tally.check("its classes and its place", "Typing :: Typed" in about.get_all("Classifier") and about["Summary"] and about["Project-URL"] and "pocsag/py.typed" in files, about)
+    licences = {name.rpartition("/")[2] for name in files if ".dist-info/licenses/" in name}
+    tally.check("its licences", licences == {*about.get_all("License-File")}, licences)
+
+
+def try_python(tally, copy, path, library):
+    """Python plans by the package in a folder, and finds this library."""
     script = "import pocsag; p = pocsag.Pocsag(); print(p.plan(open('examples/round.csv', 'rb').read()).batches, pocsag.__version__, p.library._name)"
-    done = subprocess.run([sys.executable, "-c", script], cwd=copy.top, env={"PATH": "/usr/bin:/bin", "PYTHONPATH": str(target)}, capture_output=True, text=True)
-    due = f"2 {version.PYTHON} {target.resolve() / 'pocsag/libpocsag.so.1'}\n"
-    tally.check("and plans by the library in it", done.stdout == due, done)
+    done = subprocess.run([sys.executable, "-c", script], cwd=copy.top, env={"PATH": "/usr/bin:/bin", "PYTHONPATH": str(path)}, capture_output=True, text=True)
+    tally.check("it plans by the library in it", done.stdout == f"2 {version.PYTHON} {library.resolve()}\n", done)
+
+
+def try_tar(tally, copy, folder):
+    """The line of README of the package: Python finds the library beside its own folder."""
+    shutil.unpack_archive(str(copy.package(".tar.xz")), str(folder / "unpacked"), "xztar")
+    (top,) = (folder / "unpacked").iterdir()
+    line = re.search(r"export PYTHONPATH=FOLDER/(\w+)$", (top / "README").read_text(), re.M)
+    try_python(tally, copy, top / line[1], top / "lib/libpocsag.so.1")
 
 
 def needs_of(path):
@@ -425,6 +445,11 @@ def needs_of(path):
 def try_debian(tally, copy, folder):
     """Debian's own commands read the package, and find no error in it."""
     path = copy.package(".deb")
+    files = packages.read(path.name, path.read_bytes())
+    documents = ("README.md", "LIBRARY.md", "examples/plan.c", "examples/plan.py", *["pocsag.html"] * bool(LIBRARY))  # what is packed here has no page
+    missing = [it for it in documents if f"usr/share/doc/pocsag/{it}" not in files]
+    tally.check("it has the papers, the page and the examples", not missing, missing)
+    tally.check("its description has the three completions", "completions for bash, zsh and fish" in " ".join(files["DEBIAN/control"].data.decode().split()))
     if shutil.which("dpkg-deb"):
         told = subprocess.run(["dpkg-deb", "--field", str(path)], capture_output=True, text=True).stdout
         tally.check("dpkg-deb reads it", f"Version: {version.DEBIAN}\n" in told and "Depends: libc6 (>= 2.34)\n" in told, told)
@@ -459,6 +484,7 @@ def main():
         for part in (try_first_call, try_later_calls, try_edit, try_refused, try_at_once, try_installed, try_in_c):
             part(tally, copy)
         try_wheel(tally, copy, folder)
+        try_tar(tally, copy, folder)
         try_debian(tally, copy, folder)
     return tally.end()
 

@@ -16,6 +16,7 @@ import version
 
 PLANNED = 'import { plan, Pocsag, Fault } from "pocsag"; console.log(plan("address,kind,message\\n8,tone0,\\n").batches, typeof Pocsag, typeof Fault);'
 USE = """import { plan, planAtMost, check, decode, hear, show, wav, writePage, KINDS, Fault, Pocsag, type Plan, type Front } from "pocsag";
+declare const console: { log(...words: unknown[]): void };
 const pages = "address,kind,message\\n8,tone0,\\n";
 const made: Plan = plan(pages, { end: "closed", limit: 9, always: false, strict: true });
 const front: Front = planAtMost(new Uint8Array(3).buffer, 2);
@@ -31,7 +32,7 @@ try {
 # A use each, and what the compiler says of it.
 REFUSED = {
     'plan(pages, { end: "shut" });': "TS2322", "plan(5);": "TS2345", 'hear("8", pages);': "TS2345", "const n: number = decode(pages);": "TS2322", 'writePage(8, "tone4");': "TS2345",
-    "planAtMost(pages);": "TS2554", "plan(pages).batch;": "TS2551", 'show(pages, { rows: 1 });': "TS2345", "none();": "TS2304",
+    "planAtMost(pages);": "TS2554", "plan(pages).batch;": "TS2551", 'show(pages, { rows: 1 });': "TS2345", "none();": "TS2304", "new Pocsag(5);": "TS2345",
 }  # fmt: skip
 WAYS = (("node", "es2022"), ("node16", "node16"), ("nodenext", "nodenext"))
 
@@ -76,7 +77,7 @@ def try_types(tally, user):
     for number, text in enumerate(REFUSED):
         (user / f"wrong{number}.mts").write_text(USE + text)
     for resolution, module in WAYS:
-        words = ["tsc", "--strict", "--skipDefaultLibCheck", "--noEmit", "--target", "es2022", "--module", module, "--moduleResolution", resolution]
+        words = ["tsc", "--strict", "--skipDefaultLibCheck", "--noEmit", "--target", "es2022", "--lib", "es2022", "--module", module, "--moduleResolution", resolution]
         done = run(*words, "use.mts", "use.ts", *(f"wrong{number}.mts" for number in range(len(REFUSED))), cwd=user)
         told = re.findall(r"^(?:wrong(\d+)\.mts\(\d+,\d+\): )?.*?error (TS\d+)", done.stdout, re.M)
         tally.check(f"types by {resolution}, and the wrong uses alone are refused", told == [(str(number), code) for number, code in enumerate(REFUSED.values())], done.stdout)

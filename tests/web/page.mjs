@@ -82,8 +82,11 @@ async function tryEditing(page) {
   await page.fill('#rows [data-row="0"] .address', "2007664");
   tally.check("a reserved address is named", await says(page, "#status", "record 1: reserved address"), await page.text("#status"));
   tally.is("and there is no plan", [await page.text("#plan-title"), await page.value(`document.querySelectorAll("#files button").length`)], ["No plan", 1]);
+  const inView = () => page.value(`[".sent", "#caption", "#why-title", "#plan .note"].filter((it) => document.querySelector(it).checkVisibility()).length`);
+  tally.is("nor a picture of one", await inView(), 0);
   await page.click('#rows [data-row="0"] .remove');
   tally.check("a page is removed", await says(page, "#status", "6 pages"), await page.text("#status"));
+  tally.is("and the plan is shown again", await inView(), 4);
   await round(page, HEADER + "1,tone0,\n2,tone9,\n");
   tally.check("a bad record is named", await says(page, "#status", "record 2: unknown kind"), await page.text("#status"));
   await page.click("#as-table");
@@ -311,20 +314,28 @@ async function tryLong(page) {
   tally.check("only rows in view are in the document", count < 2_000, count);
   await page.click('[data-which="fewest"] .grid');
   await page.value(`document.querySelector('[data-which="fewest"] .grid').scrollTop = 100_000`);
-  const clipped = `[...document.querySelectorAll(".batch > *, .slots > *, .load > *, #rows .label")].filter((it) => it.scrollWidth > it.clientWidth + 1 && it.textContent)`;
-  for (const width of [1280, 800, 400]) {
-    await page.size(width, 1000);
-    await page.value(`document.querySelector("#rows").scrollTop = 300_000`);
-    await new Promise((done) => setTimeout(done, 100));
-    tally.is(`no label is cut off at ${width} pixels`, await page.value(`${clipped}.map((it) => it.textContent)`), []);
-    const overlaps = `(() => { const boxes = [...document.querySelectorAll(".slots .long")].map((it) => it.getBoundingClientRect()); return boxes.filter((it, k) => k && it.left < boxes[k - 1].right - 0.5).length; })()`;
-    tally.is("and none is on another", await page.value(overlaps), 0);
-  }
-  await page.size(1280, 1000);
-  tally.check("rows that come into view", await page.comes(`[...document.querySelectorAll('[data-which="fewest"] .batch :first-child')].some((it) => it.textContent === "5001")`));
   await page.click("#as-table");
+  await tryWidths(page, 300_000);
+  tally.check("rows that come into view", await page.comes(`[...document.querySelectorAll('[data-which="fewest"] .batch :first-child')].some((it) => it.textContent === "5001")`));
   await page.value(`document.querySelector("#rows").scrollTop = 32 * 10_000`);
   tally.check("pages that come into view", await page.comes(`Boolean(document.querySelector('#rows [data-row="10000"]'))`));
+}
+
+/* At each width every label and every number is whole, and there is room to type a message. */
+async function tryWidths(page, scrolled = 0) {
+  const clipped = `[...document.querySelectorAll(".batch > *, .slots > *, .load > *, .load, #rows .label, #rows [role=gridcell]:has(.place)")].filter((it) => it.scrollWidth > it.clientWidth + 1 && it.textContent)`;
+  const overlaps = `(() => { const boxes = [...document.querySelectorAll(".slots .long")].map((it) => it.getBoundingClientRect()); return boxes.filter((it, k) => k && it.left < boxes[k - 1].right - 0.5).length; })()`;
+  for (const width of [1280, 1152, 1024, 910, 800, 601, 400]) {
+    await page.size(width, 1000);
+    await page.value(`document.querySelector("#rows").scrollTop = ${scrolled}`);
+    await new Promise((done) => setTimeout(done, 100));
+    tally.is(`no label is cut off at ${width} pixels`, await page.value(`${clipped}.map((it) => it.textContent)`), []);
+    tally.is("and none is on another", await page.value(overlaps), 0);
+    tally.check("and a message has room", await page.value(`Math.min(...[...document.querySelectorAll("#rows .message")].map((it) => it.clientWidth)) >= 150`));
+  }
+  await page.size(320, 1000);
+  tally.check("320 pixels are enough", await page.value(`document.documentElement.scrollWidth <= innerWidth`));
+  await page.size(1280, 1000);
 }
 
 async function tryLink(page) {
@@ -444,6 +455,7 @@ async function tryTable(page) {
   };
   await page.choose("#example", "a thousand pages");
   await says(page, "#status", "1,000 pages");
+  await tryWidths(page);
   await tryNames(page);
   await page.value(`document.querySelector("#as-csv").focus()`);
   await keys("Tab");
@@ -542,9 +554,10 @@ async function tryLooks(page) {
   for (const at of [page, narrow]) {
     const words = await at.value(`[...document.querySelectorAll(".note, .lines label")].filter((it) => it.checkVisibility()).map((it) => it.textContent.trim())`);
     for (const it of ["Frame: where the page may start, its address modulo 8. Word: its address codeword", "open: the last message may end", "closed: an idle or address codeword follows",
-      "idle: the last codeword is idle", "If the search stops there, the plan may have one batch more"]) tally.check(`'${it}' is explained`, words.some((told) => told.startsWith(it)), words);
+      "idle: the last codeword is idle", "If the search stops there, the plan may have one batch more", "Slot: the place of a codeword in its batch, 0 to 15"]) tally.check(`'${it}' is explained`, words.some((told) => told.startsWith(it)), words);
   }
   tally.is("the result comes before options and files there", [...order].sort((a, b) => a - b), order);
+  tally.check("and is in view on a small telephone", order[1] < 560, order);
   tally.is("400 pixels are enough", await narrow.value(`[document.documentElement.scrollWidth <= innerWidth, [...document.querySelectorAll("body *")].filter((it) => it.getBoundingClientRect().right > 401 && !it.closest(".scroll")).length]`), [true, 0]);
   await narrow.fill('#rows [data-row="2"] .message', "short");
   tally.check("and a page is edited there", await says(narrow, "#status", "6 pages, 16 codewords"), await narrow.text("#status"));
@@ -559,6 +572,15 @@ async function tryForced(page) {
   tally.is("an idle has a frame", kinds[2][1], "dotted");
   for (const [one, other] of [["#as-table", "#as-csv"], ["#nodes > [aria-selected]", "#nodes"], [".slot.named", "body"]])
     tally.check(`${one} differs from ${other}`, (await looks(one))[0] !== (await looks(other))[0], [await looks(one), await looks(other)]);
+  await page.click('[name="end"][value="open"]');
+  await page.choose("#example", "loops apart");
+  await says(page, "#nodes", "room for 1 in slot 15");
+  tally.is("the boundaries of a cut are marked", await page.value(`[...document.querySelectorAll(".slots > .edge")].map((it) => getComputedStyle(it).borderLeftStyle)`), ["solid", "solid"]);
+  await page.click("#node-1");
+  const ink = (selector) => page.value(`getComputedStyle(document.querySelector('#nodes > [aria-selected="true"]${selector}')).color`);
+  tally.is("the limits of a chosen node have its colour", await ink(" > .limits"), await ink(""));
+  await page.choose("#example", "a hospital's round");
+  await title(page, "2 batches");
   await page.send("Emulation.setEmulatedMedia", { features: [{ name: "forced-colors", value: "none" }] });
 }
 

@@ -181,7 +181,7 @@ function showRound() {
   element("table").style.setProperty("--labels", `${20 + 8 * longest}px`);
   element("anyway").hidden = !isQuote(fault) || (!isCsv && fault.recordNumber > 0);
   if (isCsv && element("csv").value !== text) element("csv").value = text;
-  cells.show(fields.length, innerWidth > 600 ? 32 : 60, tall);
+  cells.show(fields.length, element("table").clientWidth > 480 ? 32 : 60, tall);
 }
 
 function showAs(kind) {
@@ -256,9 +256,10 @@ function showSearch() {
 function showFault(fault) {
   Object.assign(state, NOTHING, { fault });
   say(fault.message, true);
+  element("plan").className = "none";
   element("plan-title").textContent = "No plan";
   element("why-title").textContent = "\u00a0";
-  for (const id of ["saved", "caption", "sum"]) element(id).textContent = "";
+  element("saved").textContent = "";
   showSent(), showNodes(null), showFiles(), showRound(), hear();
   if (fault.recordNumber && !element("table").hidden) table.reach(fault.recordNumber - 1);
 }
@@ -273,6 +274,7 @@ function showPlan(plan, bytes) {
   Object.assign(state, { plan, pages, labels, fault: null, ...sent });
   const left = plan.left ? `; ${counted(plan.left, "page")} left` : "";
   say(`${counted(plan.pages, "page")}, ${counted(plan.codewords, "codeword")}; planned in ${time(plan.took)}${left}`);
+  element("plan").className = "";
   element("plan-title").textContent = counted(plan.batches, "batch", "batches");
   element("saved").textContent = `${besideFileOrder(plan)} \u00b7 the certificate holds`;
   point(null);
@@ -344,7 +346,7 @@ function countsOf(sent, rate) {
 
 const HOW_TO_READ =
   "A row is a batch: eight frames of two codewords. A page may start only in the frame of its address; pale codewords are idle. " +
-  "Point at one to see its page.";
+  "Point at one, or tap it, to see its page.";
 let pointed = null;
 
 /* Marks a page wherever it is shown, and says what and where it is. */
