@@ -829,6 +829,20 @@ def try_verbose_later(tally, folder):
         tally.check(f"told of a folder without rights {more}", holds, done)
 
 
+def try_announced(tally, folder):
+    """With `--verbose` it is said that a long journal is being read."""
+    place = folder / "announced"
+    place.mkdir()
+    for count, more in ((998, 0), (1000, 1)):
+        journal = FIRST_LINE + b"".join(b"add,%d,alpha,%s\n" % (number, b"x" * 3987) for number in range(1000, 1000 + count))
+        (place / "round.journal").write_bytes(journal)
+        due = b"reading a journal of %d bytes\n" % len(journal) * more
+        for words in ([], ["--read-only"]):
+            out, err, status = run(place, [], *words, "--verbose")
+            tally.check(f"announced {count} {words}", (err, status) == (due + read_line(count, count), 0), (err, status))
+            tally.check(f"not announced {count} {words}", run(place, [], *words)[1] == read_line(count, count))
+
+
 def try_many(tally, folder):
     """A round of 20,000 pages, which is all that there may be: it is written, read and written anew."""
     place = folder / "many"
@@ -900,7 +914,7 @@ def try_growth(tally, folder):
 
 
 def main():
-    return run_parts(try_first_use, try_kills, try_killed_slots, try_cuts, try_lost_sectors, try_lost_lines, try_synchronised, try_bad_lines, try_others, try_harms, try_rights, try_failed_look, try_no_locks, try_backups, try_read_only, try_use, try_full_disk, try_full_system, try_verbose, try_verbose_later, try_many, try_long_start, try_growth)
+    return run_parts(try_first_use, try_kills, try_killed_slots, try_cuts, try_lost_sectors, try_lost_lines, try_synchronised, try_bad_lines, try_others, try_harms, try_rights, try_failed_look, try_no_locks, try_backups, try_read_only, try_use, try_full_disk, try_full_system, try_verbose, try_verbose_later, try_announced, try_many, try_long_start, try_growth)
 
 
 if __name__ == "__main__":

@@ -317,7 +317,7 @@ def try_terminal(tally, folder):
     os.write(ours, TONE + b"\x04")
     out, err = process.communicate(timeout=60)
     os.close(ours)
-    holds = process.returncode == 0 and out == b"pages 1\nbatches 1\n" and err.startswith(b"pocsag: ") and b"standard input" in err
+    holds = process.returncode == 0 and out == b"pages 1\nbatches 1\n" and err.startswith(b"reading a page file from standard input; ")
     tally.check("a bare pocsag at a terminal", holds and err.count(b"\n") == 1, (out, err))
     done = run([], folder, TONE)
     tally.check("and none at a pipe", done.stderr == b"", done)

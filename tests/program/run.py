@@ -324,6 +324,11 @@ def try_files(tally, folder):
         huge.truncate(300_000_000)
     done = run(["plan", "huge.csv", "tx.bin", "cert.bin"], folder)
     tally.check("a file of 300 MB", done.returncode == 1 and done.stderr == b"pocsag: the file is too large\n", done)
+    for words in (["plan", "huge.csv", "tx.bin", "cert.bin"], ["decode", "huge.csv"], ["decode", "--capture", "huge.csv"], ["wav", "huge.csv"], ["open", "huge.csv"]):
+        done = run([*words, "--verbose"], folder)
+        role = b"page file" if words[0] in ("plan", "open") else b"transmission"
+        told = b"pocsag: the file is too large\npocsag: %s huge.csv: more than 268435456 bytes\n" % role
+        tally.check(f"how large {words} may be", done.returncode == 1 and done.stderr == told, done)
     (folder / "huge.csv").unlink()
 
 

@@ -58,7 +58,12 @@ TWICE_DAMAGED, BEYOND_REPAIR = (PREAMBLE + bytes.fromhex("7CD215D9") + 15 * IDLE
 
 # Files, words, standard input, status, what is told on standard output, the fault, and the notes.
 TWICE = "the same file is named twice"
+BAD_HEADER = "the header must be address,kind,message"
 ANYWHERE = "transmission p.csv: for bits off the air that begin anywhere, give --capture"
+COMMA = "ADDRESS, KIND and MESSAGE are wanted, and quotes around a message that holds a comma"
+EDITS = "the edits are add, cancel, sent and clear"
+REFUSED_EDITS = (b"add,8,tone0,\nadd,5,alpha,Ward 3, bed 2\nadd,5,tone0\nadd,2097152,tone0,\nadd,8,tone1,\ncancel,9\nsent,2\n"
+                 b'add,5,alpha,"a\nadd,5,alpha,a"b\nclear\nclear\n')
 NO_FILE, IS_FOLDER, NO_SPACE = (f"{os.strerror(code)} (os error {code})" for code in (2, 21, 28))
 CASES = [
     (APART, ["plan", "none.csv", "tx.bin", "cert.bin"], b"", 3, "", "cannot read or open a file", [f"page file none.csv: {NO_FILE}"]),
@@ -77,10 +82,12 @@ CASES = [
     (APART, ["plan", "p.csv", "-", "-"], b"", 1, "", TWICE, ["transmission - and certificate - are one file"]),
     (APART, ["open", "-"], b"", 1, "", TWICE, ["page file -: standard input holds the lines"]),
     (APART, ["open", "p.csv", "--journal", "./p.csv"], b"", 1, "", TWICE, ["page file p.csv and journal ./p.csv are one file"]),
-    (APART, ["open", "--journal", "-"], b"", 1, "", TWICE, ["journal -"]),
+    (APART, ["open", "--journal", "-"], b"", 1, "", TWICE, ["journal -: standard input holds the lines, and standard output takes the answers"]),
+    (APART, ["plan", "-", "-", "cert.bin"], b"", 1, "", BAD_HEADER, ["page file -"]),
+    (APART, ["plan", "-", "tx.bin", "-"], b"", 1, "", BAD_HEADER, ["page file -"]),
     (APART, ["check", "-", "-"], b"", 1, "", TWICE, ["page file - and certificate - are one file"]),
     (APART, ["explain", "-", "-"], b"", 1, "", TWICE, ["page file - and certificate - are one file"]),
-    (APART, [*PLAN, "--limit", "1"], b"", 1, "", "search limit reached: at least 2 batches, 3 would do", ["page file p.csv"]),
+    (APART, [*PLAN, "--limit", "1"], b"", 1, "", "search limit reached: at least 2 batches, 3 would do", ["page file p.csv: --always plans every round"]),
     (APART, [*PLAN, "--limit", "0"], b"", 1, "", "the limit must be 1 to 1000000", []),
     (APART, [*PLAN, "--expect", "3"], b"", 1, "", "pages 2, where 3 were expected", ["page file p.csv"]),
     (HEADER + b'8,alpha,"x\n', [*PLAN, "--strict"], b"", 1, "", "record 1: the quote in line 2 is not closed", ["page file p.csv"]),
@@ -88,7 +95,7 @@ CASES = [
     (LATE, [*PLAN, "--airtime", "1000", "--rate", "1200", "--rest", "r", "--later", "--oversized", "o"], b"", 1, "", "page 1 needs 2 batches",
      ["page file p.csv: line 2: address 3 needs 2 batches, allowed are 1 in 1000 ms at 1200 bit/s"]),
     (APART, ["plan", "-", "tx.bin", "cert.bin", "--at-most", "0"], APART, 1, "", "page 1 needs 1 batches",
-     ["page file -: line 2: address 0 needs 1 batches, allowed are 0"]),
+     ["page file -: line 2: address 0 needs 1 batch, allowed are 0"]),
     (HEADER + b"7,alpha,\n", [*PLAN, "--expect", "3"], b"", 1, "", "record 1: the message is empty", ["page file p.csv: line 2: 7,alpha,"]),
     (HEADER + b'8,tone0,\n\n9,alpha,"Pump 4\n16,tone0,\n', [*PLAN, "--verify"], b"", 0, "pages 2\nbatches 1\nverified\n", None,
      ["page file p.csv: record 2: the quote in line 4 is not closed"]),
@@ -131,7 +138,11 @@ CASES = [
     (APART, ["open"], b"plan\nplan,t\nplan,t,\xff\nplan,t,c,Open\nplan,t,c,,1\nplan,t,c,open,01\nplan,t,c,idle,4294967296\nplan,t,c,open,1,\nplam,t,c\n", 0,
      9 * "refused: unknown edit\n", None,
      2 * ["plan: TX and CERT are wanted"] + ["plan: TX and CERT must be UTF-8"] + 2 * ["plan: END must be open, closed or idle"]
-     + 2 * ["plan: B must be a number from 1 to 4294967295, without a sign or leading zeros"] + ["plan: nothing follows TX, CERT, END and B"]),
+     + 2 * ["plan: B must be a number from 1 to 4294967295, without a sign or leading zeros"] + ["plan: nothing follows TX, CERT, END and B"]
+     + [f"plam,t,c: {EDITS}"]),
+    (APART, ["open"], REFUSED_EDITS, 0, "ok 1\nrefused: unknown edit\nrefused: unknown edit\nrefused: bad address\nrefused: the address is already there\n"
+     "refused: no such page\nrefused: no such page\nrefused: the line ends inside quotes\nrefused: a quote is out of place\nok 0\nok 0\n", None,
+     [f"add,5,alpha,Ward 3, bed 2: {COMMA}", f"add,5,tone0: {COMMA}", "add,2097152,tone0,", "add,8,tone1,", "cancel,9", "sent,2", 'add,5,alpha,"a', 'add,5,alpha,a"b']),
     (APART, ["open", "none.csv"], b"", 3, "", "cannot read or open a file", [f"page file none.csv: {NO_FILE}"]),
     (APART, ["open"], b"add,8,tone0,\nplan,none/tx.bin,cert.bin\nplan,tx.bin,none/c\nadd,9,tone0,\nplan,/dev/full,cert.bin\n", 0,
      "ok 1\nrefused: cannot read or open a file\nrefused: cannot read or open a file\nok 2\nrefused: cannot write\n", None,
@@ -167,6 +178,13 @@ def try_verbose(tally, folder):
     for case in sampled(CASES):
         try_case(tally, folder, case)
     (folder / "p.csv").write_bytes(APART)
+    link = folder / "link"
+    link.symlink_to("tx.bin")
+    for words, note in ((["link", "cert.bin"], "transmission link"), (["tx.bin", "/dev/null"], "certificate /dev/null")):
+        plain, more = (run(["plan", "p.csv", *words, "--keep", *it], folder) for it in ([], ["--verbose"]))
+        told = more.stderr == plain.stderr + f"pocsag: {note}: no regular file\n".encode()
+        tally.check(f"--keep names {note}", told and plain.returncode == more.returncode == 2, more)
+    link.unlink()
     before = run(["--verbose", "plan", "none.csv", "t", "c"], folder)
     behind = run(["plan", "none.csv", "t", "c", "--verbose"], folder)
     tally.check("--verbose before the command", before.stderr == behind.stderr and before.returncode == 3, before)

@@ -252,9 +252,13 @@ fn print_front<O: Sink>(front: &FrontPlan, batches: u32, out: &mut O) -> Result<
     print_why(&front.why, batches, out)
 }
 
-// Prints what is shown of one page more, where there is one and it is no more than the batches that were asked for.
+/// Prints what is shown of one page more, where there is one and it is no more than the batches that were asked for.
 #[tactic(auto, unfolding(crate::specs::Lines::undecided_text))]
-fn print_why<O: Sink>(why: &Option<Certificate>, batches: u32, out: &mut O) -> Result<(), FileFault>
+pub(crate) fn print_why<O: Sink>(
+    why: &Option<Certificate>,
+    batches: u32,
+    out: &mut O,
+) -> Result<(), FileFault>
     ensures delivers { O.is_known →
         Delivers result (O.taken out.old) (O.taken out.new) (why_text batches (beyond_of why.now)) }
     ensures lost { IfErr result (λ e. e ≡ FileFault.Write) }

@@ -23,9 +23,9 @@ use pocsag_shell::{
 use std::alloc::AllocError;
 use std::io::IsTerminal;
 
-// What a person is reported who gave no words.
+// What a person at a terminal sees who gave no words. It is no fault.
 const AT_TERMINAL: &str =
-    "pocsag: reading a page file from standard input; 'pocsag --help' tells the commands\n";
+    "reading a page file from standard input; 'pocsag --help' tells the commands\n";
 
 /// The commands of a paging centre.
 #[derive(Clone, Copy)]

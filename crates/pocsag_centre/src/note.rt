@@ -13,8 +13,8 @@ pub(crate) fn quote_asked(context: Context<'_>, pages: &Loaded) -> Option<QuoteF
     quote_fault(pages.lent()?)
 }
 
-/// Keeps a note on a page file that a command was run over: on the record that its fault names, or, where it had none, on the
-/// first misplaced quote.
+/// Keeps a note on a page file that a command was run over: on the record that its fault names, on the limit of the search, or,
+/// where it had no fault, on the first misplaced quote.
 pub(crate) fn note_file(
     context: Context<'_>,
     path: Option<&str>,
@@ -31,6 +31,9 @@ pub(crate) fn note_file(
             if let Some(file) = pages.lent() {
                 note_record(context, place, file, fault);
             }
+        }
+        (Some(CentreFault::SearchLimit(..)), _) => {
+            context.note(format_args!("{place}: --always plans every round"));
         }
         (None, Some(quote)) => context.note(format_args!("{place}: {quote}")),
         _ => {}
@@ -53,12 +56,13 @@ pub(crate) fn note_first(
         name: Some(args.pages.unwrap_or(STANDARD)),
     };
     let batches = asked.batches;
+    let noun = if needed == 1 { "batch" } else { "batches" };
     match args.front {
         Some(FrontLimit::Airtime { ms, rate }) => context.note(format_args!(
-            "{place}: {first} needs {needed} batches, allowed are {batches} in {ms} ms at {rate} bit/s"
+            "{place}: {first} needs {needed} {noun}, allowed are {batches} in {ms} ms at {rate} bit/s"
         )),
         _ => context.note(format_args!(
-            "{place}: {first} needs {needed} batches, allowed are {batches}"
+            "{place}: {first} needs {needed} {noun}, allowed are {batches}"
         )),
     }
 }

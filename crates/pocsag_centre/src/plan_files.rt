@@ -105,6 +105,18 @@ fn places<'a>(args: PlanArgs<'a>) -> [(Role, Option<&'a str>); 5] {
     ]
 }
 
+// Whether `--keep` cannot keep what stands at a place. A note names it.
+fn is_unkept(context: Context<'_>, role: Role, place: Option<&str>) -> bool {
+    let Some(place) = place else {
+        return false;
+    };
+    if place != STANDARD && is_regular_or_none(context.rt, place) {
+        return false;
+    }
+    context.note(format_args!("{role} {place}: no regular file"));
+    true
+}
+
 // The first option of the order that its files do not serve, as the text that refuses it. It reads nothing of them.
 fn misuse(context: Context<'_>, args: PlanArgs<'_>) -> Option<&'static str> {
     let rt = context.rt;
@@ -125,11 +137,8 @@ fn misuse(context: Context<'_>, args: PlanArgs<'_>) -> Option<&'static str> {
     if !args.keep {
         return None;
     }
-    for (_role, place) in places(args) {
-        let Some(place) = place else {
-            continue;
-        };
-        if place == STANDARD || !is_regular_or_none(rt, place) {
+    for (role, place) in places(args) {
+        if is_unkept(context, role, place) {
             return Some(BAD_KEEP);
         }
     }

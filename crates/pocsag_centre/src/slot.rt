@@ -6,7 +6,7 @@ ghost use Rattle.pocsag_centre.specs.Lines.{below_text, left_text};
 ghost use Rattle.pocsag_centre.specs.Slots.{aside_text, reports_slot};
 
 use crate::fault::CentreFault;
-use crate::front::{FrontAsked, read_front};
+use crate::front::{FrontAsked, print_why, read_front};
 use crate::lines::print_below;
 use pocsag_plan::{FrontPlan, Report, report};
 use pocsag_shell::{CommandAnswer, ErrorStream, FileFault, print, print_answer, print_numbers};
@@ -78,25 +78,9 @@ fn print_slot<O: Sink>(
     print(out, report)?;
     print_below(report.batches, front.bounded.bound, out)?;
     print_numbers(out, &[("left ", front.rest.len() as u64)], "\n")?;
-    print_beyond(asked.front.batches, front, out)?;
+    print_why(&front.why, asked.front.batches, out)?;
     let Some(count) = asked.aside else {
         return Ok(());
     };
     print_numbers(out, &[("oversized ", count as u64)], "\n")
-}
-
-// Prints what is shown of one page more, where that is no more than the batches that were asked for.
-#[tactic(auto, unfolding(crate::specs::Lines::undecided_text))]
-fn print_beyond<O: Sink>(batches: u32, front: &FrontPlan, out: &mut O) -> Result<(), FileFault>
-    ensures printed { O.is_known → OnOk result
-        (O.taken out.new ≡ O.taken out.old ++ why_text batches (beyond_of front.now.why)) }
-{
-    let Some(why) = &front.why else {
-        return Ok(());
-    };
-    if batches < why.batches {
-        return Ok(());
-    }
-    let number = [("at least ", why.batches as u64)];
-    print_numbers(out, &number, " batches with one page more\n")
 }

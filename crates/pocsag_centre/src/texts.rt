@@ -71,7 +71,7 @@ stands inside a field";
 
 // What refuses --strict in front of a command.
 pub(crate) const EARLY_STRICT: &str =
-    "--strict stands behind the name of its command, plan or report";
+    "--strict stands behind the name of its command, plan, report or open";
 
 pub(crate) const SLOT_HELP: &str = "\
 Reports on the first pages, as many as B batches carry,

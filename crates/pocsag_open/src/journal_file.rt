@@ -43,8 +43,8 @@ pub(crate) struct JournalFile<'a, 'w> {
     is_new: bool,
     file: File,
     named: Named,
-    // How many bytes the file has, by what was found first and written since.
-    len: u64,
+    /// How many bytes the file has, by what was found first and written since.
+    pub len: u64,
 }
 
 impl<'a, 'w> JournalFile<'a, 'w> {

@@ -8,9 +8,11 @@ use pocsag_pages::RoundFault;
 use pocsag_plan::Book;
 use pocsag_shell::{
     Context, FileFault, ReaderSource, Role, STANDARD, is_regular_or_none, open_source, path_of,
-    refuse_equal, refuse_one_file,
+    print, refuse_equal, refuse_one_file,
 };
 use std::cell::Cell;
+use std::fs;
+use std::io::IsTerminal;
 
 /// `open --journal`: keeps an open round whose edits are in the file of a journal before they are answered, or lists the
 /// pages of a journal. Returns the exit status.
@@ -20,6 +22,12 @@ pub(crate) fn open_journal(
     path: &str,
 ) -> Result<u8, OpenFault> {
     // It is neither a standard stream nor the page file.
+    if path == STANDARD {
+        context.note(
+            "journal -: standard input holds the lines, and standard output takes the answers",
+        );
+        return Err(OpenFault::File(FileFault::EqualPaths));
+    }
     let pages = match args.pages {
         Some(word) => path_of(word),
         None => None,
@@ -51,10 +59,27 @@ pub(crate) fn open_journal(
     }
 }
 
+// A journal of more bytes is read in more than a second.
+const LONG: u64 = 4_000_000;
+
+// Says at a terminal, or with `--verbose`, that a long journal is being read.
+fn announce(context: Context<'_>, length: u64) {
+    let is_watched = context.diagnostics.is_asked() || context.rt.stderr().is_terminal();
+    if length > LONG && is_watched {
+        let _ = print(
+            &mut context.err(),
+            format_args!("reading a journal of {length} bytes\n"),
+        );
+    }
+}
+
 // `--read-only`: lists the pages of the journal, which is neither held nor changed.
 fn list_on(place: JournalPlace<'_, '_>) -> Result<u8, OpenFault> {
     let context = place.context;
     let mut source = open_source(context, Role::Journal, Some(place.path))?;
+    if let Ok(found) = fs::metadata(context.rt, place.path) {
+        announce(context, found.len());
+    }
     let Replayed { book, edits, torn } = list_journal(
         context.alloc,
         &mut source,
@@ -69,6 +94,7 @@ fn list_on(place: JournalPlace<'_, '_>) -> Result<u8, OpenFault> {
 fn keep_on(place: JournalPlace<'_, '_>, args: OpenArgs<'_>) -> Result<u8, OpenFault> {
     let context = place.context;
     let file = JournalFile::hold(place)?;
+    announce(context, file.len);
     let made = file.made()?;
     let mut round = KeptRound {
         book: Book::new(context.alloc),

@@ -10,6 +10,7 @@ mod group;
 mod journal_file;
 mod kept_round;
 mod kept_streams;
+mod line_note;
 mod lines;
 mod outputs;
 mod refused;

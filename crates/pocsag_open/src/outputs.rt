@@ -1,7 +1,6 @@
 ghost use Rattle.std.specs.Prelude.{◌≡◌, List, [], ◌∷◌, ◌++◌, Option, None, Some, IfErr, IfOk, OnOk};
 ghost use Rattle.pocsag_open.specs.Plans.{failed_plan, PlaceNames, PlacementResult, placed_plan};
 
-use csv::ByteRecord;
 use pocsag_shell::{FileFault, Outputs};
 use pocsag_words::Sink;
 
@@ -38,8 +37,8 @@ pub trait OutputStore {
             placed self.old ++ failed_plan tx.now cert.now fault ∷ []) }
         ensures none_left { is_known → made_for self.old ≡ Some (tx.now, cert.now) → made_for self.new ≡ None };
 
-    /// Keeps a note on the record of a line that is no plan, before it is answered. It changes nothing else.
-    fn note_line(&self, _row: &ByteRecord) {}
+    /// Notes a line that is no plan, and whether it changed the round. It changes nothing else.
+    fn note_line(&self, _line: &[u8], _is_done: bool) {}
 
     /// Leaves the places as they are, and removes what was made for them, if the outputs were not made or are not whole.
     fn leave<'n>(&mut self, tx: &'n str, cert: &'n str)

@@ -2,9 +2,9 @@ ghost use Rattle.std.specs.Prelude.{◌≡◌, [], ◌∷◌, ◌++◌, None, If
 ghost use Rattle.pocsag_open.specs.Plans.{failed_plan, no_bytes, no_names, no_plans, placed_plan};
 
 use crate::fault::OpenFault;
+use crate::line_note::print_refused;
 use crate::outputs::OutputStore;
 use crate::session::PlanSettings;
-use csv::ByteRecord;
 use pocsag_pages::{FILE_LIMIT, held_pages, quote_fault};
 use pocsag_plan::OnLimit;
 use pocsag_shell::{
@@ -101,23 +101,6 @@ pub(crate) struct RoundFiles<'a> {
     pub made: Vec<StagedFile>,
 }
 
-// What is wrong with the record of a line `plan` that is none.
-fn wrong_field(row: &ByteRecord) -> &'static str {
-    let (Some(tx), Some(cert)) = (row.get(1), row.get(2)) else {
-        return "TX and CERT are wanted";
-    };
-    if str::from_utf8(tx).is_err() || str::from_utf8(cert).is_err() {
-        return "TX and CERT must be UTF-8";
-    }
-    let ends: [&[u8]; 3] = [b"open", b"closed", b"idle"];
-    let names_end = ends.iter().any(|end| row.get(3) == Some(*end));
-    match row.len() {
-        4 | 5 if !names_end => "END must be open, closed or idle",
-        5 => "B must be a number from 1 to 4294967295, without a sign or leading zeros",
-        _ => "nothing follows TX, CERT, END and B",
-    }
-}
-
 impl<'a> RoundFiles<'a> {
     /// How plans are made in an open round that is asked for so.
     pub fn settings(context: Context<'a>, args: OpenArgs<'a>) -> PlanSettings<RoundFiles<'a>> {
@@ -211,14 +194,10 @@ impl<'a> OutputStore for RoundFiles<'a> {
         done
     }
 
-    // With `--verbose` tells which field of a line `plan` keeps it from being one.
-    fn note_line(&self, row: &ByteRecord) {
-        if !self.context.diagnostics.is_asked() || row.get(0) != Some(b"plan".as_slice()) {
-            return;
+    fn note_line(&self, line: &[u8], is_done: bool) {
+        if !is_done && self.context.diagnostics.is_asked() {
+            print_refused(self.context, line);
         }
-        let wrong = wrong_field(row);
-        self.context.note(format_args!("plan: {wrong}"));
-        self.context.print_more(Names::NONE);
     }
 
     fn leave<'n>(&mut self, tx: &'n str, cert: &'n str) {

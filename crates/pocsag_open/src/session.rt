@@ -217,7 +217,10 @@ fn answer_line<P: OutputStore + Drop, K: Keeper + Drop, O: Sink>(
 {
     let row = match record_of(alloc, line) {
         Ok(row) => row,
-        Err(refusal) => return refuse(refusal, out),
+        Err(refusal) => {
+            settings.store.note_line(line, false);
+            return refuse(refusal, out);
+        }
     };
     match line_of(&row) {
         Line::Plan {
@@ -247,8 +250,10 @@ fn answer_line<P: OutputStore + Drop, K: Keeper + Drop, O: Sink>(
         },
         Line::Journal => print_pages(&round.book, out),
         _ => {
-            settings.store.note_line(&row);
-            answer_edit(alloc, round, &row, out)
+            let count = round.book.len();
+            let done = answer_edit(alloc, round, &row, out);
+            settings.store.note_line(line, round.book.len() != count);
+            done
         }
     }
 }

@@ -12,12 +12,12 @@ use crate::words::{
 };
 use clap::error::ErrorKind;
 use clap::{ArgMatches, Error};
-use pocsag_capture::{Polarity, Reception, ReceptionStats};
+use pocsag_capture::{CaptureFault, Polarity, Reception, ReceptionStats};
 use pocsag_decode::{DecodeFault, Repaired};
 use pocsag_pager::PagerFault;
 use pocsag_shell::{
-    Call, Context, ErrorStream, Group, Loaded, MemoryStreams, Names, PAGES_READ, Role, Shape, TX,
-    Tables, command, load_file, path_of, print,
+    Call, Context, ErrorStream, FileFault, Group, Loaded, MemoryStreams, Names, PAGES_READ, Role,
+    Shape, TX, Tables, command, load_file, path_of, print,
 };
 use pocsag_words::{Sink, Source};
 use std::alloc::{AllocError, Global};
@@ -245,6 +245,10 @@ fn note_capture(
     match fault {
         None | Some(ReceiverFault::Pager(PagerFault::BadAddress | PagerFault::ReservedAddress)) =>
             {}
+        Some(
+            ReceiverFault::File(FileFault::TooLarge)
+            | ReceiverFault::Capture(CaptureFault::TooLarge),
+        ) => context.diagnostics.refuse_large(Role::Transmission),
         Some(_) => context.diagnostics.refuse(Role::Transmission),
     }
     let is_short = match fault {

@@ -1,12 +1,13 @@
 ghost use Rattle.std.specs.Prelude.{◌≡◌, ◌⊎◌, IfErr, IfOk, IsErrAnd, IsErrOf, Ok, OnErr};
 
 use crate::devices::WriterSink;
-use crate::diagnostics::{Diagnostics, OWN_REFUSAL, RefusedCall};
+use crate::diagnostics::{Diagnostics, OVER_LIMIT, OWN_REFUSAL, RefusedCall};
 use crate::fault::{Failure, FileFault};
 use crate::files::one_file;
 use crate::lines::print_fault;
 use crate::note::print_note;
 use crate::role::{Names, Role};
+use pocsag_pages::FILE_LIMIT;
 use std::alloc::{AllocError, Global};
 use std::fmt::Display;
 use std::io::{self, ErrorKind, Stderr, Stdout};
@@ -94,6 +95,7 @@ impl<'a> Context<'a> {
                 Some((one, other)) => { format!(in self.alloc; "{one} and {other} are one file") }
                 None => format!(in self.alloc; "{place}"),
             },
+            Some(OVER_LIMIT) => { format!(in self.alloc; "{place}: more than {FILE_LIMIT} bytes") }
             Some(code) => {
                 let reason = io::Error::from_raw_os_error(code);
                 format!(in self.alloc; "{place}: {reason}")

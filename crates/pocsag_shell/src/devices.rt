@@ -27,6 +27,11 @@ impl<'a, R: Read> ReaderSource<'a, R> {
             failures: 0,
         }
     }
+
+    /// What the file is to the command.
+    pub(crate) fn role(&self) -> Role {
+        self.role
+    }
 }
 
 impl<'a, R: Read> Source for ReaderSource<'a, R> {

@@ -4,6 +4,9 @@ use std::cell::{Cell, RefCell};
 /// In place of the system's error number: the command itself refuses the file.
 pub(crate) const OWN_REFUSAL: i32 = 0;
 
+/// The same of a file that is too large.
+pub(crate) const OVER_LIMIT: i32 = -1;
+
 /// The system refused a call on a file or a stream, or the command refuses the file.
 #[derive(Clone, Copy)]
 pub(crate) struct RefusedCall {
@@ -45,6 +48,11 @@ impl Diagnostics {
         };
         let refused_call = self.take_refused_call().unwrap_or(refused);
         self.refused_call.set(Some(refused_call));
+    }
+
+    /// Records that a file is too large.
+    pub fn refuse_large(&self, role: Role) {
+        self.meet(role, Some(OVER_LIMIT));
     }
 
     /// The last refused call. It is forgotten.

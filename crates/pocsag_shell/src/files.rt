@@ -90,6 +90,9 @@ pub fn load<R: Read>(
         }
         bytes.extend_from_slice(&piece[..count])?;
     }
+    if bytes.len() > FILE_LIMIT {
+        context.diagnostics.refuse_large(source.role());
+    }
     Ok(Loaded::new(context.alloc, bytes, false))
 }
 
@@ -270,6 +273,10 @@ pub(crate) fn one_file<'n>(
             let (Some(first), Some(second)) = (one.name, other.name) else {
                 continue;
             };
+            // Standard input and standard output: beside a transmission a certificate is written too.
+            if earlier == 0 && first == STANDARD && names.tx.is_some() {
+                continue;
+            }
             if first == second || refuse_one_file(rt, path_of(first), second, STANDARD).is_err() {
                 return Some((one, other));
             }

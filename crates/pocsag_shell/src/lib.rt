@@ -44,7 +44,7 @@ pub use group::{Both, Call, Group, Tables};
 pub use lines::{print, print_fault, print_numbers, put_whole};
 pub use loaded::Loaded;
 pub use memory_streams::MemoryStreams;
-pub use page_note::{first_asked, note_record};
+pub use page_note::{Excerpt, first_asked, note_record};
 pub use paths::{Named, equal_paths, refuse_equal};
 pub use placement::put_files;
 pub use program::run;

@@ -10,13 +10,13 @@ use std::fmt::{self, Display, Write};
 // How many bytes of a record are shown.
 const SHOWN: usize = 80;
 
-// The front of some bytes, with a question mark for each that is no visible character.
+/// The first bytes of a text, with a question mark for each that is no visible character.
 #[derive(Clone, Copy)]
-struct Front<'a> {
-    bytes: &'a [u8],
+pub struct Excerpt<'a> {
+    pub bytes: &'a [u8],
 }
 
-impl Display for Front<'_> {
+impl Display for Excerpt<'_> {
     fn fmt<W: fmt::Write>(&self, f: &mut fmt::Formatter<W>) -> fmt::Result {
         for byte in self.bytes.iter().take(SHOWN) {
             f.write_char(match byte {
@@ -100,7 +100,7 @@ pub fn note_record(context: Context<'_>, place: NamedFile<'_>, file: &[u8], faul
     let Some((line, bytes)) = record_at(context.alloc, file, number) else {
         return;
     };
-    let text = Front { bytes };
+    let text = Excerpt { bytes };
     match byte {
         Some(byte) => {
             let why = if byte > 127 { ", not ASCII" } else { "" };
@@ -120,6 +120,6 @@ pub fn first_asked(context: Context<'_>, file: &[u8]) -> Option<String> {
     }
     let (line, record) = record_at(context.alloc, file, 1)?;
     let bytes = record.split(|byte| *byte == b',').next()?;
-    let address = Front { bytes };
+    let address = Excerpt { bytes };
     format!(in context.alloc; "line {line}: address {address}").ok()
 }

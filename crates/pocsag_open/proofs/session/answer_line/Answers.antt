@@ -67,9 +67,9 @@ pub returns-clause-replied : goal.returns-clause-replied
 returns-clause-replied g c = λ is_known.
     let neither =
     other_none c.line_of.result _ c.in_default.not-List c.in_default.not-Plan c.in_default.not-Journal c.line_of.ensures.asks in
-    told_as c.answer_edit.result _ _ _ _ _ [] _ _ (λ known. sym (append-nil _))
+    told_as c.answer_edit-done.result _ _ _ _ _ [] _ _ (λ known. sym (append-nil _))
     (λ printed is. read _ c.requires c.in-Ok.ensures.spelled (edit_reply _ _ _ _ _ _ _ neither is))
-    (c.answer_edit.ensures.replied is_known)
+    (c.answer_edit-done.ensures.replied is_known)
 
 pub returns-in-Err-clause-cut : goal.returns-in-Err-clause-cut
 returns-in-Err-clause-cut g c = λ keeps is_known stands.
@@ -148,12 +148,12 @@ pub returns-clause-cut : goal.returns-clause-cut
 returns-clause-cut g c = λ keeps is_known stands.
     let neither =
     other_none c.line_of.result _ c.in_default.not-List c.in_default.not-Plan c.in_default.not-Journal c.line_of.ensures.asks in
-    on_err c.answer_edit.result _ _
+    on_err c.answer_edit-done.result _ _
     (cut_as (IsEditReply (fields_of c.in-Ok.row))
-    (RepliesAndPlaces g.P.OutputStore.is_known (HasFailedOutput g.P.Output.Sink.failures) c.args.settings.now.on_limit c.args.line.now (g.P.OutputStore.placed c.args.settings.now.store) (g.P.OutputStore.placed c.args.settings.now.store)) c.args.round.now.book (g.O.Sink.taken c.args.out.now) (g.O.Sink.taken c.answer_edit.new.out) g.K.Keeper.reads_as
-    (g.K.Keeper.may_leave c.answer_edit.new.round.keeper)
+    (RepliesAndPlaces g.P.OutputStore.is_known (HasFailedOutput g.P.Output.Sink.failures) c.args.settings.now.on_limit c.args.line.now (g.P.OutputStore.placed c.args.settings.now.store) (g.P.OutputStore.placed c.args.settings.now.store)) c.args.round.now.book (g.O.Sink.taken c.args.out.now) (g.O.Sink.taken c.answer_edit-done.new.out) g.K.Keeper.reads_as
+    (g.K.Keeper.may_leave c.answer_edit-done.new.round.keeper)
     (λ after printed is. ([], read _ c.requires c.in-Ok.ensures.spelled (edit_reply _ _ _ _ _ _ _ neither is), λ known. sym (append-nil _))))
-    (c.answer_edit.ensures.cut keeps is_known stands)
+    (c.answer_edit-done.ensures.cut keeps is_known stands)
 
 pub returns-in-Plan-clause-replied : goal.returns-in-Plan-clause-replied
 returns-in-Plan-clause-replied g c = λ is_known.
@@ -194,8 +194,8 @@ pub returns-clause-any_moment : goal.returns-clause-any_moment
 returns-clause-any_moment g c = λ keeps stands.
     let neither =
     other_none c.line_of.result _ c.in_default.not-List c.in_default.not-Plan c.in_default.not-Journal c.line_of.ensures.asks in
-    named g.K.Keeper.moment g.K.Keeper.left_since c.args.round.now.keeper c.answer_edit.new.round.keeper _ _
-    (c.answer_edit.ensures.any_moment keeps stands)
+    named g.K.Keeper.moment g.K.Keeper.left_since c.args.round.now.keeper c.answer_edit-done.new.round.keeper _ _
+    (c.answer_edit-done.ensures.any_moment keeps stands)
     (λ left now.
     read_as (IsEditReply (fields_of c.in-Ok.row)) (RepliesTo g.P.OutputStore.is_known (HasFailedOutput g.P.Output.Sink.failures) c.args.settings.now.on_limit c.args.line.now) c.args.round.now.book g.K.Keeper.reads_as left
     (λ after printed is. ([], read _ c.requires c.in-Ok.ensures.spelled (edit_reply _ _ _ _ _ _ _ neither is))) now)
@@ -236,6 +236,6 @@ returns-in-Journal-clause-any_moment g c = unmoved g (goal.at.returns-in-Journal
 pub returns-clause-explained : goal.returns-clause-explained
 returns-clause-explained g c = λ counts stands none.
     let line : IsLine (fields_of c.in-Ok.row) = read_line (fields_of c.in-Ok.row) _ c.in-Ok.ensures.spelled (text_feedless c.args.line.now none) in
-    for_fault c.answer_edit.result _ _
+    for_fault c.answer_edit-done.result _ _
     (λ e h. not_answered _ _ _ _ (fields_of c.in-Ok.row) _ _ _ _ e line h)
-    (c.answer_edit.ensures.explained counts stands)
+    (c.answer_edit-done.ensures.explained counts stands)
