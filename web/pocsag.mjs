@@ -75,13 +75,17 @@ const FRAMES = [...NUMBERS.flatMap((k) => FRAME.map(([name, size]) => [name + k,
 /* Where each field stands, as a C compiler lays them out, and where the next structure may begin. */
 function layout(listed, start = 0) {
   let end = start;
-  const places = listed.map(([name, size]) => {
-    const at = Math.ceil(end / size) * size;
+  const places = listed.map(([name, size, unit = size]) => {
+    const at = Math.ceil(end / unit) * unit;
     end = at + size;
     return [name, size, at];
   });
   return { places, end: Math.ceil(end / 8) * 8 };
 }
+
+/* What stands in a structure, by the names of its fields. */
+const valuesIn = (view, { places }) =>
+  Object.fromEntries(places.map(([name, size, at]) => [name, size === 8 ? Number(view.getBigUint64(at, true)) : view.getUint32(at, true)]));
 
 const bytesOf = (data) => {
   if (typeof data === "string") return new TextEncoder().encode(data);
@@ -113,50 +117,6 @@ function sizesOf(length, limit) {
   return { tx: 72 + 68 * batches, cert: 9 + Math.floor((9 * nodes - 3) / 2), rest: 2 * records + 3 * pages + 64 };
 }
 
-/* What one call holds of the module's memory: buffers, which `free` gives back. Memory that grows takes all views away, so
- * each is made where it is used. */
-class Buffers {
-  constructor(exports) {
-    this.exports = exports;
-    this.held = [];
-  }
-
-  take(size) {
-    const address = this.exports.pocsag_take(BigInt(size));
-    if (address === 0n) throw new Fault(3);
-    this.held.push(address);
-    return address;
-  }
-
-  free() {
-    for (const address of this.held.reverse()) this.exports.pocsag_give(address);
-  }
-
-  view(address, size) {
-    return new Uint8Array(this.exports.memory.buffer, Number(address), size);
-  }
-
-  /* The address and the length of bytes that are read. */
-  put(bytes) {
-    const address = this.take(bytes.length);
-    this.view(address, bytes.length).set(bytes);
-    return [address, BigInt(bytes.length)];
-  }
-
-  /* A structure of so many bytes that are 0. */
-  zeroed(size) {
-    const address = this.take(size);
-    this.view(address, size).fill(0);
-    return address;
-  }
-
-  read(address, { places }) {
-    const view = new DataView(this.exports.memory.buffer, Number(address));
-    const value = (size, at) => (size === 8 ? Number(view.getBigUint64(at, true)) : view.getUint32(at, true));
-    return Object.fromEntries(places.map(([name, size, at]) => [name, value(size, at)]));
-  }
-}
-
 /* The calls of the library over a compiled module. Each runs at once and is done when it returns. */
 export class Pocsag {
   #module;
@@ -166,50 +126,51 @@ export class Pocsag {
     this.#module = module;
   }
 
-  /* What the work gives with an instance of the module. One that trapped is lost, and one with much memory is not kept. */
-  #with(work) {
-    this.#exports ??= new WebAssembly.Instance(this.#module, {}).exports;
-    const buffers = new Buffers(this.#exports);
-    let isWhole = false;
-    try {
-      const given = work(buffers, this.#exports);
-      isWhole = true;
-      return given;
-    } catch (error) {
-      isWhole = error instanceof Fault;
-      throw error;
-    } finally {
-      if (isWhole) buffers.free();
-      if (!isWhole || this.#exports.memory.buffer.byteLength > LARGE) this.#exports = null;
-    }
+  get #instance() {
+    return (this.#exports ??= new WebAssembly.Instance(this.#module, {}).exports);
+  }
+
+  /* What the work gives with an instance of the module and a block of its memory. An instance that trapped is lost, and one with much
+   * memory is not kept. */
+  #with(size, work) {
+    const exports = this.#instance, block = exports.pocsag_take(BigInt(size));
+    if (block === 0n) throw new Fault(3);
+    this.#exports = null;
+    const given = work(exports, Number(block));
+    exports.pocsag_give(block);
+    if (exports.memory.buffer.byteLength <= LARGE) this.#exports = exports;
+    return given;
   }
 
   /* Calls `name` with what it reads, buffers of these sizes and numbers, and gives its status, what it tells, and the texts in
    * the buffers; the numbers may stand before the buffers, or before what it reads. A buffer that is too small gets the size that
-   * was told. */
+   * was told. All lies in one block of memory: what is read, the buffers, and then the lengths of the texts and what is told. */
   #call(name, told, { head = [], reads = [], first = [], sizes = [], numbers = [] }) {
-    return this.#with((buffers, exports) => {
-      const read = reads.flatMap((bytes) => buffers.put(bytes));
-      const info = layout(told), place = layout(PLACE, info.end);
-      for (;;) {
-        const outs = sizes.map((size) => ({ size, at: buffers.take(size), length: buffers.zeroed(8) }));
-        const at = buffers.zeroed(place.end);
-        const words = outs.flatMap((out) => [out.at, BigInt(out.size), out.length]);
-        const status = exports[name](...head, ...read, ...first, ...words, ...numbers, at) >>> 0;
-        const length = (out) => buffers.read(out.length, layout([["length", 8]])).length;
-        if (TOO_SMALL.includes(status) && outs.some((out) => length(out) > out.size)) {
-          sizes = outs.map((out) => (out.size === 0 ? 0 : Math.max(out.size, length(out))));
-          continue;
-        }
-        if (status > 1 || (status === 1 && told !== CHECK)) throw new Fault(status, buffers.read(at, place));
-        const texts = outs.map((out) => (length(out) > out.size ? null : buffers.view(out.at, length(out)).slice()));
-        return { status, info: buffers.read(at, info), texts };
+    const info = layout(told, 8 * sizes.length), place = layout(PLACE, info.end);
+    for (;;) {
+      const { places, end } = layout([...reads.map((it) => it.length), ...sizes, place.end].map((size, k) => [k, size, 8]));
+      const { status, view, lengths, texts } = this.#with(end, (exports, block) => {
+        const bytes = (k, size = places[k][1]) => new Uint8Array(exports.memory.buffer, block + places[k][2], size);
+        const words = places.map(([, size, at]) => [BigInt(block + at), BigInt(size)]), [tells] = words.pop();
+        reads.forEach((it, k) => bytes(k).set(it));
+        bytes(words.length).fill(0);
+        const given = words.slice(0, reads.length).flat(), outs = words.slice(reads.length).flatMap((it, k) => [...it, tells + BigInt(8 * k)]);
+        const status = exports[name](...head, ...given, ...first, ...outs, ...numbers, tells + BigInt(8 * sizes.length)) >>> 0;
+        const view = new DataView(bytes(words.length).slice().buffer), lengths = sizes.map((_, k) => Number(view.getBigUint64(8 * k, true)));
+        const texts = lengths.map((length, k) => (length > sizes[k] ? null : bytes(reads.length + k, length).slice()));
+        return { status, view, lengths, texts };
+      });
+      if (TOO_SMALL.includes(status) && lengths.some((length, k) => length > sizes[k])) {
+        sizes = sizes.map((size, k) => size && Math.max(size, lengths[k]));
+        continue;
       }
-    });
+      if (status > 1 || (status === 1 && told !== CHECK)) throw new Fault(status, valuesIn(view, place));
+      return { status, info: valuesIn(view, info), texts };
+    }
   }
 
   version() {
-    return this.#with((_, exports) => exports.pocsag_version());
+    return this.#instance.pocsag_version();
   }
 
   /* What a status says, without its place; and the version of the package. */
