@@ -3,6 +3,7 @@
  * carries out the calls of the system that the program makes. */
 import fs from "node:fs";
 import { isatty } from "node:tty";
+import { setFlagsFromString } from "node:v8";
 import { compiled, refuse, Run } from "./system.mjs";
 
 const PAUSE_MS = 5; // between two looks at a stream that is not ready
@@ -50,5 +51,6 @@ const system = {
   readSync: (file, bytes) => waited(() => fs.readSync(file, bytes)),
   writeSync: (file, bytes) => waited(() => fs.writeSync(file, bytes)),
 };
+setFlagsFromString("--wasm-tiering-budget=20000000"); // a short run takes longer to compile better than to end
 const run = new Run(system, words()), module = compiled(new URL("program.wasm", import.meta.url));
 process.exitCode = await module.then((it) => run.status(it), (error) => run.stopped(error));

@@ -204,6 +204,8 @@ def try_streams(tally, room, node):
         ("check pages.csv cert.bin", ">&-", (0, b"", b"")),
         ("check none.csv cert.bin", "2>&-", (3, b"", b"")),
         ("plan pages.csv a b", "<&- >&- 2>&-", (0, b"", b"")),
+        ("decode tx.bin", ">/dev/full", (3, b"", b"pocsag: cannot write\n")),
+        ("plan pages.csv /dev/full b", "", (3, b"", b"pocsag: cannot write\n")),
     ):
         told = outcome(["sh", "-c", f'"$0" {words} {closed}', str(node.path)], folder)
         tally.check(f"{words} {closed}", told == due, told)
