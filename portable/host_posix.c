@@ -13,13 +13,14 @@
 #include <stdlib.h>
 #include <string.h>
 #include <sys/file.h>
+#include <sys/mman.h>
 #include <sys/stat.h>
 #include <time.h>
 #include <unistd.h>
 #include "pocsag.h"
 #include "wasm-rt-impl.h"
 
-#if WASM_RT_MEMCHECK_SIGNAL_HANDLER || WASM_RT_USE_STACK_DEPTH_COUNT
+#if !WASM_RT_SKIP_SIGNAL_RECOVERY || WASM_RT_USE_STACK_DEPTH_COUNT
 #error "compile it as the Makefile does"
 #elif defined(__BYTE_ORDER__) && __BYTE_ORDER__ != __ORDER_LITTLE_ENDIAN__
 #error "the module runs on little-endian processors alone"
@@ -34,8 +35,11 @@
 #define fdatasync(file) fsync(file)
 #endif
 
+/* The bytes of addresses that are taken: with 64 bits all that the module can name, so that the system refuses those out of range. */
+#define ADDRESSES ((size_t)1 << (WASM_RT_MEMCHECK_SIGNAL_HANDLER ? 33 : 24))
+
 enum {
-    LISTS = 16,         /* folders that can be listed at once; the program lists one */
+    FIRST = 1 << 24,    /* bytes of memory, more than the module begins with */
     STATUS_SIZE = 256,  /* bytes of what statx writes */
     ENTRY_HEAD = 19,    /* bytes in front of the name in an entry of a folder */
     ENTRY_ROOM = 1056,  /* bytes for an entry with the longest name of any system */
@@ -48,7 +52,7 @@ typedef struct Z_env_instance_t {
     u32 error; /* of the last call that failed */
     u64 count; /* of the words */
     char **words;
-    DIR *lists[LISTS];
+    DIR *list; /* of the folder that is open, since the program lists one at a time */
 } Host;
 
 struct name { int here; u32 there; }; /* what has a number here, and one for the module */
@@ -103,28 +107,18 @@ static const char *text(Host *host, u64 address)
     return start;
 }
 
-/* The place of the list of an open folder, or for -1 that of none; NULL where there is no such place. */
-static DIR **list_of(Host *host, int file)
-{
-    for (DIR **place = host->lists; place < host->lists + LISTS; place++)
-        if ((*place ? dirfd(*place) : -1) == file)
-            return place;
-    return NULL;
-}
-
 static int open_folder(Host *host, const char *path)
 {
-    DIR **place = list_of(host, -1);
-    int file = place ? open(path, O_RDONLY | O_DIRECTORY | O_NOFOLLOW | O_CLOEXEC) : (errno = EMFILE, -1);
-    return file < 0 || (*place = fdopendir(file)) ? file : (close(file), -1);
+    int file = host->list ? (errno = EMFILE, -1) : open(path, O_RDONLY | O_DIRECTORY | O_NOFOLLOW | O_CLOEXEC);
+    return file < 0 || (host->list = fdopendir(file)) ? file : (close(file), -1);
 }
 
 static int close_file(Host *host, int file)
 {
-    DIR **place = list_of(host, file), *list = place ? *place : NULL;
-    if (!list)
+    DIR *list = host->list;
+    if (!list || dirfd(list) != file)
         return close(file);
-    *place = NULL;
+    host->list = NULL;
     return closedir(list);
 }
 
@@ -206,11 +200,10 @@ u32 Z_envZ_statx(Host *host, u32 from, u64 path, u32 how, u32 asked, u64 room)
 /* Writes the next entries of a folder, as many as there is room for, and returns how many bytes they take. */
 u64 Z_envZ_getdents64(Host *host, u32 file, u64 room, u64 size)
 {
-    DIR **place = list_of(host, (int)file);
     char *to = at(host, room, size), *start = to;
     struct dirent *entry;
-    errno = place && *place && size >= ENTRY_ROOM ? 0 : EINVAL;
-    while (!errno && start + size - to >= ENTRY_ROOM && (entry = readdir(*place))) {
+    errno = host->list && dirfd(host->list) == (int)file && size >= ENTRY_ROOM ? 0 : EINVAL;
+    while (!errno && start + size - to >= ENTRY_ROOM && (entry = readdir(host->list))) {
         uint16_t length = (uint16_t)strlen(entry->d_name), whole = (ENTRY_HEAD + length + 8) / 8 * 8;
         memset(to, 0, whole);
         memcpy(to + 16, &whole, sizeof whole);
@@ -220,25 +213,33 @@ u64 Z_envZ_getdents64(Host *host, u32 file, u64 room, u64 size)
     return (u64)(errno && to == start ? done(host, -1) : to - start);
 }
 
-/* As all addresses of the module are checked, one that the system refuses is behind the end of the stack. */
-static void end_of_stack(int number)
+static Host host;
+
+/* An address that the system refuses is one of the module that is out of range, or it is behind the end of the stack. */
+static void refused(int number, siginfo_t *about, void *context)
 {
-    wasm_rt_trap(number ? WASM_RT_TRAP_EXHAUSTION : WASM_RT_TRAP_NONE);
+    u64 distance = (u64)((char *)about->si_addr - (char *)host.module.w2c_memory.data);
+    wasm_rt_trap(WASM_RT_MEMCHECK_SIGNAL_HANDLER && distance < ADDRESSES ? WASM_RT_TRAP_OOB : WASM_RT_TRAP_EXHAUSTION);
+}
+
+/* Whether the system gives what the module begins with. wasm2c does not look. */
+static int has_memory(void)
+{
+    void *memory = mmap(NULL, ADDRESSES, PROT_NONE, MAP_ANONYMOUS | MAP_PRIVATE, -1, 0);
+    return memory != MAP_FAILED && mprotect(memory, FIRST, PROT_READ | PROT_WRITE) == 0 && munmap(memory, ADDRESSES) == 0;
 }
 
 int main(int count, char **words)
 {
     static char room[1 << 16];
-    static Host host;
+    const struct sigaction fatal = {.sa_sigaction = refused, .sa_flags = SA_ONSTACK | SA_SIGINFO};
     host.count = (u64)count, host.words = words;
     sigaltstack(&(stack_t){.ss_sp = room, .ss_size = sizeof room}, NULL);
-    sigaction(SIGSEGV, &(struct sigaction){.sa_handler = end_of_stack, .sa_flags = SA_ONSTACK}, NULL);
-    sigaction(SIGBUS, &(struct sigaction){.sa_handler = end_of_stack, .sa_flags = SA_ONSTACK}, NULL);
+    sigaction(SIGSEGV, &fatal, NULL);
+    sigaction(SIGBUS, &fatal, NULL);
     signal(SIGPIPE, SIG_IGN);
-    void *volatile memory = malloc(1 << 25); /* more than the module begins with; wasm2c does not look whether it is there */
-    free(memory);
     wasm_rt_trap_t trap = wasm_rt_impl_try();
-    if (trap || !memory) { /* what fails before the module runs was refused its memory */
+    if (trap || !has_memory()) { /* what fails before the module runs was refused its memory */
         fprintf(stderr, "pocsag: %s\n", host.module.w2c_memory.max_pages == MOST_PAGES ? wasm_rt_strerror(trap) : "out of memory");
         return NO_MEMORY;
     }

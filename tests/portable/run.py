@@ -1,8 +1,8 @@
 #!/usr/bin/env python3
 """Runs the program as C beside the native one: by cases for its host, and by the scripts that run the program.
 
-    tests/portable/run.py          also compiled for 32-bit ARM, under an emulator
-    tests/portable/run.py --all    and with musl, and for RISC-V
+    tests/portable/run.py             by this machine's compiler
+    tests/portable/run.py --others    with musl, and for 32-bit ARM and RISC-V under emulators
 
 It is made over the proofs that stand; without the toolchain it is the one of release/. What is compiled is kept in out/portable,
 which release/make takes it from too. Where a tool is missing, that part is left out and says so.
@@ -25,7 +25,7 @@ import packages
 import products
 import version
 from cases import CASES
-from tally import LIBRARY, PROGRAM, Tally, as_nobody
+from tally import LIBRARY, PROGRAM, Tally, as_nobody, said
 
 HERE = pathlib.Path(__file__).resolve().parent
 # The scripts that run the program, and of how many of their cases one is tried here: the host is not another in each. Those of
@@ -33,6 +33,9 @@ HERE = pathlib.Path(__file__).resolve().parent
 SCRIPTS = {"tests/program/run.py": 13, "tests/program/open.py": 1, "tests/journal/run.py": 7, "tests/sound/run.py": 13, "tests/capture/run.py": 13,
            "tests/explain/run.py": 13, "tests/pictures/run.py": 13, "tests/operation/queues.py": 1}
 ON_ARM = {"tests/program/run.py": 101, "tests/program/open.py": 101, "tests/journal/run.py": 101}
+# How the Makefile has the runtime of wasm2c, and what it has where each address is checked.
+RUNTIME = ["-DWASM_RT_SKIP_SIGNAL_RECOVERY=1", "-DWASM_RT_USE_STACK_DEPTH_COUNT=0"]
+CHECKS = {"by the system": [], "one by one": ["-DWASM_RT_MEMCHECK_SIGNAL_HANDLER=0"]}
 OUT_OF_RANGE = "pocsag: Out-of-bounds access in linear memory or a table\n"
 END_OF_STACK = "pocsag: Call stack exhausted\n"
 OUT_OF_MEMORY = "pocsag: out of memory\n"
@@ -110,16 +113,14 @@ def limited(limit, program, *words):
 
 
 def try_memory(tally, room, program):
-    """Under each limit of memory the answer is that with ample memory, or that there is none. With less than the first the system does
-    not load the program."""
+    """Under each limit of memory the answer is that with ample memory, or that there is none; also where there are too few addresses."""
     pages = room / "many.csv"
-    pages.write_text("address,kind,message\n" + "".join(f"{k},numeric,{k}\n" for k in range(8000)))
-    found = []
-    for limit in (*range(12_000, 50_000, 2_000), 1_000_000):
-        done = limited(f"-v {limit}", program, "report", "--rate", "1200", str(pages))
-        found.append((done.returncode, done.stdout, done.stderr))
-    number = found.index(found[-1])
-    tally.check("what ample memory gives", found[-1][0] == 0 and found[-1][1].startswith("pages 8000\n"), found[-1])
+    pages.write_text("address,kind,message\n" + "".join(f"{k},alpha,{'x' * 500}\n" for k in range(16_000)))
+    limits = (*range(12_000, 50_000, 2_000), 1_000_000)
+    found = [said(limited(f"-d {limit}", program, "report", "--rate", "1200", str(pages))) for limit in limits]
+    number, few = found.index(found[-1]), said(limited("-v 1000000", program, "--version"))
+    tally.check("too few addresses", few == (3, "", OUT_OF_MEMORY), few)
+    tally.check("what ample memory gives", found[-1][0] == 0 and found[-1][1].startswith("pages 16000\n"), found[-1])
     tally.check("enough is enough", found[number:] == [found[-1]] * (len(found) - number), found)
     tally.check("and less is told", number > 5 and found[:number] == [(3, "", OUT_OF_MEMORY)] * number, found)
 
@@ -131,7 +132,7 @@ def try_stack(tally, room, program):
     refused = 0
     for size in (48, 64, 96, 128, 192, 256, 512, 1024, 2048, 8192):
         done = limited(f"-s {size}", program, "check", str(folder / "p.csv"), str(folder / "deep"))
-        told = done.returncode, done.stdout, done.stderr
+        told = said(done)
         tally.check(f"{size} KiB of stack", told == (1, "not shown\n", "") or size < 2048 and told == (3, "", END_OF_STACK), told)
         refused += told == (3, "", END_OF_STACK)
     tally.check("the stack ended", refused > 0)
@@ -141,44 +142,43 @@ def try_out_of_range(tally, room, folder):
     """A module that is not the program's: what it asks for ends the run, and nothing is removed."""
     stand_in = room / "stand_in"
     files = [HERE / "stand_in.c", folder / "host_posix.c", folder / "wasm-rt-impl.c"]
-    settings = ["-O1", "-DWASM_RT_MEMCHECK_SIGNAL_HANDLER=0", "-DWASM_RT_USE_STACK_DEPTH_COUNT=0", f"-I{folder}"]
-    subprocess.run(["cc", *settings, "-o", str(stand_in), *map(str, files)], check=True)
-    for word in ("read", "write", "length", "path", "status", "folder", "time", "word", "stack"):
-        done = subprocess.run([str(stand_in), word], capture_output=True, text=True, stdin=subprocess.DEVNULL)
-        wanted = (3, "", END_OF_STACK if word == "stack" else OUT_OF_RANGE)
-        tally.check(f"out of range: {word}", (done.returncode, done.stdout, done.stderr) == wanted, done)
+    for checked, settings in CHECKS.items():
+        subprocess.run(["cc", "-O1", *RUNTIME, *settings, f"-I{folder}", "-o", str(stand_in), *map(str, files)], check=True)
+        for word in ("read", "write", "length", "path", "status", "folder", "time", "word", "stack", *(() if settings else ("load", "far"))):
+            done = subprocess.run([str(stand_in), word], capture_output=True, text=True, stdin=subprocess.DEVNULL)
+            tally.check(f"out of range, seen {checked}: {word}", said(done) == (3, "", END_OF_STACK if word == "stack" else OUT_OF_RANGE), done)
+
+
+def try_check(tally, folder, name, emulator=""):
+    done = subprocess.run(["make", "-s", f"EMULATOR={emulator}", "check"], cwd=folder, capture_output=True, text=True)
+    tally.check(f"make check: {name}", done.returncode == 0 and done.stdout.endswith(" passed, 0 failed\n"), done)
 
 
 def try_package(tally, folder):
     """`make check` and `make install` of the package, whose compiler warns of nothing in the host."""
-    words = ["-std=c99", "-pedantic", "-Wall", "-Wextra", "-Wno-unused-parameter", "-Werror", "-fsyntax-only"]
-    settings = ["-DWASM_RT_MEMCHECK_SIGNAL_HANDLER=0", "-DWASM_RT_USE_STACK_DEPTH_COUNT=0"]
-    done = subprocess.run(["cc", *words, *settings, "host_posix.c"], cwd=folder, capture_output=True, text=True)
-    tally.check("the host is C99 without a warning", done.returncode == 0, done.stderr)
-    done = subprocess.run(["cc", "-fsyntax-only", "host_posix.c"], cwd=folder, capture_output=True, text=True)
+    in_folder = {"cwd": folder, "capture_output": True, "text": True}
+    words = ["cc", "-std=c99", "-pedantic", "-Wall", "-Wextra", "-Wno-unused-parameter", "-Werror", "-fsyntax-only", *RUNTIME]
+    for settings in CHECKS.values():
+        done = subprocess.run([*words, *settings, "host_posix.c"], **in_folder)
+        tally.check(f"the host is C99 without a warning {settings}", done.returncode == 0, done.stderr)
+    done = subprocess.run(["cc", "-fsyntax-only", "host_posix.c"], **in_folder)
     tally.check("compiled otherwise it is refused", "compile it as the Makefile does" in done.stderr, done.stderr)
-    done = subprocess.run(["make", "-s", "check"], cwd=folder, capture_output=True, text=True)
-    tally.check("make check", done.returncode == 0 and done.stdout.endswith(" passed, 0 failed\n"), done)
-    done = subprocess.run(["make", "-s", "PREFIX=/usr", f"DESTDIR={folder}/there", "install"], cwd=folder, capture_output=True, text=True)
+    try_check(tally, folder, "native")
+    done = subprocess.run(["make", "-s", "PREFIX=/usr", f"DESTDIR={folder}/there", "install"], **in_folder)
     brought = [folder / "there/usr" / it for it in ("bin/pocsag", "share/man/man1/pocsag.1", "share/pocsag/examples/enqueue")]
     tally.check("make install", done.returncode == 0 and all(it.is_file() for it in brought), done)
     (folder / "wrong").write_text('#!/bin/sh\n"$REAL" "$@" | sed "s/2/3/"\n')
     (folder / "wrong").chmod(0o755)
     environment = {**os.environ, "PROGRAM": str(folder / "wrong"), "REAL": str(folder / "bin/pocsag")}
-    done = subprocess.run(["sh", "check.sh"], cwd=folder, env=environment, capture_output=True, text=True)
+    done = subprocess.run(["sh", "check.sh"], env=environment, **in_folder)
     tally.check("which finds a wrong program", done.returncode == 1 and "FAILED loops apart" in done.stdout, done)
 
 
 def try_armhf(tally, room):
     """The program for 32-bit ARM, under an emulator."""
-    emulator, native = arm64.EMULATORS[products.ARMHF], room / "native armhf"
-    try:
-        products.linker_of(products.ARMHF) if LIBRARY else products.compiler_of_armhf()
-    except products.Missing as why:
-        print(f"left out: {why}")
-        return
-    if not shutil.which(emulator):
-        print(f"left out: {emulator} is missing; on Debian: apt-get install qemu-user")
+    native, why_not = room / "native armhf", arm64.why_not(products.ARMHF)
+    if why_not:
+        print(f"left out: {why_not}")
         return
     native.write_bytes(released(f"pocsag_{version.DEBIAN}_armhf.deb")["usr/bin/pocsag"].data if LIBRARY else products.armhf_program().read_bytes())
     native.chmod(0o755)
@@ -197,9 +197,18 @@ def try_others(tally, room):
         if not all(map(shutil.which, filter(None, (compiler, emulator)))):
             print(f"left out: {name}, since {compiler} or {emulator} is missing")
             continue
-        folder = compiled(room, name, f"CC={compiler}", "CFLAGS=-O0", "LDFLAGS=-static")
-        done = subprocess.run(["make", "-s", f"EMULATOR={emulator}", "check"], cwd=folder, capture_output=True, text=True)
-        tally.check(f"make check: {name}", done.returncode == 0 and done.stdout.endswith(" passed, 0 failed\n"), done)
+        try_check(tally, compiled(room, name, f"CC={compiler}", "CFLAGS=-O0", "LDFLAGS=-static"), name, emulator)
+
+
+def try_native(tally, room):
+    """The program by this machine's compiler."""
+    folder = compiled(room, "native", "CFLAGS=-O1")
+    program = shutil.copy(folder / "bin/pocsag", room / "pocsag")
+    for part in (try_cases, try_memory, try_stack):
+        part(tally, room, program)
+    try_out_of_range(tally, room, folder)
+    try_package(tally, folder)
+    arm64.try_scripts(tally, program, SCRIPTS)
 
 
 def main(words):
@@ -211,18 +220,8 @@ def main(words):
     with tempfile.TemporaryDirectory() as name:
         room = pathlib.Path(name)
         room.chmod(0o755)
-        folder = compiled(room, "native", "CFLAGS=-O1")
-        program = shutil.copy(folder / "bin/pocsag", room / "pocsag")
-        try_cases(tally, room, program)
-        for part in (try_memory, try_stack):
-            part(tally, room, program)
-        try_out_of_range(tally, room, folder)
-        try_package(tally, folder)
-        scripts = {it: one_in for it, one_in in SCRIPTS.items() if not LIBRARY or it != "tests/faults/run.py"}
-        arm64.try_scripts(tally, program, scripts)
-        try_armhf(tally, room)
-        if words == ["--all"]:
-            try_others(tally, room)
+        for part in (try_others, try_armhf) if words == ["--others"] else (try_native,):
+            part(tally, room)
     return tally.end()
 
 

@@ -47,6 +47,10 @@ u32 Z_pocsagZ_main(Z_pocsag_instance_t *module, u32 count, u64 words)
         Z_envZ_nanosleep(host, size - 8, 0);
     if (strcmp(word, "word") == 0)
         Z_envZ_rattle_arg(host, 1, size - 1, 4);
+    if (strcmp(word, "load") == 0)
+        return module->w2c_memory.data[size];
+    if (strcmp(word, "far") == 0)
+        return module->w2c_memory.data[2 * (u64)UINT32_MAX];
     if (strcmp(word, "stack") == 0)
         return (u32)deeper(1);
     return 11;

@@ -21,18 +21,17 @@ import products
 from tally import PROGRAM, Tally
 
 EMULATORS = {products.ARM: "qemu-aarch64", products.ARMHF: "qemu-arm"}
-EMULATOR = EMULATORS[products.ARM]
 SCRIPTS = ("tests/program/run.py", "tests/program/open.py", "tests/journal/run.py", "tests/sound/run.py", "tests/vectors/run.py")
 ROUNDS = 10
 HEADER = "address,kind,message\n"
 
 
-def why_not():
-    """What is missing for this, or nothing."""
-    if not shutil.which(EMULATOR):
-        return f"{EMULATOR} is missing; on Debian: apt-get install qemu-user"
+def why_not(processor=products.ARM):
+    """What is missing for a processor, or nothing."""
+    if not shutil.which(EMULATORS[processor]):
+        return f"{EMULATORS[processor]} is missing; on Debian: apt-get install qemu-user"
     try:
-        products.linker_of(products.ARM)
+        products.linker_of(processor)
     except products.Missing as why:
         return str(why)
     return ""
