@@ -6,6 +6,12 @@ transmission t.bin and its certificate c.cert.
 
 NO_PROCESS = 4999999  # above the greatest number that Linux gives a process
 
+# Where the system refuses a call, `--keep` leaves the older files, of which there are these.
+REFUSED_CALLS = [
+    ("--keep goes back where its second rename is refused", "t c", "rename", "EIO:when=2"),
+    ("--keep where the first rename is refused", "t", "rename", "EACCES:when=1"),
+    ("a disk that does not synchronise", "t", "fsync,fdatasync", "EIO"),
+]
 CASES = [
     ("a new journal", "pocsag journal,1\nadd,8,tone0,\ncancel,8\nadd,9,alpha,x\n", """
         printf 'add,8,tone0,\\ncancel,8\\nadd,9,alpha,x\\n' | pocsag open --journal j
@@ -33,27 +39,13 @@ CASES = [
         cat j
         echo 0 edits
     """),
-    ("--keep goes back where its second rename is refused", "status 3\nold\nold", """
-        echo old > t; echo old > c
-        traced -e trace=rename -e inject=rename:error=EIO:when=2 plan p.csv t c --keep --verbose
+    *((name, "status 3\n" + len(older.split()) * "old\n", f"""
+        echo old | tee {older} > /dev/null
+        traced -e trace={calls} -e inject={calls}:error={error} plan p.csv t c --keep --verbose
         echo "status $?"
-        cat t c
+        cat {older}
         ls
-    """),
-    ("--keep where the first rename is refused", "status 3", """
-        echo old > t
-        traced -e trace=rename -e inject=rename:error=EACCES:when=1 plan p.csv t c --keep --verbose
-        echo "status $?"
-        cat t
-        ls
-    """),
-    ("a disk that does not synchronise", "status 3", """
-        echo old > t
-        traced -e trace=fsync,fdatasync -e inject=fsync,fdatasync:error=EIO plan p.csv t c --keep --verbose
-        echo "status $?"
-        cat t
-        ls
-    """),
+    """) for name, older, calls, error in REFUSED_CALLS),
     ("what a killed run left", "status 0\nc\nc.cert\nother.txt\np.csv\nt\nt.bin\nx.pocsag.N.new", f"""
         touch t.pocsag.{NO_PROCESS}.new t.pocsag.{NO_PROCESS}.old c.pocsag.lock x.pocsag.{NO_PROCESS}.new x.pocsag.1.new other.txt
         pocsag plan p.csv t c --keep

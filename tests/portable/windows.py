@@ -15,15 +15,15 @@ import subprocess
 import sys
 import tempfile
 import time
-import zipfile
 
 sys.dont_write_bytecode = True
 TOP = pathlib.Path(__file__).resolve().parents[2]
-sys.path[:0] = [str(TOP / it) for it in ("tests", "tests/program", "portable", "tools")]
+sys.path[:0] = [str(TOP / it) for it in ("tests", "tests/program", "portable", "release", "tools")]
+import packages
 import run as program
 import version
 import windows
-from tally import ENDS, LIBRARY, PROGRAM, Tally
+from tally import ENDS, LIBRARY, Tally, said
 
 TOOLS = {"wine": "wine", "wineserver": "wine", "wasm2c": "wabt", "wat2wasm": "wabt", windows.COMPILER: "gcc-mingw-w64-x86-64"}  # with Debian's packages
 STREAMS = ("stdin", "stdout", "stderr")
@@ -65,8 +65,7 @@ class Windows:
 def released():
     """The program of the release."""
     name = f"pocsag-{version.VERSION}-windows-x86_64"
-    with zipfile.ZipFile(TOP / f"release/{name}.zip") as package:
-        return package.read(f"{name}/{windows.PROGRAM}")
+    return packages.read(f"{name}.zip", (TOP / f"release/{name}.zip").read_bytes())[f"{name}/{windows.PROGRAM}"].data
 
 
 def ended(process, stdin=b""):
@@ -76,8 +75,7 @@ def ended(process, stdin=b""):
 
 
 def native(words, folder, stdin=b""):
-    done = subprocess.run([str(PROGRAM), *words], cwd=folder, input=stdin, capture_output=True, timeout=110)
-    return done.returncode, done.stdout, done.stderr
+    return said(program.run(words, folder, stdin))
 
 
 def put(folder, files):
@@ -277,11 +275,9 @@ def try_journal(tally, room, wine):
     put(folder, {})
     native(["open", "--journal", "old"], folder, b"add,8,tone0,\n")
     before = files_of(folder)
-    for name in ("new", "old"):
-        told = wine.run(["open", "--journal", name], folder, b"add,16,tone0,\n")
-        tally.check(f"the journal {name}", told == (3, b"", CANNOT_OPEN), told)
-        told = wine.run(["open", "--journal", name, "--verbose"], folder, b"add,16,tone0,\n")
-        tally.check(f"the journal {name} in words", told == (3, b"", CANNOT_OPEN + why % name.encode()), told)
+    for name, told_why in itertools.product(("new", "old"), (False, True)):
+        told = wine.run(["open", "--journal", name, *["--verbose"] * told_why], folder, b"add,16,tone0,\n")
+        tally.check(f"the journal {name}, told why: {told_why}", told == (3, b"", CANNOT_OPEN + why % name.encode() * told_why), told)
     tally.check("no journal is made or changed", before and files_of(folder) == before, files_of(folder))
     told = wine.run(["open", "--journal", "old", "--read-only"], folder)
     tally.check("a journal is listed", told == (0, HEADER + b"8,tone0,\n", b"pocsag: 1 edit read, 1 page\n"), told)

@@ -72,13 +72,12 @@ def try_types(tally, user):
     if not shutil.which("tsc"):
         print("skipped: tsc is missing; on Debian: apt-get install node-typescript")
         return
-    (user / "use.mts").write_text(USE)
-    (user / "use.ts").write_text(USE)
-    for number, text in enumerate(REFUSED):
-        (user / f"wrong{number}.mts").write_text(USE + text)
+    files = {"use.mts": USE, "use.ts": USE, **{f"wrong{number}.mts": USE + text for number, text in enumerate(REFUSED)}}
+    for name, text in files.items():
+        (user / name).write_text(text)
     for resolution, module in WAYS:
         words = ["tsc", "--strict", "--skipDefaultLibCheck", "--noEmit", "--target", "es2022", "--lib", "es2022", "--module", module, "--moduleResolution", resolution]
-        done = run(*words, "use.mts", "use.ts", *(f"wrong{number}.mts" for number in range(len(REFUSED))), cwd=user)
+        done = run(*words, *files, cwd=user)
         told = re.findall(r"^(?:wrong(\d+)\.mts\(\d+,\d+\): )?.*?error (TS\d+)", done.stdout, re.M)
         tally.check(f"types by {resolution}, and the wrong uses alone are refused", told == [(str(number), code) for number, code in enumerate(REFUSED.values())], done.stdout)
 

@@ -8,7 +8,6 @@ release's files. Where Node, the toolchain, Binaryen or a browser is missing it 
 The last line is 'N passed, M failed'.
 """
 
-import importlib.util
 import json
 import os
 import pathlib
@@ -26,15 +25,7 @@ sys.path[:0] = [str(HERE), str(HERE.parent)]
 import host
 import native
 import package
-from tally import LIBRARY, PROGRAM, run_parts
-
-
-def script_at(name, path):
-    """A script of the repository as a module."""
-    spec = importlib.util.spec_from_file_location(name, TOP / path)
-    made = importlib.util.module_from_spec(spec)
-    spec.loader.exec_module(made)
-    return made
+from tally import LIBRARY, PROGRAM, module_at, run_parts
 
 
 ROUNDS, PER_BATCH = 2_000, 500
@@ -122,9 +113,9 @@ class Made:
     """What the tests share: the native library and the module, made in folders of their own, and the scripts of other tests."""
 
     def __init__(self, room):
-        self.library = script_at("library_tests", "tests/library/run.py")
-        self.web = script_at("web_make", "web/make.py")
-        self.program = script_at("program_tests", "tests/program/run.py")
+        self.library = module_at("library_tests", "tests/library/run.py")
+        self.web = module_at("web_make", "web/make.py")
+        self.program = module_at("program_tests", "tests/program/run.py")
         (room / "native").mkdir()
         if LIBRARY:
             shutil.copytree(pathlib.Path(LIBRARY) / "lib", room / "native", dirs_exist_ok=True)
