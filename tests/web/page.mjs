@@ -66,6 +66,9 @@ async function tryFirst(page) {
   tally.is("and marks it in both pictures and the table", await page.value(`[".sent:has(.on)", "#rows .on"].map((it) => document.querySelectorAll(it).length)`), [2, 1]);
   tally.check("why there are no fewer", (await page.text("#nodes")).includes("all slots: 24 codewords, room for 16"), await page.text("#nodes"));
   tally.check("in words", (await page.text("#node")).includes("24 codewords must stand in all slots, with room for 16: 8 too many"), await page.text("#node"));
+  const backs = (selector) => page.value(`[...new Set([...document.querySelectorAll("${selector}")].map((it) => getComputedStyle(it).backgroundColor))]`);
+  const [bar, drawn] = await Promise.all([".load > span", ".page"].map(backs));
+  tally.check("the bar has two tints that no page has", bar.length === 2 && !bar.some((it) => drawn.includes(it)), [bar, drawn]);
 }
 
 async function tryEditing(page) {
@@ -110,6 +113,7 @@ async function tryQuotes(page) {
   tally.is("with a way to read it", await shown(), [true]);
   await page.click("#as-table");
   tally.is("which stands at the row", await shown(), [false, "the quote in line 3 is not closed: mend it in the CSV, or Read it all the same"]);
+  tally.is("with the lines that it swallowed", await page.value(`document.querySelector('#rows [data-row="1"] .message').value`), "Pump 4\u21b524,alpha,Call\u21b58,tone0,\u21b5");
   await page.fill('#rows [data-row="0"] .address', "16");
   await page.click('#rows [data-row="0"] .remove');
   await page.click("#add");

@@ -8,10 +8,11 @@ const quoted = (field) => (/[",\r\n]/.test(field) ? `"${field.replaceAll('"', '"
 /* A page file of these fields. */
 export const fileOf = (rows) => [HEADER, ...rows.map((fields) => fields.map(quoted).join(","))].join("\n") + "\n";
 
-/* A field without what a line cannot show: each control character as its picture; and back. */
+/* A field without what a line cannot show: the end of a line as an arrow, which every font has, each other control character as its
+ * picture; and back. */
 const shifted = (text, by) => text.replace(/./gs, (it) => String.fromCharCode(it.charCodeAt(0) + by));
-export const pictured = (field) => field.replace(/[\x00-\x1f]+/g, (it) => shifted(it, 0x2400)).replaceAll("\x7f", "\u2421");
-export const unpictured = (line) => line.replace(/[\u2400-\u241f]+/g, (it) => shifted(it, -0x2400)).replaceAll("\u2421", "\x7f");
+export const pictured = (field) => field.replace(/[\x00-\x1f]+/g, (it) => shifted(it, 0x2400)).replaceAll("\x7f", "\u2421").replaceAll("\u240a", "\u21b5");
+export const unpictured = (line) => line.replaceAll("\u21b5", "\n").replace(/[\u2400-\u241f]+/g, (it) => shifted(it, -0x2400)).replaceAll("\u2421", "\x7f");
 
 /* The milliseconds of so many batches at a rate, rounded up. */
 export const airtimeOf = (batches, rate) => Math.ceil(((576 + 544 * batches) * 1000) / rate);

@@ -345,7 +345,7 @@ function countsOf(sent, rate) {
 }
 
 const HOW_TO_READ =
-  "A row is a batch: eight frames of two codewords. A page may start only in the frame of its address; pale codewords are idle. " +
+  "A row is a batch: eight frames of two codewords. A page may start only in the frame of its address; faint codewords are idle. " +
   "Point at one, or tap it, to see its page.";
 let pointed = null;
 
@@ -499,8 +499,8 @@ function sumOf({ slots, least, room }) {
 /* A bar of the codewords that must stand in the slots, a part for each class of pages, and a line at the room. */
 function loadOf({ least, room, shares }) {
   const bar = made("div", { className: "load" }), percent = (part) => `${(100 * part) / Math.max(least, 1)}%`;
-  for (const [k, { least: share }] of shares.entries()) {
-    const part = made("span", { textContent: share > 0.06 * least ? number(share) : "", className: `h${k % 12}` });
+  for (const { least: share } of shares) {
+    const part = made("span", { textContent: share > 0.06 * least ? number(share) : "" });
     part.style.flexGrow = share;
     bar.append(part);
   }
