@@ -24,6 +24,9 @@ const PLANNED = `document.querySelector("#plan").ariaBusy === "false"`;
 const title = (page, text) => page.comes(`${PLANNED} && document.querySelector("#plan-title").textContent === ${JSON.stringify(text)}`);
 const says = (page, selector, text, once = PLANNED) => page.comes(`${once} && document.querySelector("${selector}").textContent.includes(${JSON.stringify(text)})`);
 
+/* Whether an element is in view in the table. */
+const isInTable = (page, it) => page.value(`((it, box) => it.top >= box.top && it.bottom <= box.bottom)(${it}.getBoundingClientRect(), document.querySelector("#rows").getBoundingClientRect())`);
+
 /* A new round, as a user types it. */
 async function round(page, text) {
   await page.click("#as-csv");
@@ -90,10 +93,11 @@ async function tryEditing(page) {
   await page.click('#rows [data-row="0"] .remove');
   tally.check("a page is removed", await says(page, "#status", "6 pages"), await page.text("#status"));
   tally.is("and the plan is shown again", await inView(), 4);
-  await round(page, HEADER + "1,tone0,\n2,tone9,\n");
-  tally.check("a bad record is named", await says(page, "#status", "record 2: unknown kind"), await page.text("#status"));
+  await round(page, HEADER + [...Array(99).keys()].map((k) => `${k},tone${k === 90 ? 9 : 0},\n`).join(""));
+  tally.check("a bad record is named", await says(page, "#status", "record 91: unknown kind"), await page.text("#status"));
   await page.click("#as-table");
-  tally.check("and marked in the table", await page.value(`document.querySelector('#rows [data-row="1"]').classList.contains("wrong")`));
+  tally.check("and marked in the table", await page.value(`document.querySelector('#rows [data-row="90"]').classList.contains("wrong")`));
+  tally.check("with why, in view", await isInTable(page, `document.querySelector("#rows .wrong .why")`));
   const every = [...Array(127).keys()].map((k) => String.fromCharCode(k + 1)).join("").replace('"', '""');
   writeFileSync(join(folder, "every.csv"), HEADER + `8,alpha,"${every}"\n`);
   await drop(page, "every.csv");
@@ -475,7 +479,7 @@ async function tryTable(page) {
   tally.is("to its head", await keys("Home"), [0, 0, "SPAN"]);
   tally.is("to the last page", await keys(["End", 2]), [999, 5, "SPAN"]);
   tally.is("pages up", await keys("PageUp", "PageUp"), [979, 5, "SPAN"]);
-  tally.check("which is in view", await page.value(`((it, box) => it.top >= box.top && it.bottom <= box.bottom)(document.activeElement.getBoundingClientRect(), document.querySelector("#rows").getBoundingClientRect())`));
+  tally.check("which is in view", await isInTable(page, "document.activeElement"));
   await page.key("Tab");
   await page.value(`document.querySelector("#rows").scrollTop = 0`);
   await new Promise((done) => setTimeout(done, 100));

@@ -186,7 +186,13 @@ function showRound() {
 
 function showAs(kind) {
   for (const it of ["table", "csv"]) element(`as-${it}`).setAttribute("aria-pressed", String(it === kind));
-  showRound();
+  showRound(), reachFault();
+}
+
+/* Brings the page that is refused into view. */
+function reachFault() {
+  const { recordNumber } = state.fault ?? {};
+  if (recordNumber && !element("table").hidden) table.reach(recordNumber - 1);
 }
 
 /* == Planning. == */
@@ -260,8 +266,7 @@ function showFault(fault) {
   element("plan-title").textContent = "No plan";
   element("why-title").textContent = "\u00a0";
   element("saved").textContent = "";
-  showSent(), showNodes(null), showFiles(), showRound(), hear();
-  if (fault.recordNumber && !element("table").hidden) table.reach(fault.recordNumber - 1);
+  showSent(), showNodes(null), showFiles(), showRound(), reachFault(), hear();
 }
 
 /* Shows a plan beside the transmission of the same pages in the order of the file. */
