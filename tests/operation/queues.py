@@ -540,8 +540,9 @@ def try_new_number(tally, folder):
 def try_other_owner(tally, folder):
     """What the superuser left who ran a script once, or whose run was killed, does not block the channel of another user."""
     folder.chmod(0o755)
-    others = as_nobody(folder)
+    others = as_nobody(folder) and as_nobody(TOP)  # where the scripts are
     if not others:
+        print("left out: the channel of another user, which wants the superuser, and a repository that all can enter")
         return
     room = folder / "other owner"
     commands = turns_of(Channel(room / "turns"))
