@@ -26,12 +26,11 @@ import time
 sys.dont_write_bytecode = True
 sys.path.insert(0, str(pathlib.Path(__file__).resolve().parents[1]))
 from channel import HEADER, KILLS, Channel, calls_of, can_trace, pages_of
-from tally import TOP, as_nobody, run_parts
+from tally import MEMORY, TOP, as_nobody, run_parts
 
 IS_EACH = sys.argv[1:] == ["--all"]
 RUNS = sum(int(word) for word in sys.argv[1:] if word.isdigit())  # of next-slot, where nothing else is tried
 CHANNELS = min(4, os.cpu_count() or 1)  # that run at the same time
-SECOND = "/dev/shm"  # where the superuser is missing, a second file system
 PAGES = 150  # that are sent under random kills
 
 
@@ -43,8 +42,8 @@ def disk(folder, size="4m"):
     try:
         if mounted:
             yield folder
-        elif os.path.isdir(SECOND) and os.stat(SECOND).st_dev != folder.stat().st_dev and size == "4m":
-            with tempfile.TemporaryDirectory(dir=SECOND) as name:
+        elif MEMORY and os.stat(MEMORY).st_dev != folder.stat().st_dev and size == "4m":
+            with tempfile.TemporaryDirectory(dir=MEMORY) as name:
                 yield pathlib.Path(name)
         else:
             yield None
@@ -605,7 +604,7 @@ def try_oversized(tally, folder):
 
 def main():
     if RUNS:
-        tempfile.tempdir = SECOND if os.path.isdir(SECOND) else None
+        tempfile.tempdir = MEMORY
         return run_parts(try_runs)
     return run_parts(try_statuses, try_outgoing, try_words, try_enqueue, try_first, try_quotes, try_link, try_kept, try_new_number, try_other_owner, try_again, try_oversized, try_kills, try_calls, try_additions, try_random, try_full_disks)
 

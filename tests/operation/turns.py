@@ -13,12 +13,11 @@ import tempfile
 import time
 
 from codewords import HEADER
-from tally import PROGRAM
+from tally import MEMORY, PROGRAM
 
 PAIRS = 200
 CONTAINERS = 1000
 ENDED = 40  # rounds that are ended, each with places of its own
-SECOND = "/dev/shm"  # a second file system
 CANNOT_WRITE = b"pocsag: cannot write\n"
 # Two rounds, of which no file of a plan is that of the other.
 ROUNDS = [HEADER + b"".join(b"%d,numeric,%d\n" % (8 * k + k % 3, 10**9 + k + n) for k in range(count)) for n, count in ((0, 40), (5000, 90))]
@@ -80,8 +79,8 @@ def try_pairs(tally, folder):
     for number in range(PAIRS // 4):
         statuses = at_once([ours, theirs], room, (b"plan,tx.bin,cert.bin\n", b""))
         tally.check(f"pair {number} of open and plan", statuses == [0, 0] and stand(room, NAMES[:2]) in dues, statuses)
-    if os.path.isdir(SECOND) and os.stat(SECOND).st_dev != room.stat().st_dev:
-        with tempfile.TemporaryDirectory(dir=SECOND) as second:
+    if MEMORY and os.stat(MEMORY).st_dev != room.stat().st_dev:  # a second file system
+        with tempfile.TemporaryDirectory(dir=MEMORY) as second:
             names = ("tx.bin", f"{second}/cert.bin", "rest.csv", f"{second}/why.bin")
             dues = []
             for number in (0, 1):
