@@ -756,7 +756,7 @@ REFUSED = [
     (["--journal", "/dev/full"], 3, CANNOT, ["journal /dev/full: no regular file"]),
     (["--journal", "fifo"], 3, CANNOT, ["journal fifo: no regular file"]),
     (["--journal", "a\nb/\x1b[2J"], 3, CANNOT, [f"journal a?b/?[2J: {NO_FILE}"]),
-    (["--journal", "-"], 1, TWICE, ["journal -"]),
+    (["--journal", "-"], 1, TWICE, ["journal -: standard input holds the lines, and standard output takes the answers"]),
     (["pages.csv", "--journal", "pages.csv"], 1, TWICE, ["page file pages.csv and journal pages.csv are one file"]),
     (["pages.csv", "--journal", "./pages.csv"], 1, TWICE, ["page file pages.csv and journal ./pages.csv are one file"]),
     (["-", "--journal", "new"], 1, TWICE, ["page file -: standard input holds the lines"]),
