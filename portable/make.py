@@ -82,8 +82,8 @@ def made_once(name, total):
 
 def c_of_module(room):
     """Makes the C of the program's module in a folder."""
-    module = room / "pocsag.wasm"
-    web().make_module(web().PROGRAM, module)
+    module, maker = room / "pocsag.wasm", web()
+    maker.make_module(maker.PROGRAM, module)
     subprocess.run(["wasm2c", module.name, "-n", "pocsag", "-o", "pocsag.c"], check=True, cwd=room)
     module.unlink()
     text = (room / "pocsag.c").read_text()
