@@ -207,7 +207,7 @@ def try_other_sources(tally, copy):
     put_back(copy, files)
     status, out = copy.make("--check", PATH="/usr/bin:/bin")
     tally.check("without the toolchain", status == 0 and ("here is no toolchain" in out or LIBRARY), out)
-    put_back(copy, {path: data for path, data in files.items() if path.name not in ("MANIFEST", "SHA256SUMS") and not path.name.endswith((*ENDINGS, ".tgz", ".html"))})
+    put_back(copy, {path: data for path, data in files.items() if path.name not in ("MANIFEST", "SHA256SUMS") and not path.name.endswith((*ENDINGS, ".zip", ".tgz", ".html"))})
     status, out = copy.make("--check")
     tally.check("no release", status == 0 and "is not packed" in out, out)
     put_back(copy, files)
@@ -366,6 +366,9 @@ ELSEWHERE = ({"HOSTTYPE": "riscv64"}, {"HOSTTYPE": "arm", "OSTYPE": "linux-gnuea
 
 def try_in_c(tally, copy):
     """Where the release has no package for a machine, the one in C is compiled once, if there is a compiler."""
+    if not shutil.which("make"):
+        print("left out: the package in C, since there is no make")
+        return
     files, native = kept(copy), copy.package(".tar.xz")
     program = packages.read(native.name, native.read_bytes())
     held = {name: file for name, file in program.items() if name.startswith("share/")}
