@@ -7,6 +7,9 @@ from codewords import HEADER
 from tally import PROGRAM
 
 LINES = [b"add,8,alpha,Ward 3", b"add,16,tone0,", b"add,16,tone0,", b"cancel,8", b"add,24,numeric,55"]
+# What is said of the third, which is refused. A line that standard error refused does not keep it back.
+REFUSED = b"pocsag: add,16,tone0,"
+MORE = b"(and more after a write that failed)"
 # The journal has more than a megabyte once the line of this number is kept, and is written anew.
 LONG = [b"add,8,alpha," + b"A" * 4000, b"cancel,8"] * 265
 ANEW_AT = 521
@@ -56,7 +59,7 @@ def try_once(tally, library, path, run, lines, kind, number):
 
 def names_it(done, path):
     """The fault is told in one line, and in another the journal by its name with the system's reason."""
-    first, *notes = [line for line in done.stderr.splitlines() if b" edits read, " not in line]
+    first, *notes = [line for line in done.stderr.splitlines() if b" edits read, " not in line and line != REFUSED]
     return first.startswith(b"pocsag: cannot ") and notes == [f"pocsag: journal {path}: {os.strerror(5)} (os error 5)".encode()]
 
 
@@ -73,7 +76,7 @@ def try_kept(tally, library, folder, run):
                 break
             is_fault = done.returncode == 3 and (b"pocsag: " in done.stderr or kind == "WRITE")
             is_told = kind == "ALLOC" and b"refused: out of memory" in told
-            is_done = kind in ("ALLOC", "WRITE") and done.returncode == 0 and len(told) == len(LINES)
+            is_done = kind in ("ALLOC", "WRITE") and done.returncode == 0 and len(told) - told.count(MORE) == len(LINES)
             tally.check(f"journal without {kind} {number}: the status", is_fault or is_told or is_done, done)
             named += is_fault and names_it(done, path)
         tally.check(f"journal: {kind}", number > least, number)

@@ -58,7 +58,7 @@ def run(command, library, kind=None, number=0, stdin=b"", short=False, same=Fals
     told = os.read(reader, MOST)
     os.close(reader)
     if b"a" in told:
-        done.stdout += b"(and more after a write that failed)"
+        done.stdout += kept.MORE
     return done, b"x" in told
 
 
