@@ -66,7 +66,14 @@ export class Browser {
 
   close() {
     this.#process.kill();
-    return new Promise((done) => this.#process.on("exit", () => (rmSync(this.#folder, { recursive: true, force: true, maxRetries: 20 }), done())));
+    return new Promise((done) => this.#process.on("exit", () => {
+      try {
+        rmSync(this.#folder, { recursive: true, force: true, maxRetries: 20 });
+      } catch (error) {
+        if (error.code !== "ENOTEMPTY") throw error; // a child of the browser that still writes is no fault of the page
+      }
+      done();
+    }));
   }
 }
 
