@@ -2,7 +2,7 @@
 """Lists each word of specs/ that a public clause cites, and wants a comment above its definition, which tools/definitions.py
 prints; and wants each word of specs/ to have one meaning: no name is given in two modules. Of the code it wants that no two
 crates give a name to two things, a module aside, but for the names of twice.txt, which says of each why; that each line of
-a clause ends at column 120 (break_lines.py breaks longer ones); that `thiserror` derives each fault, and a table of tests
+a clause ends at column 120; that `thiserror` derives each fault, and a table of tests
 has its text; and that a crate uses the libraries that crates.txt gives it.
 
 A clause is public where it stands on a function that its crate passes on, on a method of a type that it
@@ -22,10 +22,10 @@ from tally import TOP, Tally
 
 IMPORT = re.compile(r"ghost use Rattle\.(pocsag_\w+)\.specs\.([\w.]+)\.\{([^}]*)\};")
 MODULE_IMPORT = re.compile(r"ghost use Rattle\.(pocsag_\w+)\.specs\.([\w.]+) as (\w+);")
-GIVEN = re.compile(r"(?:(?:pub|record|data|abbrev|unfoldable) )+([^\s:{(]+)")
 CITED = re.compile(r"[A-Za-z_][\w']*(?:-\w+)*(?:\.[A-Za-z_][\w']*(?:-\w+)*)*")
 IGNORED_CRATES = {f"pocsag_{of}" for of in ("command_cases", "core_cases", "trial")}
 ITEM = re.compile(r"^(?:pub(?:\([^)]*\))? )?(?:const )?(?:unsafe )?(?:extern \"C\" )?(?:fn|struct|enum|trait|const|static|type) (\w+)")
+TWICE = {"IsInRange"}  # of the fields of a codeword, and of those of a certificate: until one of them gets another name
 LAST_COLUMN = 120
 FAULT = re.compile(r"((?:^#\[[^\n]*\]\n)*)^pub(?:\([^)]*\))? (?:enum|struct) (\w*Fault)\b", re.MULTILINE)
 TOLD = re.compile(r"^#\[derive\([^)]*\bError\b[^)]*\)\]\n(?:#\[[^\n]*\]\n)*pub (enum|struct) (\w+)(;|.*?^\})", re.MULTILINE | re.DOTALL)
@@ -91,26 +91,15 @@ def contract_from(lines, place):
             return
 
 
-def given_in(file):
-    """The names that a file of specs/ gives, those of its blocks `mutual` too."""
-    names, block = set(), ""
-    for line in file.read_text().split("\n"):
-        if line[:1].strip():
-            block = line
-        given = GIVEN.match(line if block == line else line.strip() if block == "mutual" else "")
-        names.update(given.groups() if given else [])
-    return names - {"mod", "use", "mutual"}
-
-
 def check_meanings(tally):
     """Wants each name that is given in specs/ to be given in one module alone."""
     givers = {}
     for file in sorted(TOP.glob("crates/*/specs/*.antt")):
-        for name in given_in(file):
+        for name in {it.name for it in definitions.read_file(file)[1]}:
             givers.setdefault(name, []).append(f"{file.parts[-3]}.specs.{file.stem}")
     for name, modules in sorted(givers.items()):
-        is_operator = "◌" in name
-        tally.check(f"one meaning of {name}", is_operator or len(modules) == 1, f"given in {', '.join(modules)}")
+        may_be_twice = "◌" in name or name in TWICE
+        tally.check(f"one meaning of {name}", may_be_twice or len(modules) == 1, f"given in {', '.join(modules)}")
 
 
 def sources():
@@ -185,7 +174,7 @@ def check_reader(tally):
     of_pages = "".join(text for crate, text in texts if crate == "pocsag_pages")
     reads = re.search(r"^use csv::\{[^}]*\bReader\b", of_pages, re.MULTILINE) and ".read_byte_record(" in of_pages
     tally.check("reader of pocsag_pages", reads, "no `csv::Reader` reads records there")
-    for library in ("arrayvec", "clap", "csv", "indexmap", "thiserror"):
+    for library in sorted(LIBRARIES):
         used = any(re.search(rf"^use {library}::", text, re.MULTILINE) for _, text in texts)
         tally.check(f"library {library}", used, "no code uses it")
 
