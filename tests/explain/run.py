@@ -10,47 +10,44 @@ and from the letters of `show`. It takes the binary that the gate left in crates
 import json
 import pathlib
 import random
-import re
 import subprocess
 import sys
 import textwrap
 import xml.etree.ElementTree as ElementTree
 
 sys.dont_write_bytecode = True
-sys.path.insert(0, str(pathlib.Path(__file__).resolve().parents[1]))
-from tally import ENDS, PROGRAM, TOP, run_parts
+sys.path[:0] = [str(pathlib.Path(__file__).resolve().parents[1] / it) for it in (".", "certificates")]
+from checker import CLOSE, CLOSED_END as CLOSED, CUT, IDLE_END as IDLE, OPEN_END as OPEN, SPLIT
+from drawings import SVG, check_form
+from rounds import page_file, small_pages
+from tally import ENDS, PROGRAM, TOP, run, run_parts
+from trees import UNEXAMINED, certificate, overload as overload_of
 
 EXAMPLES = TOP / "examples"
 HEADER = "address,kind,message\n"
-OPEN, CLOSED, IDLE = 0, 1, 2
 TONES = HEADER + "".join(f"{address},tone0,\n" for address in (5, 13, 21))
 LOOP = HEADER + f"0,numeric,{'5' * 75}\n"
 
 
-def run(*words, stdin=b""):
-    return subprocess.run([str(PROGRAM), *map(str, words)], input=stdin, capture_output=True, timeout=110)
+def set_of(places):
+    """A set of slots or boundaries, as certificates have it."""
+    return sum(1 << place for place in places)
 
 
 def overload(*slots):
-    return b"\0" + sum(1 << slot for slot in slots).to_bytes(2, "big")
+    return overload_of(set_of(slots))
 
 
 def split(number, m, below, from_m):
-    return bytes([1, number]) + m.to_bytes(2, "big") + below + from_m
+    return SPLIT, 0, number, m, (below, from_m)
 
 
 def cut(boundaries, number, *children):
-    members = sum(1 << boundary for boundary in boundaries).to_bytes(2, "big")
-    return b"\2" + members + bytes([number]) + len(children).to_bytes(2, "big") + b"".join(children)
+    return CUT, set_of(boundaries), number, 0, children
 
 
 def close(*children):
-    return bytes([4, len(children)]) + b"".join(children)
-
-
-def certificate(end, batches, node):
-    head = b"PCB4" if end == IDLE else b"PCB2" + bytes([end])
-    return head + batches.to_bytes(4, "big") + node
+    return CLOSE, 0, 0, 0, children
 
 
 APART = (EXAMPLES / "loops-apart.csv").read_text()
@@ -206,7 +203,7 @@ REFUSED = [
     ("a close of no batches", LOOP, certificate(CLOSED, 1, close(overload(15))), "node 1: a closed end, where there are no batches"),
     ("an idle last of no batches", LOOP, certificate(IDLE, 1, close(overload(15))), "node 1: an idle last, where there are no batches"),
     ("a late tone for an idle end", LOOP, certificate(IDLE, 2, close(overload(15), overload(15))), "node 1: 1 way to close, and 2 nodes for them"),
-    ("not examined", TONES, certificate(OPEN, 2, b"\3"), "node 1: not examined"),
+    ("not examined", TONES, certificate(OPEN, 2, UNEXAMINED), "node 1: not examined"),
     ("a cut of no batches", APART, certificate(OPEN, 1, CUT_APART), "node 1: a cut, where there are no batches"),
 ]
 
@@ -214,7 +211,7 @@ REFUSED = [
 def explained(folder, pages, text, *words):
     (folder / "pages.csv").write_text(pages)
     (folder / "cert.bin").write_bytes(text)
-    return run("explain", folder / "pages.csv", folder / "cert.bin", *words)
+    return run(["explain", folder / "pages.csv", folder / "cert.bin", *words])
 
 
 def wrapped(lines):
@@ -230,7 +227,7 @@ def try_sentences(tally, folder):
     for name, pages, text, words, lines in SHOWN:
         done = explained(folder, pages, text, *words)
         if lines is None:
-            checked = run("check", folder / "pages.csv", folder / "cert.bin")
+            checked = run(["check", folder / "pages.csv", folder / "cert.bin"])
             tally.check(f"explain: {name}", done.returncode == checked.returncode, done)
             continue
         wanted = "".join(f"{line}\n" for line in wrapped(lines)).encode()
@@ -283,7 +280,6 @@ def try_json(tally, folder):
     tally.check("a split as JSON", told["listed"][0]["fact"] == fact and ways == ["root", "first_case", "second_case"], told)
 
 
-SVG = "{http://www.w3.org/2000/svg}"
 # Measures of the drawing: the ground of the bars, the height of the highest, the left side of slot 0 and the width of a slot.
 GROUND, HIGHEST, LEFT, WIDTH = 98, 80, 80, 28
 EVERY = list(range(16))
@@ -292,56 +288,33 @@ IN_EACH, TWO_PLACES = [2] * 16, [2] * 16
 NO_TONE, ONE_PLACE = [0] * 16, [1] * 16
 TONES_LATE = [0] * 11 + [3] + [0] * 4
 
-# A page file, its certificate, the status, the heading, and of each node that is drawn its line, what must stand in each
-# slot, the room there, the slots that are marked, and the boundaries.
-DRAWN = [
-    ("the worked case", APART, certificate(OPEN, 3, CUT_APART), 0, SUM_APART, [
-        (ROOT_APART, IN_EACH, TWO_PLACES, [], [0]),
-        (f"node 1.1, with an idle in slot 0: slot 0: 2 codewords at the least, room for 1; {EACH_LOOP}",
-         IN_EACH, [1] + [2] * 15, [0], []),
-        (f"node 1.2, with an idle in slot 15: slot 15: 2 codewords at the least, room for 1; {EACH_LOOP}",
-         IN_EACH, [2] * 15 + [1], [15], []),
-    ]),
-    ("the worked case from the other side", APART, certificate(OPEN, 3, CUT_AROUND), 0, SUM_APART, [
-        (ROOT_AROUND, IN_EACH, TWO_PLACES, [], [6, 7]),
-        (f"node 1.1, with an idle in slot 5: slot 5: 2 codewords at the least, room for 1; {EACH_LOOP}",
-         IN_EACH, [2] * 5 + [1] + [2] * 10, [5], []),
-        (f"node 1.2, with an idle in slot 7: slot 7: 2 codewords at the least, room for 1; {EACH_LOOP}",
-         IN_EACH, [2] * 7 + [1] + [2] * 8, [7], []),
-    ]),
-    ("a full frame", TONES, certificate(OPEN, 2, overload(10, 11)), 0, SUM_TONES, [
-        (f"node 1: {STARTS}", NO_TONE, ONE_PLACE, [10, 11], []),
-    ]),
-    ("two cases", TONES, certificate(OPEN, 2, split(81, 1, overload(11), overload(10, 11))), 0, SUM_TONES, [
-        (f"node 1: a page of {THREE_TONES} starts in slot 10 or in slot 11: none starts in slot 10, or at least 1 does", NO_TONE, ONE_PLACE, [], []),
-        ("node 1.1, in the first case: slot 11: 3 codewords at the least, room for 1; "
-         f"3 from 3 pages of {THREE_TONES}", TONES_LATE, ONE_PLACE, [11], []),
-        (f"node 1.2, in the second case: {STARTS}", [0] * 10 + [1] + [0] * 5, ONE_PLACE, [10, 11], []),
-    ]),
-    ("no batches", TONES, certificate(OPEN, 1, overload(10, 11)), 0,
-     "at least 1 batch, open end: 3 pages, 3 codewords, room for 0 in 0 batches", [
-        ("node 1: frame 5 (slots 10 and 11): 3 pages start there, 0 batches have room for 0", NO_TONE, [0] * 16, [10, 11], []),
-    ]),
-    ("a closed end", LOOP, certificate(CLOSED, 2, close(overload(15))), 0,
-     "at least 2 batches, closed end: 1 page, 16 codewords, room for 16 in 1 batch, yet", [
-        ("node 1: the last codeword, in slot 15, is an idle", [1] * 16, ONE_PLACE, [], []),
-        ("node 1.1, with an idle in slot 15: slot 15: 1 codeword at the least, room for 0; "
-         f"{ONE_LOOP}", [1] * 16, [1] * 15 + [0], [15], []),
-    ]),
-    ("a refused node", APART, certificate(OPEN, 3, cut([0], 48, overload(0), overload(0))), 1,
-     "not shown: node 1.2: slot 0: 2 codewords at the least, room for 2", [
+# Of each node of a certificate that is drawn: what must stand in each slot, the room there, the slots that are marked, and the boundaries.
+DRAWN = {
+    "the worked case": [(IN_EACH, TWO_PLACES, [], [0]), (IN_EACH, [1] + [2] * 15, [0], []), (IN_EACH, [2] * 15 + [1], [15], [])],
+    "the worked case from the other side": [
+        (IN_EACH, TWO_PLACES, [], [6, 7]), (IN_EACH, [2] * 5 + [1] + [2] * 10, [5], []), (IN_EACH, [2] * 7 + [1] + [2] * 8, [7], []),
+    ],
+    "a full frame": [(NO_TONE, ONE_PLACE, [10, 11], [])],
+    "two cases": [(NO_TONE, ONE_PLACE, [], []), (TONES_LATE, ONE_PLACE, [11], []), ([0] * 10 + [1] + [0] * 5, ONE_PLACE, [10, 11], [])],
+    "one batch": [(NO_TONE, [0] * 16, [10, 11], [])],
+    "a closed end": [([1] * 16, ONE_PLACE, [], []), ([1] * 16, [1] * 15 + [0], [15], [])],
+}
+# A page file, its certificate, what is told of the node that is refused, and of each node that is drawn its line beside these.
+DRAWN_REFUSED = [
+    ("a refused node", APART, certificate(OPEN, 3, cut([0], 48, overload(0), overload(0))),
+     "node 1.2: slot 0: 2 codewords at the least, room for 2", [
         (ROOT_APART, IN_EACH, TWO_PLACES, [], [0]),
         (f"node 1.1, with an idle in slot 0: slot 0: 2 codewords at the least, room for 1; {EACH_LOOP}",
          IN_EACH, [1] + [2] * 15, [0], []),
         ("node 1.2, with an idle in slot 15: slot 0: 2 codewords at the least, room for 2", IN_EACH, [2] * 15 + [1], [0], []),
     ]),
-    ("a refused root", APART, certificate(OPEN, 3, cut([0, 1], 48, overload(0), overload(15), overload(1))), 1,
-     "not shown: node 1: 2 ways out of boundaries 0 and 1, and 3 nodes for them", [
+    ("a refused root", APART, certificate(OPEN, 3, cut([0, 1], 48, overload(0), overload(15), overload(1))),
+     "node 1: 2 ways out of boundaries 0 and 1, and 3 nodes for them", [
         ("node 1: 2 ways out of boundaries 0 and 1, and 3 nodes for them", IN_EACH, TWO_PLACES, [], [0, 1]),
     ]),
     ("a refused node below those that are drawn", TONES,
-     certificate(OPEN, 2, split(81, 1, overload(11), split(81, 2, overload(9), overload(10)))), 1,
-     "not shown: node 1.2.1: slot 9: 0 codewords at the least, room for 1", [
+     certificate(OPEN, 2, split(81, 1, overload(11), split(81, 2, overload(9), overload(10)))),
+     "node 1.2.1: slot 9: 0 codewords at the least, room for 1", [
         (f"node 1: a page of {THREE_TONES} starts in slot 10 or in slot 11: none starts in slot 10, or at least 1 does", NO_TONE, ONE_PLACE, [], []),
         ("node 1.1, in the first case: slot 11: 3 codewords at the least, room for 1; "
          f"3 from 3 pages of {THREE_TONES}", TONES_LATE, ONE_PLACE, [11], []),
@@ -349,6 +322,17 @@ DRAWN = [
          [0] * 10 + [1] + [0] * 5, ONE_PLACE, [], []),
     ]),
 ]
+
+
+def drawn():
+    """What is drawn: a name, a page file, its certificate, the status, the heading, the last sentence, and the nodes with their lines."""
+    shown = {name: row for name, *row in SHOWN}
+    for name, nodes in DRAWN.items():
+        pages, text, _, lines = shown[name]
+        told = [line.strip() for line in lines if line.lstrip().startswith("node ")]
+        yield name, pages, text, 0, lines[0], f"{lines[-1]} ", [(line, *row) for line, row in zip(told, nodes, strict=True)]
+    for name, pages, text, line, nodes in DRAWN_REFUSED:
+        yield name, pages, text, 1, f"not shown: {line}", "", nodes
 
 
 def words_of(nodes):
@@ -373,42 +357,23 @@ def found_column(group):
     return group.findtext(SVG + "title"), (rect.get("class"), *box), paths, numbers
 
 
-def try_form(tally, name, root, text):
-    """A drawing that may stand beside others on one page: one class, no id, no script."""
-    tags = {node.tag for node in root.iter()}
-    known = {SVG + tag for tag in ("svg", "title", "desc", "style", "text", "rect", "path", "g")}
-    active = [key for node in root.iter() for key in node.attrib if key.startswith("on") or "href" in key or key == "id"]
-    tally.check(f"{name}: shapes and texts alone, and no id", tags <= known and not active, (tags, active))
-    rules = re.findall(r"([^{}]+)\{[^{}]*\}", root.findtext(SVG + "style").replace("@media screen and (prefers-color-scheme:dark){", ""))
-    selectors = [it.strip() for rule in rules for it in rule.split(",")]
-    tally.check(f"{name}: rules under one class", all(it.startswith(".pocsag-why ") for it in selectors), selectors)
-    tally.check(f"{name}: light and dark", b"prefers-color-scheme:dark" in text and b"@import" not in text, text[:300])
-    told = (root.tag, root.get("class"), root.get("role"), root.get("version"), root[0].tag, root[1].tag)
-    tally.check(f"{name}: told to readers of screens", told == (SVG + "svg", "pocsag-why", "img", "1.1", SVG + "title", SVG + "desc"), told)
-    bases = [int(node.get("y")) for node in root.findall(SVG + "text")]
-    tall = int(root.get("height"))
+def try_size(tally, name, root):
+    """The texts stand one below the other, and the last of them in the drawing."""
+    bases, tall = [int(node.get("y")) for node in root.findall(SVG + "text")], int(root.get("height"))
     holds = root.get("viewBox") == f"0 0 540 {tall}" and bases == sorted(set(bases)) and bases[-1] < tall
     tally.check(f"{name}: size", holds, (root.attrib, bases))
 
 
-def closing(heading):
-    """The sentence below the nodes of a certificate with this heading, if it shows its batches."""
-    if heading.startswith("not shown"):
-        return ""
-    batches = int(heading.split()[2]) - 1
-    end = " with a closed end" if "closed end" in heading else ""
-    return f"so {batches} batch{'es' * (batches != 1)} {'does' if batches == 1 else 'do'} not suffice{end} "
-
-
 def try_drawings(tally, folder):
-    for name, pages, text, status, heading, nodes in DRAWN:
+    for name, pages, text, status, heading, last, nodes in drawn():
         done = explained(folder, pages, text, "--svg")
         tally.check(f"drawing: {name}", (done.returncode, done.stderr) == (status, b"") and done.stdout.endswith(b"</svg>\n"), done)
         root = ElementTree.fromstring(done.stdout)
-        try_form(tally, f"drawing: {name}", root, done.stdout)
+        check_form(tally, f"drawing: {name}", root, done.stdout, "pocsag-why")
+        try_size(tally, f"drawing: {name}", root)
         tally.check(f"drawing: {name}: heading", root.findtext(SVG + "title") == heading, root.findtext(SVG + "title"))
         seen = words_of(root.findall(SVG + "text"))
-        tally.check(f"drawing: {name}: words", seen == f"{heading} {closing(heading)}{root.findtext(SVG + 'desc')}", seen)
+        tally.check(f"drawing: {name}: words", seen == f"{heading} {last}{root.findtext(SVG + 'desc')}", seen)
         groups = root.findall(SVG + "g")
         tally.check(f"drawing: {name}: nodes", [words_of(g.findall(SVG + "text")) for g in groups] == [n[0] for n in nodes], words_of(groups[0]))
         most = max(1, *(number for node in nodes for number in [*node[1], *node[2]]))
@@ -423,17 +388,17 @@ def try_drawings(tally, folder):
             tally.check(f"drawing: {name}: boundaries of {number}", lines == due, lines)
     explained(folder, APART, certificate(OPEN, 3, CUT_APART))
     for words in (["--svg", "--json"], ["--svg", "--depth", "2"], ["--svg", "x"]):
-        done = run("explain", folder / "pages.csv", folder / "cert.bin", *words)
+        done = run(["explain", folder / "pages.csv", folder / "cert.bin", *words])
         tally.check(f"usage {words}", done.returncode == 2 and done.stdout == b"", done)
 
 
 def try_words(tally, folder):
     explained(folder, APART, certificate(OPEN, 3, CUT_APART))
     pages, cert = folder / "pages.csv", folder / "cert.bin"
-    whole = run("explain", pages, cert)
-    piped = run("explain", "-", cert, stdin=pages.read_bytes())
+    whole = run(["explain", pages, cert])
+    piped = run(["explain", "-", cert], stdin=pages.read_bytes())
     tally.check("the page file by a pipe", piped.stdout == whole.stdout and piped.returncode == 0, piped)
-    piped = run("explain", pages, "-", stdin=cert.read_bytes())
+    piped = run(["explain", pages, "-"], stdin=cert.read_bytes())
     tally.check("the certificate by a pipe", piped.stdout == whole.stdout and piped.returncode == 0, piped)
     cases = [
         (["explain", "-", "-"], 1, b"pocsag: the same file is named twice\n"),
@@ -442,30 +407,16 @@ def try_words(tally, folder):
         (["explain", pages, folder / "none"], 3, b"pocsag: cannot read or open a file\n"),
     ]
     for words, status, err in cases:
-        done = run(*words)
+        done = run(words)
         tally.check(f"{words}", (done.returncode, done.stdout, done.stderr) == (status, b"", err), done)
     for words in (["explain", pages], ["explain", pages, cert, "--depth"], ["explain", pages, cert, "--depth", "x"], ["explain", pages, cert, "--rows", "1"]):
-        done = run(*words)
+        done = run(words)
         tally.check(f"usage {words}", done.returncode == 2 and done.stdout == b"", done)
     full = subprocess.run([str(PROGRAM), "explain", str(pages), str(cert)], stdout=open("/dev/full", "w"), stderr=subprocess.PIPE, timeout=60)
     tally.check("a full device", (full.returncode, full.stderr) == (3, b"pocsag: cannot write\n"), full)
     (folder / "cert.bin").write_bytes(certificate(OPEN, 4, overload(15)))
-    done = run("explain", pages, cert, "--verbose")
+    done = run(["explain", pages, cert, "--verbose"])
     tally.check("no line of --verbose where it is not shown", (done.returncode, done.stderr) == (1, b""), done)
-
-
-def some_round(chance):
-    """A page file of some pages, with the frame and the length of each."""
-    rows, pages = [], []
-    for address in chance.sample(range(64), chance.randint(1, 12)):
-        if chance.random() < 0.3:
-            rows.append(f"{address},tone{chance.randrange(4)},\n")
-            pages.append((address % 8, 1))
-        else:
-            digits = chance.randint(1, 90)
-            rows.append(f"{address},numeric,{'7' * digits}\n")
-            pages.append((address % 8, 1 + -(-4 * digits // 20)))
-    return HEADER + "".join(rows), pages
 
 
 def idles_of(grid):
@@ -481,25 +432,26 @@ def try_planned(tally, folder):
     """The certificates of `plan`: their verdict is that of `check`, and each accepted one has a bottleneck. And the frames."""
     chance = random.Random(7)
     for number in range(60):
-        text, pages = some_round(chance)
-        (folder / "pages.csv").write_text(text)
+        pages = small_pages(chance)
+        text = page_file(chance, pages)
+        (folder / "pages.csv").write_bytes(text)
         end = ENDS[chance.choice([*ENDS])]
         names = [folder / name for name in ("pages.csv", "tx.bin", "cert.bin")]
-        planned = run("plan", *names, *end, "--always")
+        planned = run(["plan", *names, *end, "--always"])
         batches = int(planned.stdout.split()[3])
-        checked, done = run("check", names[0], names[2]), run("explain", names[0], names[2])
+        checked, done = run(["check", names[0], names[2]]), run(["explain", names[0], names[2]])
         sum_of_it = f"{len(pages)} page{'s' * (len(pages) > 1)}, {sum(n for _, n in pages)} codeword"
         holds = checked.returncode == done.returncode == 0 and sum_of_it.encode() in done.stdout and b"\nnode 1: " in done.stdout
         tally.check(f"planned {number}: explained", holds, (text, done))
         bytes_ = bytearray(names[2].read_bytes())
         bytes_[chance.randrange(9, len(bytes_))] ^= 1 << chance.randrange(8)
         names[2].write_bytes(bytes_)
-        checked, done = run("check", names[0], names[2]), run("explain", names[0], names[2])
+        checked, done = run(["check", names[0], names[2]]), run(["explain", names[0], names[2]])
         same = (done.returncode, done.stderr) == (checked.returncode, checked.stderr)
         tally.check(f"planned {number}: the verdict of check", same and (b"not shown" in done.stdout) == (checked.stdout == b"not shown\n"), (checked, done))
         words = ["report", names[0], "--rate", "1200", *end, "--always"]
-        plain, framed = run(*words), run(*words, "--frames")
-        idles = idles_of(run("show", names[1]).stdout)
+        plain, framed = run(words), run([*words, "--frames"])
+        idles = idles_of(run(["show", names[1]]).stdout)
         rows = [
             (idles[frame], frame, f"frame {frame} pages {len(mine)} codewords {sum(mine)} room {idles[frame]}\n")
             for frame in range(8) for mine in [[n for at, n in pages if at == frame]]
@@ -511,15 +463,15 @@ def try_planned(tally, folder):
 
 
 def try_frames(tally, folder):
-    done = run("report", EXAMPLES / "round.csv", "--rate", "1200", "--frames")
+    done = run(["report", EXAMPLES / "round.csv", "--rate", "1200", "--frames"])
     # the pages by their addresses, the idles by the letters of `show`
     rows = [(0, 3, 5, 0), (3, 2, 13, 0), (5, 1, 6, 0), (6, 0, 0, 0), (7, 0, 0, 0), (1, 0, 0, 2), (4, 0, 0, 2), (2, 0, 0, 4)]
     wanted = [f"frame {frame} pages {pages} codewords {words} room {room}" for frame, pages, words, room in rows]
     told = done.stdout.decode().splitlines()
     tally.check("the frames of the sample round", done.returncode == 0 and told[7:] == wanted, told)
-    bad = run("report", EXAMPLES / "round.csv", "--rate", "7", "--frames")
+    bad = run(["report", EXAMPLES / "round.csv", "--rate", "7", "--frames"])
     tally.check("frames at no rate", (bad.returncode, bad.stdout, bad.stderr) == (1, b"", b"pocsag: the rate must be 512, 1200 or 2400\n"), bad)
-    bad = run("report", EXAMPLES / "round.csv", "--rate", "512", "--limit", "0", "--frames")
+    bad = run(["report", EXAMPLES / "round.csv", "--rate", "512", "--limit", "0", "--frames"])
     tally.check("frames with no limit", (bad.returncode, bad.stdout, bad.stderr) == (1, b"", b"pocsag: the limit must be 1 to 1000000\n"), bad)
 
 

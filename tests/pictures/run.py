@@ -19,12 +19,12 @@ import xml.etree.ElementTree as ElementTree
 sys.dont_write_bytecode = True
 sys.path.insert(0, str(pathlib.Path(__file__).resolve().parents[1]))
 from codewords import IDLE, ONES as MESSAGE, TONE, ZERO, address_word, codewords_of, transmission
-from tally import PROGRAM, TOP, module_at, run_parts
+from drawings import SVG, check_form
+from tally import PROGRAM, TOP, module_at, run, run_parts
 
 sys.path.insert(0, str(TOP / "docs/pictures"))
 import make
 
-SVG = "{http://www.w3.org/2000/svg}"
 HEAD = "       0  1  2  3  4  5  6  7"
 # Measures of the drawing: the left side of the first cell, a cell's width and height, the upper side of the first row,
 # and from row to row; how wide the dark part of an address codeword is, and the size of the legend.
@@ -50,10 +50,6 @@ SHARMA = [
     ((60.2574, -34.0099, 36.2677), (60.4626, -34.1751, 39.4387), 1.2644),
     ((2.0776, 0.0795, -1.1350), (0.9033, -0.0636, -0.5514), 0.9082),
 ]
-
-
-def run(*words):
-    return subprocess.run([str(PROGRAM), *map(str, words)], capture_output=True, timeout=110)
 
 
 def millis(batches, rate):
@@ -110,12 +106,12 @@ def check_text(tally, folder):
         words = random_words(chance, 1 + trial // 2)
         path = folder / "tx"
         path.write_bytes(transmission(words))
-        done = run("show", path)
+        done = run(["show", path])
         tally.check(f"text {trial}", done.returncode == 0 and done.stdout == text_of(words), done)
     for batches in (99, 100, 101, 300, 1_001, 10_001):
         words = random_words(chance, batches)
         path.write_bytes(transmission(words))
-        done = run("show", path)
+        done = run(["show", path])
         tally.check(f"text of {batches} batches", done.returncode == 0 and done.stdout == text_of(words), done.stdout[:300])
 
 
@@ -134,9 +130,9 @@ def check_places(tally, folder, records):
     page_file = folder / "pages.csv"
     page_file.write_bytes(b"address,kind,message\n" + records)
     tx = folder / "tx"
-    run("plan", page_file, tx, folder / "cert")
-    listed = list(csv.reader(io.StringIO(run("show", tx, "--list").stdout.decode())))
-    decoded = list(csv.reader(io.StringIO(run("decode", tx).stdout.decode())))
+    run(["plan", page_file, tx, folder / "cert"])
+    listed = list(csv.reader(io.StringIO(run(["show", tx, "--list"]).stdout.decode())))
+    decoded = list(csv.reader(io.StringIO(run(["decode", tx]).stdout.decode())))
     tally.check("listing: header", listed[0] == ["batch", "frame", "slot", "codewords", *decoded[0]], listed)
     tally.check("listing: the decoder's fields", [row[4:] for row in listed] == decoded, (listed, decoded))
     words = codewords_of(tx.read_bytes())
@@ -250,17 +246,9 @@ def check_rows(tally, name, root, words, low, high, drawn):
 def check_drawing(tally, name, text, words, sent, first=1, last=None):
     """A drawing that a parser takes, without scripts and without ids, and what is drawn."""
     root = ElementTree.fromstring(text)
-    tally.check(f"{name}: svg", root.tag == SVG + "svg" and root.get("version") == "1.1", root.attrib)
-    told = [root[0].tag == SVG + "title", root[1].tag == SVG + "desc", root.get("role") == "img"]
-    tally.check(f"{name}: texts for screen readers", all(told) and root[0].text and root[1].text, told)
-    tags = {node.tag for node in root.iter()}
-    known = {SVG + tag for tag in ("svg", "title", "desc", "style", "text", "rect", "path", "g")}
-    tally.check(f"{name}: nothing but shapes and texts", tags <= known, tags)
-    active = [key for node in root.iter() for key in node.attrib if key.startswith("on") or "href" in key or key == "id"]
-    tally.check(f"{name}: no script and no id", not active, active)
-    tally.check(f"{name}: light and dark", b"prefers-color-scheme:dark" in text and b"@import" not in text)
+    check_form(tally, name, root, text, "pocsag")
     low, high = first - 1, min(last or len(words) // 16, len(words) // 16)
-    due, drawn = due_groups(words, fields_of(run("decode", sent).stdout), low, high)
+    due, drawn = due_groups(words, fields_of(run(["decode", sent]).stdout), low, high)
     found = [(group.get("class"), group.findtext(SVG + "title"), found_pieces(group)) for group in root.findall(SVG + "g")]
     wrong = [pair for pair in zip(found, due) if pair[0] != pair[1]]
     tally.check(f"{name}: pages and legend", len(found) == len(due) and not wrong, wrong[:1] or (len(found), len(due)))
@@ -268,9 +256,6 @@ def check_drawing(tally, name, text, words, sent, first=1, last=None):
     lines = (drawn + 2) // 3 if drawn <= MOST else 1
     tall = 116 + ROW * (max(high - low, 0) + lines)
     tally.check(f"{name}: size", root.get("viewBox") == f"0 0 540 {tall}", root.get("viewBox"))
-    rules = re.findall(r"([^{}]+)\{[^{}]*\}", root.findtext(SVG + "style").replace("@media screen and (prefers-color-scheme:dark){", ""))
-    selectors = [it.strip() for rule in rules for it in rule.split(",")]
-    tally.check(f"{name}: rules under one class", all(it.startswith(".pocsag ") for it in selectors), selectors[:5])
     return root
 
 
@@ -291,20 +276,20 @@ def check_svg(tally, folder):
         ("1250 mixed batches", random_words(chance, 1250)),
     ):
         path.write_bytes(transmission(words))
-        done = run("show", path, "--svg")
+        done = run(["show", path, "--svg"])
         tally.check(f"{name}: status", done.returncode == 0 and done.stderr == b"", done.stderr)
         check_drawing(tally, name, done.stdout, words, path)
     page_file = folder / "pages.csv"
     page_file.write_bytes(b'address,kind,message\n11,alpha,"<b>&amp; ""x"" ]]> \x01\x7f"\n')
-    run("plan", page_file, path, folder / "cert")
-    text = run("show", path, "--svg").stdout
+    run(["plan", page_file, path, folder / "cert"])
+    text = run(["show", path, "--svg"]).stdout
     root = check_drawing(tally, "escaped", text, codewords_of(path.read_bytes()), path)
     titles = [node.text for node in root.iter(SVG + "title")]
     tally.check("escaped message", 'A: address 11, alpha: <b>&amp; "x" ]]> \u2401\u2421' in titles, titles)
     every = bytes(range(1, 128)).replace(b'"', b'""')
     page_file.write_bytes(b'address,kind,message\n11,alpha,"%s"\n20,alpha,"\r\n\t"\n0,numeric,0123456789*U -][\n' % every)
-    run("plan", page_file, path, folder / "cert")
-    root = check_drawing(tally, "all characters", run("show", path, "--svg").stdout, codewords_of(path.read_bytes()), path)
+    run(["plan", page_file, path, folder / "cert"])
+    root = check_drawing(tally, "all characters", run(["show", path, "--svg"]).stdout, codewords_of(path.read_bytes()), path)
     titles = [node.text for node in root.iter(SVG + "title")]
     due = "address 11, alpha: " + "".join(map(shown_byte, range(1, 128)))
     tally.check("each character of a message", any(title.endswith(due) for title in titles), titles)
@@ -316,24 +301,24 @@ def check_rows_wanted(tally, folder):
     words = random_words(chance, 40)
     path.write_bytes(transmission(words))
     for word, first, last in (("3-7", 3, 7), ("3-", 3, None), ("5", 5, 5), ("1-1", 1, 1), ("38-99", 38, 99), ("40", 40, 40)):
-        done = run("show", path, "--rows", word)
+        done = run(["show", path, "--rows", word])
         tally.check(f"rows {word}", (done.returncode, done.stdout) == (0, text_of(words, first, last)), done.stdout)
-        done = run("show", path, f"--rows={word}", "--svg")
+        done = run(["show", path, f"--rows={word}", "--svg"])
         check_drawing(tally, f"rows {word}", done.stdout, words, path, first, last)
     for word in ("0", "0-3", "7-3", "x", "3-x", "-", "3--5", "", "1-2-3", "+3", "18446744073709551616", "1.5"):
-        done = run("show", path, f"--rows={word}")
+        done = run(["show", path, f"--rows={word}"])
         said = done.returncode == 2 and done.stdout == b"" and b"--rows" in done.stderr
         tally.check(f"rows {word!r} are none", said, done)
     for word in ("41-50", "41-", "41", "18446744073709551615"):
         for more in ([], ["--svg"]):
-            done = run("show", path, "--rows", word, *more)
+            done = run(["show", path, "--rows", word, *more])
             due = f"pocsag: rows {word}: the transmission has 40 batches\n".encode()
             tally.check(f"rows {word} are behind the last", (done.returncode, done.stdout, done.stderr) == (1, b"", due), done)
     cut = folder / "cut"
     cut.write_bytes(path.read_bytes()[:-1])
-    done = run("show", cut, "--rows", "41")
+    done = run(["show", cut, "--rows", "41"])
     tally.check("a cut transmission before its rows", (done.returncode, done.stderr) == (1, b"pocsag: the transmission is cut short\n"), done)
-    done = run("show", path, "--rows", "2", "--list")
+    done = run(["show", path, "--rows", "2", "--list"])
     tally.check("rows and list", done.returncode == 2 and done.stdout == b"", done)
 
 
@@ -348,7 +333,7 @@ def check_same_letters(tally, folder):
         for address in shuffled:
             words += [IDLE] * (-len(words) % 16) + [address_word(address)] + [MESSAGE] * chance.randrange(1, 20)
         path.write_bytes(transmission(words + [IDLE] * (-len(words) % 16)))
-        root = ElementTree.fromstring(run("show", path, "--svg").stdout)
+        root = ElementTree.fromstring(run(["show", path, "--svg"]).stdout)
         groups = [(it.findtext(SVG + "title"), it.get("class")) for it in root.findall(SVG + "g") if it.find(SVG + "title") is not None]
         seen.append({title.split(",")[0]: hue for title, hue in groups})
     tally.check("letters and hues by address", seen[0] == seen[1] and len(seen[0]) == 60, seen)
@@ -401,7 +386,7 @@ def check_hues(tally, folder):
         tally.check(f"CIEDE2000 of {one} and {other}", abs(ciede2000(one, other) - due) < 1e-4, ciede2000(one, other))
     path = folder / "tx"
     path.write_bytes(transmission([TONE]))
-    style = ElementTree.fromstring(run("show", path, "--svg").stdout).findtext(SVG + "style")
+    style = ElementTree.fromstring(run(["show", path, "--svg"]).stdout).findtext(SVG + "style")
     for scheme, rules, ink in zip(("light", "dark"), style.split("@media"), ("ffffff", "16181c"), strict=True):
         tints = dict(re.findall(r"\.p(\d+) rect\{fill:#(\w{6})\}", rules))
         darks = dict(re.findall(r"\.p(\d+) rect\.k\{fill:#(\w{6})\}", rules))
@@ -442,7 +427,7 @@ def check_faults(tally, folder):
     ):
         path.write_bytes(sent)
         for words in ([], ["--svg"], ["--list"]):
-            done = run("show", path, *words)
+            done = run(["show", path, *words])
             tally.check(f"{name} {words}", (done.returncode, done.stdout, done.stderr) == (1, b"", said), done)
     for words, status in (
         ([folder / "none"], 3),
@@ -452,7 +437,7 @@ def check_faults(tally, folder):
         ([path, "--svg", "--list"], 2),
         ([path, "--png"], 2),
     ):
-        done = run("show", *words)
+        done = run(["show", *words])
         tally.check(f"status of {words}", done.returncode == status and done.stdout == b"" and done.stderr != b"", done)
     path.write_bytes(good)
     for words in ([], ["--svg"], ["--list"]):
@@ -479,34 +464,13 @@ def check_large_writes(tally, folder, faults, library):
 
 
 def check_refusals(tally, folder):
-    """Each growth, each read and each write refused: the answer with ample memory, or the fault of what was refused."""
+    """Each growth, each read and each write refused: the text with ample memory, or a part of it and the fault of what was refused."""
     faults = module_at("refusals", "tests/faults/run.py")
     library = faults.build(folder)
-    path = folder / "tx"
-    words = [ZERO, *[MESSAGE] * 5, TONE, *[MESSAGE] * 15, ZERO, *[MESSAGE] * 7, IDLE, IDLE]
-    path.write_bytes(transmission(words))
     check_large_writes(tally, folder, faults, library)
-    for asked in ([], ["--svg"], ["--list"]):
-        command = [str(PROGRAM), "show", str(path), *asked]
-        ample, _ = faults.run(command, library)
-        tally.check(f"ample {asked}", ample.returncode == 0 and len(ample.stdout) > 90, ample)
-
-        def judge(kind, said, may_be_ample):
-            def judged(number, done):
-                holds = done.returncode == 3 and done.stderr == said and ample.stdout.startswith(done.stdout)
-                holds = holds and (kind == "WRITE" or done.stdout == b"")
-                is_ample = may_be_ample and (done.returncode, done.stdout) == (0, ample.stdout)
-                tally.check(f"{kind} {number} refused {asked}", holds or is_ample, done)
-
-            return judged
-
-        for kind, said, may_be_ample in (
-            ("ALLOC", faults.OUT_OF_MEMORY, True),
-            ("READ", faults.CANNOT_READ, False),
-            ("WRITE", faults.CANNOT_WRITE, False),
-        ):
-            count = faults.each_refusal(command, library, kind, b"", faults.nothing, judge(kind, said, may_be_ample))
-            tally.check(f"{kind}: some were refused {asked}", count > 0, count)
+    words = [ZERO, *[MESSAGE] * 5, TONE, *[MESSAGE] * 15, ZERO, *[MESSAGE] * 7, IDLE, IDLE]
+    for form in ([], ["--svg"], ["--list"]):
+        faults.try_printing(tally, library, " ".join(["show", *form]), ["show", "tx", *form], {"tx": transmission(words)}, folder)
 
 
 def check_pictures(tally, _folder):
