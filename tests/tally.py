@@ -63,10 +63,22 @@ class Tally:
             self.failed += 1
             print(f"FAILED {name}: {told}")
 
+    def check_run(self, name, done, status, out, *said):
+        """Whether a run, as (status, output, errors), ended with this status and output, and its errors say all of this."""
+        self.check(name, done[:2] == (status, out) and all(it in done[2] for it in said), done)
+
     def end(self):
         """The last line, and the exit status."""
         print(f"{self.passed} passed, {self.failed} failed")
         return 0 if self.failed == 0 else 1
+
+
+def skipped(why):
+    """Says why nothing is tried, which counts as one thing that passed; gives the exit status."""
+    print(f"skipped: {why}")
+    tally = Tally()
+    tally.check("skipped", True)
+    return tally.end()
 
 
 def run_parts(*parts):
@@ -74,7 +86,7 @@ def run_parts(*parts):
     tally = Tally()
     with tempfile.TemporaryDirectory() as name:
         for part in parts:
-            part(tally, pathlib.Path(name))
+            part(tally, pathlib.Path(name).resolve())
     return tally.end()
 
 

@@ -10,13 +10,12 @@ import re
 import shutil
 import subprocess
 import sys
-import tempfile
 
 sys.dont_write_bytecode = True
 TESTS = pathlib.Path(__file__).resolve().parents[1]
 sys.path[:0] = [str(TESTS), str(TESTS.parent / "tools")]
 import version
-from tally import PROGRAM, TOP, Tally, as_nobody
+from tally import PROGRAM, TOP, as_nobody, run_parts
 
 PLACES = ["bin/pocsag", "share/man/man1/pocsag.1", "share/bash-completion/completions/pocsag", "share/zsh/site-functions/_pocsag",
           "share/fish/vendor_completions.d/pocsag.fish", "share/pocsag/examples/next-slot", "share/pocsag/examples/enqueue"]
@@ -143,8 +142,7 @@ def try_again(tally, folder):
     foreign.write_text("other\n")
     status, out, err = install("--uninstall", prefix)
     tally.check("uninstall leaves what others brought", status == 0 and files_below(prefix) == ["bin", "bin/other"], files_below(prefix))
-    status, out, err = install("--uninstall", prefix)
-    tally.check("twice does no harm", (status, out, err) == (0, "", ""), (status, out, err))
+    tally.check("twice does no harm", install("--uninstall", prefix) == (0, "", ""))
     made = folder / "made"
     status, out, _ = install("--program", made)
     tally.check("the program alone", out.split() == [str(made / it) for it in PLACES], out)
@@ -154,13 +152,9 @@ def try_again(tally, folder):
 
 
 def try_refused(tally, folder):
-    status, out, err = install(folder / "a", folder / "b")
-    tally.check("two folders are usage", status == 2 and "PREFIX" in err, (status, out, err))
-    status, out, err = install("--wrong")
-    tally.check("an unknown option is usage", status == 2 and not out, (status, out, err))
-    for words in ([""], ["--program", ""], ["--uninstall", ""]):
-        status, out, err = install(*words)
-        tally.check(f"no folder is usage: {words}", status == 2 and "PREFIX" in err and not out, (status, out, err))
+    for words in ([folder / "a", folder / "b"], [""], ["--program", ""], ["--uninstall", ""]):
+        tally.check_run(f"no folder or two are usage: {words}", install(*words), 2, "", "PREFIX")
+    tally.check_run("an unknown option is usage", install("--wrong"), 2, "")
     status, out, err = install("--help")
     tally.check("help", status == 0 and "PREFIX" in out and not err, (status, out, err))
     for script in ("install", "test"):
@@ -172,13 +166,5 @@ def try_refused(tally, folder):
     tally.check("a file in the place of a folder", status == 1 and len(told) == 1 and told[0].startswith("install: "), (status, out, err))
 
 
-def main():
-    tally = Tally()
-    with tempfile.TemporaryDirectory() as name:
-        for part in (try_installed, try_library, try_loader, try_again, try_refused):
-            part(tally, pathlib.Path(name).resolve())
-    return tally.end()
-
-
 if __name__ == "__main__":
-    sys.exit(main())
+    sys.exit(run_parts(try_installed, try_library, try_loader, try_again, try_refused))

@@ -110,79 +110,82 @@ class Clone:
         calls = [call.partition(" --jobs")[0] for call in calls]
         return calls.count("pocsag_app run"), calls
 
+    def check_builds(self, tally, name, count):
+        """Runs the program, which is built for the time of this number."""
+        self.run()
+        tally.check(name, self.builds()[0] == count, self.builds())
+
+    def build(self, *words, **how):
+        """Runs the script that builds."""
+        words = [str(self.commands / "python3"), str(self.top / "tools/build.py"), *words]
+        return subprocess.run(words, cwd=self.top, env=self.environment(), **how)
+
     def source(self, crate):
         return self.top / "crates" / crate / "src/lib.rt"
 
 
 def try_success(tally, clone):
-    status, out, err = clone.run(["decode", "a b", ""], stdin="input\n")
-    tally.check("arguments, folder, input and status", (status, out) == (7, f"pocsag_app: decode a b \nfolder: {clone.top}\ninput\n"), (status, out, err))
-    count, calls = clone.builds()
-    tally.check("each crate once, lowest first", calls == ["low lib", "middle lib", "pocsag_app run"], calls)
+    done = clone.run(["decode", "a b", ""], stdin="input\n")
     begun = [f"proving {name} ({place} of 3)" for place, name in enumerate(("low", "middle", "pocsag_app"), 1)]
     ended = [f"{name} proved in 0:0" for name in ("low", "middle", "pocsag_app")]
-    tally.check("each crate is told as it begins and ends", all(line in err for line in begun + ended), err)
-    tally.check("what it takes is told", "memory" in err and "disk" in err, err)
+    due = f"pocsag_app: decode a b \nfolder: {clone.top}\ninput\n"
+    tally.check_run("arguments, folder, input, status, and each crate as it begins and ends", done, 7, due, *begun, *ended)
+    tally.check_run("what it takes is told", done, 7, due, "memory", "disk")
+    count, calls = clone.builds()
+    tally.check("each crate once, lowest first", calls == ["low lib", "middle lib", "pocsag_app run"], calls)
     tally.check("no log is left", list(clone.temporary.iterdir()) == [], list(clone.temporary.iterdir()))
     for words in ([], ["plan"], ["--help"]):
         status, out, err = clone.run(words)
         tally.check(f"built once, {words}", (status, err, clone.builds()[0]) == (7, "", 1), (status, err))
     for crate in ("pocsag_beside", "pocsag_trial"):
         clone.source(crate).write_text("edited\n")
-        clone.run()
-        tally.check(f"an edit in {crate} builds nothing", clone.builds()[0] == 1, clone.builds())
+        clone.check_builds(tally, f"an edit in {crate} builds nothing", 1)
     clone.source("middle").write_text("edited\n")
-    clone.run()
-    tally.check("an edit builds anew", clone.builds()[0] == 2, clone.builds())
+    clone.check_builds(tally, "an edit builds anew", 2)
     (clone.top / "crates/low/proofs").mkdir()
     (clone.top / "crates/low/proofs/Lib.antt").write_text("new\n")
-    clone.run()
-    tally.check("a new folder of proofs builds anew", clone.builds()[0] == 3, clone.builds())
+    clone.check_builds(tally, "a new folder of proofs builds anew", 3)
     elsewhere = clone.top.parent / "elsewhere"
     elsewhere.mkdir()
-    link = elsewhere / "planner"
-    link.symlink_to(clone.top / "pocsag")
-    status, out, err = clone.run(["y"], folder=elsewhere, script=link)
-    tally.check("a symbolic link from another folder", (status, out, err) == (7, f"pocsag_app: y\nfolder: {elsewhere}\n", ""), (status, out, err))
-    status, out, err = clone.run(["y"], folder=elsewhere, script="../clone/pocsag")
-    tally.check("a path from another folder", (status, out, err) == (7, f"pocsag_app: y\nfolder: {elsewhere}\n", ""), (status, out, err))
+    (elsewhere / "planner").symlink_to(clone.top / "pocsag")
+    for name, script in (("a symbolic link", elsewhere / "planner"), ("a path", "../clone/pocsag")):
+        told = clone.run(["y"], folder=elsewhere, script=script)
+        tally.check(f"{name} from another folder", told == (7, f"pocsag_app: y\nfolder: {elsewhere}\n", ""), told)
+
+
+def put_old(path, text):
+    """Writes a file, and gives it a time of long ago."""
+    path.write_text(text)
+    os.utime(path, (10**9, 10**9))
 
 
 def try_old_times(tally, clone):
     """Edits that leave no newer file behind."""
     clone.run()
-    os.utime(clone.source("low"), (10**9, 10**9))
-    tally.check("another time alone builds nothing", clone.run()[0] == 7 and clone.builds()[0] == 1, clone.builds())
-    clone.source("low").write_text("other\n")
-    os.utime(clone.source("low"), (10**9, 10**9))
-    clone.run()
-    tally.check("an edit with an old time", clone.builds()[0] == 2, clone.builds())
-    old = clone.top.parent / "old.rt"
-    old.write_text("third\n")
-    os.utime(old, (10**9, 10**9))
-    shutil.copy2(old, clone.source("low"))
-    clone.run()
-    tally.check("a file put there with its old time", clone.builds()[0] == 3, clone.builds())
+    put_old(clone.source("low"), "first\n")
+    tally.check("the program runs after another time alone", clone.run()[0] == 7)
+    clone.check_builds(tally, "another time alone builds nothing", 1)
+    put_old(clone.source("low"), "other\n")
+    clone.check_builds(tally, "an edit with an old time", 2)
+    put_old(clone.top.parent / "old.rt", "third\n")
+    shutil.copy2(clone.top.parent / "old.rt", clone.source("low"))
+    clone.check_builds(tally, "a file put there with its old time", 3)
     specs = clone.top / "crates/middle/specs"
     specs.mkdir()
     (specs / "Lib.antt").write_text("words\n")
     clone.run()
     shutil.rmtree(specs)
-    clone.run()
-    tally.check("a folder taken away", clone.builds()[0] == 5, clone.builds())
+    clone.check_builds(tally, "a folder taken away", 5)
     older = clone.top.parent / "older"
     older.mkdir()
-    (older / "lib.rt").write_text("as it was\n")
-    os.utime(older / "lib.rt", (10**9, 10**9))
+    put_old(older / "lib.rt", "as it was\n")
     os.utime(older, (10**9, 10**9))
     source = clone.source("middle").parent
     source.rename(clone.top.parent / "away")
     older.rename(source)
-    clone.run()
-    tally.check("a folder replaced by an older one", clone.builds()[0] == 6, clone.builds())
+    clone.check_builds(tally, "a folder replaced by an older one", 6)
     clone.source("low").rename(clone.source("low").with_name("renamed.rt"))
-    clone.run()
-    tally.check("a file renamed", clone.builds()[0] == 7, clone.builds())
+    clone.check_builds(tally, "a file renamed", 7)
 
 
 def try_forms(tally, clone):
@@ -194,19 +197,17 @@ def try_forms(tally, clone):
         count, calls = clone.builds()
         tally.check(f"form {number} of the list", status == 7 and calls == ["low lib", "middle lib", "pocsag_app run"], (err, calls))
     (clone.top / "crates.txt").write_text("low: middle\nmiddle: low\npocsag_app: low\n")
-    status, _, err = clone.run()
-    tally.check("a ring of crates", status == 3 and "uses itself" in err, (status, err))
+    tally.check_run("a ring of crates", clone.run(), 3, "", "uses itself")
     (clone.top / "crates.txt").write_text("low:\n! middle\n")
-    status, _, err = clone.run()
-    tally.check("a line that is none", status == 3 and "! middle" in err, (status, err))
+    tally.check_run("a line that is none", clone.run(), 3, "", "! middle")
 
 
 def try_options(tally, clone):
     for option in ("noclobber", "errexit", "nounset", "noglob"):
         clone.source("low").write_text(option)
-        status, out, err = clone.run(["w"], SHELLOPTS=option)
-        status, out, err = clone.run(["w"], SHELLOPTS=option)
-        tally.check(f"{option} handed down", (status, out, err) == (7, f"pocsag_app: w\nfolder: {clone.top}\n", ""), (status, err))
+        clone.run(SHELLOPTS=option)
+        told = clone.run(SHELLOPTS=option)
+        tally.check(f"{option} handed down", told == (7, f"pocsag_app: w\nfolder: {clone.top}\n", ""), told)
 
 
 def open_to_all(clone):
@@ -241,47 +242,39 @@ def try_unwritable(tally, clone):
 
 
 def try_failure(tally, clone):
-    status, out, err = clone.run(["decode"])
-    tally.check("a build that fails", status == 3 and out == "" and "goal left open" in err and "pocsag_app failed" in err, (status, out, err))
+    tally.check_run("a build that fails", clone.run(["decode"]), 3, "", "goal left open", "pocsag_app failed")
     tally.check("no log is left by it", list(clone.temporary.iterdir()) == [])
     clone.stand_in("makes")
     tally.check("and is tried again", clone.run(["z"])[0] == 7)
     clone.source("low").write_text("edited\n")
     clone.stand_in("fails")
-    status, out, err = clone.run()
-    tally.check("an older program is not run", (status, out) == (3, ""), (status, out, err))
+    tally.check_run("an older program is not run", clone.run(), 3, "")
 
 
 def try_missing(tally, clone):
-    status, out, err = clone.run()
-    tally.check("no rt", status == 3 and out == "" and "rt" in err and "PATH" in err, (status, out, err))
+    tally.check_run("no rt", clone.run(), 3, "", "rt", "PATH")
     clone.stand_in("makes")
     clone.run()
     (clone.commands / "rt").unlink()
     os.utime(clone.source("low"))
-    status, out, err = clone.run(["u"])
-    tally.check("another time, and no rt", (status, err) == (7, ""), (status, err))
+    due = f"pocsag_app: u\nfolder: {clone.top}\n"
+    tally.check("another time, and no rt", clone.run(["u"]) == (7, due, ""), clone.run(["u"]))
     clone.source("low").write_text("edited\n")
-    status, out, err = clone.run(["u"])
-    tally.check("an edit, and no rt", status == 7 and out.startswith("pocsag_app: u\n") and "may be old" in err, (status, out, err))
+    tally.check_run("an edit, and no rt", clone.run(["u"]), 7, due, "may be old")
     (clone.commands / "python3").unlink()
-    status, out, err = clone.run(["u"])
-    tally.check("an edit, and no python3", status == 7 and out.startswith("pocsag_app: u\n") and "may be old" in err, (status, out, err))
+    tally.check_run("an edit, and no python3", clone.run(["u"]), 7, due, "may be old")
     shutil.rmtree(clone.top / "crates/pocsag_app/out")
-    status, out, err = clone.run(["u"])
-    tally.check("no program, and no python3", (status, out) == (3, "") and "python3" in err, (status, out, err))
+    tally.check_run("no program, and no python3", clone.run(["u"]), 3, "", "python3")
 
 
 def try_nothing_left(tally, clone):
-    status, out, err = clone.run()
-    tally.check("no program left", status == 3 and "left no program" in err, (status, out, err))
+    tally.check_run("no program left", clone.run(), 3, "", "left no program")
 
 
 def try_edit_meanwhile(tally, clone):
     tally.check("an edit during the build", clone.run()[0] == 7)
     clone.stand_in("makes")
-    clone.run()
-    tally.check("is built at the next call", clone.builds()[0] == 2, clone.builds())
+    clone.check_builds(tally, "is built at the next call", 2)
 
 
 def try_two_at_once(tally, clone):
@@ -353,8 +346,7 @@ def try_unit(tally, clone):
     made = rt.read_text()
     for status in (0, 1):
         rt.write_text(made.replace("exit 0\n", f"{{ cat src/lib.rt; touch src/proved; exit {status}; }}\n", 1))
-        words = [str(clone.commands / "python3"), str(clone.top / "tools/build.py"), "unit"]
-        ran = subprocess.run(words, cwd=clone.top, env=clone.environment(), capture_output=True, text=True)
+        ran = clone.build("unit", capture_output=True, text=True)
         due = status, f"first\n{1 - status} passed, {status} failed\n", "pocsag: spent 0 s on pocsag_words\n"
         tally.check(f"the lowest crate, status {status}", (ran.returncode, ran.stdout, ran.stderr) == due, ran)
     tally.check("it was proved in a copy", [it.name for it in clone.source("pocsag_words").parent.iterdir()] == ["lib.rt"])
@@ -363,20 +355,19 @@ def try_unit(tally, clone):
 
 def try_compilers(tally, clone):
     """LLVM makes what is installed or built for the first time; the toolchain's own compiler makes the program after an edit."""
-    whole = [str(clone.commands / "python3"), str(clone.top / "tools/build.py"), "program"]
-    for name, edit, words, wanted, count in [
-        ("a first build", None, None, "llvm", 1),
-        ("an edit", "edited", None, "rattle", 2),
-        ("another time", None, None, "rattle", 2),
-        ("an installation", None, whole, "llvm", 3),
-        ("nothing after it", None, None, "llvm", 3),
-        ("an edit before an installation", "again", whole, "llvm", 4),
+    for name, edit, is_installed, wanted, count in [
+        ("a first build", None, False, "llvm", 1),
+        ("an edit", "edited", False, "rattle", 2),
+        ("another time", None, False, "rattle", 2),
+        ("an installation", None, True, "llvm", 3),
+        ("nothing after it", None, False, "llvm", 3),
+        ("an edit before an installation", "again", True, "llvm", 4),
     ]:
         if edit:
             clone.source("low").write_text(edit)
         os.utime(clone.source("middle"))
-        if words:
-            subprocess.run(words, cwd=clone.top, env=clone.environment(), stdout=subprocess.DEVNULL, stderr=subprocess.DEVNULL, check=True)
+        if is_installed:
+            clone.build("program", capture_output=True, check=True)
         tally.check(f"{name}: the program runs", clone.run(["w"])[0] == 7)
         found = clone.compiler.read_text().strip(), clone.builds()[0]
         tally.check(f"{name}: its compiler", found == (wanted, count), found)
@@ -393,8 +384,7 @@ def try_gate(tally, clone):
 fi
 [ "$1" = run ]""", 1))
         clone.source("low").write_text(f"before status {status}\n")
-        words = [str(clone.commands / "python3"), str(clone.top / "tools/build.py"), "ci"]
-        ended = subprocess.run(words, cwd=clone.top, env=clone.environment()).returncode
+        ended = clone.build("ci").returncode
         tally.check(f"its status {status}", ended == status, ended)
         before = len(clone.builds()[1])
         clone.run(["plan"])
