@@ -79,3 +79,41 @@ def codewords_of(sent):
     """The codewords of a transmission with the shortest preamble."""
     words = [sent[at : at + 4] for at in range(len(PREAMBLE), len(sent), 4)]
     return [word for place, word in enumerate(words) if place % 17]
+
+
+def pages_in(words):
+    """Each page of codewords as its first index and the index behind it."""
+    begins = [at for at, word in enumerate(words) if word != IDLE and word[0] < 128]
+    ends = [next((at for at in range(begin + 1, len(words)) if words[at][0] < 128), len(words)) for begin in begins]
+    return list(zip(begins, ends))
+
+
+def random_file(source, most=12):
+    """A page file of up to so many pages of every kind."""
+    lines = ["address,kind,message"]
+    for address in source.sample(range(2_000_000), source.randrange(1, most + 1)):
+        kind = source.choice(["numeric", "alpha", "tone0", "tone1", "tone2", "tone3"])
+        text = ""
+        if kind == "numeric":
+            text = "".join(source.choices("0123456789-", k=source.randrange(1, 90)))
+        elif kind == "alpha":
+            text = "".join(source.choices("abcdefgh XYZ.", k=source.randrange(1, 60))) + "."
+        lines.append(f"{address},{kind},{text}")
+    return ("\n".join(lines) + "\n").encode()
+
+
+def changed(source, data):
+    """The bytes with some of them changed, dropped or put in twice."""
+    data = bytearray(data)
+    for _ in range(source.randrange(1, 4)):
+        place = source.randrange(len(data) + 1)
+        kind = source.randrange(4)
+        if kind == 0 and place < len(data):
+            data[place] = source.choice([source.randrange(256), data[place] ^ 1 << source.randrange(8)])
+        elif kind == 1:
+            del data[place : place + source.randrange(1, 9)]
+        elif kind == 2:
+            data[place:place] = data[place : place + source.randrange(1, 9)]
+        else:
+            del data[place:]
+    return bytes(data)

@@ -10,6 +10,7 @@ restated; all else is this project's own.
 import pathlib
 import re
 import sys
+import typing
 
 sys.dont_write_bytecode = True
 sys.path[:0] = [str(pathlib.Path(__file__).resolve().parents[1] / folder) for folder in ("tools", "tests", "tests/words")]
@@ -20,11 +21,11 @@ GIVEN = re.compile(r"(?:(?:pub|record|data|abbrev|unfoldable) )+([^\s:{(]+)")
 TERM = re.compile(r"\*[A-Z][^*]*\*")  # what a comment defines, by its name in the field
 
 
-class Definition:
+class Definition(typing.NamedTuple):
     """A word of a file of specs/, and the comment above it, which is that of the word before where it has none of its own."""
 
-    def __init__(self, name, comment):
-        self.name, self.comment = name, comment
+    name: str
+    comment: str
 
 
 def read_file(file):

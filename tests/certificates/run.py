@@ -240,7 +240,7 @@ JUDGED = []  # in each process that runs wrong checkers
 
 
 def errs(row):
-    return wrong.which_errs(row[1], row[2], JUDGED) is not None
+    return wrong.errs(*row[1:], JUDGED)
 
 
 def check_wrong(tally, judged):

@@ -1,5 +1,5 @@
 """Wrong checkers: for each the rule that it breaks, and a part of a line of checker.py with what stands there
-instead. Each has to err on some pair of pairs.py; which_errs tells on which."""
+instead. Each has to err on some pair of pairs.py."""
 
 import pathlib
 import types
@@ -340,11 +340,7 @@ def answer_of(module, pages, certificate):
         return type(error).__name__
 
 
-def which_errs(old, new, judged):
-    """The place of the first pair on which the wrong checker gives another answer; none where it gives none. The
-    pairs come with the right answer, as (page file, certificate, answer)."""
+def errs(old, new, judged):
+    """Whether the wrong checker gives another answer on some pair. These come with the right one, as (page file, certificate, answer)."""
     module = checker_with(old, new)
-    for place, (pages, certificate, answer) in enumerate(judged):
-        if answer_of(module, pages, certificate) != answer:
-            return place
-    return None
+    return any(answer_of(module, pages, certificate) != answer for pages, certificate, answer in judged)

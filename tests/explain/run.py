@@ -146,13 +146,6 @@ SHOWN = [
         "node 1: frame 5 (slots 10 and 11): 3 pages start there, 0 batches have room for 0",
         "so 0 batches do not suffice",
     ]),
-    ("a closed end", LOOP, certificate(CLOSED, 2, close(overload(15))), [], [
-        "at least 2 batches, closed end: 1 page, 16 codewords, room for 16 in 1 batch, yet",
-        "node 1: the last codeword, in slot 15, is an idle",
-        f"  node 1.1, with an idle in slot 15: slot 15: 1 codeword at the least, room for 0; {ONE_LOOP}",
-        "    limits: room for 0 in slot 15",
-        f"{SO_TONES} with a closed end",
-    ]),
     ("a closed end that a page may make", LAST_TONE, certificate(CLOSED, 2, close(overload(15), overload(15))), [], [
         "at least 2 batches, closed end: 2 pages, 17 codewords, room for 16 in 1 batch",
         "node 1: the last codeword, in slot 15, is an idle or a page of address 7 (1 codeword); a node below for each",
@@ -163,22 +156,21 @@ SHOWN = [
         "    limits: 0 of 1 page of address 7 (1 codeword) start in slot 14",
         f"{SO_TONES} with a closed end",
     ]),
-    ("a closed end with tones", TONES, certificate(CLOSED, 2, overload(10, 11)), [], [
-        "at least 2 batches, closed end: 3 pages, 3 codewords, room for 16 in 1 batch, yet", f"node 1: {STARTS}",
-        f"{SO_TONES} with a closed end",
-    ]),
-    ("an idle last", LOOP, certificate(IDLE, 2, close(overload(15))), [], [
-        "at least 2 batches, idle last: 1 page, 16 codewords, room for 16 in 1 batch, yet",
-        "node 1: the last codeword, in slot 15, is an idle",
-        f"  node 1.1, with an idle in slot 15: slot 15: 1 codeword at the least, room for 0; {ONE_LOOP}",
-        "    limits: room for 0 in slot 15",
-        f"{SO_TONES} with an idle last",
-    ]),
-    ("an idle last with tones", TONES, certificate(IDLE, 2, overload(10, 11)), [], [
-        "at least 2 batches, idle last: 3 pages, 3 codewords, room for 16 in 1 batch, yet", f"node 1: {STARTS}",
-        f"{SO_TONES} with an idle last",
-    ]),
 ]
+for end, name, told in ((CLOSED, "a closed end", "closed end"), (IDLE, "an idle last", "idle last")):
+    SHOWN += [
+        (name, LOOP, certificate(end, 2, close(overload(15))), [], [
+            f"at least 2 batches, {told}: 1 page, 16 codewords, room for 16 in 1 batch, yet",
+            "node 1: the last codeword, in slot 15, is an idle",
+            f"  node 1.1, with an idle in slot 15: slot 15: 1 codeword at the least, room for 0; {ONE_LOOP}",
+            "    limits: room for 0 in slot 15",
+            f"{SO_TONES} with {name}",
+        ]),
+        (f"{name} with tones", TONES, certificate(end, 2, overload(10, 11)), [], [
+            f"at least 2 batches, {told}: 3 pages, 3 codewords, room for 16 in 1 batch, yet", f"node 1: {STARTS}",
+            f"{SO_TONES} with {name}",
+        ]),
+    ]
 REFUSED = [
     ("another slot", APART, certificate(OPEN, 3, cut([0], 48, overload(0), overload(0))),
      "node 1.2: slot 0: 2 codewords at the least, room for 2"),

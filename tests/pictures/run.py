@@ -18,7 +18,7 @@ import xml.etree.ElementTree as ElementTree
 
 sys.dont_write_bytecode = True
 sys.path.insert(0, str(pathlib.Path(__file__).resolve().parents[1]))
-from codewords import IDLE, ONES as MESSAGE, TONE, ZERO, address_word, codewords_of, transmission
+from codewords import IDLE, ONES as MESSAGE, TONE, ZERO, address_word, codewords_of, pages_in, transmission
 from drawings import SVG, check_form
 from tally import PROGRAM, TOP, module_at, run, run_parts
 
@@ -59,7 +59,7 @@ def millis(batches, rate):
 def pages_of(words):
     """Where each page begins, behind which codeword it ends, and its number: how many pages have a smaller address."""
     found = []
-    for start, end in starts_of(words):
+    for start, end in pages_in(words):
         address = (int.from_bytes(words[start], "big") >> 13 & 0x3FFFF) * 8 + start % 16 // 2
         found.append((start, end, address))
     ordered = sorted(address for _, _, address in found)
@@ -136,28 +136,11 @@ def check_places(tally, folder, records):
     tally.check("listing: header", listed[0] == ["batch", "frame", "slot", "codewords", *decoded[0]], listed)
     tally.check("listing: the decoder's fields", [row[4:] for row in listed] == decoded, (listed, decoded))
     words = codewords_of(tx.read_bytes())
-    starts = [place for place, word in enumerate(words) if word != IDLE and word[0] < 0x80]
-    for start, row in zip(starts, listed[1:], strict=True):
+    for (start, end), row in zip(pages_in(words), listed[1:], strict=True):
         batch, frame, slot = int(row[0]), int(row[1]), int(row[2])
         tally.check(f"listing: place of {row[4]}", (16 * (batch - 1) + slot, slot // 2) == (start, frame), row)
         tally.check(f"listing: frame of {row[4]}", int(row[4]) % 8 == frame, row)
-        after = start + int(row[3])
-        holds = all(word[0] >= 0x80 for word in words[start + 1 : after]) and (
-            after == len(words) or words[after] == IDLE or words[after][0] < 0x80
-        )
-        tally.check(f"listing: codewords of {row[4]}", holds, row)
-
-
-def starts_of(words):
-    """Where the pages begin, and behind which codeword each of them ends."""
-    starts = [place for place, word in enumerate(words) if word != IDLE and word[0] < 0x80]
-    ends = []
-    for start in starts:
-        end = start + 1
-        while end < len(words) and words[end] != IDLE and words[end][0] >= 0x80:
-            end += 1
-        ends.append(end)
-    return list(zip(starts, ends))
+        tally.check(f"listing: codewords of {row[4]}", start + int(row[3]) == end, row)
 
 
 def shown_byte(byte):

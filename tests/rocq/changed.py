@@ -1,13 +1,6 @@
 """Changed transmissions, each made from one that carries its round in the fewest batches."""
 
-from codewords import IDLE, PREAMBLE, SYNC, codewords_of, transmission
-
-
-def pages_in(words):
-    """Each page as its first index and the index behind it."""
-    begins = [at for at, word in enumerate(words) if word != IDLE and word[0] < 128]
-    ends = [next((at for at in range(begin + 1, len(words)) if words[at][0] < 128), len(words)) for begin in begins]
-    return list(zip(begins, ends))
+from codewords import IDLE, PREAMBLE, SYNC, codewords_of, pages_in, transmission
 
 
 def two_pages_exchanged(source, sent):

@@ -18,15 +18,15 @@ HERE = pathlib.Path(__file__).resolve().parent
 sys.path[:0] = [str(HERE), str(HERE.parent), str(HERE.parent / "certificates")]
 import changed
 import wrong_rules
-from checker import CLOSED_END, IDLE_END, OPEN_END
+from checker import CLOSED_END, IDLE_END, OPEN_END, TOLD
 from pairs import of_bytes, of_files, of_trees
 from rounds import HEADER, message_of, page_file, small_pages
-from tally import ENDS, PROGRAM, TOP, Tally, run_parts
+from tally import ENDS, PROGRAM, TOP, run_parts, skipped
 
 PLANS = 500
 PAIRS = 1_000
-TOLD = {"open": "", "closed": " with a closed end", "idle": " with an idle last"}
-NUMBERS = {"open": OPEN_END, "closed": CLOSED_END, "idle": IDLE_END}
+WORDS = dict(zip(ENDS, TOLD))
+NUMBERS = dict(zip(ENDS, (OPEN_END, CLOSED_END, IDLE_END)))
 ILLEGAL = "pocsag-verify: not a legal transmission of the round\n"
 MODULES = "Codewords Readings PageFiles PageFileProofs Trees Soundness Certificates Transmissions Checks".split()
 NEEDED = ("coqc", "coqchk", "ocamlfind")
@@ -113,7 +113,7 @@ def try_plans(tally, copy, folder):
             continue
         judged += 1
         batches = int(told.split()[-1])
-        shown = f"at least {batches} batches{TOLD[end]}\n"
+        shown = f"at least {batches} batches{WORDS[end]}\n"
         found = copy.verify(folder, "pages.csv", "tx.bin", "cert.bin")
         tally.check("plan", found == (0, f"{shown}batches {batches}\n", ""), f"{end} {pages}: {found}")
         tally.check("bound", copy.verify(folder, "pages.csv", "cert.bin") == (0, shown, ""), f"{end} {pages}")
@@ -204,10 +204,7 @@ def main():
     missing = [it for it in NEEDED if not shutil.which(it)]
     if not missing:
         return run_parts(try_all)
-    print(f"skipped: not installed: {' '.join(missing)} (on Debian: apt-get install coq ocaml-findlib)")
-    tally = Tally()
-    tally.check("skipped", True)
-    return tally.end()
+    return skipped(f"not installed: {' '.join(missing)} (on Debian: apt-get install coq ocaml-findlib)")
 
 
 if __name__ == "__main__":

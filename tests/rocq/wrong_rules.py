@@ -1,7 +1,6 @@
 """Wrong rules of the checker in rocq/, which no longer prove: for each a file, a part of its text, what stands there
 instead, and the file whose proofs break."""
 
-import pathlib
 import shutil
 import subprocess
 
