@@ -10,7 +10,7 @@ TOP = HERE.parents[1]
 import make
 import pocsag
 import trees
-from answers import PROGRAM, SAID, WORDS, attempt, run
+from answers import PROGRAM, WORDS, attempt, run
 
 ROUND = TOP / "examples/round.csv"
 
@@ -21,10 +21,11 @@ def try_header(tally, folder, room):
     built = run("cc", "-std=c11", "-Wall", "-Wextra", "-Werror", HERE / "header.c", f"-I{folder}", "-o", sized)
     tally.check("the header's own functions are compiled", built.returncode == 0, built.stderr)
     told = run(sized, "texts").stdout.decode().splitlines()
-    wanted = {number: re.sub(r"^(record|batch|codeword) \{\w+\}: | at \{at\}$| in line \{at\}|: at least .*$", "", text).replace("{found}", "more") for number, text in SAID.items()}
+    places = r"^(record|batch|codeword) \{\w+\}: | at \{at\}$| in line \{at\}|: at least .*$"
+    wanted = {number: re.sub(places, "", text).replace("{found}", "more") for number, (_, text) in pocsag.NAMES.items()}
     texts = dict(line.split(" ", 1) for line in told)
     wrong = [(number, text) for number, text in wanted.items() if texts.get(str(number)) != text]
-    tally.check("a status has the program's text", not wrong and len(texts) == 100, wrong)
+    tally.check("a status has the package's text", not wrong and len(texts) == 100, wrong)
     exported = {number: pocsag.Pocsag(str(folder / make.SONAME)).status_text(int(number)) for number in texts}
     tally.check("the library tells the header's texts", exported == texts, {it for it in texts.items() if exported[it[0]] != it[1]})
     unknown = {number for number, text in texts.items() if text == "unknown status"}
@@ -139,21 +140,16 @@ def try_stack(tally, folder, room):
         pages.write_bytes(data)
         cert.write_bytes(certificate)
         what = f"{'accepted' if is_held else 'refused'} {kind}"
-        on_stack("check", "CHECK", {int(not is_held)}, what)
-        on_stack("words", "EXPLAIN", {int(not is_held)}, what)
-        on_stack("json", "EXPLAIN", {int(not is_held)}, what)
+        for call, size in (("check", "CHECK"), ("words", "EXPLAIN"), ("json", "EXPLAIN")):
+            on_stack(call, size, {int(not is_held)}, what)
         told = run("bash", "-c", 'ulimit -s 2048; exec "$@"', "bash", PROGRAM, "explain", pages, cert)
         tally.check(f"the program explains {what} with 2 MiB of stack", told.returncode == int(not is_held), (told.returncode, told.stderr))
     for name, data in (("a sample", ROUND.read_bytes()), ("many tones", data)):
         pages.write_bytes(data)
         cert.write_bytes(pocsag.Pocsag(str(folder / make.SONAME)).plan(data).transmission)
-        on_stack("plan", "PLAN", {0}, name)
-        on_stack("front", "PLAN", {0}, name)
-        on_stack("report", "PLAN", {0}, name)
-        on_stack("frames", "PLAN", {0}, name)
-        on_stack("decode", "LISTING", {0}, name)
-        on_stack("hear", "LISTING", {0}, name)
-        for call in ("repaired", "captured", "heard", "text", "list", "drawing", "sound", "order", "strict", "row"):
+        for call in ("plan", "front", "report", "frames"):
+            on_stack(call, "PLAN", {0}, name)
+        for call in ("decode", "hear", "repaired", "captured", "heard", "text", "list", "drawing", "sound", "order", "strict", "row"):
             on_stack(call, "LISTING", {0}, name)
     print("stack used:", used)
     for name, figure in figures.items():  # C libraries differ in the part of a thread that is their own

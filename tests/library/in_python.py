@@ -14,7 +14,7 @@ import sys
 
 sys.dont_write_bytecode = True
 import pocsag
-from answers import attempt
+from answers import check_fault
 
 HERE = pathlib.Path(__file__).resolve().parent
 CLIB = HERE.parents[1] / "clib"
@@ -105,7 +105,7 @@ def try_names(tally, call):
         ("picture", pocsag.BadReading, (call.show, sent, "film")),
         ("form", pocsag.BadForm, (call.explain, pages, plans[0].certificate, "verse")),
     ):
-        tally.check(f"no name of a {name}", type(attempt(*words)) is wanted, words)
+        check_fault(tally, f"no name of a {name}", wanted, *words)
     tally.check("memory that is refused is a MemoryError", isinstance(pocsag.raised(3, pocsag.Place()), (pocsag.OutOfMemory, MemoryError)))
     faults = {it.__name__ for it in pocsag.FAULTS.values()}
     classes = {name for name, it in vars(pocsag).items() if inspect.isclass(it) and issubclass(it, pocsag.Fault)}
@@ -128,8 +128,7 @@ def try_numbers(tally, call):
     sample = (HERE.parents[1] / "examples/round.csv").read_bytes()
     plan = call.plan(sample)
     for number in (2**32 + 8, 2**64 + 8, -(2**32) + 8, -1):
-        fault = attempt(call.hear, number, plan.transmission)
-        tally.check(f"the pager {number}", type(fault) is pocsag.PagerBadAddress, fault)
+        check_fault(tally, f"the pager {number}", pocsag.PagerBadAddress, call.hear, number, plan.transmission)
     for name, wanted, words, given in (
         ("limit", pocsag.BadLimit, (call.plan, sample), dict(limit=2**32 + 1)),
         ("end", pocsag.BadEnd, (call.plan, sample), dict(end=2**32)),
@@ -137,8 +136,7 @@ def try_numbers(tally, call):
         ("rate", pocsag.BadRate, (call.report, sample, 2**32 + 512), {}),
         ("form", pocsag.BadForm, (call.explain, sample, plan.certificate), dict(form=2**32)),
     ):
-        fault = attempt(*words, **given)
-        tally.check(f"no {name} is taken for another", type(fault) is wanted, fault)
+        check_fault(tally, f"no {name} is taken for another", wanted, *words, **given)
     tally.check("a depth below 0", raises(ValueError, call.explain, sample, plan.certificate, depth=-1))
     tally.check("a size below 0", raises(ValueError, call.plan, sample, sizes=(-1, 9)))
     tally.check("any number is for always", call.plan(sample, always=2**32).batches == plan.batches)
@@ -151,13 +149,11 @@ def try_numbers(tally, call):
     for sizes in ((65_536, 65_536), (9,), [9] * 5, 9):
         tally.check(f"sizes of a front: {sizes}", raises((ValueError, TypeError), call.plan_at_most, sample, 1, sizes=sizes))
     for batches in ((-1, 2), (1, 2**64), (0, 1)):
-        tally.check(f"there are no batches {batches}", type(attempt(call.show, plan.transmission, batches=batches)) is pocsag.BadRows)
+        check_fault(tally, f"there are no batches {batches}", pocsag.BadRows, call.show, plan.transmission, batches=batches)
     for preamble in (0.0, "", []):
         tally.check(f"no bits of preamble: {preamble!r}", raises(TypeError, call.wav, plan.transmission, 1200, preamble=preamble))
     for batches in ((1,), (1, 2, 3), 1):
         tally.check(f"batches that are shown: {batches}", raises((ValueError, TypeError), call.show, plan.transmission, batches=batches))
-    fault = attempt(call.plan, b"address,kind,message\n8,numeric,12x4\n")
-    tally.check("a fault tells record and place", str(fault) == "record 1: bad character at 2", str(fault))
 
 
 class Own(pocsag.Pocsag):

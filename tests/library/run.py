@@ -32,8 +32,8 @@ import pocsag
 import version
 import workspace
 from prover import Room
-from answers import TOLD, WORDS, attempt, program, run, said
-from codewords import HEADER, IDLE, TONE, transmission
+from answers import TOLD, WORDS, attempt, check_fault, is_same, program, run
+from codewords import HEADER, IDLE, TONE, changed, random_file, transmission
 from tally import LIBRARY, run_parts
 
 EXAMPLES = TOP / "clib/examples"
@@ -43,36 +43,6 @@ ROUNDS_OF_BOTH, CHANGED_OF_BOTH = 2_000, 8_000
 CALLS = {"airtime_batches", "check", "decode", "decode_as", "explain", "hear", "hear_as", "lay_in_order", "plan", "plan_at_most"}
 CALLS |= {"frames", "report", "show", "strict", "text_of_status", "text_of_version", "version", "wav", "write_page"}
 CALLS = {f"pocsag_{name}" for name in CALLS}
-
-def random_file(source):
-    """A page file of up to twelve pages."""
-    lines = ["address,kind,message"]
-    for address in source.sample(range(2_000_000), source.randrange(1, 13)):
-        kind = source.choice(["numeric", "alpha", "tone0", "tone1", "tone2", "tone3"])
-        text = ""
-        if kind == "numeric":
-            text = "".join(source.choices("0123456789-", k=source.randrange(1, 90)))
-        elif kind == "alpha":
-            text = "".join(source.choices("abcdefgh XYZ.", k=source.randrange(1, 60))) + "."
-        lines.append(f"{address},{kind},{text}")
-    return ("\n".join(lines) + "\n").encode()
-
-
-def changed(source, data):
-    """The bytes with some of them changed, dropped or put in twice."""
-    data = bytearray(data)
-    for _ in range(source.randrange(1, 4)):
-        place = source.randrange(len(data) + 1)
-        kind = source.randrange(4)
-        if kind == 0 and place < len(data):
-            data[place] = source.choice([source.randrange(256), data[place] ^ 1 << source.randrange(8)])
-        elif kind == 1:
-            del data[place : place + source.randrange(1, 9)]
-        elif kind == 2:
-            data[place:place] = data[place : place + source.randrange(1, 9)]
-        else:
-            del data[place:]
-    return bytes(data)
 
 
 class Library:
@@ -90,7 +60,7 @@ class Library:
         status, text = program("plan", self.pages, self.tx, self.cert, *words)
         plan = attempt(self.pocsag.plan, pages, end=end, always=always)
         if isinstance(plan, pocsag.Fault):
-            return status != 0 and said(plan) == text, None
+            return is_same(plan, (status, text)), None
         same = status == 0 and (plan.transmission, plan.certificate) == (self.tx.read_bytes(), self.cert.read_bytes())
         told = b"pages %d\nbatches %d\n" % (plan.pages, plan.batches)
         same = same and text == told + (b"at least %d batches\n" % plan.bound) * (plan.bound < plan.batches)
@@ -106,7 +76,7 @@ class Library:
         status, text = program("plan", self.pages, self.tx, self.cert, *words)
         front = attempt(self.pocsag.plan_at_most, pages, batches, end=end, always=always)
         if isinstance(front, pocsag.Fault):
-            return status != 0 and said(front) == text, None
+            return is_same(front, (status, text)), None
         files = [path.read_bytes() for path in (self.tx, self.cert, rest, why)]
         same = status == 0 and [front.transmission, front.certificate, front.rest, front.why] == files
         told = b"pages %d\nbatches %d\n" % (front.pages, front.batches)
@@ -128,7 +98,7 @@ class Library:
             (attempt(self.pocsag.decode, tx), program("decode", self.tx)),
             (attempt(self.pocsag.hear, address, tx), program("hear", address, self.tx)),
         ]
-        return all(self.is_same(*pair) for pair in answers)
+        return all(is_same(*pair) for pair in answers)
 
     def explanation(self, pages, cert, form, depth):
         """What the library and the program tell of a certificate; both files stand where the program reads them."""
@@ -137,12 +107,6 @@ class Library:
         if not isinstance(told, pocsag.Fault):
             told = (int(not told.is_shown), told.text)
         return told, program("explain", self.pages, self.cert, *words)
-
-    @staticmethod
-    def is_same(answer, told):
-        if isinstance(answer, pocsag.Fault):
-            return told[0] != 0 and said(answer) == told[1]
-        return told == (answer if isinstance(answer, tuple) else (0, answer))
 
 
 def try_bytes(tally, library, rounds, seed):
@@ -213,19 +177,17 @@ def try_faults(tally, library):
         ("a limit above the greatest", pocsag.BadLimit, dict(limit=1_000_001)),
         ("an end that is none", pocsag.BadEnd, dict(end=3)),
     ):
-        fault = attempt(call.plan, sample, **given)
-        tally.check(name, type(fault) is wanted, fault)
+        check_fault(tally, name, wanted, call.plan, sample, **given)
     fault = attempt(call.plan, b"address,kind,message\n1,tone0,\n2,tone9,\n")
     tally.check("the record of a fault", (type(fault), fault.record_number) == (pocsag.BadKind, 2), vars(fault))
     fault = attempt(call.plan, b"address,kind,message\n8,numeric,12x4\n")
-    tally.check("the place of a fault", (type(fault), fault.record_number, fault.at) == (pocsag.BadCharacter, 1, 2), vars(fault))
-    fault = attempt(call.hear, 2_097_152, b"")
-    tally.check("an address that is none", type(fault) is pocsag.PagerBadAddress, fault)
+    told = type(fault), fault.record_number, fault.at, str(fault)
+    tally.check("the place of a fault", told == (pocsag.BadCharacter, 1, 2, "record 1: bad character at 2"), vars(fault))
+    check_fault(tally, "an address that is none", pocsag.PagerBadAddress, call.hear, 2_097_152, b"")
     plan = call.plan(sample)
     other = call.check(sample.replace(b"20451", b"2"), plan.certificate)
     tally.check("a certificate of another round may not be shown, and is judged", other.batches == 2, other)
-    fault = attempt(call.explain, sample, plan.certificate, form=2)
-    tally.check("a form that is none", type(fault) is pocsag.BadForm, fault)
+    check_fault(tally, "a form that is none", pocsag.BadForm, call.explain, sample, plan.certificate, form=2)
 
 
 def try_large(tally, room):
@@ -244,8 +206,7 @@ def try_reports(tally, library):
         told = library.pocsag.report(ROUND.read_bytes(), rate)
         text = "".join(f"{name} {getattr(told, name)}\n" for name in names).encode()
         tally.check(f"the report at {rate}", (0, text) == program("report", ROUND, "--rate", rate), told)
-    fault = attempt(library.pocsag.report, ROUND.read_bytes(), 1201)
-    tally.check("a rate that is none", type(fault) is pocsag.BadRate, fault)
+    check_fault(tally, "a rate that is none", pocsag.BadRate, library.pocsag.report, ROUND.read_bytes(), 1201)
 
 
 def try_frames(tally, library, plans, seed):
@@ -257,7 +218,7 @@ def try_frames(tally, library, plans, seed):
         told = program("report", library.pages, "--rate", 1200, "--frames", *WORDS[end], *["--always"] * always)
         given = attempt(call, pages, end=end, always=always)
         if isinstance(given, pocsag.Fault):
-            wrong += [number] * (told[0] == 0 or said(given) != told[1])
+            wrong += [number] * (not is_same(given, told))
             continue
         rows = sorted(given.frames, key=lambda frame: frame.room)
         lines = [b"frame %d pages %d codewords %d room %d\n" % frame for frame in rows]
@@ -279,8 +240,7 @@ def try_frames(tally, library, plans, seed):
         (pocsag.SearchLimit, ((TOP / "examples/loops-apart.csv").read_bytes(),), dict(limit=2, always=False)),
         (pocsag.QuoteInside, (pocsag.HEADER + b'8,alpha,a"b\n',), dict(strict=True)),
     ):
-        fault = attempt(call, *words, **named)
-        tally.check(f"no frames: {wanted.__name__}", type(fault) is wanted, fault)
+        check_fault(tally, f"no frames: {wanted.__name__}", wanted, call, *words, **named)
     loose = call((TOP / "examples/loops-apart.csv").read_bytes(), limit=2)
     tally.check("the frames of a plan above its bound", (loose.batches, loose.bound) == (3, 2), loose)
 
@@ -299,7 +259,7 @@ def try_explanations(tally, library):
             for depth in (0, 1, 3, 300, 4_294_967_295):
                 number += 1
                 answer, told = library.explanation(pages, certificate, form, depth)
-                wrong += [(answer, told)] * (not library.is_same(answer, told))
+                wrong += [(answer, told)] * (not is_same(answer, told))
     tally.check(f"{number} explanations are those of the program", pairs and not wrong, wrong[:2])
     shown = {library.pocsag.explain(*pair).is_shown for pair in pairs}
     tally.check("some of them are of certificates that are not shown", shown == {False, True}, shown)
@@ -309,11 +269,6 @@ def without_states(told):
     """What the program lists of a capture, without the states, which the library does not tell."""
     lines = told[1].split(b"\n")
     return told[0], b"\n".join(line.rpartition(b",")[0] if line.endswith((b",state", b",whole", b",cut")) else line for line in lines)
-
-
-def is_pair(answer, told):
-    """Whether a call and the program give the same text, or the same fault."""
-    return told[0] != 0 and said(answer) == told[1] if isinstance(answer, pocsag.Fault) else (0, answer) == told
 
 
 def damaged(source, sent):
@@ -359,7 +314,7 @@ def try_readings(tally, library, plans, seed):
                 else:
                     pairs.append((part, told))
             faults += isinstance(pairs[0][0], pocsag.Fault)
-            wrong += [(number, reading, k) for k, pair in enumerate(pairs) if not is_pair(*pair)]
+            wrong += [(number, reading, k) for k, pair in enumerate(pairs) if not is_same(*pair)]
     tally.check(f"{len(plans[::4])} transmissions are read and shown as the program does", not wrong, wrong[:5])
     tally.check("some are past repair", faults > 0)
     sent = call.plan(ROUND.read_bytes()).transmission
@@ -383,8 +338,7 @@ def try_readings(tally, library, plans, seed):
         ("a fault before batches behind the last", pocsag.Truncated, (call.show, sent[:-1], pocsag.SHOW_TEXT, (3, 3)), {}),
         ("a capture of a byte too many", pocsag.CaptureTooLarge, (call.decode, bytes(268_435_457), pocsag.CAPTURED), {}),
     ):
-        fault = attempt(*words, **given)
-        tally.check(name, type(fault) is wanted, fault)
+        check_fault(tally, name, wanted, *words, **given)
     tally.check("the list has all pages, whatever batches are asked for", call.show(sent, pocsag.SHOW_LIST, (3, 3)) == call.show(sent, pocsag.SHOW_LIST))
     lines = call.show(sent, pocsag.SHOW_TEXT, (2, 2**64 - 1)).splitlines()
     tally.check("the second batch alone", len(lines) == 3 and lines[2].startswith(b"  2"), lines)
@@ -399,13 +353,12 @@ def try_sounds(tally, library, plans, seed):
         words = ["--rate", rate, "--samples", samples, *([] if preamble is None else ["--preamble", preamble]), *["--invert"] * inverted]
         library.tx.write_bytes(plan.transmission)
         given = attempt(call, plan.transmission, rate, samples, preamble, inverted)
-        wrong += [(number, words)] * (not is_pair(given, program("wav", library.tx, *words)))
+        wrong += [(number, words)] * (not is_same(given, program("wav", library.tx, *words)))
     tally.check(f"{len(plans[::30])} sounds are those of the program", not wrong, wrong[:5])
     sent = plans[0][1].transmission
     for wanted, given in ((pocsag.BadRate, (1201,)), (pocsag.BadSamples, (1200, 2**32)), (pocsag.BadPreamble, (1200, 48_000, 0))):
-        tally.check(f"no sound: {wanted.__name__}", type(attempt(call, sent, *given)) is wanted, attempt(call, sent, *given))
-    fault = attempt(call, sent[:72] + sent[72:] * 160_000, 512, 192_000)
-    tally.check("a sound that is too long", type(fault) is pocsag.TooLongForWav, fault)
+        check_fault(tally, f"no sound: {wanted.__name__}", wanted, call, sent, *given)
+    check_fault(tally, "a sound that is too long", pocsag.TooLongForWav, call, sent[:72] + sent[72:] * 160_000, 512, 192_000)
 
 
 def try_orders(tally, library, plans):
@@ -469,7 +422,7 @@ def try_records(tally, library, seed):
         tally.check(f"the quote of {tail}", (type(fault), (fault.record_number, fault.at)) == (wanted, place), fault)
         library.pages.write_bytes(HEADER + tail)
         told = program("plan", library.pages, library.tx, library.cert, "--strict")
-        tally.check(f"{tail} is told as the program tells it", told[0] != 0 and said(fault) == told[1], told)
+        tally.check(f"{tail} is told as the program tells it", is_same(fault, told), told)
         fault = attempt(library.pocsag.plan, HEADER + tail, strict=True)
         tally.check(f"a plan of {tail} may be strict", type(fault) is wanted, fault)
     fault = attempt(library.pocsag.strict, b'"address,kind,message\n')
@@ -482,7 +435,7 @@ def try_airtimes(tally, library):
     wanted = {(933, 1200): 0, (934, 1200): 1, (1_386, 1200): 1, (1_387, 1200): 2, (2_187, 512): 0, (2_188, 512): 1, (467, 2400): 1}
     given = {words: call(*words) for words in wanted}
     tally.check("the batches of an airtime", given == wanted, given)
-    tally.check("a rate that is none has none", type(attempt(call, 934, 1201)) is pocsag.BadRate)
+    check_fault(tally, "a rate that is none has none", pocsag.BadRate, call, 934, 1201)
     tally.check("the version of the package", library.pocsag.release() == version.VERSION, library.pocsag.release())
 
 
