@@ -5,6 +5,7 @@ Without the toolchain it takes the release that is there. Where `lintian`, `dpkg
 left out. The last line is 'N passed, M failed'.
 """
 
+import dataclasses
 import email
 import hashlib
 import lzma
@@ -94,11 +95,15 @@ def renew_sums(copy):
     (folder / "SHA256SUMS").write_text("".join(f"{hashlib.sha256(data).hexdigest()}  {name}\n" for name, data in sorted(sums.items())))
 
 
+def spoiled(data):
+    """The bytes with one bit in their middle changed."""
+    place = len(data) // 2
+    return data[:place] + bytes([data[place] ^ 1]) + data[place + 1 :]
+
+
 def flipped(files, name):
-    """The files with one bit in the middle of one of them changed."""
-    data = bytearray(files[name].data)
-    data[len(data) // 2] ^= 1
-    return {**files, name: File(bytes(data), files[name].rights, files[name].link)}
+    """The files, of which one is spoiled."""
+    return {**files, name: dataclasses.replace(files[name], data=spoiled(files[name].data))}
 
 
 def forge(copy, ending, change):
@@ -173,12 +178,9 @@ def try_spoiled(tally, copy):
     files = kept(copy)
     for ending in ENDINGS:
         path = copy.package(ending)
-        data = bytearray(path.read_bytes())
-        data[len(data) // 2] ^= 1
-        path.write_bytes(data)
+        path.write_bytes(spoiled(path.read_bytes()))
         tally.check(f"a spoiled {ending}", copy.make("--check")[0] == 1)
-        renewed = b"no package at all"
-        path.write_bytes(renewed)
+        path.write_bytes(b"no package at all")
         status, out = copy.make("--check")
         tally.check(f"no {ending} at all", status == 1 and "Traceback" not in out, out)
         path.unlink()
@@ -226,8 +228,7 @@ def try_first_call(tally, copy):
         tally.check("nothing is built", not user.calls.exists() and not list(copy.top.glob("crates/*/out")), user.calls)
         shutil.rmtree(copy.top / "out")
     user = User(copy)
-    status, out, err = user.run(*WORDS)
-    tally.check("nothing that reads packages", (status, out) == (3, "") and "xz is missing" in err and "python3 is missing" in err, (status, out, err))
+    tally.check_run("nothing that reads packages", user.run(*WORDS), 3, "", "xz is missing", "python3 is missing")
     tally.check("and nothing half unpacked", not list((copy.top / "out").glob("release/*")), list((copy.top / "out").glob("**/*")))
 
 
@@ -285,19 +286,16 @@ def try_edit(tally, copy):
 def try_refused(tally, copy):
     """A spoiled package, another processor, or POCSAG_RELEASE=no: the release is not used."""
     bare, builder = User(copy, READER), User(copy, READER, "rt", *PYTHON)
-    status, out, err = bare.run(*WORDS, POCSAG_RELEASE="no")
-    tally.check("POCSAG_RELEASE=no", (status, out) == (3, "") and "nothing can be built" in err and not (copy.top / "out").exists(), (status, out, err))
+    tally.check_run("POCSAG_RELEASE=no", bare.run(*WORDS, POCSAG_RELEASE="no"), 3, "", "nothing can be built")
+    tally.check("POCSAG_RELEASE=no unpacks nothing", not (copy.top / "out").exists())
     tally.check("with the toolchain it builds", builder.run("decode", POCSAG_RELEASE="no")[:2] == (0, "built decode\n"))
     copy.drop_built()
-    status, out, err = bare.run(*WORDS, HOSTTYPE="riscv64")
-    tally.check("another processor", (status, out) == (3, "") and "nothing can be built" in err, (status, out, err))
+    tally.check_run("another processor", bare.run(*WORDS, HOSTTYPE="riscv64"), 3, "", "nothing can be built")
     files = kept(copy)
     for name, spoil in (("spoiled", flip_in_place), ("forged", forge_program)):
         spoil(copy)
-        status, out, err = bare.run(*WORDS)
-        tally.check(f"a {name} package", (status, out) == (3, "") and "is not used" in err, (status, out, err))
-        status, out, err = builder.run("decode")
-        tally.check(f"a {name} package, with the toolchain", (status, out) == (0, "built decode\n"), (status, out, err))
+        tally.check_run(f"a {name} package", bare.run(*WORDS), 3, "", "is not used")
+        tally.check_run(f"a {name} package, with the toolchain", builder.run("decode"), 0, "built decode\n")
         tally.check("nothing of it is kept", not (copy.top / "out/release/current").exists(), list((copy.top / "out").glob("release/*")))
         copy.drop_built()
         put_back(copy, files)
@@ -306,9 +304,7 @@ def try_refused(tally, copy):
 def flip_in_place(copy):
     for ending in (".tar.xz", ".deb"):
         path = copy.package(ending)
-        data = bytearray(path.read_bytes())
-        data[len(data) // 2] ^= 1
-        path.write_bytes(data)
+        path.write_bytes(spoiled(path.read_bytes()))
 
 
 def forge_program(copy):
@@ -380,8 +376,7 @@ def try_in_c(tally, copy):
     tally.check("the machine's own package comes first", user.run(*WORDS) == (0, PLANNED, ""))
     copy.drop_built()
     for machine in ELSEWHERE:
-        status, out, err = bare.run(*WORDS, **machine)
-        tally.check(f"{machine}, without a compiler", (status, out) == (3, "") and "nothing can be built" in err, (status, out, err))
+        tally.check_run(f"{machine}, without a compiler", bare.run(*WORDS, **machine), 3, "", "nothing can be built")
         status, out, err = user.run(*WORDS, **machine)
         told = f"compiling {path.name}, once: one to four minutes"
         tally.check(f"{machine}: compiled", (status, out) == (0, PLANNED) and told in err and err.count("\n") == 1, (status, out, err))
@@ -395,9 +390,7 @@ def try_in_c(tally, copy):
         tally.check(f"{machine}: without the library", brought == ["_pocsag", "enqueue", "made", "next-slot", "pocsag", "pocsag", "pocsag.1", "pocsag.fish"], brought)
         shutil.rmtree(prefix)
         copy.drop_built()
-    spoiled = bytearray(path.read_bytes())
-    spoiled[len(spoiled) // 2] ^= 1
-    path.write_bytes(spoiled)
+    path.write_bytes(spoiled(path.read_bytes()))
     status, out, err = user.run(*WORDS, **ELSEWHERE[0])
     tally.check("a spoiled package in C", (status, out) == (3, "") and "is not used" in err and "compiling" not in err, (status, out, err))
     copy.drop_built()
