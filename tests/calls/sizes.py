@@ -38,11 +38,12 @@ NONE, SAME = "-", "same"
 
 
 class Call(typing.NamedTuple):
-    """A function of a crate: its name behind that of its type, if it has one, and its text without the body."""
+    """A function of a crate: its name behind that of its type, if it has one, its text without the body, and its file."""
 
     crate: str
     name: str
     text: str
+    path: str
 
     def told(self):
         """The types that it may return, those of what it may change among them, and those in its contract."""
@@ -75,19 +76,19 @@ class Source:
         self.exported = {it for found in EXPORT.finditer(texts.get("src/lib.rt", "")) for it in exported(found)}
         for path, text in texts.items():
             for lines in parts_of(text.split("\n"), ITEM):
-                self.read_item(lines, path == "src/lib.rt")
+                self.read_item(lines, path)
 
-    def read_item(self, lines, is_root):
+    def read_item(self, lines, path):
         head = next((it for it in map(ITEM.match, lines) if it and not it[1]), None)
         kind, name = (head[2], head[3]) if head else ("", "")
         if kind in ("struct", "enum"):
             self.types[name] = "\n".join(lines)
-        elif kind == "fn" and (name in self.exported or is_root and head[0].startswith("pub ")):
-            self.calls.append(Call(self.name, name, statement(lines)))
+        elif kind == "fn" and (name in self.exported or path == "src/lib.rt" and head[0].startswith("pub ")):
+            self.calls.append(Call(self.name, name, statement(lines), path))
         elif kind in ("impl", "trait"):
-            self.read_block(lines, name if kind == "trait" else "")
+            self.read_block(lines, name if kind == "trait" else "", path)
 
-    def read_block(self, lines, trait):
+    def read_block(self, lines, trait, path):
         """The functions of a trait, or of an `impl` but for a conversion, which returns the fault that it is given."""
         opens = next(at for at, line in enumerate(lines) if line.endswith(("{", "{}")))
         header = " ".join(it.strip() for it in lines[: opens + 1])
@@ -98,7 +99,7 @@ class Source:
         for part in parts_of([it[4:] for it in lines[opens + 1 : -1]], ITEM):
             head = next((it for it in map(HEAD.match, part) if it), None)
             if head and (is_shared or head[0].startswith("pub fn") or head[0].startswith("pub const fn")):
-                self.calls.append(Call(self.name, f"{owner}::{head[2]}", statement(part)))
+                self.calls.append(Call(self.name, f"{owner}::{head[2]}", statement(part), path))
 
 
 def exported(found):

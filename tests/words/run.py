@@ -5,9 +5,8 @@ crates give a name to two things, a module aside, but for the names of twice.txt
 a clause ends at column 120; that `thiserror` derives each fault, and a table of tests
 has its text; and that a crate uses the libraries that crates.txt gives it.
 
-A clause is public where it stands on a function that its crate passes on, on a method of a type that it
-passes on, on a method of a public trait, or on a command of the program. The last line is
-'N passed, M failed'.
+A clause is public where it stands on a function that its crate passes on, or on a method of a type or trait that it
+passes on. The last line is 'N passed, M failed'.
 """
 
 import pathlib
@@ -15,9 +14,11 @@ import re
 import sys
 
 sys.dont_write_bytecode = True
-sys.path[:0] = [str(pathlib.Path(__file__).resolve().parents[1]), str(pathlib.Path(__file__).resolve().parents[2] / "tools")]
+sys.path[:0] = [str(pathlib.Path(__file__).resolve().parents[1] / it) for it in (".", "calls", "../tools")]
 import definitions
 import workspace
+from sizes import Source
+from sources import texts_of
 from tally import TOP, Tally
 
 IMPORT = re.compile(r"ghost use Rattle\.(pocsag_\w+)\.specs\.([\w.]+)\.\{([^}]*)\};")
@@ -30,14 +31,6 @@ LAST_COLUMN = 120
 FAULT = re.compile(r"((?:^#\[[^\n]*\]\n)*)^pub(?:\([^)]*\))? (?:enum|struct) (\w*Fault)\b", re.MULTILINE)
 TOLD = re.compile(r"^#\[derive\([^)]*\bError\b[^)]*\)\]\n(?:#\[[^\n]*\]\n)*pub (enum|struct) (\w+)(;|.*?^\})", re.MULTILINE | re.DOTALL)
 LIBRARIES = {"arrayvec", "clap", "csv", "indexmap", "thiserror"}
-
-
-def passed_on(root):
-    """The names that the crate's root file passes on."""
-    names = set()
-    for listed in re.findall(r"pub use [\w:]+?::(\{[^}]*\}|\w+);", root):
-        names.update(re.findall(r"\w+", listed))
-    return names
 
 
 def imports(text):
@@ -56,39 +49,6 @@ def imports(text):
             for name in re.findall(rf"(?<![\w.]){alias}\.(\w[\w'-]*)", text):
                 words[f"{alias}.{name}"] = (crate, module, name)
     return words
-
-
-def clauses(text, public, is_program):
-    """The clauses of the public functions and methods of a file, as texts."""
-    holder, holder_is_public, is_trait = None, False, False
-    lines = text.split("\n")
-    for place, line in enumerate(lines):
-        opened = re.match(r"(pub trait|impl)\b(?:<[^>]*>)?\s*(?:.*? for )?(\w+)", line)
-        if opened:
-            is_trait = opened[1] == "pub trait"
-            holder, holder_is_public = opened[2], is_trait or opened[2] in public
-        elif line == "}":
-            holder, holder_is_public, is_trait = None, False, False
-        found = re.match(r"\s*(pub )?(?:const )?(?:extern \"C\" )?fn (\w+)", line)
-        if not found:
-            continue
-        name = found[2]
-        if holder is None:
-            is_public = bool(found[1]) and (name in public or is_program and name.startswith("run_"))
-        else:
-            is_public = holder_is_public and (bool(found[1]) or is_trait)
-        if is_public:
-            yield name, "\n".join(contract_from(lines, place))
-
-
-def contract_from(lines, place):
-    """The clauses of the function whose first line stands there."""
-    for line in lines[place:]:
-        if re.match(r"\s*\{\}?;?$", line) or re.search(r"(?<![=→]) \{$", line) and "ensures" not in line and "requires" not in line:
-            return
-        yield line
-        if line.endswith("};") and ("ensures" in line or "requires" in line):
-            return
 
 
 def check_meanings(tally):
@@ -191,18 +151,13 @@ def in_clause(lines, place):
 def wanted_words():
     """Each word of specs/ that a public clause cites, as (crate, module, name), with a function that cites it."""
     wanted = {}
-    for crate in sorted(TOP.glob("crates/*")):
-        if crate.name in IGNORED_CRATES:
-            continue
-        root = crate / "src/lib.rt"
-        public = passed_on(root.read_text()) if root.exists() else set()
-        for file in sorted((crate / "src").rglob("*.rt")):
-            text = file.read_text()
-            words = imports(text)
-            for name, contract in clauses(text, public, not root.exists()):
-                for cited in CITED.findall(contract):
-                    for word in {cited, cited.partition(".")[0]} & set(words):
-                        wanted.setdefault(words[word], f"{crate.name}::{name}")
+    for crate in workspace.read_crates().values():
+        texts = texts_of(crate)
+        for call in () if crate.name in IGNORED_CRATES else Source(crate.name, texts).calls:
+            words = imports(texts[call.path])
+            for cited in CITED.findall(call.text):
+                for word in {cited, cited.partition(".")[0]} & set(words):
+                    wanted.setdefault(words[word], f"{crate.name}::{call.name}")
     return wanted
 
 
