@@ -27,7 +27,7 @@ import wrong
 from checker import CLOSE, CUT, SPLIT, TOLD
 from pairs import pairs
 from rounds import HEADER, page_file, small_pages
-from tally import ENDS, PROGRAM, Tally
+from tally import ENDS, Tally, run
 from trees import UNEXAMINED, certificate, overload
 
 CHANGES = 3_000
@@ -93,9 +93,6 @@ class Product:
         folder.mkdir(exist_ok=True)
         return folder
 
-    def run(self, *words):
-        return subprocess.run([str(PROGRAM), *words], cwd=self.folder, capture_output=True, timeout=110)
-
     def write(self, pages, text=b""):
         folder = self.folder
         (folder / "pages.csv").write_bytes(pages)
@@ -104,7 +101,7 @@ class Product:
     def verdict(self, pages, text):
         """The verdict in the words of the second checker, where status, output and errors go together."""
         self.write(pages, text)
-        done = self.run("check", "pages.csv", "cert.bin")
+        done = run(["check", "pages.csv", "cert.bin"], self.folder)
         told, refusal = done.stdout.decode(), done.stderr.decode()
         if done.returncode == 0 and YES.fullmatch(told) and not refusal:
             return told.rstrip("\n")
@@ -119,7 +116,7 @@ class Product:
     def planned(self, pages, end):
         """The certificate that the program writes for the round."""
         self.write(pages)
-        done = self.run("plan", "pages.csv", "tx.bin", "cert.bin", *ENDS[end])
+        done = run(["plan", "pages.csv", "tx.bin", "cert.bin", *ENDS[end]], self.folder)
         return (self.folder / "cert.bin").read_bytes() if done.returncode == 0 else None
 
     def second_checker(self, pages, text):
