@@ -5,7 +5,7 @@ For each round and end, with `--always` and without: the batches are those of th
 are the round's pages, and the last one is what the end asks for; and the certificate is accepted by the program's
 checker and by the second one, and by neither for one batch more. So is each certificate of some larger rounds: there the
 closed end takes no fewer batches than the open one, the idle end no fewer than the closed one, and at most one more than
-the open one. `fronts` compares fronts. The last line is 'N passed, M failed'.
+the open one. Fronts are compared in the same way. The last line is 'N passed, M failed'.
 """
 
 import csv
@@ -23,15 +23,21 @@ HERE = pathlib.Path(__file__).resolve().parent
 sys.path.insert(0, str(HERE.parent))
 sys.path.insert(0, str(HERE.parent / "certificates"))
 import checker
-import fronts
-from codewords import IDLE, codewords_of, transmission
+from codewords import HEADER, IDLE, codewords_of, transmission
 from rounds import page_file
-from tally import ENDS, MEMORY, Tally, run
+from tally import ENDS, MEMORY, Tally, run, said
 from trees import certificate
 
 ROUNDS = 1_500
 LARGER_ROUNDS = 1_000
+FRONT_ROUNDS = 2_000
 TOLD = dict(zip(ENDS, checker.TOLD))
+
+# What is written of a front beside a transmission and its certificate, and what each file holds before. A front that is refused
+# empties the transmission and the certificate alone.
+FILES = ["--rest", "rest.csv", "--why", "why.bin"]
+WRITTEN = ["tx.bin", "cert.bin", "rest.csv", "why.bin"]
+EARLIER = b"earlier\n"
 
 # Rounds as (address, number of message codewords), and the fewest batches for each end.
 EXAMPLES = [
@@ -81,6 +87,15 @@ def random_round(source):
 
 def record(address, items):
     return f"{address},numeric,{'1' * 5 * items}\n" if items else f"{address},tone0,\n"
+
+
+def page_file_of(pages):
+    """The page file of pages (address, number of message codewords)."""
+    return HEADER + "".join(record(*page) for page in pages).encode()
+
+
+def rows(data):
+    return list(csv.reader(io.StringIO(data.decode())))
 
 
 def framed(pages):
@@ -142,7 +157,7 @@ def try_own_checker(tally, folder, end):
 
 
 def try_round(tally, folder, pages, end, search):
-    text = ("address,kind,message\n" + "".join(record(*page) for page in pages)).encode()
+    text = page_file_of(pages)
     (folder / "pages.csv").write_bytes(text)
     due = fewest(framed(pages), end)
     planned = run(["plan", "pages.csv", "tx.bin", "cert.bin", *ENDS[end], *search], folder)
@@ -170,15 +185,14 @@ def try_checks(tally, folder, source):
     """The program's own checker and its decoder, on some of the rounds."""
     for _ in range(60):
         pages = random_round(source)
-        text = "address,kind,message\n" + "".join(record(*page) for page in pages)
-        (folder / "pages.csv").write_text(text)
+        text = page_file_of(pages)
+        (folder / "pages.csv").write_bytes(text)
         for end, search in itertools.product(ENDS, ([], ["--always"])):
             planned = run(["plan", "pages.csv", "tx.bin", "cert.bin", "--verify", *ENDS[end], *search], folder)
             tally.check("verified", planned.stdout.endswith(b"\nverified\n"), planned)
             try_own_checker(tally, folder, end)
             decoded = run(["decode", "tx.bin"], folder)
-            listed = sorted(csv.reader(io.StringIO(decoded.stdout.decode())))
-            tally.check("decoded", listed == sorted(csv.reader(io.StringIO(text))), decoded)
+            tally.check("decoded", sorted(rows(decoded.stdout)) == sorted(rows(text)), decoded)
 
 
 def larger_round(source):
@@ -213,6 +227,50 @@ def try_ends(tally, folder, source):
     tally.check("the ends differ in every way", seen == {(0, 0), (0, 1), (1, 1)}, seen)
 
 
+def try_front(tally, folder, pages, end, batches, needs):
+    """One front: `needs` has the fewest batches of each number of first pages, from one."""
+    count = sum(needed <= batches for needed in needs)
+    case = (page_file_of(pages), end, batches)
+    for name in WRITTEN:
+        (folder / name).write_bytes(EARLIER)
+    words = ["plan", "pages.csv", "tx.bin", "cert.bin", "--at-most", str(batches), *FILES, *ENDS[end]]
+    done = run(words, folder)
+    if count == 0:
+        due = (1, b"", f"pocsag: page 1 needs {needs[0]} batches\n".encode())
+        left = [(folder / name).read_bytes() for name in WRITTEN]
+        tally.check("no front", said(done) == due and left == [b"", b"", EARLIER, EARLIER], (case, done, left))
+        return
+    told = f"pages {count}\nbatches {needs[count - 1]}\nleft {len(pages) - count}\n".encode()
+    tally.check("front", said(done) == (0, told, b""), (case, needs, done))
+    if done.returncode != 0:
+        return
+    sent, shown = (folder / "tx.bin").read_bytes(), (folder / "cert.bin").read_bytes()
+    tally.check("front's pages", pages_read(sent) == sorted(pages[:count]), (case, sent.hex()))
+    tally.check("front's end", ends_as(sent, end), (case, sent[-4:].hex()))
+    due = f"at least {needs[count - 1]} batches{TOLD[end]}"
+    tally.check("front's certificate", checker.verdict(page_file_of(pages[:count]), shown) == due, (case, shown.hex()))
+    tally.check("the rest", rows((folder / "rest.csv").read_bytes()) == rows(page_file_of(pages[count:])), case)
+    why = (folder / "why.bin").read_bytes()
+    if count == len(pages):
+        tally.check("nothing is left", why == b"", (case, why.hex()))
+        return
+    judged = checker.verdict(page_file_of(pages[: count + 1]), why)
+    bound = int(judged.split()[2]) if judged.startswith("at least ") else 0
+    tally.check("one page more needs more", batches < bound <= needs[count], (case, judged, why.hex()))
+
+
+def try_fronts(tally, folder, source):
+    """The longest front of small rounds, for each end and each number of batches."""
+    for _ in range(FRONT_ROUNDS):
+        pages = random_round(source)
+        (folder / "pages.csv").write_bytes(page_file_of(pages))
+        for end in ENDS:
+            needs = [fewest(framed(pages[:count]), end) for count in range(1, len(pages) + 1)]
+            tally.check("fronts are monotone", needs == sorted(needs), (pages, end, needs))
+            for batches in range(needs[-1] + 1):
+                try_front(tally, folder, pages, end, batches, needs)
+
+
 def main():
     tally = Tally()
     source = random.Random(584)
@@ -225,7 +283,7 @@ def main():
         try_checks(tally, folder, source)
         try_ends(tally, folder, source)
         try_examples(tally, folder)
-        fronts.try_fronts(sys.modules[__name__], tally, folder, source)
+        try_fronts(tally, folder, source)
     return tally.end()
 
 
