@@ -17,11 +17,11 @@ PARTS = ("VERSION", "LICENSE-APACHE", "LICENSE-MIT", "clib", "completions", "REA
 BUILT = ("crates/pocsag_app/out/pocsag_app", "crates/pocsag_c/out/libpocsag_c.a", "out/pocsag_app.built", "out/pocsag_c.built")
 # Runs release/make for the processor of this machine alone.
 NATIVE_ALONE = """
-import importlib.machinery, importlib.util, sys
+import sys
 sys.dont_write_bytecode = True
-loader = importlib.machinery.SourceFileLoader("release_make", "release/make")
-module = importlib.util.module_from_spec(importlib.util.spec_from_loader("release_make", loader))
-loader.exec_module(module)
+sys.path.insert(0, "tests")
+from tally import module_at
+module = module_at("release_make", "release/make")
 module.contents.page = lambda: None
 module.contents.groups = lambda page=None, groups=module.contents.groups: [it for it in groups(page) if it[0] == module.products.NATIVE.name]
 sys.exit(module.main(sys.argv[1:]))
