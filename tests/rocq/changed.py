@@ -34,21 +34,13 @@ def a_bit_wrong(source, sent):
     return sent[:place] + bytes([sent[place] ^ 1 << source.randrange(8)]) + sent[place + 1:]
 
 
-def a_short_preamble(source, sent):
-    return sent[1:]
-
-
-def a_byte_less(source, sent):
-    return sent[:-1]
-
-
 CHANGES = {
     "two pages exchanged": two_pages_exchanged,
     "one batch more": one_batch_more,
     "a page lost": a_page_lost,
     "a bit wrong": a_bit_wrong,
-    "a preamble of 71 bytes": a_short_preamble,
-    "a byte less": a_byte_less,
+    "a preamble of 71 bytes": lambda source, sent: sent[1:],
+    "a byte less": lambda source, sent: sent[:-1],
 }
 
 
