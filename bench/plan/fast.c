@@ -125,7 +125,8 @@ static uint32_t read_pages(uint8_t *place, uint8_t *end) {
         }
         if (place < end && *place == ',') fail("three fields are wanted");
         if (!has_header) {
-            if (!is_field(fields[0], "address") || !is_field(fields[1], "kind") || !is_field(fields[2], "message")) fail("bad header");
+            if (!is_field(fields[0], "address") || !is_field(fields[1], "kind") || !is_field(fields[2], "message"))
+                fail("bad header");
             has_header = 1;
             continue;
         }

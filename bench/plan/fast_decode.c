@@ -61,7 +61,7 @@ static uint8_t *put_characters(uint8_t *out, uint64_t bits, int characters) {
     return out;
 }
 
-// The characters of an alphanumeric payload: twenty of each seven items, then as many as are whole, without zeros at the end.
+// The characters of an alphanumeric payload: twenty of each seven items, then as many as are whole; no zeros at the end.
 static size_t alpha_text(void) {
     uint8_t *out = text;
     size_t i = 0;
