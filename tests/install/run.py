@@ -164,6 +164,11 @@ def try_refused(tally, folder):
     status, out, err = install(folder / "file/below")
     told = [line for line in err.splitlines() if not line.startswith("pocsag: ")]
     tally.check("a file in the place of a folder", status == 1 and len(told) == 1 and told[0].startswith("install: "), (status, out, err))
+    (folder / "closed").mkdir()
+    (folder / "closed/bin").symlink_to("/proc")
+    status, out, err = install("--program", folder / "closed")
+    told = [line for line in err.splitlines() if not line.startswith("pocsag: ")]
+    tally.check("a folder that takes no file", status == 1 and len(told) == 1 and told[0].startswith(f"install: {folder}/closed/bin/pocsag: "), (status, out, err))
 
 
 if __name__ == "__main__":
