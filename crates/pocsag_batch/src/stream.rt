@@ -1,5 +1,5 @@
-ghost use Rattle.std.specs.Prelude.{◌≡◌, ◌⊎◌, IfOk, IfErr, OnOk};
-ghost use Rattle.pocsag_words.specs.Devices.{HasFailed};
+ghost use Rattle.std.specs.Prelude.{◌≡◌, ◌⊎◌, false, IfOk, IfErr, OnOk};
+ghost use Rattle.pocsag_words.specs.Devices.{HasFailed, IsOfCut};
 ghost use Rattle.pocsag_pages.specs.PageFile.{verdict};
 ghost use Rattle.pocsag_pages.specs.declared.fault.RoundFault.TheVariants as round;
 ghost use Rattle.pocsag_batch.specs.Streams.{ExplainsFault, IsBeforeTransmission, LeavesPrefix, WritesInOrder};
@@ -49,6 +49,11 @@ pub fn first_stream<S: Source, T: Sink>(
     ensures wrote { OnOk result (T.failures tx.new ≡ T.failures tx.old) }
     ensures unfailed { IfErr result
         (λ e. (e ≡ fault.Round round.ReadFault) ⊎ (S.failures source.new ≡ S.failures source.old)) }
+
+    // It writes no page file that is cut.
+    ensures uncut { S.is_known → OnOk result (S.is_cut source.old ≡ false) }
+    ensures cut { S.is_known → IfErr result
+        (IsOfCut (fault.Round round.ReadFault) (fault.Round round.TooLarge) (S.is_cut source.old)) }
 {
     let round = match read_round(alloc, source) {
         Ok(round) => round,

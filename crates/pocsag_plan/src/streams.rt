@@ -1,5 +1,5 @@
-ghost use Rattle.std.specs.Prelude.{◌≡◌, ◌≤◌, ◌↔◌, IfErr, IfOk, IsErrOf, OnOk};
-ghost use Rattle.pocsag_words.specs.Devices.{HasFailed};
+ghost use Rattle.std.specs.Prelude.{◌≡◌, ◌≤◌, ◌⊎◌, ◌↔◌, false, IfErr, IfOk, IsErrOf, OnOk};
+ghost use Rattle.pocsag_words.specs.Devices.{HasFailed, IsOfCut};
 ghost use Rattle.pocsag_pages.specs.declared.fault.RoundFault.TheVariants as round_fault;
 ghost use Rattle.pocsag_tree.specs.BoundTrees.{closed_nodes};
 ghost use Rattle.pocsag_tree.specs.Views.{bound_tree_of};
@@ -53,6 +53,11 @@ pub fn plan_stream<S: Source, T: Sink, C: Sink>(
     ensures read_failed { IsErrOf result (fault.Round round_fault.ReadFault) →
         HasFailed (S.failures source.old) (S.failures source.new) }
     ensures read_succeeded { OnOk result (S.failures source.new ≡ S.failures source.old) }
+
+    // It plans no page file that is cut.
+    ensures uncut { S.is_known → OnOk result (S.is_cut source.old ≡ false) }
+    ensures cut { S.is_known → IfErr result (λ e. (e ≡ StreamFault.Plan PlanFault.BadLimit)
+        ⊎ IsOfCut (fault.Round round_fault.ReadFault) (fault.Round round_fault.TooLarge) (S.is_cut source.old) e) }
 {
     let on_limit = OnLimit::Fewest;
     match bounded_stream(
@@ -113,6 +118,11 @@ pub fn plan_stream_always<S: Source, T: Sink, C: Sink>(
     ensures read_failed { IsErrOf result (fault.Round round_fault.ReadFault) →
         HasFailed (S.failures source.old) (S.failures source.new) }
     ensures read_succeeded { OnOk result (S.failures source.new ≡ S.failures source.old) }
+
+    // It plans no page file that is cut.
+    ensures uncut { S.is_known → OnOk result (S.is_cut source.old ≡ false) }
+    ensures cut { S.is_known → IfErr result (λ e. (e ≡ StreamFault.Plan PlanFault.BadLimit)
+        ⊎ IsOfCut (fault.Round round_fault.ReadFault) (fault.Round round_fault.TooLarge) (S.is_cut source.old) e) }
 {
     let on_limit = OnLimit::Always;
     bounded_stream(
@@ -162,6 +172,11 @@ pub fn bounded_stream<S: Source, T: Sink, C: Sink>(
     ensures read_failed { IsErrOf result (fault.Round round_fault.ReadFault) →
         HasFailed (S.failures source.old) (S.failures source.new) }
     ensures read_succeeded { OnOk result (S.failures source.new ≡ S.failures source.old) }
+
+    // It plans no page file that is cut.
+    ensures uncut { S.is_known → OnOk result (S.is_cut source.old ≡ false) }
+    ensures cut { S.is_known → IfErr result (λ e. (e ≡ StreamFault.Plan PlanFault.BadLimit)
+        ⊎ IsOfCut (fault.Round round_fault.ReadFault) (fault.Round round_fault.TooLarge) (S.is_cut source.old) e) }
 {
     if !is_node_limit(search.limit) {
         return Err(StreamFault::Plan(PlanFault::BadLimit));

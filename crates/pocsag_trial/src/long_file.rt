@@ -9,11 +9,13 @@ pub struct LongFile {
 }
 
 impl Source for LongFile {
-    ghost use Rattle.std.specs.Prelude.{[]};
+    ghost use Rattle.std.specs.Prelude.{[], false};
 
     ghost is_known = { ⊥ };
 
     ghost held = { λ _. [] };
+
+    ghost is_cut = { λ _. false };
 
     ghost calls = { λ s. s.calls };
 

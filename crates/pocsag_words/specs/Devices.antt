@@ -1,5 +1,5 @@
 -- What contracts say of readers and writers (this project's own).
-use Rattle.std.specs.Prelude.{◌≡◌, ℕ, ◌+◌, ◌-◌, ◌^◌, ◌<◌, ◌≤◌, List, ◌++◌, length, take, nat_lt, if◌then◌else◌, Result, OnOk, OnErr}
+use Rattle.std.specs.Prelude.{◌≡◌, ◌⊎◌, ℕ, ◌+◌, ◌-◌, ◌^◌, ◌<◌, ◌≤◌, Bool, true, false, List, ◌++◌, length, take, nat_lt, if◌then◌else◌, Result, OnOk, OnErr}
 
 -- One call more, in a count that stays at its greatest value.
 abbrev pub one_more : ℕ → ℕ
@@ -8,6 +8,11 @@ one_more n = if nat_lt n (2 ^ 64 - 1) then n + 1 else n
 -- A device failed between the two counts of failures: the count rose, or it could not rise.
 abbrev pub HasFailed : ℕ → ℕ → Type 0
 HasFailed before after = before < 2 ^ 64 - 1 → before < after
+
+-- A fault that reading what may be cut returns: it was not read only if it is cut; where it is cut, it was not read or is too large.
+pub record IsOfCut {E : Type 0} (not_read too_large : E) (is_cut : Bool) (e : E) : Type 0 where
+  pub cut : e ≡ not_read → is_cut ≡ true
+  pub whole : (e ≡ not_read) ⊎ (e ≡ too_large) ⊎ (is_cut ≡ false)
 
 -- There was at most one call for each byte that was due, and so none where none was.
 abbrev pub CallsPerByte : (before after : ℕ) → (due : List ℕ) → Type 0

@@ -1,5 +1,5 @@
 -- What contracts see of a memory source.
-use Rattle.std.specs.Prelude.{ℕ, List}
+use Rattle.std.specs.Prelude.{ℕ, Bool, List, length, nat_le}
 use Rattle.pocsag_words.specs.declared.memory_source.MemorySource.{MemorySource}
 
 -- The bytes that are still held.
@@ -20,3 +20,7 @@ source_step s = s.step
 -- How many bytes it still moves before every call fails.
 abbrev pub source_left : MemorySource → ℕ
 source_left s = s.left
+
+-- Whether a call fails before the end of the bytes that are held is returned.
+abbrev pub source_is_cut : MemorySource → Bool
+source_is_cut s = nat_le s.left (length s.rest.now)

@@ -1,4 +1,4 @@
-ghost use Rattle.std.specs.Prelude.{◌≡◌, ℕ, ◌<◌, ◌≤◌, List, [], ◌++◌, length, take, IfNone, IfOk, IfSome, OnOk, OnErr};
+ghost use Rattle.std.specs.Prelude.{◌≡◌, ℕ, ◌<◌, ◌≤◌, Bool, false, true, List, [], ◌++◌, length, take, IfNone, IfOk, IfSome, OnOk, OnErr};
 ghost use Rattle.pocsag_words.specs.Devices.{CallsPerByte, CountsFailures, Delivers, one_more};
 
 use thiserror::Error;
@@ -17,6 +17,9 @@ pub trait Source {
     // The bytes that are still held, up to the end.
     ghost held: { Self → List ℕ };
 
+    // Whether a call fails before their end is returned: what was to be read is cut.
+    ghost is_cut: { Self → Bool };
+
     // How many calls there were, and how many of them failed; each stays at its greatest value.
     ghost calls: { Self → ℕ };
 
@@ -26,7 +29,10 @@ pub trait Source {
         ensures within { IfOk result (λ n. n ≤ length buffer.old) }
         ensures moved { is_known → IfOk result (λ n. held self.old ≡ take n buffer.new ++ held self.new) }
         ensures end { is_known → IfOk result (λ n. n ≡ 0 → 0 < length buffer.old → held self.old ≡ []) }
+        ensures whole { is_known → IfOk result (λ n. n ≡ 0 → 0 < length buffer.old → is_cut self.old ≡ false) }
         ensures kept { is_known → OnErr result (held self.new ≡ held self.old) }
+        ensures cut { is_known → OnErr result (is_cut self.old ≡ true) }
+        ensures still { is_known → is_cut self.new ≡ is_cut self.old }
         ensures called { calls self.new ≡ one_more (calls self.old) }
         ensures succeeded { OnOk result (failures self.new ≡ failures self.old) }
         ensures failed { OnErr result (failures self.new ≡ one_more (failures self.old)) };
@@ -34,6 +40,7 @@ pub trait Source {
     /// The bytes that are held, where all of them are in memory and no call fails before their end. No call of the device is made.
     fn lent(&self) -> Option<&[u8]>
         ensures lent { is_known → IfSome result (λ bytes. bytes.now ≡ held self.now) }
+        ensures whole { is_known → IfSome result (λ _. is_cut self.now ≡ false) }
     {
         None
     }
@@ -42,7 +49,9 @@ pub trait Source {
     /// device is made.
     fn take_all(&mut self) -> Option<Vec<u8>>
         ensures taken { is_known → IfSome result (λ bytes. bytes.items ≡ held self.old) }
+        ensures whole { is_known → IfSome result (λ _. is_cut self.old ≡ false) }
         ensures kept { is_known → IfNone result (held self.new ≡ held self.old) }
+        ensures still { is_known → IfNone result (is_cut self.new ≡ is_cut self.old) }
         ensures calls { calls self.new ≡ calls self.old }
         ensures failures { failures self.new ≡ failures self.old }
     {

@@ -38,13 +38,15 @@ impl<'a> MemorySource<'a> {
 }
 
 impl<'a> Source for MemorySource<'a> {
-    ghost use Rattle.std.specs.Prelude.{◌≡◌, ◌<◌, ◌≤◌, ◌+◌, [], ◌++◌, ◌↔◌, length, take, IfOk, IsErr, OnOk, OnErr};
+    ghost use Rattle.std.specs.Prelude.{◌≡◌, ◌<◌, ◌≤◌, ◌+◌, false, true, [], ◌++◌, ◌↔◌, length, take, IfOk, IsErr, OnOk, OnErr};
     ghost use Rattle.pocsag_words.specs.Devices.{one_more};
-    ghost use Rattle.pocsag_words.specs.MemorySource.{held_of, source_calls, source_failures, source_step, source_left};
+    ghost use Rattle.pocsag_words.specs.MemorySource.{held_of, source_calls, source_failures, source_is_cut, source_step, source_left};
 
     ghost is_known = { Unit {0} };
 
     ghost held = { held_of };
+
+    ghost is_cut = { source_is_cut };
 
     ghost calls = { source_calls };
 
@@ -54,7 +56,10 @@ impl<'a> Source for MemorySource<'a> {
         ensures within { IfOk result (λ n. n ≤ length buffer.old) }
         ensures moved { IfOk result (λ n. held_of self.old ≡ take n buffer.new ++ held_of self.new) }
         ensures end { IfOk result (λ n. n ≡ 0 → 0 < length buffer.old → held_of self.old ≡ []) }
+        ensures whole { IfOk result (λ n. n ≡ 0 → 0 < length buffer.old → source_is_cut self.old ≡ false) }
         ensures kept { OnErr result (held_of self.new ≡ held_of self.old) }
+        ensures cut { OnErr result (source_is_cut self.old ≡ true) }
+        ensures still { source_is_cut self.new ≡ source_is_cut self.old }
         ensures called { source_calls self.new ≡ one_more (source_calls self.old) }
         ensures succeeded { OnOk result (source_failures self.new ≡ source_failures self.old) }
         ensures failed { OnErr result (source_failures self.new ≡ one_more (source_failures self.old)) }

@@ -24,11 +24,14 @@ impl<'a> SliceSource<'a> {
 }
 
 impl<'a> Source for SliceSource<'a> {
+    ghost use Rattle.std.specs.Prelude.{false};
     ghost use Rattle.pocsag_words.specs.SliceSource.{rest_of, slice_calls};
 
     ghost is_known = { Unit {0} };
 
     ghost held = { rest_of };
+
+    ghost is_cut = { λ _. false };
 
     ghost calls = { slice_calls };
 
