@@ -14,6 +14,7 @@ use Rattle.pocsag_pages.specs.declared.fault.RoundFault.{RoundFault}
 use Rattle.pocsag_pages.specs.declared.fault.RoundFault.TheVariants as fault
 use Rattle.pocsag_pages.specs.PageList.{unless_empty}
 use Rattle.pocsag_pages.specs.PageFile.{Row, fault_after, fault_of_row, first_fault, is_header, numbered, page_of, pages_of, pages_unless, round_fault_of, round_of_rows, rows_of, verdict, verdict_of_rows, with_page}
+use Rattle.pocsag_words.specs.Devices.{IsOfCut}
 use Rattle.pocsag_words.specs.Frame.{input_limit}
 use Rattle.pocsag_words.proofs.TruthValues.{is_above, not_above}
 
@@ -169,3 +170,12 @@ pub unread : (bytes : List ℕ) (w : WholeFault) (e : RoundFault) → (w ≡ who
 unread bytes whole.ReadFault e large is = inr (inl is)
 unread bytes whole.TooLarge e large is = inr (inr (large_file bytes (large refl) ∙ ap Err (sym is)))
 unread bytes whole.OutOfMemory e large is = inl is
+
+-- no fault of bytes that are whole is that they are cut
+pub fault_of_whole : {X Y : Type 0} (read : Result Y RoundFault) (is_cut : Bool) → (read ≡ Err fault.ReadFault → ⊥) → is_cut ≡ false →
+    (r : Result X RoundFault) → IfErr r (λ e. (e ≡ fault.OutOfMemory) ⊎ (read ≡ Err e)) → IfErr r (IsOfCut fault.ReadFault fault.TooLarge is_cut)
+fault_of_whole read is_cut never whole (Ok v) said = tt
+fault_of_whole read is_cut never whole (Err e) said = record {
+  cut = λ h. absurd (elim (rw h at said) [ inl memory ↦ cc | inr v ↦ never v ]);
+  whole = inr (inr whole);
+}

@@ -1,11 +1,12 @@
-ghost use Rattle.std.specs.Prelude.{◌≡◌, ◌+◌, ◌≤◌, ◌⊎◌, ◌∷◌, ◌++◌, [], None, Some, length, IfOk, IfErr, IsOk, OnOk};
+ghost use Rattle.std.specs.Prelude.{◌≡◌, false, ◌+◌, ◌≤◌, ◌⊎◌, ◌∷◌, ◌++◌, [], None, Some, length, IfOk, IfErr, IsOk, OnOk};
 ghost use Rattle.csv.specs.Records.{fields_of};
-ghost use Rattle.pocsag_words.specs.Devices.{HasFailed};
+ghost use Rattle.pocsag_words.specs.Devices.{HasFailed, IsOfCut};
 ghost use Rattle.pocsag_pages.specs.Pages.{page_limit};
 ghost use Rattle.pocsag_pages.specs.PageFile.{fault_after, page_of, pages_of, round_of_rows, verdict};
 ghost use Rattle.pocsag_pages.specs.Queues.{queue_of_rows, queue_verdict};
 
 use crate::fault::{FieldFault, RecordFault, RoundFault};
+use crate::header_front::may_have_header;
 use crate::record::{is_header_row, page_of_row};
 use crate::round::{PAGE_LIMIT, Round};
 use crate::round_builder::RoundBuilder;
@@ -84,6 +85,10 @@ pub(crate) fn rows_behind_header(alloc: Global, bytes: &[u8]) -> Result<RowReade
     if bytes.len() > FILE_LIMIT {
         return Err(RoundFault::TooLarge);
     }
+    let may_have = may_have_header(alloc, bytes)?;
+    if !may_have {
+        return Err(RoundFault::BadHeader);
+    }
     let mut reader = RowReader::of(alloc, bytes);
     let mut row = ByteRecord::new(alloc);
     let found = reader.read(&mut row)?;
@@ -111,6 +116,8 @@ pub fn read_round<S: Source>(alloc: Global, source: &mut S) -> Result<Round, Rou
     ensures ok { S.is_known → IfOk result (λ r. verdict (S.held source.old) ≡ Ok r) }
     ensures err { S.is_known → IfErr result
         (λ e. (e ≡ RoundFault.OutOfMemory) ⊎ (e ≡ RoundFault.ReadFault) ⊎ (verdict (S.held source.old) ≡ Err e)) }
+    ensures uncut { S.is_known → OnOk result (S.is_cut source.old ≡ false) }
+    ensures cut { S.is_known → IfErr result (IsOfCut RoundFault.ReadFault RoundFault.TooLarge (S.is_cut source.old)) }
     ensures succeeded { OnOk result (S.failures source.new ≡ S.failures source.old) }
     ensures unfailed { IfErr result
         (λ e. (e ≡ RoundFault.ReadFault) ⊎ (S.failures source.new ≡ S.failures source.old)) }

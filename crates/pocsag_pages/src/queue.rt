@@ -1,7 +1,7 @@
 //! Queues: page files in which several pages may be for one address.
 ghost use Rattle.std.specs.Prelude.{◌≡◌, ◌+◌, ◌<◌, ◌≤◌, ◌⊎◌, [], false, length, IfErr, IfOk, None, OnOk, Some};
 ghost use Rattle.csv.specs.Records.{fields_of};
-ghost use Rattle.pocsag_words.specs.Devices.{HasFailed};
+ghost use Rattle.pocsag_words.specs.Devices.{HasFailed, IsOfCut};
 ghost use Rattle.pocsag_pages.specs.Pages.{AreGood, page_fault_of, page_limit};
 ghost use Rattle.pocsag_pages.specs.PageFile.{fault_after, numbered, page_of};
 ghost use Rattle.pocsag_pages.specs.Queues.{IsQueue, firsts, held_pages, left_of, queue_of_rows, queue_verdict};
@@ -105,6 +105,8 @@ pub fn read_pages<S: Source>(
     ensures err { S.is_known → IfErr result
         (λ e. (e ≡ RoundFault.OutOfMemory) ⊎ (e ≡ RoundFault.ReadFault)
         ⊎ (held_pages may_wait (S.held source.old) ≡ Err e)) }
+    ensures uncut { S.is_known → OnOk result (S.is_cut source.old ≡ false) }
+    ensures cut { S.is_known → IfErr result (IsOfCut RoundFault.ReadFault RoundFault.TooLarge (S.is_cut source.old)) }
     ensures succeeded { OnOk result (S.failures source.new ≡ S.failures source.old) }
     ensures unfailed { IfErr result
         (λ e. (e ≡ RoundFault.ReadFault) ⊎ (S.failures source.new ≡ S.failures source.old)) }

@@ -1,5 +1,5 @@
-ghost use Rattle.std.specs.Prelude.{◌≡◌, ◌+◌, ◌-◌, ◌^◌, ◌<◌, ◌≤◌, ◌⊎◌, length, IfErr, IfOk, OnOk};
-ghost use Rattle.pocsag_words.specs.Devices.{HasFailed};
+ghost use Rattle.std.specs.Prelude.{◌≡◌, false, ◌+◌, ◌-◌, ◌^◌, ◌<◌, ◌≤◌, ◌⊎◌, length, IfErr, IfOk, OnOk};
+ghost use Rattle.pocsag_words.specs.Devices.{HasFailed, IsOfCut};
 
 use crate::fault::WholeFault;
 use pocsag_words::Source;
@@ -19,6 +19,8 @@ pub fn read_whole<S: Source>(
     ensures fits { IfOk result (λ v. length v.items ≤ max) }
     ensures too_large { S.is_known → result ≡ Err WholeFault.TooLarge → max < length (S.held source.old) }
     ensures memory { S.is_known → result ≡ Err WholeFault.OutOfMemory → length (S.held source.old) ≤ max }
+    ensures uncut { S.is_known → OnOk result (S.is_cut source.old ≡ false) }
+    ensures cut { S.is_known → IfErr result (IsOfCut WholeFault.ReadFault WholeFault.TooLarge (S.is_cut source.old)) }
     ensures succeeded { OnOk result (S.failures source.new ≡ S.failures source.old) }
     ensures unfailed { IfErr result
         (λ e. (e ≡ WholeFault.ReadFault) ⊎ (S.failures source.new ≡ S.failures source.old)) }

@@ -1,6 +1,6 @@
 use Rattle.std.proofs.Common.{Err, inl, inr, ap, ◌∙◌}
 use Rattle.std.proofs.lemmas.Result.{err_from_is_err_and}
-use Rattle.pocsag_pages.proofs.Judgements.{never_read, unread}
+use Rattle.pocsag_pages.proofs.Judgements.{fault_of_whole, never_read, unread}
 use Rattle.pocsag_pages.proofs.file.read_round.Goals as goal
 
 pub returns-in_err-bytes-clause-err : goal.returns-in_err-bytes-clause-err
@@ -13,3 +13,9 @@ returns-in_default-clause-failed g c = λ h. absurd (elim (rw h at c.round_of.en
 
 pub returns-in-Err-clause-failed : goal.returns-in-Err-clause-failed
 returns-in-Err-clause-failed g c = λ h. absurd (elim (rw (c.in-Err.is ∙ h) at c.round_of-2.ensures.err) [ inl memory ↦ cc | inr v ↦ never_read _ v ])
+
+pub returns-in_default-clause-cut : goal.returns-in_default-clause-cut
+returns-in_default-clause-cut g c = λ t. fault_of_whole _ _ (never_read _) (c.in_ok-bytes.ensures.uncut t) c.round_of.result c.round_of.ensures.err
+
+pub returns-in-Err-clause-cut : goal.returns-in-Err-clause-cut
+returns-in-Err-clause-cut g c = λ t. fault_of_whole {X = Unit {0}} _ _ (never_read _) (c.in-Some.ensures.whole t) (Err c.in-Err.fault) c.in-Err.ensures.err

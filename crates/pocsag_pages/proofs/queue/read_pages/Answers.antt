@@ -1,5 +1,6 @@
 use Rattle.std.proofs.Common.{Err, inl, inr, ap, ◌∙◌}
 use Rattle.std.proofs.lemmas.Result.{err_from_is_err_and}
+use Rattle.pocsag_pages.proofs.Judgements.{fault_of_whole}
 use Rattle.pocsag_pages.proofs.QueueRows.{held_never_read, held_unread}
 use Rattle.pocsag_pages.proofs.queue.read_pages.Goals as goal
 
@@ -13,3 +14,9 @@ returns-in_default-clause-failed g c = λ h. absurd (elim (rw h at c.held_pages.
 
 pub returns-in-Err-clause-failed : goal.returns-in-Err-clause-failed
 returns-in-Err-clause-failed g c = λ h. absurd (elim (rw (c.in-Err.is ∙ h) at c.held_pages-2.ensures.err) [ inl memory ↦ cc | inr v ↦ held_never_read c.args.may_wait _ v ])
+
+pub returns-in_default-clause-cut : goal.returns-in_default-clause-cut
+returns-in_default-clause-cut g c = λ t. fault_of_whole _ _ (held_never_read c.args.may_wait _) (c.in_ok-bytes.ensures.uncut t) c.held_pages.result c.held_pages.ensures.err
+
+pub returns-in-Err-clause-cut : goal.returns-in-Err-clause-cut
+returns-in-Err-clause-cut g c = λ t. fault_of_whole {X = Unit {0}} _ _ (held_never_read c.args.may_wait _) (c.in-Some.ensures.whole t) (Err c.in-Err.fault) c.in-Err.ensures.err

@@ -9,6 +9,7 @@ invariant-loop-count g l = record {
   kept : l.is_refused ≡ false → length l.bytes.items ≡ l.len;
   held : g.S.Source.is_known → l.is_refused ≡ false → g.S.Source.held l.fn.source ≡ l.bytes.items ++ g.S.Source.held l.source;
   long : g.S.Source.is_known → length (g.S.Source.held l.fn.source) ≡ l.len + length (g.S.Source.held l.source);
+  still : g.S.Source.is_known → g.S.Source.is_cut l.source ≡ g.S.Source.is_cut l.fn.source;
   called : g.S.Source.calls l.fn.source ≤ g.S.Source.calls l.source;
   calls : g.S.Source.calls l.source ≤ g.S.Source.calls l.fn.source + l.len;
   failures : g.S.Source.failures l.source ≡ g.S.Source.failures l.fn.source;
