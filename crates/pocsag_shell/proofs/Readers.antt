@@ -6,7 +6,7 @@ use Rattle.pocsag_words.specs.declared.device.Sink.{Ghosts as Writer}
 use Rattle.pocsag_words.specs.declared.device.Source.{Ghosts as Reader}
 use Rattle.pocsag_shell.specs.ErrorStreams.{EndedWell, EndedWith, printed_by}
 use Rattle.pocsag_shell.proofs.Runs.{ran_streamed}
-use Rattle.pocsag_shell.specs.Readers.{WasNotRead, Task, over_bytes, over_reader}
+use Rattle.pocsag_shell.specs.Readers.{IsUncut, WasNotRead, Task, over_bytes, over_reader}
 use Rattle.pocsag_shell.specs.Runs.{IsStreamOf, Ran, Work}
 use Rattle.pocsag_shell.specs.Runs.Ran.{done, lost, refused, stopped}
 use Rattle.pocsag_shell.specs.declared.error_stream.ErrorStream.{ErrorStream}
@@ -32,14 +32,14 @@ module _ {F O E T : Type 0} (task : Task F) (Tx : Reader T) {Out : Writer O} {Er
     {err err' : ErrorStream F E} where
   -- what is so over the bytes that were read is so over their reader
   pub ran_read : {bytes items : List ℕ} {out' : O} (result : Result ℕ F) → bytes ≡ items → (Tx.is_known → items ≡ Tx.held tx)
-      → (Tx.is_known → length items ≤ input_limit) → IsStreamOf (over_bytes task Out bytes) Out out out' result
+      → IsUncut Tx tx → (Tx.is_known → length items ≤ input_limit) → IsStreamOf (over_bytes task Out bytes) Out out out' result
       → IfOk result (λ s. (status ≡ s) × EndedWell err err') → IfErr result (EndedWith task.ends Err' err err' status)
       → Ran (over_reader task Tx Out tx tx') Out Err' status out out' err err'
-  ran_read {bytes = bytes} {items = items} {out' = out'} result same held fits streams well with_fault =
+  ran_read {bytes = bytes} {items = items} {out' = out'} result same held whole fits streams well with_fault =
       let by_reader : IsStreamOf (over_reader task Tx Out tx tx') Out out out' result =
       streams_as (over_bytes task Out bytes) (over_reader task Tx Out tx tx') Out out out' result (λ k. k)
-      (λ s text p. (p.0, record { bytes = bytes; held = λ k. same ∙ held k; fits = λ k. rw same (fits k); holds = p.1 }))
-      (λ f holds. inr (record { bytes = bytes; held = λ k. same ∙ held k; fits = λ k. rw same (fits k); holds = holds }))
+      (λ s text p. (p.0, record { bytes = bytes; held = λ k. same ∙ held k; whole = whole; fits = λ k. rw same (fits k); holds = p.1 }))
+      (λ f holds. inr (record { bytes = bytes; held = λ k. same ∙ held k; whole = whole; fits = λ k. rw same (fits k); holds = holds }))
       (λ f why. why) (λ f why. why) streams in
       ran_streamed (over_reader task Tx Out tx tx') result by_reader well with_fault
 

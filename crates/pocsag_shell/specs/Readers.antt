@@ -1,5 +1,5 @@
 -- Commands over the bytes that a reader holds (this project's own).
-use Rattle.std.specs.Prelude.{◌≡◌, ◌⊎◌, ℕ, ◌-◌, ◌^◌, ◌<◌, ◌≤◌, List, length}
+use Rattle.std.specs.Prelude.{◌≡◌, ◌⊎◌, true, false, ℕ, ◌-◌, ◌^◌, ◌<◌, ◌≤◌, List, length}
 use Rattle.pocsag_words.specs.Devices.{HasFailed}
 use Rattle.pocsag_words.specs.Frame.{input_limit}
 use Rattle.pocsag_words.specs.declared.device.Sink.{Ghosts as Writer}
@@ -12,17 +12,29 @@ use Rattle.pocsag_shell.specs.declared.fault.FileFault.TheVariants as file
 abbrev pub WasCalled : ℕ → ℕ → Type 0
 WasCalled before after = before < 2 ^ 64 - 1 → before < after
 
--- Why a reader was not read whole: it failed, it holds more than is read, or memory was refused as it was read, which holds no more.
+-- A reader failed, and contracts that know its bytes know that they are cut.
+pub record FailedCut {T : Type 0} (Tx : Reader T) (tx tx_after : T) : Type 0 where
+  pub failed : HasFailed (Tx.failures tx) (Tx.failures tx_after)
+  pub cut : Tx.is_known → Tx.is_cut tx ≡ true
+
+-- The bytes that a reader holds are whole, so far as contracts know them.
+abbrev pub IsUncut : {T : Type 0} → Reader T → (tx : T) → Type 0
+IsUncut Tx tx = Tx.is_known → Tx.is_cut tx ≡ false
+
+-- Why a reader was not read whole: it failed, it holds more than is read, or memory was refused as it was read, which is whole and
+-- holds no more.
 abbrev pub WasNotRead : {T : Type 0} → (Tx : Reader T) → (tx tx_after : T) → FileFault → Type 0
-WasNotRead Tx tx tx_after file.Device = HasFailed (Tx.failures tx) (Tx.failures tx_after)
+WasNotRead Tx tx tx_after file.Device = FailedCut Tx tx tx_after
 WasNotRead Tx tx tx_after file.TooLarge = Tx.is_known → input_limit < length (Tx.held tx)
-WasNotRead Tx tx tx_after file.OutOfMemory = WasCalled (Tx.calls tx) (Tx.calls tx_after) × (Tx.is_known → length (Tx.held tx) ≤ input_limit)
+WasNotRead Tx tx tx_after file.OutOfMemory =
+    WasCalled (Tx.calls tx) (Tx.calls tx_after) × IsUncut Tx tx × (Tx.is_known → length (Tx.held tx) ≤ input_limit)
 WasNotRead Tx tx tx_after _ = ⊥
 
--- This is so of the bytes that a reader holds, which are no more than are read.
+-- This is so of the bytes that a reader holds, which are whole and no more than are read.
 pub record IsSoOfHeld {T : Type 0} (Tx : Reader T) (tx : T) (P : List ℕ → Type 0) : Type 0 where
   pub bytes : List ℕ
   pub held : Tx.is_known → bytes ≡ Tx.held tx
+  pub whole : IsUncut Tx tx
   pub fits : Tx.is_known → length bytes ≤ input_limit
   pub holds : P bytes
 

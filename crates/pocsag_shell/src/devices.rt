@@ -1,4 +1,4 @@
-ghost use Rattle.std.specs.Prelude.{◌≡◌, []};
+ghost use Rattle.std.specs.Prelude.{◌≡◌, [], false};
 
 use crate::diagnostics::Diagnostics;
 use crate::role::Role;
@@ -38,6 +38,8 @@ impl<'a, R: Read> Source for ReaderSource<'a, R> {
     ghost is_known = { ⊥ };
 
     ghost held = { λ _. [] };
+
+    ghost is_cut = { λ _. false };
 
     ghost calls = { λ s. s.calls };
 

@@ -20,12 +20,12 @@ pub struct Loaded {
 
 impl Loaded {
     ghost use Rattle.std.specs.Prelude.{◌≡◌};
-    ghost use Rattle.pocsag_shell.specs.Loads.{left_in, loads_called, loads_failed, IsCutOff};
+    ghost use Rattle.pocsag_shell.specs.Loads.{left_in, loads_are_cut, loads_called, loads_failed};
 
     /// The source of these bytes, behind which the system refused to read on if it is cut.
     pub fn new(alloc: Global, bytes: Vec<u8>, is_cut: bool) -> Loaded
         ensures held { left_in result ≡ bytes.items }
-        ensures cut { IsCutOff result is_cut }
+        ensures cut { loads_are_cut result ≡ is_cut }
         ensures calls { loads_called result ≡ 0 }
         ensures failures { loads_failed result ≡ 0 }
     {
@@ -41,11 +41,13 @@ impl Loaded {
 }
 
 impl Source for Loaded {
-    ghost use Rattle.pocsag_shell.specs.Loads.{left_in, loads_called, loads_failed};
+    ghost use Rattle.pocsag_shell.specs.Loads.{left_in, loads_are_cut, loads_called, loads_failed};
 
     ghost is_known = { Unit {0} };
 
     ghost held = { left_in };
+
+    ghost is_cut = { loads_are_cut };
 
     ghost calls = { loads_called };
 
