@@ -155,35 +155,58 @@ def words_read(bits, at, polarity, batches):
     return 17 * batches
 
 
+def exact_at(bits, at, polarity):
+    """The word from a bit on, if it is a codeword."""
+    word = word_at(bits, at, polarity)
+    return word if word is not None and is_codeword(word) else None
+
+
+def is_beside(bits, at, polarity, aside):
+    """Whether the word that is due at a bit is a codeword that many bits beside it, and none there unless it is an idle codeword
+    that is beside."""
+    word = exact_at(bits, at + aside, polarity)
+    return word is not None and (word == IDLE or exact_at(bits, at, polarity) is None)
+
+
+def read_in_front(bits, first, polarity, held):
+    """How many words are read of the batch in front of a synchronisation codeword, behind a held bit: those that have a repair, back
+    to one past repair, where they are two or more, have at most one wrong bit in three words, and show no slip."""
+    count = wrong = 0
+    while count < 16 and held <= first - 32 * (count + 1):
+        at = first - 32 * (count + 1)
+        mended = mended_at(bits, at, polarity)
+        if mended is None:
+            break
+        count, wrong = count + 1, wrong + (word_at(bits, at, polarity) ^ mended).bit_count()
+    if count < 2 or 3 * wrong > count:
+        return 0
+    whole = [first - 32 * nth for nth in range(1, count + 1) if first >= 32 * (nth + 1)]
+    return 0 if any(is_beside(bits, at, polarity, aside) for at in whole for aside in (-1, 1)) else count
+
+
 def has_slipped(bits, start, polarity, batches):
     """Whether four words of the last batch in a row, or two or three at its end, are codewords one bit beside their places, and
     none in them, unless it is an idle codeword that is beside."""
     end = 17 * batches
 
-    def exact_at(at):
-        word = word_at(bits, at, polarity)
-        return word if word is not None and is_codeword(word) else None
+    def slips(first, aside):
+        return all(is_beside(bits, start + 32 * place, polarity, aside) for place in range(first, min(first + 4, end)))
 
-    def is_beside(place, aside):
-        at = start + 32 * place
-        word = exact_at(at + aside)
-        return word is not None and (word == IDLE or exact_at(at) is None)
-
-    firsts = range(end - 16, end - 1)
-    return any(all(is_beside(place, aside) for place in range(first, min(first + 4, end))) for first in firsts for aside in (-1, 1))
+    return any(slips(first, aside) for first in range(end - 16, end - 1) for aside in (-1, 1))
 
 
-def read_words(bits, start, polarity, batches, near):
-    """What is told of a transmission: corrected bits, lost words and cut pages, and its pages."""
+def read_words(bits, start, polarity, batches, near, front):
+    """What is told of a transmission, of which so many words are read in front: corrected bits, lost words and cut pages, and its
+    pages."""
     corrected = lost = cut = 0
     behind = start + 544 * batches
     # the last batch is out of step
     is_out = any(at in near for at in range(behind - 543, behind + 32)) or has_slipped(bits, start, polarity, batches)
     pages, page = [], None  # an open page counts as cut until a codeword ends it
     end = words_read(bits, start, polarity, batches)
-    for place in range(17 * batches):
+    for place in range(-17 if front else 0, 17 * batches):
         at = start + 32 * place
-        word = word_at(bits, at, polarity) if place < end else None
+        word = word_at(bits, at, polarity) if -front <= place < end else None
         if place % 17 == 0:
             wrong = 32 if word is None else (word ^ SYNC).bit_count()
             corrected, lost = (corrected + wrong, lost) if wrong <= 2 else (corrected, lost + 1)
@@ -218,8 +241,9 @@ def heard(bits):
                 continue
         own = (last + 544 - first) // 544
         batches = own + is_like(bits, last + 544, polarity)
+        front = read_in_front(bits, first, polarity, held)
         held = first + 32 * min(words_read(bits, first, polarity, batches), 17 * own)
-        found.append((first, polarity, batches, *read_words(bits, first, polarity, batches, near)))
+        found.append((first, polarity, batches + (front > 0), *read_words(bits, first, polarity, batches, near, front)))
     return found
 
 
@@ -455,6 +479,33 @@ def try_by_hand(tally, folder):
     listed("another behind it, inverted", before + inverted(after), [["8", "tone0", "", "cut"], one[0]])
     long_page = bits_of([SYNC, *[IDLE] * 15, tone])[:-1] + after
     listed("a page that is open where a bit is lost", long_page, [["15", "tone0", "", "cut"], one[0]])
+    # the batch in front of the first synchronisation codeword that is found
+    follows = [SYNC, *[IDLE] * 16]
+    damaged = [SYNC ^ 0b1011 << 9, *batch[1:], *follows]
+    listed("a first synchronisation codeword with three wrong bits", bits_of(damaged), two, [(544, "upright", 2, 0, 1, 0)])
+    listed("inverted, behind a preamble", inverted("10" * 288 + bits_of(damaged)), two, [(1120, "inverted", 2, 0, 1, 0)])
+    for gone in (1, 32, 63):
+        told = [(544 - gone, "upright", 2, 0, 1 + gone // 33, 0)]
+        listed(f"{gone} bits of the first batch are not there", bits_of([*batch, *follows])[gone:], two if gone < 33 else [], told)
+    for left, count in ((31, 0), (32, 0), (63, 0), (64, 2), (95, 2), (96, 3)):
+        told = [(left, "upright", 1 + (count > 0), 0, 17 - count if count else 0, 0)]
+        listed(f"{left} bits of the first batch are there", bits_of([*batch, *follows])[544 - left :], [], told)
+    for wrong, count in ((1, 3), (2, 0)):
+        front = [IDLE, IDLE, IDLE ^ ((1 << wrong) - 1) << 9]
+        told = [(96, "upright", 1 + (count > 0), wrong * (count > 0), 14 * (count > 0), 0)]
+        listed(f"{wrong} bits of three words in front are wrong", bits_of([*front, *follows]), [], told)
+    parted = [SYNC ^ 7, tone, more, lost, tone, more, *[IDLE] * 11, *follows]
+    listed("a word past repair in front", bits_of(parted), [["9", "numeric", numeric([0x12345]), "whole"]], [(544, "upright", 2, 0, 4, 0)])
+    twice = [SYNC ^ 7, *batch[1:], SYNC ^ 7, tone, *[IDLE] * 15, *follows]
+    listed("one batch in front of two", bits_of(twice), [["8", "tone0", "", "whole"]], [(1088, "upright", 2, 0, 1, 0)])
+    goes_over = [SYNC ^ 7, *[IDLE] * 14, tone, more, SYNC, more, *[IDLE] * 15]
+    listed("a page from the batch in front on", bits_of(goes_over), over, [(544, "upright", 2, 0, 1, 0)])
+    inside = bits_of([SYNC, *[IDLE] * 14, *follows, *follows])
+    told = [(0, "upright", 1, 0, 0, 1), (480, "upright", 2, 0, 0, 0)]
+    listed("none in front inside what was read", inside, [["2045063", "tone2", "", "cut"]], told)
+    stopped = bits_of([SYNC, *[IDLE] * 6, lost, lost, tone, more, *follows, *follows])
+    told = [(0, "upright", 1, 0, 10, 0), (352, "upright", 3, 0, 15, 0)]
+    listed("two in front behind what was read", stopped, [["15", "numeric", numeric([0x12345]), "whole"]], told)
     for count in (5, 6, 11):
         words = [lost if place < 2 * count - 16 or place % 2 and place < 2 * count else IDLE for place in range(16)]
         told = [(0, "upright", 1, 0, 5, 0)] if count == 5 else []

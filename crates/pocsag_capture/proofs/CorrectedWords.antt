@@ -18,8 +18,8 @@ use Rattle.pocsag_pages.specs.Bytes.{body_bytes, sync_word, synced, unsynced}
 use Rattle.pocsag_pages.proofs.Lengths.{unsynced_codeword, unsynced_more, unsynced_sync}
 use Rattle.pocsag_pager.specs.Shown.{IsMended, said}
 use Rattle.pocsag_capture.specs.CapturedPages.{stays_open, without_orphans}
-use Rattle.pocsag_capture.specs.Extracted.{count_cut, ends_cut, far_words, mended_errors, near_errors, page_cuts, sum_at_synchronisations, wrong_bits}
-use Rattle.pocsag_capture.specs.Lost.{lost_words}
+use Rattle.pocsag_capture.specs.Extracted.{count_cut, ends_cut, far_words, near_errors, page_cuts, sum_at_synchronisations}
+use Rattle.pocsag_capture.specs.Lost.{lost_words, mended_errors, wrong_bits}
 use Rattle.pocsag_capture.specs.Receptions.{received_word}
 use Rattle.pocsag_capture.specs.TakenWords.{TakesWord, cut_by, end_by, is_lost}
 use Rattle.pocsag_capture.specs.declared.corrector.WordCorrector.{WordCorrector}

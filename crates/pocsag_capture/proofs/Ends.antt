@@ -16,7 +16,7 @@ use Rattle.pocsag_pager.proofs.Mended.{mended_same}
 use Rattle.pocsag_capture.specs.Bits.{capture_bits}
 use Rattle.pocsag_capture.specs.CapturedPages.{without_orphans}
 use Rattle.pocsag_capture.specs.ExtractedBytes.{ExtractsAll, ExtractsReception, PutsExtract, PutsExtracts}
-use Rattle.pocsag_capture.specs.Receptions.{AreFound, AreReceptions, IsReception, IsSyncRun, behind, counted, held_end, last_sync, nothing, passed, received, received_word}
+use Rattle.pocsag_capture.specs.Receptions.{AreFound, AreReceptions, IsReception, IsSyncRun, all_batches, behind, counted, held_end, last_sync, nothing, passed, received, received_word}
 use Rattle.pocsag_capture.specs.declared.extract.Extracted.{Extracted}
 use Rattle.pocsag_capture.specs.declared.reception.ReceptionStats.{ReceptionStats}
 use Rattle.pocsag_capture.specs.declared.reception.Reception.{Reception}
@@ -44,7 +44,7 @@ reception_short bytes first u r few run is =
 receptions_short_from : (bytes : List ℕ) (first held : ℕ) (rs : List Reception) → length bytes ≤ input_limit
     → AreFound (capture_bits bytes) first held rs → All IsShort rs
 receptions_short_from bytes first held rs few (nothing quiet) = All-nil IsShort
-receptions_short_from bytes first held rs few (counted u r more run counts is rest) =
+receptions_short_from bytes first held rs few (counted u r more run counts is front rest) =
     All-cons IsShort r more (reception_short bytes first u r few run is) (receptions_short_from bytes (last_sync u + 1) (held_end u r) more few rest)
 receptions_short_from bytes first held rs few (passed u more run not rest) = receptions_short_from bytes (last_sync u + 1) held more few rest
 
@@ -66,12 +66,12 @@ unread_far : HasNoneNear 0x0000000b
 unfolding syndrome_of check_of combine columns
 unread_far = HasNoneNear-from_far 0x0000000b (lit< tt) refl
 
-unread_words : (bits : List ℕ) (r : Reception) → r.words ≡ 0 → (a n : ℕ)
+unread_words : (bits : List ℕ) (r : Reception) → r.words ≡ 0 → r.words_in_front ≡ 0 → (a n : ℕ)
     → All (λ w. w ≡ 0x0000000b) (map (received_word bits r) (range_with_len a n))
-unread_words bits r none a zero = All-nil (λ w. w ≡ 0x0000000b)
-unread_words bits r none a (suc n) =
+unread_words bits r none no_front a zero = All-nil (λ w. w ≡ 0x0000000b)
+unread_words bits r none no_front a (suc n) =
     All-cons (λ w. w ≡ 0x0000000b) (received_word bits r a) (map (received_word bits r) (range_with_len (a + 1) n))
-    (word_unread bits r a (omega arith)) (unread_words bits r none (a + 1) n)
+    (word_unread bits r a none no_front) (unread_words bits r none no_front (a + 1) n)
 
 unread_unsynced : (j : ℕ) (ws : List ℕ) → All (λ w. w ≡ 0x0000000b) ws → All (λ w. w ≡ 0x0000000b) (unsynced j ws)
 unread_unsynced j [] all = All-nil (λ w. w ≡ 0x0000000b)
@@ -95,21 +95,22 @@ unread_pages i (w ∷ ws) (m ∷ ms) all each =
     let rest = unread_pages (i + 1) ws ms (All-tail (λ w. w ≡ 0x0000000b) w ws all) each.1 in
     ap (λ (n : Option ℕ). pages_from i (without_orphans false (said n ∷ map said ms))) is ∙ rest
 
-silent : (bits : List ℕ) (h : ReceptionStats) (before after : List ℕ) (f : PutsExtract bits h before after) → h.reception.words ≡ 0 → pages_in f.codewords ≡ []
-silent bits h before after f none =
+silent : (bits : List ℕ) (h : ReceptionStats) (before after : List ℕ) (f : PutsExtract bits h before after) → h.reception.words ≡ 0
+    → h.reception.words_in_front ≡ 0 → pages_in f.codewords ≡ []
+silent bits h before after f none no_front =
     let extracted = f.is.extracted in
     ap (pages_from 0) extracted.kinds
     ∙ unread_pages 0 (unsynced 0 (received bits h.reception)) extracted.mended
-    (unread_unsynced 0 (received bits h.reception) (unread_words bits h.reception none 0 (17 * h.reception.batches))) extracted.each
+    (unread_unsynced 0 (received bits h.reception) (unread_words bits h.reception none no_front 0 (17 * all_batches h.reception))) extracted.each
 
 -- ---- all receptions, behind a batch that says nothing
 
 pub extracts_all : (capture : List ℕ) (l : Extracted) (start mid : List ℕ) (silence : ReceptionStats) (found : List Reception) → start ≡ replicate 72 0xaa
-    → silence.reception.words ≡ 0 → silence.reception.batches ≡ 1 → PutsExtract (capture_bits capture) silence start mid
+    → silence.reception.words ≡ 0 → silence.reception.words_in_front ≡ 0 → silence.reception.batches ≡ 1 → PutsExtract (capture_bits capture) silence start mid
     → PutsExtracts (capture_bits capture) found l.heard.items mid l.bytes.items → AreReceptions (capture_bits capture) found → ExtractsAll capture l
-extracts_all capture l start mid silence found begun unread one f g are =
+extracts_all capture l start mid silence found begun unread no_front one f g are =
     let bits = capture_bits capture in
-    let none = silent bits silence start mid f unread in
+    let none = silent bits silence start mid f unread no_front in
     let first = subst (IsBody f.codewords) none (one_body bits silence f.codewords f.is) in
     let rest = all_body bits l.heard.items g.codewords g.each in
     let whole = join_body f.codewords (all_codewords g.codewords) [] (all_pages g.codewords) first rest in

@@ -1,5 +1,5 @@
 -- Receptions that are extracted one behind the other.
-use Rattle.std.proofs.Common.{◌≡◌, ℕ, ◌+◌, ◌*◌, ◌<◌, ◌≤◌, List, [], ◌∷◌, ◌++◌, length, map, Bool, refl, sym, ap, subst, ◌∙◌, arith}
+use Rattle.std.proofs.Common.{◌≡◌, ℕ, ◌+◌, ◌-◌, ◌*◌, ◌<◌, ◌≤◌, List, [], ◌∷◌, ◌++◌, length, map, Bool, refl, sym, ap, subst, ◌∙◌, arith, eq-eqb}
 use Rattle.std.specs.List.{AllZip}
 use Rattle.std.proofs.lemmas.Bool.{le-leb, le-ltb, lt-leb, lt-ltb}
 use Rattle.std.proofs.lemmas.List.{append-nil, flat_map_more, map-append}
@@ -8,7 +8,7 @@ use Rattle.pocsag_pages.specs.Bytes.{body_bytes}
 use Rattle.pocsag_capture.specs.Bits.{as_sent, word_on}
 use Rattle.pocsag_capture.specs.Extracted.{AreExtracted, count_cut}
 use Rattle.pocsag_capture.specs.ExtractedBytes.{IsExtract, PutsExtract, PutsExtracts}
-use Rattle.pocsag_capture.specs.Receptions.{received_word, sent_at}
+use Rattle.pocsag_capture.specs.Receptions.{all_batches, batches_in_front, own_word, received_word, sent_at}
 use Rattle.pocsag_capture.specs.Slips.{AreInStep}
 use Rattle.pocsag_capture.specs.TakenWords.{cut_by}
 use Rattle.pocsag_capture.specs.declared.polarity.Polarity.{Polarity}
@@ -25,17 +25,27 @@ word_there bits p bit there = rw (le-leb _ _ there) refl
 pub word_cut : (bits : List ℕ) (p : Polarity) (bit : ℕ) → length bits < bit + 32 → sent_at bits p bit ≡ 0x0000000b
 word_cut bits p bit cut = rw (lt-leb _ _ cut) refl
 
-pub word_read : (bits : List ℕ) (r : Reception) (place : ℕ) → place < r.words
-    → received_word bits r place ≡ sent_at bits r.polarity (r.bit + 32 * place)
-word_read bits r place read = rw (lt-ltb _ _ read) refl
+-- a word from the first synchronisation codeword on
+pub own_word_at : (bits : List ℕ) (r : Reception) (place own : ℕ) → place ≡ 17 * batches_in_front r + own → received_word bits r place ≡ own_word bits r own
+own_word_at bits r place own e =
+    let past : 17 * batches_in_front r ≤ place = omega arith in
+    let same : place - 17 * batches_in_front r ≡ own = omega arith in
+    rw (le-ltb _ _ past) (ap (own_word bits r) same)
 
-pub word_unread : (bits : List ℕ) (r : Reception) (place : ℕ) → r.words ≤ place → received_word bits r place ≡ 0x0000000b
-word_unread bits r place past = rw (le-ltb _ _ past) refl
+pub word_read : (bits : List ℕ) (r : Reception) (place own : ℕ) → place ≡ 17 * batches_in_front r + own → own < r.words
+    → received_word bits r place ≡ sent_at bits r.polarity (r.bit + 32 * own)
+word_read bits r place own e read = own_word_at bits r place own e ∙ rw (lt-ltb _ _ read) refl
+
+pub word_unread : (bits : List ℕ) (r : Reception) (place : ℕ) → r.words ≡ 0 → r.words_in_front ≡ 0 → received_word bits r place ≡ 0x0000000b
+word_unread bits r place none no_front =
+    let first : batches_in_front r ≡ 0 = rw (eq-eqb _ _ no_front) refl in
+    let past : r.words ≤ place = omega arith in
+    own_word_at bits r place place (omega (arith, first)) ∙ rw (le-ltb _ _ past) refl
 
 -- ---- all words of a reception
 
 abbrev pub extract_of : (bits : List ℕ) (h : ReceptionStats) (s : WordCorrector) (place : ℕ) (f : IsCorrecting bits h.reception place h.steady s)
-    → place ≡ 17 * h.reception.batches → AreInStep bits h.reception h.steady → h.corrected ≡ s.corrected → h.lost ≡ s.lost
+    → place ≡ 17 * all_batches h.reception → AreInStep bits h.reception h.steady → h.corrected ≡ s.corrected → h.lost ≡ s.lost
     → h.cut ≡ s.cut + cut_by (last_end s.is_open) → IsExtract bits h f.codewords
 extract_of bits h s place f all steady corrected lost cut = record {
   are = f.are;

@@ -2,6 +2,7 @@ pub mod CorrectedWords
 pub mod Counting
 pub mod Ends
 pub mod Extracts
+pub mod InFront
 pub mod Joined
 pub mod Once
 pub mod PageEnds

@@ -19,11 +19,12 @@ use Rattle.pocsag_pager.proofs.Mended.{all_mended_same}
 use Rattle.pocsag_pager.proofs.Damage.{shown_is_chosen}
 use Rattle.pocsag_capture.specs.Bits.{capture_bits, word_on}
 use Rattle.pocsag_capture.specs.CapturedPages.{AreCaptured, HasCaptured, without_orphans}
-use Rattle.pocsag_capture.specs.Receptions.{AreFound, IsOnAir, HasBatches, IsBridged, IsInStep, IsReadTo, IsReception, IsSyncRun, IsSynchronised, counted, held_end, last_sync, nothing, passed, received}
+use Rattle.pocsag_capture.specs.Receptions.{AreFound, IsOnAir, HasBatches, HasInFront, IsBridged, IsInStep, IsReadTo, IsReception, IsSyncRun, IsSynchronised, counted, held_end, last_sync, nothing, passed, received}
 use Rattle.pocsag_capture.specs.declared.polarity.Polarity.{Polarity}
 use Rattle.pocsag_capture.specs.declared.polarity.Polarity.TheVariants.{Upright, Inverted}
 use Rattle.pocsag_capture.specs.declared.reception.Reception.{Reception}
 use Rattle.pocsag_capture.specs.declared.reception.Run.{Run}
+use Rattle.pocsag_capture.proofs.InFront.{same_in_front}
 use Rattle.pocsag_capture.proofs.Polarities.{one_polarity}
 
 -- ---- one polarity
@@ -99,8 +100,9 @@ no_further bits p bit n v w f g =
       | inr more ↦ more
     ]
 
-same_reception : (bits : List ℕ) (u : Run) (r s : Reception) → IsReception bits u r → IsReception bits u s → r ≡ s
-same_reception bits u r s f g =
+same_reception : (bits : List ℕ) (held : ℕ) (u : Run) (r s : Reception) → IsReception bits u r → IsReception bits u s
+    → HasInFront bits held u.polarity u.bit r.words_in_front → HasInFront bits held u.polarity u.bit s.words_in_front → r ≡ s
+same_reception bits held u r s f g front ahead =
     let bit = f.bit ∙ sym g.bit in
     let polarity = f.polarity ∙ sym g.polarity in
     let batches = same_extended bits u r.batches s.batches f.batches g.batches in
@@ -109,31 +111,34 @@ same_reception bits u r s f g =
     let least = no_further bits u.polarity u.bit r.batches r.words s.words f.words read in
     let most = no_further bits u.polarity u.bit r.batches s.words r.words read f.words in
     let words : r.words ≡ s.words = omega arith in
-    ap₂ (λ (b : ℕ) (n : ℕ). (record { bit = b; polarity = r.polarity; batches = n; words = r.words })) bit batches
-    ∙ ap₂ (λ (p : Polarity) (w : ℕ). (record { bit = s.bit; polarity = p; batches = s.batches; words = w })) polarity words
+    let in_front = same_in_front bits held u.polarity u.bit r.words_in_front s.words_in_front front ahead in
+    ap₂ (λ (b : ℕ) (n : ℕ). (record { bit = b; polarity = r.polarity; batches = n; words = r.words; words_in_front = r.words_in_front })) bit batches
+    ∙ ap₂ (λ (p : Polarity) (w : ℕ). (record { bit = s.bit; polarity = p; batches = s.batches; words = w; words_in_front = r.words_in_front })) polarity words
+    ∙ ap (λ (n : ℕ). (record { bit = s.bit; polarity = s.polarity; batches = s.batches; words = s.words; words_in_front = n })) in_front
 
 pub same_found : (bits : List ℕ) (first held : ℕ) (rs ss : List Reception) → WordsFit bits → AreFound bits first held rs → AreFound bits first held ss
     → rs ≡ ss
 same_found bits first held rs ss fits (nothing quiet) (nothing other) = refl
-same_found bits first held rs ss fits (nothing quiet) (counted v s more run counts is rest) =
+same_found bits first held rs ss fits (nothing quiet) (counted v s more run counts is front rest) =
     absurd (quiet v.bit run.later (omega (arith, run.begins.within)) v.polarity run.begins)
 same_found bits first held rs ss fits (nothing quiet) (passed v more run not rest) =
     absurd (quiet v.bit run.later (omega (arith, run.begins.within)) v.polarity run.begins)
-same_found bits first held rs ss fits (counted u r more run counts is rest) (nothing quiet) =
+same_found bits first held rs ss fits (counted u r more run counts is front rest) (nothing quiet) =
     absurd (quiet u.bit run.later (omega (arith, run.begins.within)) u.polarity run.begins)
-same_found bits first held rs ss fits (counted u r more run counts is rest) (counted v s other runs count are rests) =
+same_found bits first held rs ss fits (counted u r more run counts is front rest) (counted v s other runs count are ahead rests) =
     let one = same_run bits first u v fits run runs in
     let back = sym one in
-    let same = same_reception bits u r s is (subst (λ (q : Run). IsReception bits q s) back are) in
+    let same = same_reception bits held u r s is (subst (λ (q : Run). IsReception bits q s) back are) front
+    (subst (λ (q : Run). HasInFront bits held q.polarity q.bit s.words_in_front) back ahead) in
     ap₂ (λ (a : Reception) (l : List Reception). a ∷ l) same
     (same_found bits (last_sync u + 1) (held_end u r) more other fits rest
     (subst (λ (a : Reception). AreFound bits (last_sync u + 1) (held_end u a) other) (sym same)
     (subst (λ (q : Run). AreFound bits (last_sync q + 1) (held_end q s) other) back rests)))
-same_found bits first held rs ss fits (counted u r more run counts is rest) (passed v other runs not rests) =
+same_found bits first held rs ss fits (counted u r more run counts is front rest) (passed v other runs not rests) =
     absurd (not (subst (IsOnAir bits held) (same_run bits first u v fits run runs) counts))
 same_found bits first held rs ss fits (passed u more run not rest) (nothing quiet) =
     absurd (quiet u.bit run.later (omega (arith, run.begins.within)) u.polarity run.begins)
-same_found bits first held rs ss fits (passed u more run not rest) (counted v s other runs count are rests) =
+same_found bits first held rs ss fits (passed u more run not rest) (counted v s other runs count are ahead rests) =
     absurd (not (subst (IsOnAir bits held) (sym (same_run bits first u v fits run runs)) count))
 same_found bits first held rs ss fits (passed u more run not rest) (passed v other runs nots rests) =
     same_found bits (last_sync u + 1) held more other fits rest

@@ -25,7 +25,7 @@ use Rattle.pocsag_capture.specs.Bits.{capture_bits}
 use Rattle.pocsag_capture.specs.CapturedPages.{AreCaptured, HasCaptured, without_orphan, without_orphans}
 use Rattle.pocsag_capture.specs.Extracted.{count_cut, ends_cut, page_cuts}
 use Rattle.pocsag_capture.specs.PageEnds.{AreCutsOf, HasTransmissions, IsCapturedTransmission, IsPageEnd, UncutStandWhole, pages_captured}
-use Rattle.pocsag_capture.specs.Receptions.{received, received_word}
+use Rattle.pocsag_capture.specs.Receptions.{all_batches, received, received_word}
 use Rattle.pocsag_capture.specs.Slips.{AreInStep}
 use Rattle.pocsag_capture.specs.TakenWords.{TakesWord, cut_by}
 use Rattle.pocsag_capture.specs.declared.captured_transmission.CapturedTransmission.{CapturedTransmission}
@@ -79,7 +79,7 @@ pub record IsCaptured (bits : List ℕ) (c : CapturedTransmission) : Type 0 wher
   pub is : IsCapturedTransmission bits c
   pub listable : All IsListable c.pages.items
 
-pub capturing_all : (bits : List ℕ) (c : CapturedTransmission) (place : ℕ) (s : WordCorrector) (growing : Growing) (cuts : List Bool) → place ≡ 17 * c.heard.reception.batches
+pub capturing_all : (bits : List ℕ) (c : CapturedTransmission) (place : ℕ) (s : WordCorrector) (growing : Growing) (cuts : List Bool) → place ≡ 17 * all_batches c.heard.reception
     → AreInStep bits c.heard.reception c.heard.steady → c.heard.corrected ≡ s.corrected → c.heard.lost ≡ s.lost
     → c.heard.cut ≡ s.cut + cut_by (last_end s.is_open) → c.cuts.items ≡ cuts ++ option_to_list (last_end s.is_open)
     → c.pages.items ≡ growing.pages.items ++ closed growing.current
@@ -202,7 +202,7 @@ pages_stand steady i true before (w ∷ ws) all (Some (Message bits) ∷ ks) par
 pages_stand steady i false before (w ∷ ws) all (Some (Message bits) ∷ ks) parts long each =
     pages_stand steady (i + 1) false (before ++ w ∷ []) ws all ks (one_on before ws all w parts) (one_longer before w i long) each.1
 
-as_many : (steady i : ℕ) (b : Bool) (ks : List (Option Kind)) → length (page_cuts steady i ks) ≡ length (pages_from i (without_orphans b ks))
+pub as_many : (steady i : ℕ) (b : Bool) (ks : List (Option Kind)) → length (page_cuts steady i ks) ≡ length (pages_from i (without_orphans b ks))
 as_many steady i b [] = refl
 as_many steady i b (None ∷ ks) = as_many steady (i + 1) false ks
 as_many steady i b (Some Idle ∷ ks) = as_many steady (i + 1) false ks
@@ -211,7 +211,7 @@ as_many steady i true (Some (Message bits) ∷ ks) = as_many steady (i + 1) true
 as_many steady i false (Some (Message bits) ∷ ks) = as_many steady (i + 1) false ks
 
 -- both, of the pages of words
-plain_pages : (words : List ℕ) (steady : ℕ) (ps : List Page) (cuts : List Bool) (f : AreCaptured words ps) (g : AreCutsOf words steady cuts)
+pub plain_pages : (words : List ℕ) (steady : ℕ) (ps : List Page) (cuts : List Bool) (f : AreCaptured words ps) (g : AreCutsOf words steady cuts)
     → ps ≡ pages_from 0 (without_orphans false (map said g.mended))
 plain_pages words steady ps cuts f g =
     (reads_plainly f.holds).pages

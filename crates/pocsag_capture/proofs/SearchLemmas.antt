@@ -5,7 +5,7 @@ use Rattle.std.proofs.lemmas.List.{append-nil}
 use Rattle.pocsag_words.specs.Codeword.{IsNear}
 use Rattle.pocsag_pages.specs.Bytes.{sync_word}
 use Rattle.pocsag_capture.specs.Bits.{as_sent, capture_bits, word_on}
-use Rattle.pocsag_capture.specs.Receptions.{AreFound, AreReceptions, IsOnAir, IsBridged, IsInStep, IsQuiet, IsReception, IsSyncRun, IsSynchronised, counted, held_end, last_sync, nothing, passed}
+use Rattle.pocsag_capture.specs.Receptions.{AreFound, AreReceptions, HasInFront, IsOnAir, IsBridged, IsInStep, IsQuiet, IsReception, IsSyncRun, IsSynchronised, counted, held_end, last_sync, nothing, passed}
 use Rattle.pocsag_capture.specs.Runs.{BeginsRun, Steps}
 use Rattle.pocsag_capture.specs.declared.polarity.Polarity.{Polarity}
 use Rattle.pocsag_capture.specs.declared.reception.Reception.{Reception}
@@ -153,9 +153,10 @@ pub found_all : (bits : List ℕ) (first held : ℕ) (found : List Reception) �
 found_all bits first held found so_far quiet = subst (AreFound bits 0 0) (append-nil found) (so_far [] (nothing quiet))
 
 pub found_more : (bits : List ℕ) (first held : ℕ) (found now : List Reception) (u : Run) (r : Reception) → SoFar bits first held found
-    → IsSyncRun bits first u → IsOnAir bits held u → IsReception bits u r → now ≡ found ++ r ∷ [] → SoFar bits (last_sync u + 1) (held_end u r) now
-found_more bits first held found now u r before run counts is pushed = λ rest more.
-    let all = before (r ∷ rest) (counted u r rest run counts is more) in
+    → IsSyncRun bits first u → IsOnAir bits held u → IsReception bits u r → HasInFront bits held u.polarity u.bit r.words_in_front → now ≡ found ++ r ∷ []
+    → SoFar bits (last_sync u + 1) (held_end u r) now
+found_more bits first held found now u r before run counts is front pushed = λ rest more.
+    let all = before (r ∷ rest) (counted u r rest run counts is front more) in
     subst (AreFound bits 0 0) (sym (append_assoc found (r ∷ []) rest) ∙ ap (λ (l : List Reception). l ++ rest) (sym pushed)) all
 
 pub found_same : (bits : List ℕ) (first held : ℕ) (found : List Reception) (u : Run) → SoFar bits first held found → IsSyncRun bits first u

@@ -34,7 +34,7 @@ use Rattle.pocsag_pager.proofs.Mended.{mended_back}
 use Rattle.pocsag_capture.specs.Bits.{as_sent, capture_bits, word_on}
 use Rattle.pocsag_capture.specs.CapturedPages.{AreCaptured, HasCaptured, stays_open, without_orphan, without_orphans}
 use Rattle.pocsag_capture.specs.Lost.{lost_words}
-use Rattle.pocsag_capture.specs.Receptions.{AreFound, HasFewLost, IsLikeSynchronised, IsQuiet, IsReception, IsSyncRun, IsSynchronised, counted, held_end, run_end, last_sync, nothing, passed, received, received_word, sent_at}
+use Rattle.pocsag_capture.specs.Receptions.{AreFound, HasFewLost, IsLikeSynchronised, IsQuiet, IsReception, IsSyncRun, IsSynchronised, all_batches, batches_in_front, counted, held_end, run_end, last_sync, nothing, passed, received, received_word, sent_at}
 use Rattle.pocsag_capture.specs.Sent.{HoldsSent, NothingFollows, IsReceived, StandAmong}
 use Rattle.pocsag_capture.specs.declared.polarity.Polarity.{Polarity}
 use Rattle.pocsag_capture.specs.declared.polarity.Polarity.TheVariants.{Upright, Inverted}
@@ -113,7 +113,7 @@ zip_cons : {B : Type 0} (R : ℕ → B → Type 0) (t : ℕ) (ts : List ℕ) (ys
 zip_cons R t ts [] near = absurd near
 zip_cons R t ts (y ∷ zs) near = (y, zs, refl, near.0, near.1)
 
-mended_again : (i j : ℕ) (T ys : List ℕ) (ms : List (Option ℕ)) → j ≡ i + (i + 15) / 16 → All IsCodeword T → AllZip IsNear (synced i T) ys
+pub mended_again : (i j : ℕ) (T ys : List ℕ) (ms : List (Option ℕ)) → j ≡ i + (i + 15) / 16 → All IsCodeword T → AllZip IsNear (synced i T) ys
     → AllZip IsMended (unsynced j ys) ms → ms ≡ map Some T
 mended_again i j [] [] [] e are near each = refl
 mended_again i j [] [] (m ∷ ms) e are near each = absurd each
@@ -151,11 +151,11 @@ mended_itself (w ∷ T) are =
       mended_itself T (All-tail IsCodeword w T are),
     )
 
-said_some : (T : List ℕ) → map said (map Some T) ≡ map Some (map kind_of T)
+pub said_some : (T : List ℕ) → map said (map Some T) ≡ map Some (map kind_of T)
 said_some [] = refl
 said_some (w ∷ T) = ap (λ (l : List (Option Kind)). Some (kind_of w) ∷ l) (said_some T)
 
-without_orphans_same : (b : Bool) (ks : List Kind) → HasNoOrphan b ks → without_orphans b (map Some ks) ≡ ks
+pub without_orphans_same : (b : Bool) (ks : List Kind) → HasNoOrphan b ks → without_orphans b (map Some ks) ≡ ks
 without_orphans_same b [] h = refl
 without_orphans_same b (Idle ∷ ks) h = ap (λ (l : List Kind). Idle ∷ l) (without_orphans_same false ks h)
 without_orphans_same b (Address high function ∷ ks) h = ap (λ (l : List Kind). Address high function ∷ l) (without_orphans_same true ks h)
@@ -224,14 +224,14 @@ module _ (bits : List ℕ) (b : ℕ) (p : Polarity) (fits : WordsFit bits) (ther
             ]
       ]
 
-  on_run : (first : ℕ) (u : Run) → IsSyncRun bits first u → first ≤ b → b ≤ last_sync u → IsOn b p u
+  pub on_run : (first : ℕ) (u : Run) → IsSyncRun bits first u → first ≤ b → b ≤ last_sync u → IsOn b p u
   on_run first u run low high =
       elim (cases_lt b u.bit) [
         | inl less ↦ absurd (run.quiet b low less p there)
         | inr more ↦ let some = run.some in on_step first ((b - u.bit) / 544) u run (omega arith) (omega arith) (omega arith)
       ]
 
-  end_early : (first : ℕ) (u : Run) (r : Reception) → IsSyncRun bits first u → last_sync u < b → held_end u r ≤ b + 31
+  pub end_early : (first : ℕ) (u : Run) (r : Reception) → IsSyncRun bits first u → last_sync u < b → held_end u r ≤ b + 31
   end_early first u r run before =
       let some = run.some in
       elim (cases_lt (last_sync u) (b - 544)) [
@@ -245,8 +245,8 @@ module _ (bits : List ℕ) (b : ℕ) (p : Polarity) (fits : WordsFit bits) (ther
     shown_from : (first held : ℕ) (rs : List Reception) (pss : List (List Page)) → first ≤ b → held ≤ b + 31 → AreFound bits first held rs
         → AllZip (λ (r : Reception) (here : List Page). AreCaptured (received bits r) here) rs pss → StandAmong ps (pages_of pss)
     shown_from first held rs pss low late (nothing none) each = absurd (none b low (omega (arith, there.within)) p there)
-    shown_from first held rs [] low late (counted u r more run counts is rest) each = absurd each
-    shown_from first held rs (here ∷ pss) low late (counted u r more run counts is rest) each =
+    shown_from first held rs [] low late (counted u r more run counts is front rest) each = absurd each
+    shown_from first held rs (here ∷ pss) low late (counted u r more run counts is front rest) each =
         elim (cases_lt (last_sync u) b) [
           | inl before ↦
               let next = shown_from (last_sync u + 1) (held_end u r) more pss (omega arith) (end_early first u r run before) rest each.1 in
@@ -270,37 +270,37 @@ module _ (bits : List ℕ) (b : ℕ) (p : Polarity) (fits : WordsFit bits) (ther
 
 -- ---- what is captured behind other words
 
-unsynced_shift : (i j : ℕ) (ws : List ℕ) → i % 17 ≡ j % 17 → unsynced i ws ≡ unsynced j ws
+pub unsynced_shift : (i j : ℕ) (ws : List ℕ) → i % 17 ≡ j % 17 → unsynced i ws ≡ unsynced j ws
 unsynced_shift i j [] e = refl
 unsynced_shift i j (w ∷ ws) e =
     ap₂ (λ (n : ℕ) (l : List ℕ). if n == 0 then l else (w ∷ l)) e (unsynced_shift (i + 1) (j + 1) ws (omega arith))
 
-zip_split : (xs ys : List ℕ) (ms : List (Option ℕ)) → AllZip IsMended (xs ++ ys) ms
+pub zip_split : (xs ys : List ℕ) (ms : List (Option ℕ)) → AllZip IsMended (xs ++ ys) ms
     → AllZip IsMended xs (take (length xs) ms) × AllZip IsMended ys (drop (length xs) ms)
 zip_split [] ys ms each = (tt, each)
 zip_split (x ∷ xs) ys [] each = absurd each
 zip_split (x ∷ xs) ys (m ∷ ms) each = let rest = zip_split xs ys ms each.1 in ((each.0, rest.0), rest.1)
 
 -- whether a page is open after words
-abbrev open_after_all : Bool → List (Option Kind) → Bool
+abbrev pub open_after_all : Bool → List (Option Kind) → Bool
 open_after_all b [] = b
 open_after_all b (m ∷ ms) = open_after_all (stays_open b m) ms
 
-without_orphans_long : (b : Bool) (ms : List (Option Kind)) → length (without_orphans b ms) ≡ length ms
+pub without_orphans_long : (b : Bool) (ms : List (Option Kind)) → length (without_orphans b ms) ≡ length ms
 without_orphans_long b [] = refl
 without_orphans_long b (m ∷ ms) = let rest = without_orphans_long (stays_open b m) ms in omega arith
 
-without_orphans_two : (b : Bool) (ms ns : List (Option Kind)) → without_orphans b (ms ++ ns) ≡ without_orphans b ms ++ without_orphans (open_after_all b ms) ns
+pub without_orphans_two : (b : Bool) (ms ns : List (Option Kind)) → without_orphans b (ms ++ ns) ≡ without_orphans b ms ++ without_orphans (open_after_all b ms) ns
 without_orphans_two b [] ns = refl
 without_orphans_two b (m ∷ ms) ns = ap (λ (l : List Kind). without_orphan b m ∷ l) (without_orphans_two (stays_open b m) ms ns)
 
-ends_closed : (b : Bool) (ks : List Kind) → EndsIdle ks → open_after_all b (map Some ks) ≡ false
+pub ends_closed : (b : Bool) (ks : List Kind) → EndsIdle ks → open_after_all b (map Some ks) ≡ false
 ends_closed b [] e = absurd e
 ends_closed b (w ∷ []) e = ap (λ (k : Kind). stays_open b (Some k)) e
 ends_closed b (w ∷ v ∷ ks) e = ends_closed (stays_open b (Some w)) (v ∷ ks) e
 
 -- nothing is open after words, or none follow
-after_closed : (b : Bool) (after : List ℕ) (ms : List (Option ℕ)) → AllZip IsMended (unsynced 0 after) ms → (after ≡ []) ⊎ (b ≡ false)
+pub after_closed : (b : Bool) (after : List ℕ) (ms : List (Option ℕ)) → AllZip IsMended (unsynced 0 after) ms → (after ≡ []) ⊎ (b ≡ false)
     → HasNoOrphan false (without_orphans b (map said ms))
 after_closed b after ms each (inr closed) = rw closed (keeps_no_orphan false (map said ms))
 after_closed b [] [] each (inl none) = tt
@@ -365,10 +365,10 @@ like_of bits b p f = let near = f.near in record { within = f.within; like = ome
 -- ---- a transmission among other bits
 
 module _ (A R : List ℕ) (p : Polarity) (ps : List Page) (X : List ℕ) (f : IsReceived p ps X) where
-  abbrev whole_bits : List ℕ
+  abbrev pub whole_bits : List ℕ
   whole_bits = A ++ (X ++ R)
 
-  words_long : length f.words ≡ 17 * f.batches
+  pub words_long : length f.words ≡ 17 * f.batches
   words_long = omega (arith, AllZip-long IsNear (synced 0 f.codewords) f.words f.near, synced_count 0 f.codewords, f.whole.1)
 
   sent_long : length (synced 0 f.codewords) ≡ 17 * f.batches
@@ -397,7 +397,7 @@ module _ (A R : List ℕ) (p : Polarity) (ps : List Page) (X : List ℕ) (f : Is
       far (get_or (synced 0 f.codewords) j 0)
       (All-get_or IsCodeword (synced 0 f.codewords) j 0 (omega (arith, sent_long)) (synced_codewords 0 f.codewords f.are)) (word_near j below)
 
-  batch_there : (k : ℕ) → k < f.batches → IsSynchronised whole_bits (length A + 544 * k) p
+  pub batch_there : (k : ℕ) → k < f.batches → IsSynchronised whole_bits (length A + 544 * k) p
   batch_there k below =
       let e : 32 * (17 * k) ≡ 544 * k = omega arith in
       let sync = sync_there k f.codewords (omega (arith, f.whole.1)) in
@@ -429,7 +429,7 @@ module _ (A R : List ℕ) (p : Polarity) (ps : List Page) (X : List ℕ) (f : Is
   at_place : (u : Run) (q j : ℕ) → u.polarity ≡ p → q ≡ length A + 32 * j → sent_at whole_bits u.polarity q ≡ sent_at whole_bits p (length A + 32 * j)
   at_place u q j polarity place = ap₂ (λ (r : Polarity) (n : ℕ). sent_at whole_bits r n) polarity place
 
-  few_lost : (u : Run) → u.bit ≡ length A → u.polarity ≡ p → HasFewLost whole_bits u
+  pub few_lost : (u : Run) → u.bit ≡ length A → u.polarity ≡ p → HasFewLost whole_bits u
   few_lost u bit polarity =
       let some = f.whole.0 in
       let all = none_lost (λ j. sent_at whole_bits u.polarity (u.bit + 32 * j)) 1 16
@@ -452,7 +452,7 @@ module _ (A R : List ℕ) (p : Polarity) (ps : List Page) (X : List ℕ) (f : Is
           | inr more ↦ more
         ]
 
-    least_batches : on.k + f.batches ≤ r.batches
+    pub least_batches : on.k + f.batches ≤ r.batches
     least_batches = elim is.batches [ inl more ↦ omega (arith, more.1, least) | inr same ↦ omega (arith, same.1, least) ]
 
     -- no word of it is left out
@@ -493,38 +493,42 @@ module _ (A R : List ℕ) (p : Polarity) (ps : List Page) (X : List ℕ) (f : Is
         ]
 
     -- the words at so many places from one on
-    abbrev placed_words : (place count : ℕ) → List ℕ
+    abbrev pub placed_words : (place count : ℕ) → List ℕ
     placed_words place count = map (received_word whole_bits r) (range_with_len place count)
 
-    own_words : map (received_word whole_bits r) (range_with_len (17 * on.k) (17 * f.batches)) ≡ f.words
+    -- the place of its first word
+    abbrev pub own_place : ℕ
+    own_place = 17 * (batches_in_front r + on.k)
+
+    own_words : map (received_word whole_bits r) (range_with_len own_place (17 * f.batches)) ≡ f.words
     own_words =
-        same_number_lists (map (received_word whole_bits r) (range_with_len (17 * on.k) (17 * f.batches))) f.words
-        (length-map-range_with_len (received_word whole_bits r) (17 * on.k) (17 * f.batches) ∙ sym words_long)
+        same_number_lists (map (received_word whole_bits r) (range_with_len own_place (17 * f.batches))) f.words
+        (length-map-range_with_len (received_word whole_bits r) own_place (17 * f.batches) ∙ sym words_long)
         (λ i below.
-        let small : i < 17 * f.batches = omega (arith, length-map-range_with_len (received_word whole_bits r) (17 * on.k) (17 * f.batches)) in
+        let small : i < 17 * f.batches = omega (arith, length-map-range_with_len (received_word whole_bits r) own_place (17 * f.batches)) in
         let polarity : r.polarity ≡ p = is.polarity ∙ on.polarity in
         let place : r.bit + 32 * (17 * on.k + i) ≡ length A + 32 * i = omega (arith, is.bit, on.place) in
-        get_or-map-range_with_len (received_word whole_bits r) (17 * on.k) (17 * f.batches) i (17 * on.k + i) 0 small refl
-        ∙ word_read whole_bits r (17 * on.k + i) (omega (arith, least_words))
+        get_or-map-range_with_len (received_word whole_bits r) own_place (17 * f.batches) i (own_place + i) 0 small refl
+        ∙ word_read whole_bits r (own_place + i) (17 * on.k + i) (omega arith) (omega (arith, least_words))
         ∙ ap₂ (λ (q : Polarity) (n : ℕ). sent_at whole_bits q n) polarity place ∙ word_of i small)
 
-    received_are : received whole_bits r ≡ (placed_words 0 (17 * on.k)) ++ (f.words ++ (placed_words (17 * on.k + 17 * f.batches) (17 * (r.batches - (on.k + f.batches)))))
+    pub received_are : received whole_bits r ≡ (placed_words 0 own_place) ++ (f.words ++ (placed_words (own_place + 17 * f.batches) (17 * (r.batches - (on.k + f.batches)))))
     received_are =
         let later = 17 * (r.batches - (on.k + f.batches)) in
-        range_two (received_word whole_bits r) 0 (17 * on.k) (17 * f.batches + later) (17 * r.batches) (17 * on.k) (omega (arith, least_batches)) (omega arith)
-        ∙ ap (λ (l : List ℕ). (placed_words 0 (17 * on.k)) ++ l)
-        (range_two (received_word whole_bits r) (17 * on.k) (17 * f.batches) later (17 * f.batches + later) (17 * on.k + 17 * f.batches) (omega arith) (omega arith)
-        ∙ ap (λ (l : List ℕ). l ++ placed_words (17 * on.k + 17 * f.batches) later) own_words)
+        range_two (received_word whole_bits r) 0 own_place (17 * f.batches + later) (17 * all_batches r) own_place (omega (arith, least_batches)) (omega arith)
+        ∙ ap (λ (l : List ℕ). (placed_words 0 own_place) ++ l)
+        (range_two (received_word whole_bits r) own_place (17 * f.batches) later (17 * f.batches + later) (own_place + 17 * f.batches) (omega arith) (omega arith)
+        ∙ ap (λ (l : List ℕ). l ++ placed_words (own_place + 17 * f.batches) later) own_words)
 
-    no_words_behind : NothingFollows p R → placed_words (17 * on.k + 17 * f.batches) (17 * (r.batches - (on.k + f.batches))) ≡ []
+    no_words_behind : NothingFollows p R → placed_words (own_place + 17 * f.batches) (17 * (r.batches - (on.k + f.batches))) ≡ []
     no_words_behind over =
         let none : 17 * (r.batches - (on.k + f.batches)) ≡ 0 = omega (arith, no_more_batches over) in
-        ap (λ (n : ℕ). map (received_word whole_bits r) (range_with_len (17 * on.k + 17 * f.batches) n)) none
+        ap (λ (n : ℕ). map (received_word whole_bits r) (range_with_len (own_place + 17 * f.batches) n)) none
 
     captured_of : (here : List Page) → EndsIdle (map kind_of f.codewords) ⊎ NothingFollows p R → AreCaptured (received whole_bits r) here → StandAmong ps here
     captured_of here ended g =
-        let long = length-map-range_with_len (received_word whole_bits r) 0 (17 * on.k) in
-        captured_between (placed_words 0 (17 * on.k)) f.words (placed_words (17 * on.k + 17 * f.batches) (17 * (r.batches - (on.k + f.batches)))) f.codewords ps f.are f.near f.reads here (omega (arith, long)) (omega (arith, words_long))
+        let long = length-map-range_with_len (received_word whole_bits r) 0 own_place in
+        captured_between (placed_words 0 own_place) f.words (placed_words (own_place + 17 * f.batches) (17 * (r.batches - (on.k + f.batches)))) f.codewords ps f.are f.near f.reads here (omega (arith, long)) (omega (arith, words_long))
         (elim ended [ inl idle ↦ inr idle | inr over ↦ inl (no_words_behind over) ])
         (subst (λ (ws : List ℕ). AreCaptured ws here) received_are g)
 

@@ -8,7 +8,7 @@ use Rattle.pocsag_words.specs.declared.codeword.Kind.TheVariants.{Idle, Address,
 use Rattle.pocsag_pages.specs.Bytes.{sync_word, unsynced}
 use Rattle.pocsag_pager.specs.Shown.{IsMended, said}
 use Rattle.pocsag_capture.specs.CapturedPages.{without_orphans}
-use Rattle.pocsag_capture.specs.Lost.{lost_words}
+use Rattle.pocsag_capture.specs.Lost.{lost_words, mended_errors}
 
 -- Of a word that differs from the one that is due in so many bits: how many bits are corrected, and how many words are lost.
 abbrev pub near_errors : (wrong : ℕ) → ℕ
@@ -31,17 +31,6 @@ synchronisation_errors j ws = sum_at_synchronisations near_errors j ws
 -- How many of the words at these places are not near it.
 abbrev pub lost_synchronisations : (place : ℕ) → List ℕ → ℕ
 lost_synchronisations j ws = sum_at_synchronisations far_words j ws
-
--- In how many bits a word differs from what it is mended to.
-abbrev pub wrong_bits : ℕ → Option ℕ → ℕ
-wrong_bits w None = 0
-wrong_bits w (Some v) = count_ones (bit_xor v w)
-
--- The same of words.
-abbrev pub mended_errors : List ℕ → List (Option ℕ) → ℕ
-mended_errors [] ms = 0
-mended_errors (w ∷ ws) [] = 0
-mended_errors (w ∷ ws) (m ∷ ms) = wrong_bits w m + mended_errors ws ms
 
 -- Whether the page before these mended words, of which the first has this index, is cut, where so many words are in step: directly
 -- behind the message codewords that stand first a word past repair, one out of step, or the end of the reception stands.

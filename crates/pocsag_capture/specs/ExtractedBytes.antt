@@ -9,7 +9,7 @@ use Rattle.pocsag_decode.specs.Faults.{ReadsAs}
 use Rattle.pocsag_capture.specs.Bits.{capture_bits}
 use Rattle.pocsag_capture.specs.CapturedPages.{AreCaptured, HasCaptured}
 use Rattle.pocsag_capture.specs.Extracted.{AreExtracted}
-use Rattle.pocsag_capture.specs.Receptions.{AreReceptions, received}
+use Rattle.pocsag_capture.specs.Receptions.{AreReceptions, all_batches, received}
 use Rattle.pocsag_capture.specs.Slips.{AreInStep}
 use Rattle.pocsag_capture.specs.declared.fault.CaptureFault.{CaptureFault}
 use Rattle.pocsag_capture.specs.declared.fault.CaptureFault.TheVariants as fault
@@ -20,7 +20,7 @@ use Rattle.pocsag_capture.specs.declared.reception.Reception.{Reception}
 -- These are the codewords that are extracted from a reception, as its counts report: whole batches.
 pub record IsExtract (bits : List ℕ) (heard : ReceptionStats) (codewords : List ℕ) : Type 0 where
   pub are : All IsCodeword codewords
-  pub long : length codewords ≡ 16 * heard.reception.batches
+  pub long : length codewords ≡ 16 * all_batches heard.reception
   pub steady : AreInStep bits heard.reception heard.steady
   pub extracted : AreExtracted (received bits heard.reception) codewords (16 * heard.steady) heard.corrected heard.lost heard.cut
 

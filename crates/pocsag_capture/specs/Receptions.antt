@@ -1,12 +1,13 @@
 -- Which transmissions a capture holds (this project's own), and the words of each.
-use Rattle.std.specs.Prelude.{◌≡◌, ◌⊎◌, ℕ, ◌+◌, ◌-◌, ◌*◌, ◌<◌, ◌≤◌, nat_le, nat_lt, min, if◌then◌else◌, List, [], ◌∷◌, length, map, Option, bit_xor, count_ones}
+use Rattle.std.specs.Prelude.{◌≡◌, ◌⊎◌, ℕ, ◌+◌, ◌-◌, ◌*◌, ◌<◌, ◌≤◌, nat_le, nat_lt, min, ◌==◌, if◌then◌else◌, List, [], ◌∷◌, length, map, Option, bit_xor, count_ones}
 use Rattle.std.specs.List.{AllZip, range_with_len}
-use Rattle.pocsag_words.specs.Codeword.{HasNoneNear, IsNear}
+use Rattle.pocsag_words.specs.Codeword.{HasNoneNear, IsCodeword, IsNear}
 use Rattle.pocsag_words.specs.Frame.{batch_words}
+use Rattle.pocsag_words.specs.Kinds.{idle_word}
 use Rattle.pocsag_pages.specs.Bytes.{sync_word}
 use Rattle.pocsag_pager.specs.Shown.{IsMended}
 use Rattle.pocsag_capture.specs.Bits.{as_sent, word_on}
-use Rattle.pocsag_capture.specs.Lost.{lost_words}
+use Rattle.pocsag_capture.specs.Lost.{lost_words, mended_errors}
 use Rattle.pocsag_capture.specs.declared.polarity.Polarity.{Polarity}
 use Rattle.pocsag_capture.specs.declared.reception.Reception.{Reception}
 use Rattle.pocsag_capture.specs.declared.reception.Run.{Run}
@@ -95,12 +96,54 @@ pub record IsReadTo (bits : List ℕ) (polarity : Polarity) (bit batches words :
   pub unbroken : (place : ℕ) → place < words → ¬ IsBreak bits polarity bit batches place
   pub ends : (words ≡ batch_words * batches) ⊎ IsBreak bits polarity bit batches words
 
--- *Reception* of a run: its batches, and those of their words that are read.
+-- *Reception* of a run: its batches, and those of their words that are read. Which are read of the batch in front, `HasInFront` says.
 pub record IsReception (bits : List ℕ) (u : Run) (r : Reception) : Type 0 where
   pub bit : r.bit ≡ u.bit
   pub polarity : r.polarity ≡ u.polarity
   pub batches : HasBatches bits u r.batches
   pub words : IsReadTo bits u.polarity u.bit r.batches r.words
+
+-- The words in front of a bit, the nearest first: so many.
+abbrev pub in_front_of : (bits : List ℕ) → Polarity → (bit count : ℕ) → List ℕ
+in_front_of bits polarity bit count = map (λ j. sent_at bits polarity (bit - 32 * j)) (range_with_len 1 count)
+
+-- In front of a synchronisation codeword so many words, which begin behind a held bit, have a repair each, and so many of their bits
+-- are wrong. They are the sixteen of a batch, or what is in front of them is held, or past repair.
+pub record AreInFront (bits : List ℕ) (held : ℕ) (polarity : Polarity) (bit count errors : ℕ) : Type 0 where
+  pub most : count ≤ 16
+  pub room : 0 < count → held + 32 * count ≤ bit
+  pub mended : List (Option ℕ)
+  pub each : AllZip IsMended (in_front_of bits polarity bit count) mended
+  pub kept : lost_words mended ≡ 0
+  pub wrong : errors ≡ mended_errors (in_front_of bits polarity bit count) mended
+  pub ends : (count ≡ 16) ⊎ ((bit < held + 32 * (count + 1)) ⊎ HasNoneNear (sent_at bits polarity (bit - 32 * (count + 1))))
+
+-- A word that is due 32 bits behind this bit is a codeword where it is read so many bits behind it, and none where it is due. An idle
+-- codeword is beside whatever is in step, since of two that follow each other 32 bits one bit early are a codeword too.
+pub record IsBeside (bits : List ℕ) (polarity : Polarity) (step bit : ℕ) : Type 0 where
+  pub beside : IsCodeword (sent_at bits polarity (bit + step))
+  pub alone : (¬ IsCodeword (sent_at bits polarity (bit + 32))) ⊎ (sent_at bits polarity (bit + step) ≡ idle_word)
+
+-- One of so many words in front of a bit is a codeword one bit early or late: a bit was lost or doubled there.
+pub record SlipsInFront (bits : List ℕ) (polarity : Polarity) (bit count : ℕ) : Type 0 where
+  pub nth : ℕ
+  pub first : 0 < nth
+  pub last : nth ≤ count
+  pub room : 32 * (nth + 1) ≤ bit
+  pub beside : IsBeside bits polarity 31 (bit - 32 * (nth + 1)) ⊎ IsBeside bits polarity 33 (bit - 32 * (nth + 1))
+
+-- How many words in front are read, if none shows a slip: all, where they are two or more, and at most one bit in three words is wrong.
+abbrev pub count_read_in_front : (count errors : ℕ) → ℕ
+count_read_in_front count errors = if nat_le 2 count then (if nat_le (3 * errors) count then count else 0) else 0
+
+-- *The batch in front*: of the batch before its first synchronisation codeword a reception has so many words, its last, where what is
+-- read of the reception before it ends at a held bit; it has no such batch where there are none.
+pub record HasInFront (bits : List ℕ) (held : ℕ) (polarity : Polarity) (bit read : ℕ) : Type 0 where
+  pub count : ℕ
+  pub errors : ℕ
+  pub are : AreInFront bits held polarity bit count errors
+  pub slipped : SlipsInFront bits polarity bit count → read ≡ 0
+  pub reads : ¬ SlipsInFront bits polarity bit count → read ≡ count_read_in_front count errors
 
 -- The bit behind the last word that is read of a run's batches.
 abbrev pub held_end : Run → Reception → ℕ
@@ -115,6 +158,7 @@ pub data AreFound (bits : List ℕ) : (first held : ℕ) → List Reception → 
       IsSyncRun bits first u →
       IsOnAir bits held u →
       IsReception bits u r →
+      HasInFront bits held u.polarity u.bit r.words_in_front →
       AreFound bits (last_sync u + 1) (held_end u r) rs →
       AreFound bits first held (r ∷ rs)
   passed :
@@ -132,10 +176,27 @@ AreReceptions bits rs = AreFound bits 0 0 rs
 abbrev pub behind : Reception → ℕ
 behind r = r.bit + batch_bits * r.batches
 
--- A word of a reception by its place, its first synchronisation codeword being at 0.
+-- How many batches are in front of a reception's first synchronisation codeword, one or none, and how many it has with those behind it.
+abbrev pub batches_in_front : Reception → ℕ
+batches_in_front r = if r.words_in_front == 0 then 0 else 1
+
+abbrev pub all_batches : Reception → ℕ
+all_batches r = batches_in_front r + r.batches
+
+-- A word of the batch in front by its place: its last words are read.
+abbrev pub word_in_front : (bits : List ℕ) → Reception → (place : ℕ) → ℕ
+word_in_front bits r place =
+    if nat_lt r.words_in_front (batch_words - place) then unread_word else sent_at bits r.polarity (r.bit + 32 * place - batch_bits)
+
+-- A word from the first synchronisation codeword on by its place, that codeword being at 0.
+abbrev pub own_word : (bits : List ℕ) → Reception → (place : ℕ) → ℕ
+own_word bits r place = if nat_lt place r.words then sent_at bits r.polarity (r.bit + 32 * place) else unread_word
+
+-- A word of a reception by its place in all its batches.
 abbrev pub received_word : (bits : List ℕ) → Reception → (place : ℕ) → ℕ
-received_word bits r place = if nat_lt place r.words then sent_at bits r.polarity (r.bit + 32 * place) else unread_word
+received_word bits r place =
+    if nat_lt place (batch_words * batches_in_front r) then word_in_front bits r place else own_word bits r (place - batch_words * batches_in_front r)
 
 -- The words of a reception: those of its batches.
 abbrev pub received : (bits : List ℕ) → Reception → List ℕ
-received bits r = map (received_word bits r) (range_with_len 0 (batch_words * r.batches))
+received bits r = map (received_word bits r) (range_with_len 0 (batch_words * all_batches r))

@@ -1,12 +1,14 @@
 -- What one word changes.
-use Rattle.std.specs.Prelude.{◌≡◌, ℕ, ◌+◌, if◌then◌else◌, Bool, true, Option, Some, None}
+use Rattle.std.specs.Prelude.{◌≡◌, ℕ, ◌+◌, if◌then◌else◌, Bool, true, Option, Some, None, bit_xor, count_ones}
 use Rattle.pocsag_words.specs.Codeword.{IsCodeword}
 use Rattle.pocsag_words.specs.Kinds.{kind_of}
 use Rattle.pocsag_words.specs.declared.codeword.Kind.{Kind}
 use Rattle.pocsag_words.specs.declared.codeword.Kind.TheVariants.{Idle, Address, Message}
+use Rattle.pocsag_pages.specs.Bytes.{sync_word}
 use Rattle.pocsag_pager.specs.Shown.{IsMended, said}
 use Rattle.pocsag_capture.specs.CapturedPages.{stays_open, without_orphan}
-use Rattle.pocsag_capture.specs.Extracted.{wrong_bits}
+use Rattle.pocsag_capture.specs.Extracted.{far_words, near_errors}
+use Rattle.pocsag_capture.specs.Lost.{wrong_bits}
 use Rattle.pocsag_capture.specs.declared.corrector.WordCorrector.{WordCorrector}
 
 -- Whether a word is past repair.
@@ -25,6 +27,13 @@ end_by is_out_of_step is_open (Some (Message bits)) = None
 abbrev pub cut_by : (ended : Option Bool) → ℕ
 cut_by None = 0
 cut_by (Some is_cut) = if is_cut then 1 else 0
+
+-- The word at the place of a synchronisation codeword was counted.
+pub record CountsSync (before after : WordCorrector) (word : ℕ) : Type 0 where
+  pub open_page : after.is_open ≡ before.is_open
+  pub bits : after.corrected ≡ before.corrected + near_errors (count_ones (bit_xor sync_word word))
+  pub beyond : after.lost ≡ before.lost + far_words (count_ones (bit_xor sync_word word))
+  pub cuts : after.cut ≡ before.cut
 
 -- The word was taken, which may be out of step, and is corrected to this codeword; and the open page ends at it as this says.
 pub record TakesWord (before after : WordCorrector) (is_out_of_step : Bool) (word codeword : ℕ) (ended : Option Bool) : Type 0 where

@@ -7,9 +7,8 @@ ghost use Rattle.pocsag_capture.specs.Bits.{capture_bits};
 ghost use Rattle.pocsag_capture.specs.PageEnds.{IsCapturedTransmission, UncutStandWhole};
 ghost use Rattle.pocsag_capture.specs.Receptions.{behind, received};
 
-use crate::corrector::{BATCH, WordCorrector};
-use crate::received_words::received_word;
-use crate::reception::{Reception, ReceptionStats};
+use crate::corrector::WordCorrector;
+use crate::reception::{BATCH, Reception, ReceptionStats};
 use crate::search::steady_batches;
 use pocsag_decode::Growing;
 use pocsag_pages::Page;
@@ -74,13 +73,10 @@ pub fn capture_pages(
         current: None,
     };
     let mut cuts = Vec::new(alloc);
-    for place in 0..BATCH * reception.batches {
-        let word = received_word(capture, reception, place);
-        if place % BATCH == 0 {
-            corrector.take_sync(word);
+    for place in 0..BATCH * reception.all_batches() {
+        let Some(corrected_word) = corrector.correct_at(capture, reception, steady, place) else {
             continue;
-        }
-        let corrected_word = corrector.take(word, BATCH * steady <= place);
+        };
         note_end(&mut cuts, corrected_word.ended)?;
         let kind = kind_of_number(corrected_word.codeword);
         growing.take((place % BATCH - 1) as u32 / 2, kind)?;

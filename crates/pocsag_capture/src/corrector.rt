@@ -1,14 +1,16 @@
 //! The words of a reception, repaired one after the other.
-ghost use Rattle.std.specs.Prelude.{◌≡◌, ◌+◌, ◌^◌, ◌<◌, false, None, Some, bit_xor, count_ones, if◌then◌else◌};
+ghost use Rattle.std.specs.Prelude.{◌≡◌, ◌+◌, ◌*◌, ◌%◌, ◌^◌, ◌<◌, ◌≤◌, false, length, nat_le, None, Some, bit_xor, count_ones, if◌then◌else◌, IfNone, IfSome};
+ghost use Rattle.pocsag_words.specs.Frame.{input_limit};
 ghost use Rattle.pocsag_pages.specs.Bytes.{sync_word};
+ghost use Rattle.pocsag_capture.specs.Bits.{capture_bits};
 ghost use Rattle.pocsag_capture.specs.Extracted.{far_words, near_errors};
-ghost use Rattle.pocsag_capture.specs.TakenWords.{TakesWord, cut_by};
+ghost use Rattle.pocsag_capture.specs.Receptions.{received_word};
+ghost use Rattle.pocsag_capture.specs.TakenWords.{CountsSync, TakesWord, cut_by};
 
 use crate::polarity::NEAR_BITS;
-use pocsag_words::{BATCH_WORDS, IDLE_WORD, Kind, SYNC_WORD, kind, repair};
-
-// The words of a batch, its synchronisation codeword among them.
-pub(crate) const BATCH: u64 = BATCH_WORDS as u64;
+use crate::received_words::received_word;
+use crate::reception::{BATCH, Reception};
+use pocsag_words::{IDLE_WORD, Kind, SYNC_WORD, kind, repair};
 
 // What is known of the words so far.
 #[derive(Drop)]
@@ -113,5 +115,36 @@ impl WordCorrector {
                 }
             }
         }
+    }
+
+    // Corrects the word of a reception at a place, where so many of its batches are in step; nothing where a synchronisation
+    // codeword is due, which is only counted.
+    #[inline(always)]
+    pub(crate) fn correct_at(
+        &mut self,
+        capture: &[u8],
+        reception: Reception,
+        steady: u64,
+        place: u64,
+    ) -> Option<CorrectedWord>
+        requires few { length capture.now ≤ input_limit }
+        requires place { reception.bit + 32 * place < 2 ^ 61 }
+        requires steady { steady < 2 ^ 59 }
+        requires corrected { self.old.corrected + 32 < 2 ^ 64 }
+        requires lost { self.old.lost + 1 < 2 ^ 64 }
+        requires cut { self.old.cut + 1 < 2 ^ 64 }
+        ensures sync { IfNone result (place % 17 ≡ 0) }
+        ensures inside { IfSome result (λ _. 0 < place % 17) }
+        ensures counted { IfNone result
+            (CountsSync self.old self.new (received_word (capture_bits capture.now) reception place)) }
+        ensures taken { IfSome result (λ c. TakesWord self.old self.new (nat_le (17 * steady) place)
+            (received_word (capture_bits capture.now) reception place) c.codeword c.ended) }
+    {
+        let word = received_word(capture, reception, place);
+        if place % BATCH == 0 {
+            self.take_sync(word);
+            return None;
+        }
+        Some(self.take(word, BATCH * steady <= place))
     }
 }

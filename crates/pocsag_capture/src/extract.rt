@@ -8,11 +8,10 @@ ghost use Rattle.pocsag_capture.specs.Receptions.{AreReceptions, behind};
 ghost use Rattle.pocsag_capture.specs.Sent.{HoldsSent, ReadsAmong};
 ghost use Rattle.pocsag_capture.specs.declared.reception.Reception.{Reception};
 
-use crate::corrector::{BATCH, WordCorrector};
+use crate::corrector::WordCorrector;
 use crate::fault::CaptureFault;
 use crate::polarity::Polarity;
-use crate::received_words::received_word;
-use crate::reception::{Reception, ReceptionStats};
+use crate::reception::{BATCH, Reception, ReceptionStats};
 use crate::search::{receptions, steady_batches};
 use pocsag_words::{INPUT_LIMIT, PREAMBLE_BYTE, PREAMBLE_BYTES, SYNC_WORD};
 use std::alloc::{AllocError, Global};
@@ -45,14 +44,11 @@ pub(crate) fn put_extract(
         lost: 0,
         cut: 0,
     };
-    for place in 0..BATCH * reception.batches {
-        let word = received_word(capture, reception, place);
-        if place % BATCH == 0 {
-            corrector.take_sync(word);
+    for place in 0..BATCH * reception.all_batches() {
+        let Some(corrected_word) = corrector.correct_at(capture, reception, steady, place) else {
             bytes.extend_from_slice(&SYNC_WORD.to_be_bytes())?;
             continue;
-        }
-        let corrected_word = corrector.take(word, BATCH * steady <= place);
+        };
         bytes.extend_from_slice(&corrected_word.codeword.to_be_bytes())?;
     }
     corrector.close(true);
@@ -124,6 +120,7 @@ pub fn extract_all(alloc: Global, capture: &[u8]) -> Result<Extracted, CaptureFa
         polarity: Polarity::Upright,
         batches: 1,
         words: 0,
+        words_in_front: 0,
     };
     put_extract(capture, silence, &mut bytes)?;
     let heard = put_extracts(alloc, capture, found.as_slice(), &mut bytes)?;

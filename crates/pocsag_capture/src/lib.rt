@@ -7,6 +7,7 @@ mod captured_transmission;
 mod corrector;
 mod extract;
 mod fault;
+mod in_front;
 mod polarity;
 mod received_words;
 mod reception;

@@ -3,14 +3,13 @@ ghost use Rattle.std.specs.Prelude.{◌≡◌, ◌↔◌, ◌+◌, ◌-◌, ◌*
 ghost use Rattle.pocsag_words.specs.Codeword.{HasNoneNear};
 ghost use Rattle.pocsag_words.specs.Frame.{input_limit};
 ghost use Rattle.pocsag_capture.specs.Bits.{capture_bits};
-ghost use Rattle.pocsag_capture.specs.Receptions.{HasFewLost, IsBreak, IsLikeSynchronised, IsReadTo, IsReception, run_end, received_word, sent_at};
+ghost use Rattle.pocsag_capture.specs.Receptions.{HasFewLost, IsBreak, IsLikeSynchronised, IsReadTo, IsReception, run_end, received_word, sent_at, word_in_front};
 ghost use Rattle.pocsag_capture.specs.declared.reception.Reception.{Reception};
 ghost use Rattle.pocsag_capture.specs.declared.reception.Run.{Run};
 
 use crate::bits::word_on;
-use crate::corrector::BATCH;
 use crate::polarity::Polarity;
-use crate::reception::{Reception, Run};
+use crate::reception::{BATCH, Reception, Run};
 use pocsag_words::{BATCH_BITS, SYNC_WORD, repair};
 
 /// A word past repair, which stands for each word that was expected and not read.
@@ -35,6 +34,20 @@ pub(crate) fn sent_at(capture: &[u8], polarity: Polarity, bit: u64) -> u32
     polarity.sent(word_on(capture, bit))
 }
 
+// A word of the batch in front by its place.
+fn word_in_front(capture: &[u8], reception: Reception, place: u64) -> u32
+    requires few { length capture.now ≤ input_limit }
+    requires place { place < 17 }
+    requires bit { reception.bit + 32 * place < 2 ^ 61 }
+    ensures { result ≡ word_in_front (capture_bits capture.now) reception place }
+{
+    if reception.words_in_front < BATCH - place {
+        return UNREAD_WORD;
+    }
+    let bit = (reception.bit + 32 * place).saturating_sub(BATCH_BITS);
+    sent_at(capture, reception.polarity, bit)
+}
+
 // A word of a reception by its place.
 #[inline(always)]
 pub(crate) fn received_word(capture: &[u8], reception: Reception, place: u64) -> u32
@@ -42,10 +55,15 @@ pub(crate) fn received_word(capture: &[u8], reception: Reception, place: u64) ->
     requires place { reception.bit + 32 * place < 2 ^ 61 }
     ensures { result ≡ received_word (capture_bits capture.now) reception place }
 {
-    if place >= reception.words {
+    let first = BATCH * reception.batches_in_front();
+    if place < first {
+        return word_in_front(capture, reception, place);
+    }
+    let own = place - first;
+    if own >= reception.words {
         return UNREAD_WORD;
     }
-    sent_at(capture, reception.polarity, reception.bit + 32 * place)
+    sent_at(capture, reception.polarity, reception.bit + 32 * own)
 }
 
 // Whether a word is past repair.
@@ -116,12 +134,13 @@ fn is_like_synchronised(capture: &[u8], bit: u64, polarity: Polarity) -> bool
     (SYNC_WORD ^ polarity.sent(word_on(capture, bit))).count_ones() <= LIKE_BITS
 }
 
-// The reception of a run.
-pub(crate) fn reception_of(capture: &[u8], run: Run) -> Reception
+// The reception of a run, with so many words of the batch in front of it.
+pub(crate) fn reception_of(capture: &[u8], run: Run, words_in_front: u64) -> Reception
     requires few { length capture.now ≤ input_limit }
     requires some { 0 < run.batches }
     requires end { run_end run < 2 ^ 59 }
-    ensures { IsReception (capture_bits capture.now) run result }
+    ensures run { IsReception (capture_bits capture.now) run result }
+    ensures front { result.words_in_front ≡ words_in_front }
 {
     let end = run.bit + BATCH_BITS * run.batches;
     let batches = if is_like_synchronised(capture, end, run.polarity) {
@@ -135,5 +154,6 @@ pub(crate) fn reception_of(capture: &[u8], run: Run) -> Reception
         polarity: run.polarity,
         batches,
         words,
+        words_in_front,
     }
 }

@@ -12,10 +12,10 @@ ghost use Rattle.pocsag_capture.specs.declared.polarity.Polarity.{Polarity};
 ghost use Rattle.pocsag_capture.specs.declared.reception.Run.{Run};
 
 use crate::bits::{window_on, word_in, word_on};
-use crate::corrector::BATCH;
+use crate::in_front::read_in_front;
 use crate::polarity::{NEAR_BITS, Polarity, polarity_of};
 use crate::received_words::{has_few_lost, reception_of};
-use crate::reception::{Reception, Run};
+use crate::reception::{BATCH, Reception, Run};
 use crate::slip::has_slipped;
 use crate::sync_table::may_begin;
 use pocsag_words::{BATCH_BITS, SYNC_WORD};
@@ -135,7 +135,7 @@ fn counts(capture: &[u8], held: u64, run: Run) -> bool
     run.batches > 1 || (held <= run.bit + WORD_SLACK && has_few_lost(capture, run))
 }
 
-// How many batches of a reception are in step: all, or all but the last.
+// How many of all batches of a reception are in step: all, or all but the last.
 pub(crate) fn steady_batches(capture: &[u8], reception: Reception) -> u64
     requires few { length capture.now ≤ input_limit }
     requires end { behind reception < 2 ^ 60 }
@@ -143,14 +143,15 @@ pub(crate) fn steady_batches(capture: &[u8], reception: Reception) -> u64
 {
     let behind = reception.bit + BATCH_BITS * reception.batches;
     let first = behind.saturating_sub(BATCH_BITS - 1);
-    let shorter = reception.batches.saturating_sub(1);
+    let all = reception.all_batches();
+    let shorter = all.saturating_sub(1);
     if let Some(_other) = find(capture, first, behind + WORD_SLACK + 1) {
         return shorter;
     }
     if has_slipped(capture, reception) {
         return shorter;
     }
-    reception.batches
+    all
 }
 
 // The receptions of a capture.
@@ -166,7 +167,7 @@ pub(crate) fn receptions(alloc: Global, capture: &[u8]) -> Result<Vec<Reception>
         let run = run_of(capture, place);
         first = run.bit + BATCH_BITS * (run.batches - 1) + 1;
         if counts(capture, held, run) {
-            let reception = reception_of(capture, run);
+            let reception = reception_of(capture, run, read_in_front(capture, held, run));
             found.push(reception)?;
             held = run.bit + 32 * reception.words.min(BATCH * run.batches);
         }

@@ -5,6 +5,7 @@ pub mod AlonePages
 pub mod Ends
 pub mod FileRounds
 pub mod Fronts
+pub mod ListedWhole
 pub mod Minimum
 pub mod OnlySent
 pub mod OpenRounds

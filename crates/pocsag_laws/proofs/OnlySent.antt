@@ -28,18 +28,19 @@ use Rattle.pocsag_pages.proofs.Readings.{reads_plainly}
 use Rattle.pocsag_pager.specs.Shown.{IsMended, said}
 use Rattle.pocsag_capture.specs.Bits.{as_sent, capture_bits, word_on}
 use Rattle.pocsag_capture.specs.CapturedPages.{AreCaptured, HasCaptured, without_orphans}
-use Rattle.pocsag_capture.specs.Lost.{lost_words}
-use Rattle.pocsag_capture.specs.Receptions.{AreFound, AreReceptions, HasFewLost, IsBridged, IsLikeSynchronised, IsOnAir, IsReception, IsSyncRun, IsSynchronised, counted, held_end, run_end, last_sync, nothing, passed, received, received_word, sent_at}
+use Rattle.pocsag_capture.specs.Lost.{lost_words, mended_errors}
+use Rattle.pocsag_capture.specs.Receptions.{AreFound, AreReceptions, HasFewLost, HasInFront, IsBeside, IsBridged, IsLikeSynchronised, IsOnAir, IsReception, IsSyncRun, IsSynchronised, SlipsInFront, all_batches, batches_in_front, counted, held_end, in_front_of, run_end, last_sync, nothing, passed, received, received_word, sent_at}
 use Rattle.pocsag_capture.specs.Sent.{NothingFollows, IsReceived}
 use Rattle.pocsag_capture.specs.declared.polarity.Polarity.{Polarity}
 use Rattle.pocsag_capture.specs.declared.polarity.Polarity.TheVariants.{Upright, Inverted}
 use Rattle.pocsag_capture.specs.declared.reception.Reception.{Reception}
 use Rattle.pocsag_capture.specs.declared.reception.Run.{Run}
 use Rattle.pocsag_capture.proofs.Extracts.{word_cut, word_read, word_there}
+use Rattle.pocsag_capture.proofs.InFront.{same_in_front}
 use Rattle.pocsag_capture.proofs.Once.{WordsFit, capture_fits, no_more, one_thing, same_polarity}
 use Rattle.pocsag_capture.proofs.CorrectedWords.{synced_two}
 use Rattle.pocsag_capture.proofs.Windows.{number_behind}
-use Rattle.pocsag_laws.specs.OnlySent.{HasManyLost, HoldsNoOther, IsAlone, IsCaptureOf, IsNoise, noise, sent}
+use Rattle.pocsag_laws.specs.OnlySent.{HasManyLost, HasNoneInFront, HoldsNoOther, IsAlone, IsCaptureOf, IsNoise, noise, sent}
 
 -- ---- words behind other bits
 
@@ -94,6 +95,69 @@ few_back A B n q p e f = record {
       (λ j. sent_behind A B p (n + 32 * j) (q + 32 * j) (omega arith))) f.each;
   few = f.few;
 }
+
+map_same_from : (g h : ℕ → ℕ) (a n : ℕ) → ((j : ℕ) → a ≤ j → j < a + n → g j ≡ h j) → map g (range_with_len a n) ≡ map h (range_with_len a n)
+map_same_from g h a zero same = refl
+map_same_from g h a (suc n) same =
+    ap₂ (λ (x : ℕ) (l : List ℕ). x ∷ l) (same a (omega arith) (omega arith)) (map_same_from g h (a + 1) n (λ j low high. same j (omega arith) (omega arith)))
+
+beside_behind : (A B : List ℕ) (p : Polarity) (step m k : ℕ) → m ≡ length A + k → IsBeside B p step k → IsBeside (A ++ B) p step m
+beside_behind A B p step m k e f =
+    let aside = sent_behind A B p (m + step) (k + step) (omega arith) in
+    let due = sent_behind A B p (m + 32) (k + 32) (omega arith) in
+    record {
+      beside = subst IsCodeword (sym aside) f.beside;
+      alone = elim f.alone [ inl none ↦ inl (λ is. none (subst IsCodeword due is)) | inr idle ↦ inr (aside ∙ idle) ];
+    }
+
+slips_behind : (A B : List ℕ) (p : Polarity) (n q count : ℕ) → n ≡ length A + q → SlipsInFront B p q count → SlipsInFront (A ++ B) p n count
+slips_behind A B p n q count e f =
+    let room = f.room in
+    let place : n - 32 * (f.nth + 1) ≡ length A + (q - 32 * (f.nth + 1)) = omega arith in
+    record {
+      nth = f.nth;
+      first = f.first;
+      last = f.last;
+      room = omega arith;
+      beside = elim f.beside [
+        | inl early ↦ inl (beside_behind A B p 31 (n - 32 * (f.nth + 1)) (q - 32 * (f.nth + 1)) place early)
+        | inr late ↦ inr (beside_behind A B p 33 (n - 32 * (f.nth + 1)) (q - 32 * (f.nth + 1)) place late)
+      ];
+    }
+
+none_in_front_behind : (A B : List ℕ) (p : Polarity) (n q : ℕ) → n ≡ length A + q → HasInFront B 0 p q 0 → HasInFront (A ++ B) (length A) p n 0
+none_in_front_behind A B p n q e f =
+    let are = f.are in
+    let words : in_front_of B p q f.count ≡ in_front_of (A ++ B) p n f.count =
+    map_same_from (λ j. sent_at B p (q - 32 * j)) (λ j. sent_at (A ++ B) p (n - 32 * j)) 1 f.count
+    (λ j low high. sym (sent_behind A B p (n - 32 * j) (q - 32 * j) (omega (arith, are.room (omega arith))))) in
+    record {
+      count = f.count;
+      errors = f.errors;
+      are = record {
+        most = are.most;
+        room = λ some. omega (arith, are.room some);
+        mended = are.mended;
+        each = subst (λ (l : List ℕ). AllZip IsMended l are.mended) words are.each;
+        kept = are.kept;
+        wrong = are.wrong ∙ ap (λ (l : List ℕ). mended_errors l are.mended) words;
+        ends = elim are.ends [
+          | inl all ↦ inl all
+          | inr stops ↦
+              inr (elim (cases_lt q (32 * (f.count + 1))) [
+                | inl over ↦ inl (omega arith)
+                | inr inside ↦
+                    elim stops [
+                      | inl over ↦ absurd (omega (arith, over, inside))
+                      | inr far ↦
+                          inr (subst HasNoneNear (sym (sent_behind A B p (n - 32 * (f.count + 1)) (q - 32 * (f.count + 1)) (omega arith))) far)
+                    ]
+              ])
+        ];
+      };
+      slipped = λ slips. refl;
+      reads = λ steady. f.reads (λ slips. steady (slips_behind A B p n q f.count e slips));
+    }
 
 alone_behind : (A B : List ℕ) (n q : ℕ) (p : Polarity) → n ≡ length A + q → IsAlone B q p → IsAlone (A ++ B) n p
 alone_behind A B n q p e f = record {
@@ -279,7 +343,7 @@ noise_off bits first held u run chance (inr few) = chance.1 (lone_few bits u few
 noise_later : (bits : List ℕ) (first last next : ℕ) → first ≤ next → IsNoise bits first last → IsNoise bits next last
 noise_later bits first last next more noisy = λ bit above below. noisy bit (omega arith) below
 
-record IsFirst (bits : List ℕ) (b : ℕ) (p : Polarity) (rs : List Reception) : Type 0 where
+record IsFirst (bits : List ℕ) (held b : ℕ) (p : Polarity) (rs : List Reception) : Type 0 where
   pub reception : Reception
   pub back : List Reception
   pub whole : rs ≡ reception ∷ back
@@ -289,6 +353,7 @@ record IsFirst (bits : List ℕ) (b : ℕ) (p : Polarity) (rs : List Reception) 
   pub bit : run.bit ≡ b
   pub polarity : run.polarity ≡ p
   pub is : IsReception bits run reception
+  pub front : HasInFront bits held run.polarity run.bit reception.words_in_front
   pub rest : AreFound bits (last_sync run + 1) (held_end run reception) back
 
 -- a run that does not begin before a synchronisation codeword begins there
@@ -305,9 +370,9 @@ module _ (bits : List ℕ) (first b : ℕ) (p : Polarity) (u : Run) (run : IsSyn
 
 found_first : (bits : List ℕ) (first held b : ℕ) (p : Polarity) (rs : List Reception) → WordsFit bits → IsSynchronised bits b p
     → IsNoise bits first b → HasFewLost bits (lone b p) → first ≤ b → held ≤ b + 31
-    → AreFound bits first held rs → IsFirst bits b p rs
+    → AreFound bits first held rs → IsFirst bits held b p rs
 found_first bits first held b p rs fits there noisy few low late (nothing none) = absurd (none b low (omega (arith, there.within)) p there)
-found_first bits first held b p rs fits there noisy few low late (counted u r more run counts is rest) =
+found_first bits first held b p rs fits there noisy few low late (counted u r more run counts is front rest) =
     elim (cases_lt u.bit b) [
       | inl less ↦ absurd (noise_off bits first held u run (noisy u.bit run.later less u.polarity run.begins) counts)
       | inr past ↦ record {
@@ -320,6 +385,7 @@ found_first bits first held b p rs fits there noisy few low late (counted u r mo
         bit = first_bit bits first b p u run there low past;
         polarity = first_polarity bits first b p u run there low past fits;
         is = is;
+        front = front;
         rest = rest;
       }
     ]
@@ -360,13 +426,13 @@ inside_off bits first end u run alone (inr lost) (inr few) = lost (lone_few bits
 found_behind : (bits : List ℕ) (first end : ℕ) (rs : List Reception) → HoldsNoOther bits end → first ≤ end → end < first + 544
     → AreFound bits first end rs → AreFound bits end end rs
 found_behind bits first end rs holds low high (nothing quiet) = nothing (λ bit above below. quiet bit (omega arith) below)
-found_behind bits first end rs holds low high (counted u r more run counts is rest) =
+found_behind bits first end rs holds low high (counted u r more run counts is front rest) =
     elim (cases_lt u.bit end) [
       | inl less ↦
           let later = run.later in
           let chance = holds u.bit (omega arith) less u.polarity run.begins in
           absurd (inside_off bits first end u run chance.0 chance.1 counts)
-      | inr past ↦ counted u r more (later_run bits first end u low past run) counts is rest
+      | inr past ↦ counted u r more (later_run bits first end u low past run) counts is front rest
     ]
 found_behind bits first end rs holds low high (passed u more run not rest) =
     elim (cases_lt u.bit end) [
@@ -500,22 +566,23 @@ module _ (A R : List ℕ) (p : Polarity) (ps : List Page) (X : List ℕ) (f : Is
       held_over : held_end u r ≡ length A + 544 * f.batches
       held_over = omega (arith, bit, run_batches, min-eq_right (subst (λ (n : ℕ). 17 * n ≤ r.words) (sym run_batches) least_words))
 
-      own_words : received (A ++ (X ++ R)) r ≡ f.words
-      own_words =
-          let long = length-map-range_with_len (received_word (A ++ (X ++ R)) r) 0 (17 * r.batches) in
+      own_words : r.words_in_front ≡ 0 → received (A ++ (X ++ R)) r ≡ f.words
+      own_words none =
+          let first : batches_in_front r ≡ 0 = rw (eq-eqb _ _ none) refl in
+          let long = length-map-range_with_len (received_word (A ++ (X ++ R)) r) 0 (17 * all_batches r) in
           let whole = how_long in
-          same_number_lists (received (A ++ (X ++ R)) r) f.words (omega (arith, long, own_batches, whole.1))
+          same_number_lists (received (A ++ (X ++ R)) r) f.words (omega (arith, long, own_batches, first, whole.1))
           (λ i below.
-          let small : i < 17 * f.batches = omega (arith, long, own_batches) in
-          get_or-map-range_with_len (received_word (A ++ (X ++ R)) r) 0 (17 * r.batches) i i 0 (omega (arith, own_batches)) (omega arith)
-          ∙ word_read (A ++ (X ++ R)) r i (omega (arith, least_words))
+          let small : i < 17 * f.batches = omega (arith, long, own_batches, first) in
+          get_or-map-range_with_len (received_word (A ++ (X ++ R)) r) 0 (17 * all_batches r) i i 0 (omega (arith, own_batches, first)) (omega arith)
+          ∙ word_read (A ++ (X ++ R)) r i i (omega (arith, first)) (omega (arith, least_words))
           ∙ ap (λ (q : Polarity). sent_at (A ++ (X ++ R)) q (r.bit + 32 * i)) (is.polarity ∙ polarity)
           ∙ read_at (r.bit + 32 * i) i (omega (arith, is.bit, bit)) small)
 
-      own_pages : AreCaptured (received (A ++ (X ++ R)) r) ps
-      own_pages =
+      own_pages : r.words_in_front ≡ 0 → AreCaptured (received (A ++ (X ++ R)) r) ps
+      own_pages none =
           let same = without_orphans_words false f.codewords (reads_plainly f.reads).no_orphan in
-          subst (λ (ws : List ℕ). AreCaptured ws ps) (sym own_words) (record {
+          subst (λ (ws : List ℕ). AreCaptured ws ps) (sym (own_words none)) (record {
             mended = map Some f.codewords;
             each = each_mended f.codewords (unsynced 0 f.words) f.are
                 (zip_unsynced NearAndFits 0 0 f.codewords f.words (omega arith) (near_and_fits (synced 0 f.codewords) f.words f.near f.fit));
@@ -524,15 +591,18 @@ module _ (A R : List ℕ) (p : Polarity) (ps : List Page) (X : List ℕ) (f : Is
 
   -- noise and the transmission
   pass_over : (first : ℕ) (rs : List Reception) → NothingFollows p R → HoldsNoOther (X ++ R) (length X) → WordsFit (A ++ (X ++ R))
-      → first ≤ length A → IsNoise (A ++ (X ++ R)) first (length A) → AreFound (A ++ (X ++ R)) first first rs
-      → IsBehind (A ++ (X ++ R)) (length A + 544 * f.batches) ps rs
-  pass_over first rs over holds fits low noisy found =
+      → first ≤ length A → IsNoise (A ++ (X ++ R)) first (length A) → HasInFront (A ++ (X ++ R)) first p (length A) 0
+      → AreFound (A ++ (X ++ R)) first first rs → IsBehind (A ++ (X ++ R)) (length A + 544 * f.batches) ps rs
+  pass_over first rs over holds fits low noisy none_front found =
       let some = f.whole.0 in
       let long = how_long in
       let there = begins_at (length A) 0 (omega arith) some in
       let holder = found_first (A ++ (X ++ R)) first first (length A) p rs fits there noisy few_at low (omega arith) found in
       let end = held_over over holder.first holder.run holder.is_run holder.bit holder.polarity holder.reception holder.is in
       let bit = holder.bit in
+      let here = subst (λ (q : Polarity). HasInFront (A ++ (X ++ R)) first q holder.run.bit holder.reception.words_in_front) holder.polarity holder.front in
+      let in_front = same_in_front (A ++ (X ++ R)) first p (length A) holder.reception.words_in_front 0
+      (subst (λ (n : ℕ). HasInFront (A ++ (X ++ R)) first p n holder.reception.words_in_front) holder.bit here) none_front in
       let batches = run_batches over holder.first holder.run holder.is_run holder.bit holder.polarity in
       let none = no_other_behind A (X ++ R) (length X) (length A + 544 * f.batches) (omega (arith, long.2)) (omega (arith, long.2)) holds in
       let rest = subst (λ (n : ℕ). AreFound (A ++ (X ++ R)) (last_sync holder.run + 1) n holder.back) end holder.rest in
@@ -540,7 +610,7 @@ module _ (A R : List ℕ) (p : Polarity) (ps : List Page) (X : List ℕ) (f : Is
         reception = holder.reception;
         back = holder.back;
         whole = holder.whole;
-        captured = own_pages over holder.first holder.run holder.is_run holder.bit holder.polarity holder.reception holder.is;
+        captured = own_pages over holder.first holder.run holder.is_run holder.bit holder.polarity holder.reception holder.is in_front;
         found = found_behind (A ++ (X ++ R)) (last_sync holder.run + 1) (length A + 544 * f.batches) holder.back none (omega arith) (omega arith) rest;
       }
 
@@ -548,7 +618,7 @@ module _ (A R : List ℕ) (p : Polarity) (ps : List Page) (X : List ℕ) (f : Is
 
 none_captured : (bits : List ℕ) (first held : ℕ) (rs : List Reception) → IsNoise bits first (length bits) → AreFound bits first held rs → CapturedTransmission bits rs []
 none_captured bits first held rs noisy (nothing other) = tt
-none_captured bits first held rs noisy (counted u r more run counts is rest) =
+none_captured bits first held rs noisy (counted u r more run counts is front rest) =
     absurd (noise_off bits first held u run (noisy u.bit run.later (omega (arith, run.begins.within)) u.polarity run.begins) counts)
 none_captured bits first held rs noisy (passed u more run not rest) =
     let later = run.later in
@@ -560,16 +630,18 @@ capture_more bits end ps rs pss step more = subst (λ (l : List Reception). Capt
 
 -- noise, a transmission, and what is behind them, as the bits behind both are captured
 captured_next : (A N X R : List ℕ) (p : Polarity) (here : List Page) (there : List (List Page)) (rs : List Reception)
-    → IsNoise (N ++ (X ++ R)) 0 (length N) → IsReceived p here X → NothingFollows p R → HoldsNoOther (X ++ R) (length X)
+    → IsNoise (N ++ (X ++ R)) 0 (length N) → HasNoneInFront (N ++ (X ++ R)) (length N) p → IsReceived p here X → NothingFollows p R → HoldsNoOther (X ++ R) (length X)
     → WordsFit ((A ++ N) ++ (X ++ R)) → AreFound ((A ++ N) ++ (X ++ R)) (length A) (length A) rs
     → ((back : List Reception) → AreFound (((A ++ N) ++ X) ++ R) (length ((A ++ N) ++ X)) (length ((A ++ N) ++ X)) back
     → CapturedTransmission (((A ++ N) ++ X) ++ R) back there)
     → CapturedTransmission ((A ++ N) ++ (X ++ R)) rs (here ∷ there)
-captured_next A N X R p here there rs noisy f over holds fits found more =
+captured_next A N X R p here there rs noisy none_front f over holds fits found more =
     let long = length-append A N in
     let front = subst (λ (l : List ℕ). IsNoise l (length A) (length (A ++ N))) (sym (append_assoc A N (X ++ R)))
     (noise_behind A (N ++ (X ++ R)) (length A) (length (A ++ N)) (length N) noisy (omega arith) (omega (arith, long))) in
-    let step = pass_over (A ++ N) R p here X f (length A) rs over holds fits (omega (arith, long)) front found in
+    let first = subst (λ (l : List ℕ). HasInFront l (length A) p (length (A ++ N)) 0) (sym (append_assoc A N (X ++ R)))
+    (none_in_front_behind A (N ++ (X ++ R)) p (length (A ++ N)) (length N) long none_front) in
+    let step = pass_over (A ++ N) R p here X f (length A) rs over holds fits (omega (arith, long)) front first found in
     let next : ((A ++ N) ++ X) ++ R ≡ (A ++ N) ++ (X ++ R) = append_assoc (A ++ N) X R in
     let end : length (A ++ N) + 544 * f.batches ≡ length ((A ++ N) ++ X) =
     omega (arith, length-append (A ++ N) X, (how_long (A ++ N) R p here X f).2) in
@@ -583,11 +655,11 @@ each_captured : (A B : List ℕ) (pss : List (List Page)) (rs : List Reception) 
 each_captured A B pss rs (noise noisy) fits found =
     none_captured (A ++ B) (length A) (length A) rs
     (noise_behind A B (length A) (length (A ++ B)) (length B) noisy (omega arith) (omega (arith, length-append A B))) found
-each_captured A B pss rs (sent N X R p here there noisy f over holds rest) fits found =
+each_captured A B pss rs (sent N X R p here there noisy none_front f over holds rest) fits found =
     let whole : (A ++ N) ++ (X ++ R) ≡ A ++ (N ++ (X ++ R)) = append_assoc A N (X ++ R) in
     let next : ((A ++ N) ++ X) ++ R ≡ (A ++ N) ++ (X ++ R) = append_assoc (A ++ N) X R in
     subst (λ (l : List ℕ). CapturedTransmission l rs (here ∷ there)) whole
-    (captured_next A N X R p here there rs noisy f over holds (subst WordsFit (sym whole) fits)
+    (captured_next A N X R p here there rs noisy none_front f over holds (subst WordsFit (sym whole) fits)
     (subst (λ (l : List ℕ). AreFound l (length A) (length A) rs) (sym whole) found)
     (λ back. each_captured ((A ++ N) ++ X) R there back rest (subst WordsFit (sym whole ∙ sym next) fits)))
 

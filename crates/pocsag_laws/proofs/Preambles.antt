@@ -1,17 +1,21 @@
 -- No synchronisation codeword begins in a preamble.
-use Rattle.std.proofs.Common.{◌≡◌, ℕ, zero, suc, ◌+◌, ◌-◌, ◌/◌, ◌%◌, ◌^◌, ◌<◌, ◌≤◌, Bool, true, leb, ltb, ◌&&◌, List, ◌++◌, length, take, drop, bit_xor, count_ones, refl, sym, ap, subst, ◌∙◌, arith}
+use Rattle.std.proofs.Common.{◌≡◌, ℕ, zero, suc, lit<, ◌+◌, ◌-◌, ◌*◌, ◌/◌, ◌%◌, ◌^◌, ◌<◌, ◌≤◌, Bool, true, leb, ltb, ◌&&◌, List, [], ◌++◌, length, take, drop, bit_xor, count_ones, refl, sym, ap, subst, ◌∙◌, inr, arith}
 use Rattle.std.specs.Int.Count.{ones_step}
 use Rattle.std.proofs.Math.Nat.{pow-suc}
 use Rattle.std.proofs.Math.Seq.{drop-append-add}
 use Rattle.std.proofs.lemmas.Bool.{and_parts, leb-true, ltb-true}
-use Rattle.std.proofs.lemmas.List.{drop-append-le, drop-drop, length-drop, take-append-le}
+use Rattle.std.proofs.lemmas.List.{drop-append-le, drop-drop, length-append, length-drop, take-append-le}
 use Rattle.std.proofs.lemmas.Nat.{ones_le_self, xor_lt}
+use Rattle.pocsag_words.specs.Codeword.{HasNoneNear}
+use Rattle.pocsag_words.specs.Columns.{check_of, columns, combine, syndrome_of}
+use Rattle.pocsag_words.proofs.ErrorLemmas.{HasNoneNear-from_far}
 use Rattle.pocsag_text.specs.Bits.{high_first, high_number}
 use Rattle.pocsag_pages.specs.Bytes.{sync_word}
 use Rattle.pocsag_capture.specs.Bits.{as_sent, word_on}
-use Rattle.pocsag_capture.specs.Receptions.{IsQuiet}
+use Rattle.pocsag_capture.specs.Receptions.{HasInFront, IsQuiet, sent_at}
 use Rattle.pocsag_capture.specs.declared.polarity.Polarity.{Polarity}
 use Rattle.pocsag_capture.specs.declared.polarity.Polarity.TheVariants.{Upright, Inverted}
+use Rattle.pocsag_capture.proofs.Extracts.{word_there}
 use Rattle.pocsag_capture.proofs.Polarities.{both_polarities}
 use Rattle.pocsag_laws.specs.Preambles.{clean_start}
 
@@ -83,3 +87,45 @@ preamble_quiet before rest p = λ bit low high polarity there.
     subst (λ (l : List ℕ). is_far (high_number 0 (take 32 l)) ≡ true) (drop-drop i 32 (clean_start p)) far in
     not_near (high_number 0 (take 32 (drop (32 + i) (clean_start p)))) polarity here
     (subst (λ (w : ℕ). count_ones (bit_xor sync_word (as_sent polarity w)) ≤ 2) word there.near)
+
+-- ---- no words in front are read
+
+preamble_far : HasNoneNear 0xaaaaaaaa
+unfolding syndrome_of check_of combine columns
+preamble_far = HasNoneNear-from_far 0xaaaaaaaa (lit< tt) refl
+
+last_of_start : (p : Polarity) → as_sent p (high_number 0 (take 32 (drop 544 (clean_start p)))) ≡ 0xaaaaaaaa
+unfolding high_first high_number
+last_of_start Upright = refl
+last_of_start Inverted = refl
+
+pub preamble_in_front : (before rest : List ℕ) (p : Polarity) (held : ℕ) → held ≤ length before + 576
+    → HasInFront (before ++ (clean_start p ++ rest)) held p (length before + 576) 0
+preamble_in_front before rest p held behind =
+    let bits : List ℕ = before ++ (clean_start p ++ rest) in
+    let long = start_long p in
+    let tail = length-drop 544 (clean_start p) in
+    let place : length before + 576 - 32 * (0 + 1) ≡ length before + 544 = omega arith in
+    let all : length bits ≡ length before + (length (clean_start p) + length rest) =
+    length-append before (clean_start p ++ rest) ∙ ap (λ (n : ℕ). length before + n) (length-append (clean_start p) rest) in
+    let word : sent_at bits p (length before + 544) ≡ 0xaaaaaaaa =
+    word_there bits p (length before + 544) (omega (arith, all, long))
+    ∙ ap (λ (l : List ℕ). as_sent p (high_number 0 (take 32 l))) (drop-append-add before (clean_start p ++ rest) 544)
+    ∙ ap (λ (l : List ℕ). as_sent p (high_number 0 (take 32 l))) (drop-append-le 544 (clean_start p) rest (omega arith))
+    ∙ ap (λ (l : List ℕ). as_sent p (high_number 0 l)) (take-append-le 32 (drop 544 (clean_start p)) rest (omega arith))
+    ∙ last_of_start p in
+    record {
+      count = 0;
+      errors = 0;
+      are = record {
+        most = omega arith;
+        room = λ some. absurd (omega (arith, some));
+        mended = [];
+        each = tt;
+        kept = refl;
+        wrong = refl;
+        ends = inr (inr (subst HasNoneNear (sym (ap (sent_at bits p) place ∙ word)) preamble_far));
+      };
+      slipped = λ slips. refl;
+      reads = λ steady. refl;
+    }

@@ -1,4 +1,5 @@
 pub mod FewestBatches
+pub mod ListedWhole
 pub mod OnlySent
 pub mod OpenRounds
 pub mod Preambles

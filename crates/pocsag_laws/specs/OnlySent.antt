@@ -1,7 +1,7 @@
 -- Captures of transmissions and noise alone (this project's own).
 use Rattle.std.specs.Prelude.{◌⊎◌, ℕ, ◌+◌, ◌<◌, ◌≤◌, List, [], ◌∷◌, ◌++◌, length}
 use Rattle.pocsag_pages.specs.declared.page.Page.{Page}
-use Rattle.pocsag_capture.specs.Receptions.{HasFewLost, IsBridged, IsSynchronised, batch_bits}
+use Rattle.pocsag_capture.specs.Receptions.{HasFewLost, HasInFront, IsBridged, IsSynchronised, batch_bits}
 use Rattle.pocsag_capture.specs.Sent.{IsReceived, NothingFollows}
 use Rattle.pocsag_capture.specs.declared.polarity.Polarity.{Polarity}
 
@@ -28,13 +28,19 @@ HoldsNoOther bits end =
     (bit : ℕ) → end < bit + batch_bits → bit < end → (polarity : Polarity) → IsSynchronised bits bit polarity →
     IsAlone bits bit polarity × ((bit + 32 ≤ end) ⊎ HasManyLost bits bit polarity)
 
+-- *None in front*: of the words in front of the synchronisation codeword at this bit none are read as those of a batch.
+abbrev pub HasNoneInFront : (bits : List ℕ) → (bit : ℕ) → Polarity → Type 0
+HasNoneInFront bits bit polarity = HasInFront bits 0 polarity bit 0
+
 -- *Capture of transmissions*: noise, the batches of a transmission as they were received, noise and so on, and the pages of each
--- transmission. Nothing goes on behind a transmission, and in its last batch no other begins. Preambles are noise.
+-- transmission. The noise before a transmission does not end like a batch, nothing goes on behind a transmission, and in its last batch
+-- no other begins. Preambles are noise.
 pub data IsCaptureOf : (bits : List ℕ) → List (List Page) → Type 0 where
   noise : {bits : List ℕ} → IsNoise bits 0 (length bits) → IsCaptureOf bits []
   sent :
       (before batches after : List ℕ) (polarity : Polarity) (ps : List Page) (pss : List (List Page)) →
       IsNoise (before ++ (batches ++ after)) 0 (length before) →
+      HasNoneInFront (before ++ (batches ++ after)) (length before) polarity →
       IsReceived polarity ps batches →
       NothingFollows polarity after →
       HoldsNoOther (batches ++ after) (length batches) →

@@ -12,7 +12,7 @@ ghost use Rattle.pocsag_decode.specs.PageFiles.{IsSpellable, page_file};
 ghost use Rattle.pocsag_journal.specs.Runs.{IsEdit, IsRun};
 ghost use Rattle.pocsag_capture.specs.Bits.{capture_bits};
 ghost use Rattle.pocsag_capture.specs.CapturedPages.{AreCaptured, HasCaptured};
-ghost use Rattle.pocsag_capture.specs.Receptions.{AreReceptions, IsQuiet, received};
+ghost use Rattle.pocsag_capture.specs.Receptions.{AreReceptions, HasInFront, IsQuiet, received};
 ghost use Rattle.pocsag_capture.specs.declared.polarity.Polarity.{Polarity};
 ghost use Rattle.pocsag_capture.specs.declared.reception.Reception.{Reception};
 ghost use Rattle.pocsag_laws.specs.FewestBatches.{AreFewest, AreSendable};
@@ -118,8 +118,11 @@ pub fn captures_say_one_thing()
 
 /// In the last 544 bits of a preamble of 576 bits that was received as it was sent, before a synchronisation codeword, no
 /// synchronisation codeword begins, whatever stands before and after: so `captures_show_what_was_sent` holds of what follows.
+/// And no words in front of that codeword are read as those of a batch.
 pub fn clean_preambles_are_quiet()
-    ensures { (before rest : List ℕ) (polarity : Polarity) →
+    ensures front { (before rest : List ℕ) (polarity : Polarity) (held : ℕ) → held ≤ length before + 576 →
+        HasInFront (before ++ (clean_start polarity ++ rest)) held polarity (length before + 576) 0 }
+    ensures quiet { (before rest : List ℕ) (polarity : Polarity) →
         IsQuiet (before ++ (clean_start polarity ++ rest)) (length before + 32) (length before + 576) }
 {}
 

@@ -3,8 +3,8 @@
 //! tree bounds, of readings and journals; of the fewest batches of a round: how those of the three ends compare, that
 //! they never grow when pages are taken away, and that they take the least airtime; of page files and open rounds, which
 //! hold rounds, whose own page files have the same verdict; of lines of JSON, which are read back; of queues, which keep
-//! their order, and of pages that alone need too many batches; and of captures, which say one thing, those of transmissions
-//! their pages and no others, noise nothing, and preambles nothing.
+//! their order, and of pages that alone need too many batches; and of captures, which say one thing and list what was sent
+//! as whole, those of transmissions their pages and no others, noise nothing, and preambles nothing.
 //! Nothing here runs: each function is a theorem.
 
 mod bound;
@@ -24,7 +24,8 @@ pub use bound::{
     tight_headlines_are_headlines, trees_that_hold_are_accepted,
 };
 pub use captures::{
-    captured_pages_are_shown, captures_show_what_was_sent, transmissions_are_captured,
+    captured_pages_are_shown, captures_list_what_was_sent_as_whole, captures_show_what_was_sent,
+    transmissions_are_captured,
 };
 pub use certificate::{no_text_begins_another, one_certificate, one_fault};
 pub use codeword::{codewords_differ, kinds_have_codewords, same_from_kind};

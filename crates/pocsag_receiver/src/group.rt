@@ -298,7 +298,9 @@ fn print_heard(context: Context<'_>, first: u64, heard: &[ReceptionStats]) {
             polarity,
             batches,
             words: _,
+            words_in_front,
         } = reception;
+        let batches = batches.saturating_add(u64::from(words_in_front > 0));
         let polarity = match polarity {
             Polarity::Upright => "upright",
             Polarity::Inverted => "inverted",

@@ -52,13 +52,15 @@ A capture holds bits off the air, eight to a byte, from any point on. A
 transmission begins at each synchronisation codeword within two wrong bits, at
 any bit and in either polarity. It goes on past one that cannot be recognised
 where the next is in step, and counts where it has a second one or at most five
-of its sixteen words are lost. Each word is repaired; a word past repair ends
-the open page. The pages of all transmissions are listed in order, each with
-its state: whole, or cut where a lost word, one out of step or the end of the
-transmission stands directly behind what is listed of it. --json prints the
-number of the transmission too, whether it was inverted, and the bit at which
-it begins. --verbose tells the bit, the polarity and the batches of each
-transmission, and how many bits were corrected, words lost and pages cut.";
+of its sixteen words are lost. Words in front of it that can be repaired, two
+or more of at most one batch, are read too. Each word is repaired; a word past
+repair ends the open page. The pages of all transmissions are listed in order,
+each with its state: whole, or cut where a lost word, one out of step or the
+end of the transmission stands directly behind what is listed of it. --json
+prints the number of the transmission too, whether it was inverted, and the bit
+at which its first recognised synchronisation codeword begins. --verbose tells
+the bit, the polarity and the batches of each transmission, and how many bits
+were corrected, words lost and pages cut.";
 
 // What refuses a range of rows that is none.
 pub(crate) const BAD_ROWS: &str = "\

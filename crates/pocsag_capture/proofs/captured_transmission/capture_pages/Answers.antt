@@ -4,6 +4,7 @@ use Rattle.pocsag_words.specs.declared.codeword.Kind.{Kind}
 use Rattle.pocsag_decode.specs.Places.{is_message}
 use Rattle.pocsag_pager.specs.Shown.{said}
 use Rattle.pocsag_capture.specs.Bits.{capture_bits}
+use Rattle.pocsag_capture.specs.Receptions.{received_word}
 use Rattle.pocsag_capture.specs.TakenWords.{cut_by}
 use Rattle.pocsag_capture.specs.declared.captured_transmission.CapturedTransmission.{CapturedTransmission}
 use Rattle.pocsag_capture.specs.declared.corrector.WordCorrector.{WordCorrector}
@@ -13,7 +14,7 @@ use Rattle.pocsag_capture.proofs.captured_transmission.capture_pages.Goals as go
 
 pub take-requires-clause-follows : goal.take-requires-clause-follows
 take-requires-clause-follows c message =
-    let takes = c.take-corrected_word.ensures in
+    let takes = c.in-Some.ensures.taken in
     rw c.loop-place.invariant.open_page (message_by c.loop-place.corrector.is_open (said takes.mended)
     (subst (λ (k : Kind). IsTrue (is_message k)) (c.kind_of_number-kind.ensures.kind ∙ takes.kind) message))
 
@@ -25,25 +26,28 @@ loop-place-init c = record {
   ended = c.new-cuts.ensures.items;
 }
 
-pub loop-place-preserved-then-place-eq0 : goal.loop-place-preserved-then-place-eq0
-loop-place-preserved-then-place-eq0 c =
+pub loop-place-preserved-in_default : goal.loop-place-preserved-in_default
+loop-place-preserved-in_default c =
     let f = c.loop-place.invariant in
+    let counted = c.in_default.ensures.counted in
     record {
-      correcting = correcting_sync _ _ _ c.received_word-word.result _ c.loop-place.corrector c.take_sync.new.self c.received_word-word.ensures f.correcting
-          c.if-place-eq0.true c.take_sync.ensures.bits c.take_sync.ensures.open_page c.take_sync.ensures.lost c.take_sync.ensures.cut;
-      open_page = f.open_page ∙ sym c.take_sync.ensures.open_page;
+      correcting = correcting_sync _ _ _ (received_word (capture_bits c.args.capture.now) c.args.reception c.loop-place.place) _ c.loop-place.corrector
+          c.correct_at.new.self refl f.correcting c.in_default.ensures.sync counted.bits counted.open_page counted.beyond counted.cuts;
+      open_page = f.open_page ∙ sym counted.open_page;
       pages = f.pages;
       ended = f.ended;
     }
 
 pub loop-place-preserved : goal.loop-place-preserved
 loop-place-preserved c =
-    capturing_word (capture_bits c.args.capture.now) c.args.reception c.loop-place.place c.received_word-word.result c.steady_batches-steady.result
-    c.loop-place.corrector c.take-corrected_word.new.self c.loop-place.growing c.loop-place.cuts.items c.received_word-word.ensures c.loop-place.invariant
-    c.take-corrected_word.result.codeword ((c.loop-place.place % 17 - 1) / 2) c.kind_of_number-kind.result
-    (nat_le (17 * c.steady_batches-steady.result) c.loop-place.place) c.take-corrected_word.result.ended c.take.new.self c.note_end.new.cuts.items
-    c.if-place-eq0.false refl refl c.kind_of_number-kind.ensures.kind c.take-corrected_word.ensures c.in_ok-note_end.ensures c.in_ok-take.ensures.reads
-    c.in_ok-take.ensures.current
+    let above = c.in-Some.ensures.inside in
+    capturing_word (capture_bits c.args.capture.now) c.args.reception c.loop-place.place
+    (received_word (capture_bits c.args.capture.now) c.args.reception c.loop-place.place) c.steady_batches-steady.result
+    c.loop-place.corrector c.correct_at.new.self c.loop-place.growing c.loop-place.cuts.items refl c.loop-place.invariant
+    c.in-Some.corrected_word.codeword ((c.loop-place.place % 17 - 1) / 2) c.kind_of_number-kind.result
+    (nat_le (17 * c.steady_batches-steady.result) c.loop-place.place) c.in-Some.corrected_word.ended c.take.new.self c.note_end.new.cuts.items
+    (λ zero. absurd (omega (arith, above, zero))) refl refl c.kind_of_number-kind.ensures.kind c.in-Some.ensures.taken c.in_ok-note_end.ensures
+    c.in_ok-take.ensures.reads c.in_ok-take.ensures.current
 
 abbrev pub captured_there : goal.Joined-growing-5 → CapturedTransmission
 captured_there c = record {

@@ -10,7 +10,7 @@ pub returns-clause-extracted : goal.returns-clause-extracted
 returns-clause-extracted c =
     let same = c.in_ok-put_extract.ensures.same in
     extracts_all c.args.capture.now _ c.in_ok-bytes.bytes.items c.put_extract.new.bytes.items c.in_ok-put_extract.field-0 c.as_slice.result.now
-    c.in_ok-bytes.ensures (ap (λ (r : Reception). r.words) same) (ap (λ (r : Reception). r.batches) same) c.in_ok-put_extract.ensures.extracted
+    c.in_ok-bytes.ensures (ap (λ (r : Reception). r.words) same) (ap (λ (r : Reception). r.words_in_front) same) (ap (λ (r : Reception). r.batches) same) c.in_ok-put_extract.ensures.extracted
     c.in_ok-heard.ensures (subst (AreReceptions (capture_bits c.args.capture.now)) (sym c.as_slice.ensures.value) c.in_ok-found.ensures.found)
 
 pub returns-clause-sent : goal.returns-clause-sent

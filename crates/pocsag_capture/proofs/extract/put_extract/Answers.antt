@@ -3,6 +3,7 @@ use Rattle.std.specs.Int.{to_be_bytes, w32}
 use Rattle.std.proofs.lemmas.List.{append-nil}
 use Rattle.pocsag_pages.specs.Bytes.{sync_word}
 use Rattle.pocsag_capture.specs.Bits.{capture_bits}
+use Rattle.pocsag_capture.specs.Receptions.{received_word}
 use Rattle.pocsag_capture.specs.TakenWords.{cut_by}
 use Rattle.pocsag_capture.specs.declared.corrector.WordCorrector.{WordCorrector}
 use Rattle.pocsag_capture.proofs.Extracts.{extract_of}
@@ -12,17 +13,18 @@ use Rattle.pocsag_capture.proofs.extract.put_extract.Goals as goal
 pub loop-place-init : goal.loop-place-init
 loop-place-init c = record { correcting = correcting_none _ _ _; bytes = sym (append-nil c.args.bytes.now.items) }
 
-pub loop-place-preserved-then-place-eq0 : goal.loop-place-preserved-then-place-eq0
-loop-place-preserved-then-place-eq0 c =
+pub loop-place-preserved-in_default : goal.loop-place-preserved-in_default
+loop-place-preserved-in_default c =
     let place = c.loop-place.place in
     let f = c.loop-place.invariant in
-    let sync : place % 17 ≡ 0 = c.if-place-eq0.true in
+    let sync : place % 17 ≡ 0 = c.in_default.ensures.sync in
+    let counted = c.in_default.ensures.counted in
     let none : begun_batch place ≡ [] = begun_none place (λ one. absurd (omega arith)) in
     let next : (place + 1) % 17 ≡ 1 = omega arith in
     let begun : begun_batch (place + 1) ≡ to_be_bytes w32 sync_word = rw (eq-eqb _ _ next) refl in
     record {
-      correcting = correcting_sync _ _ _ c.received_word-word.result _ c.loop-place.corrector c.take_sync.new.self c.received_word-word.ensures f.correcting sync
-          c.take_sync.ensures.bits c.take_sync.ensures.open_page c.take_sync.ensures.lost c.take_sync.ensures.cut;
+      correcting = correcting_sync _ _ _ (received_word (capture_bits c.args.capture.now) c.args.reception place) _ c.loop-place.corrector c.correct_at.new.self
+          refl f.correcting sync counted.bits counted.open_page counted.beyond counted.cuts;
       bytes = c.in_ok-extend_from_slice.ensures.items
           ∙ simp (c.to_be_bytes.ensures, f.bytes, none, begun, append_assoc, append-nil);
     }
@@ -31,12 +33,13 @@ pub loop-place-preserved : goal.loop-place-preserved
 loop-place-preserved c =
     let place = c.loop-place.place in
     let f = c.loop-place.invariant in
-    let v = c.take-corrected_word.result.codeword in
-    let inside : place % 17 ≢ 0 = c.if-place-eq0.false in
+    let v = c.in-Some.corrected_word.codeword in
+    let above = c.in-Some.ensures.inside in
+    let inside : place % 17 ≢ 0 = λ zero. absurd (omega (arith, above, zero)) in
     let none : begun_batch (place + 1) ≡ [] = begun_none (place + 1) (λ one. inside (omega arith)) in
     record {
-      correcting = correcting_codeword _ _ _ c.received_word-word.result _ c.loop-place.corrector c.take-corrected_word.new.self c.received_word-word.ensures
-          f.correcting v _ c.take-corrected_word.result.ended inside refl c.take-corrected_word.ensures;
+      correcting = correcting_codeword _ _ _ (received_word (capture_bits c.args.capture.now) c.args.reception place) _ c.loop-place.corrector
+          c.correct_at.new.self refl f.correcting v _ c.in-Some.corrected_word.ended inside refl c.in-Some.ensures.taken;
       bytes = c.in_ok-extend_from_slice-2.ensures.items
           ∙ simp (c.to_be_bytes-in-loop-place.ensures, f.bytes, bytes_with f.correcting.codewords place v c.args.bytes.now.items inside f.correcting.long, none, append-nil);
     }

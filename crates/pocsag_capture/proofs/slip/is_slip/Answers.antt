@@ -1,7 +1,7 @@
-use Rattle.std.proofs.Common.{◌≡◌, ℕ, ◌-◌, ◌*◌, refl, sym, subst, inl, inr, arith}
+use Rattle.std.proofs.Common.{◌≡◌, ℕ, ◌+◌, ◌-◌, ◌*◌, refl, sym, subst, inl, inr, arith}
 use Rattle.std.proofs.lemmas.Bool.{cases_lt}
 use Rattle.pocsag_capture.specs.Bits.{capture_bits}
-use Rattle.pocsag_capture.specs.Slips.{IsBeside}
+use Rattle.pocsag_capture.specs.Receptions.{IsBeside}
 use Rattle.pocsag_capture.proofs.Counting.{not_false}
 use Rattle.pocsag_capture.proofs.slip.is_slip.Goals as goal
 use Rattle.pocsag_capture.proofs.slip.is_slip.Goals.{else-place-end-via-then-place-end+else-not-is_beside, else-place-end-via-else-place-end}
@@ -14,7 +14,7 @@ loop-place-preserved c = λ place low below inside.
           let same : place ≡ c.loop-place.place = omega arith in
           elim c.else-place-end.branch [
             | else-place-end-via-then-place-end+else-not-is_beside w ↦
-                subst (λ (n : ℕ). IsBeside (capture_bits c.args.capture.now) c.args.reception c.args.step (n - 1)) (sym same)
+                subst (λ (n : ℕ). IsBeside (capture_bits c.args.capture.now) c.args.reception.polarity c.args.step (c.args.reception.bit + 32 * (n - 1))) (sym same)
                 (w.is_beside.ensures.0 (not_false w.is_beside.result (cc)))
             | else-place-end-via-else-place-end w ↦ absurd (omega (arith, w.if-place-end.false))
           ]

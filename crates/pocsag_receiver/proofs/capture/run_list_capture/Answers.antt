@@ -18,7 +18,7 @@ returns g c =
     let picking = c.args.capture_listing.now.picking in
     let heard = c.list_captured.new.capture_listing.heard.items in
     let ran = ran_read (lists_capture picking heard) g.T.Source c.list_captured.result c.as_slice.ensures.value
-    c.in-Ok.ensures.whole c.in-Ok.ensures.fits c.list_captured.ensures.streams c.end-2.ensures.done c.end-2.ensures.fault in record {
+    c.in-Ok.ensures.whole c.in-Ok.ensures.uncut c.in-Ok.ensures.fits c.list_captured.ensures.streams c.end-2.ensures.done c.end-2.ensures.fault in record {
       ran = ran;
       whole = captured_whole g.T.Source picking heard ran;
       sent = captured_sent g.T.Source picking heard ran;

@@ -13,6 +13,6 @@ pub returns : goal.returns
 returns g c =
     let asked = c.args.viewing.now in record {
       ran = ran_read (shows_capture asked.view asked.nth c.show_captured.new.viewing.heard.items) g.T.Source c.show_captured.result
-          c.as_slice.ensures.value c.in-Ok.ensures.whole c.in-Ok.ensures.fits c.show_captured.ensures.streams c.end-2.ensures.done
+          c.as_slice.ensures.value c.in-Ok.ensures.whole c.in-Ok.ensures.uncut c.in-Ok.ensures.fits c.show_captured.ensures.streams c.end-2.ensures.done
           c.end-2.ensures.fault;
     }

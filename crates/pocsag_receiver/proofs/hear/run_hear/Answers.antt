@@ -9,6 +9,6 @@ returns-in-Err g c = record {
 
 pub returns : goal.returns
 returns g c = record {
-  ran = ran_read (hears c.args.hearing) g.T.Source c.list_heard.result c.as_slice.ensures.value c.in-Ok.ensures.whole c.in-Ok.ensures.fits
+  ran = ran_read (hears c.args.hearing) g.T.Source c.list_heard.result c.as_slice.ensures.value c.in-Ok.ensures.whole c.in-Ok.ensures.uncut c.in-Ok.ensures.fits
       c.list_heard.ensures.streams c.end-2.ensures.done c.end-2.ensures.fault;
 }

@@ -17,7 +17,7 @@ returns g c =
     let before = c.args.showing.now in
     let after = c.show_read.new.showing.repairing in
     let ran = ran_read (shows before.view before.repairing after) g.T.Source c.show_read.result c.as_mut_slice.ensures.value
-    c.in-Ok.ensures.whole c.in-Ok.ensures.fits c.show_read.ensures.streams c.end-2.ensures.done c.end-2.ensures.fault in record {
+    c.in-Ok.ensures.whole c.in-Ok.ensures.uncut c.in-Ok.ensures.fits c.show_read.ensures.streams c.end-2.ensures.done c.end-2.ensures.fault in record {
       ran = ran;
       restored = shown_restored g.T.Source before.repairing after before.view ran;
     }

@@ -1,0 +1,264 @@
+-- The pages of a sent transmission are listed as whole.
+use Rattle.std.proofs.Common.{◌≡◌, ◌⊎◌, ℕ, suc, ◌+◌, ◌-◌, ◌*◌, ◌%◌, ◌<◌, ◌≤◌, List, [], ◌∷◌, ◌++◌, length, map, take, drop, All, Option, Some, None, Bool, true, false, refl, sym, ap, ap₂, subst, ◌∙◌, inl, inr, arith, append_assoc}
+use Rattle.std.specs.Prelude.{nat_le, replicate}
+use Rattle.std.specs.List.{AllZip, range_with_len}
+use Rattle.std.proofs.lemmas.Bool.{cases_lt, lt-leb}
+use Rattle.std.proofs.lemmas.List.{length-append, length-map, map-append, take-append-drop}
+use Rattle.std.proofs.lemmas.List.Elements.{All-head, All-tail}
+use Rattle.std.proofs.lemmas.List.FromFn.{length-map-range_with_len}
+use Rattle.std.proofs.lemmas.Slice.Zip.{AllZip-long}
+use Rattle.pocsag_words.specs.Codeword.{IsCodeword, IsNear}
+use Rattle.pocsag_words.specs.Kinds.{kind_of}
+use Rattle.pocsag_words.specs.declared.codeword.Kind.{Kind}
+use Rattle.pocsag_words.specs.declared.codeword.Kind.TheVariants.{Idle, Address, Message}
+use Rattle.pocsag_pages.specs.declared.page.Page.{Page}
+use Rattle.pocsag_pages.specs.Bytes.{synced, unsynced}
+use Rattle.pocsag_pages.specs.Plain.{HasNoOrphan, pages_from}
+use Rattle.pocsag_pages.specs.Reading.{EndsIdle, Reads}
+use Rattle.pocsag_pages.proofs.Lengths.{synced_count, unsynced_count, unsynced_more}
+use Rattle.pocsag_pages.proofs.Readings.{reads_plainly}
+use Rattle.pocsag_pager.specs.Shown.{IsMended, said}
+use Rattle.pocsag_capture.specs.Bits.{capture_bits}
+use Rattle.pocsag_capture.specs.CapturedPages.{AreCaptured, without_orphans}
+use Rattle.pocsag_capture.specs.Extracted.{ends_cut, page_cuts}
+use Rattle.pocsag_capture.specs.PageEnds.{AreCutsOf, HasTransmissions, IsCapturedTransmission}
+use Rattle.pocsag_capture.specs.Receptions.{AreFound, HasFewLost, IsQuiet, IsReception, IsSyncRun, IsSynchronised, all_batches, batches_in_front, counted, held_end, last_sync, nothing, passed, received, received_word}
+use Rattle.pocsag_capture.specs.Sent.{HoldsSent, IsReceived}
+use Rattle.pocsag_capture.specs.declared.captured_transmission.CapturedTransmission.{CapturedTransmission}
+use Rattle.pocsag_capture.specs.declared.polarity.Polarity.{Polarity}
+use Rattle.pocsag_capture.specs.declared.reception.Reception.{Reception}
+use Rattle.pocsag_capture.specs.declared.reception.Run.{Run}
+use Rattle.pocsag_capture.proofs.Joined.{keeps_no_orphan, no_orphan_any, no_orphan_join, pages_join, pages_shift}
+use Rattle.pocsag_capture.proofs.Once.{WordsFit, capture_fits}
+use Rattle.pocsag_capture.proofs.PageEnds.{as_many, plain_pages}
+use Rattle.pocsag_capture.proofs.SentBits.{IsOn, after_closed, batch_there, end_early, ends_closed, few_lost, least_batches, mended_again, on_run, open_after_all, own_place, placed_words, received_are, said_some, unsynced_shift, without_orphans_long, without_orphans_same, without_orphans_two, words_long, zip_split}
+use Rattle.pocsag_laws.specs.ListedWhole.{AreListedWhole}
+
+-- ---- which pages are cut, of words behind others
+
+record CutsBehind (steady i j : ℕ) (A B : List (Option Kind)) : Type 0 where
+  pub cuts : List Bool
+  pub as_long : length cuts ≡ length (page_cuts steady i A)
+  pub whole : page_cuts steady i (A ++ B) ≡ cuts ++ page_cuts steady j B
+
+cuts_behind : (steady i j : ℕ) (A B : List (Option Kind)) → j ≡ i + length A → CutsBehind steady i j A B
+cuts_behind steady i j [] B e = record { cuts = []; as_long = refl; whole = ap (λ (n : ℕ). page_cuts steady n B) (omega arith) }
+cuts_behind steady i j (None ∷ A) B e = let f = cuts_behind steady (i + 1) j A B (omega arith) in record { cuts = f.cuts; as_long = f.as_long; whole = f.whole }
+cuts_behind steady i j (Some Idle ∷ A) B e = let f = cuts_behind steady (i + 1) j A B (omega arith) in record { cuts = f.cuts; as_long = f.as_long; whole = f.whole }
+cuts_behind steady i j (Some (Address high function) ∷ A) B e =
+    let f = cuts_behind steady (i + 1) j A B (omega arith) in
+    let here : Bool = ends_cut steady (i + 1) (A ++ B) in
+    record { cuts = here ∷ f.cuts; as_long = omega (arith, f.as_long); whole = ap (λ (l : List Bool). here ∷ l) f.whole }
+cuts_behind steady i j (Some (Message bits) ∷ A) B e =
+    let f = cuts_behind steady (i + 1) j A B (omega arith) in record { cuts = f.cuts; as_long = f.as_long; whole = f.whole }
+
+-- a page of codewords that end idle is whole
+ends_whole : (steady i : ℕ) (K : List Kind) (B : List (Option Kind)) → EndsIdle K → i + length K ≤ steady → ends_cut steady i (map Some K ++ B) ≡ false
+ends_whole steady i [] B idle within = absurd idle
+ends_whole steady i (Idle ∷ K) B idle within = let below : i < steady = omega (arith, within) in lt-leb _ _ below
+ends_whole steady i (Address high function ∷ K) B idle within = let below : i < steady = omega (arith, within) in lt-leb _ _ below
+ends_whole steady i (Message bits ∷ []) B idle within = absurd (cc idle)
+ends_whole steady i (Message bits ∷ k ∷ K) B idle within = ends_whole steady (i + 1) (k ∷ K) B idle (omega (arith, within))
+
+cuts_whole : (steady i j n : ℕ) (K : List Kind) (B : List (Option Kind)) → EndsIdle K → i + length K ≤ steady → n ≡ i + length K
+    → page_cuts steady i (map Some K ++ B) ≡ replicate (length (pages_from j K)) false ++ page_cuts steady n B
+cuts_whole steady i j n [] B idle within e = absurd idle
+cuts_whole steady i j n (k ∷ []) B idle within e =
+    let next : i + 1 ≡ n = omega (arith, e) in
+    rw (idle, sym next) refl
+cuts_whole steady i j n (Idle ∷ k ∷ K) B idle within e = cuts_whole steady (i + 1) (j + 1) n (k ∷ K) B idle (omega (arith, within)) (omega (arith, e))
+cuts_whole steady i j n (Address high function ∷ k ∷ K) B idle within e =
+    ap₂ (λ (b : Bool) (l : List Bool). b ∷ l) (ends_whole steady (i + 1) (k ∷ K) B idle (omega (arith, within)))
+    (cuts_whole steady (i + 1) (j + 1) n (k ∷ K) B idle (omega (arith, within)) (omega (arith, e)))
+cuts_whole steady i j n (Message bits ∷ k ∷ K) B idle within e = cuts_whole steady (i + 1) (j + 1) n (k ∷ K) B idle (omega (arith, within)) (omega (arith, e))
+
+-- ---- the words of a transmission among those of a reception
+
+record AreWhole (ps listed : List Page) (marks : List Bool) : Type 0 where
+  pub pages_before : List Page
+  pub pages_after : List Page
+  pub pages : listed ≡ pages_before ++ (ps ++ pages_after)
+  pub cuts_before : List Bool
+  pub cuts_after : List Bool
+  pub as_many : length cuts_before ≡ length pages_before
+  pub cuts : marks ≡ cuts_before ++ (replicate (length ps) false ++ cuts_after)
+
+module _ (before Y after T : List ℕ) (ps : List Page) (are : All IsCodeword T) (near : AllZip IsNear (synced 0 T) Y)
+    (reads : Reads (map kind_of T) 0 ps) (idle : EndsIdle (map kind_of T)) where
+  whole_between : (steady : ℕ) (listed : List Page) (cuts : List Bool) → length before % 17 ≡ 0 → length Y % 17 ≡ 0
+      → length (unsynced 0 before) + length T ≤ steady → length T % 16 ≡ 0 → AreCaptured (before ++ (Y ++ after)) listed
+      → AreCutsOf (before ++ (Y ++ after)) steady cuts → AreWhole ps listed cuts
+  whole_between steady listed cuts first_whole whole within batches f g =
+      let words : unsynced 0 (before ++ (Y ++ after)) ≡ unsynced 0 before ++ (unsynced 0 Y ++ unsynced 0 after) =
+      unsynced_more 0 before (Y ++ after)
+      ∙ ap (λ (l : List ℕ). unsynced 0 before ++ l) (unsynced_shift (0 + length before) 0 (Y ++ after) (omega arith)
+      ∙ unsynced_more 0 Y after ∙ ap (λ (l : List ℕ). unsynced 0 Y ++ l) (unsynced_shift (0 + length Y) 0 after (omega arith))) in
+      let parts = zip_split (unsynced 0 before) (unsynced 0 Y ++ unsynced 0 after) g.mended (subst (λ (l : List ℕ). AllZip IsMended l g.mended) words g.each) in
+      let left = take (length (unsynced 0 before)) g.mended in
+      let behind = drop (length (unsynced 0 before)) g.mended in
+      let rest = zip_split (unsynced 0 Y) (unsynced 0 after) behind parts.1 in
+      let right = drop (length (unsynced 0 Y)) behind in
+      let K : List Kind = map kind_of T in
+      let same : map said (take (length (unsynced 0 Y)) behind) ≡ map Some K =
+      ap (map said) (mended_again 0 0 T Y (take (length (unsynced 0 Y)) behind) (omega arith) are near rest.0) ∙ said_some T in
+      let all : map said g.mended ≡ map said left ++ (map Some K ++ map said right) =
+      ap (map said) (sym (take-append-drop (length (unsynced 0 before)) g.mended)
+      ∙ ap (λ (l : List (Option ℕ)). left ++ l) (sym (take-append-drop (length (unsynced 0 Y)) behind))) ∙ simp (map-append, same) in
+      let plain = reads_plainly reads in
+      let first : List Kind = without_orphans false (map said left) in
+      let b : Bool = open_after_all (open_after_all false (map said left)) (map Some K) in
+      let last : List Kind = without_orphans b (map said right) in
+      let kinds : without_orphans false (map said g.mended) ≡ first ++ (K ++ last) =
+      ap (without_orphans false) all ∙ simp without_orphans_two (ap (λ (l : List Kind). first ++ (l ++ last))
+      (without_orphans_same (open_after_all false (map said left)) K (no_orphan_any (open_after_all false (map said left)) K plain.no_orphan))) in
+      let closed : HasNoOrphan false last = after_closed b after right rest.1 (inr (ends_closed (open_after_all false (map said left)) K idle)) in
+      let joined : HasNoOrphan false (K ++ last) = no_orphan_join false K last plain.no_orphan closed in
+      let long_left : length (map said left) ≡ length (unsynced 0 before) = length-map left said ∙ AllZip-long IsMended (unsynced 0 before) left parts.0 in
+      let long : length first ≡ length (unsynced 0 before) = without_orphans_long false (map said left) ∙ long_left in
+      let count = unsynced_count 0 before in
+      let many : length K ≡ length T = length-map T kind_of in
+      let front = cuts_behind steady 0 (length (unsynced 0 before)) (map said left) (map Some K ++ map said right) (omega (arith, long_left)) in
+      let middle = cuts_whole steady (length (unsynced 0 before)) 0 (length (unsynced 0 before) + length K) K (map said right) idle (omega (arith, within, many)) refl in
+      record {
+        pages_before = pages_from 0 first;
+        pages_after = pages_from (length K) last;
+        pages = plain_pages (before ++ (Y ++ after)) steady listed cuts f g ∙ ap (pages_from 0) kinds
+            ∙ pages_join 0 (length first) first (K ++ last) (omega arith) joined
+            ∙ ap (λ (l : List Page). pages_from 0 first ++ l) (pages_shift (length first) 0 (K ++ last) (omega (arith, long, count))
+            ∙ pages_join 0 (length K) K last (omega arith) closed ∙ ap (λ (l : List Page). l ++ pages_from (length K) last) (sym plain.pages));
+        cuts_before = front.cuts;
+        cuts_after = page_cuts steady (length (unsynced 0 before) + length K) (map said right);
+        as_many = front.as_long ∙ as_many steady 0 false (map said left);
+        cuts = g.holds ∙ ap (page_cuts steady 0) all ∙ front.whole ∙ ap (λ (l : List Bool). front.cuts ++ l) (middle
+            ∙ ap (λ (l : List Page). replicate (length l) false ++ page_cuts steady (length (unsynced 0 before) + length K) (map said right)) (sym plain.pages));
+      }
+
+-- ---- the transmission of a synchronisation codeword
+
+record IsHeld (bits : List ℕ) (b : ℕ) (p : Polarity) (rs : List Reception) : Type 0 where
+  pub earlier : List Reception
+  pub reception : Reception
+  pub later : List Reception
+  pub whole : rs ≡ earlier ++ (reception ∷ later)
+  pub first : ℕ
+  pub run : Run
+  pub is_run : IsSyncRun bits first run
+  pub is : IsReception bits run reception
+  pub on : IsOn b p run
+
+module _ (bits : List ℕ) (b : ℕ) (p : Polarity) (fits : WordsFit bits) (there : IsSynchronised bits b p) (quiet : IsQuiet bits (b - 544) b)
+    (few : (u : Run) → u.bit ≡ b → u.polarity ≡ p → HasFewLost bits u) where
+  held_by : (first held : ℕ) (rs : List Reception) → first ≤ b → held ≤ b + 31 → AreFound bits first held rs → IsHeld bits b p rs
+  held_by first held rs low late (nothing none) = absurd (none b low (omega (arith, there.within)) p there)
+  held_by first held rs low late (counted u r more run counts is front rest) =
+      elim (cases_lt (last_sync u) b) [
+        | inl before ↦
+            let next = held_by (last_sync u + 1) (held_end u r) more (omega arith) (end_early bits b p fits there quiet first u r run before) rest in
+            record {
+              earlier = r ∷ next.earlier;
+              reception = next.reception;
+              later = next.later;
+              whole = ap (λ (l : List Reception). r ∷ l) next.whole;
+              first = next.first;
+              run = next.run;
+              is_run = next.is_run;
+              is = next.is;
+              on = next.on;
+            }
+        | inr past ↦ record {
+          earlier = [];
+          reception = r;
+          later = more;
+          whole = refl;
+          first = first;
+          run = u;
+          is_run = run;
+          is = is;
+          on = on_run bits b p fits there quiet first u run low past;
+        }
+      ]
+  held_by first held rs low late (passed u more run not rest) =
+      elim (cases_lt (last_sync u) b) [
+        | inl before ↦ held_by (last_sync u + 1) held more (omega arith) late rest
+        | inr past ↦
+            let on = on_run bits b p fits there quiet first u run low past in
+            absurd (elim (cases_lt 1 u.batches) [
+              | inl many ↦ not (inl many)
+              | inr one ↦
+                  let bit : u.bit ≡ b = omega (arith, on.place, on.below) in
+                  not (inr (omega (arith, bit), few u bit on.polarity))
+            ])
+      ]
+
+-- the transmission of a reception
+record IsTransmissionOf (r : Reception) (cs : List CapturedTransmission) : Type 0 where
+  pub earlier : List CapturedTransmission
+  pub transmission : CapturedTransmission
+  pub later : List CapturedTransmission
+  pub among : cs ≡ earlier ++ (transmission ∷ later)
+  pub same : transmission.heard.reception ≡ r
+
+transmission_of : (cs : List CapturedTransmission) (front : List Reception) (r : Reception) (back : List Reception)
+    → map (λ (c : CapturedTransmission). c.heard.reception) cs ≡ front ++ (r ∷ back) → IsTransmissionOf r cs
+transmission_of [] [] r back e = absurd (cc e)
+transmission_of [] (q ∷ front) r back e = absurd (cc e)
+transmission_of (c ∷ cs) [] r back e = record { earlier = []; transmission = c; later = cs; among = refl; same = cc e }
+transmission_of (c ∷ cs) (q ∷ front) r back e =
+    let f = transmission_of cs front r back (cc e) in
+    record { earlier = c ∷ f.earlier; transmission = f.transmission; later = f.later; among = ap (λ (l : List CapturedTransmission). c ∷ l) f.among; same = f.same }
+
+holds_at : (P : CapturedTransmission → Type 0) (front : List CapturedTransmission) (c : CapturedTransmission) (back : List CapturedTransmission)
+    → All P (front ++ (c ∷ back)) → P c
+holds_at P [] c back all = All-head P c back all
+holds_at P (q ∷ front) c back all = holds_at P front c back (All-tail P q (front ++ (c ∷ back)) all)
+
+pub lists_as_whole : (capture : List ℕ) (cs : List CapturedTransmission) (ps : List Page) (h : HoldsSent (capture_bits capture) ps)
+    → EndsIdle (map kind_of h.received.codewords) → HasTransmissions capture cs
+    → All (λ (c : CapturedTransmission). c.heard.steady ≡ all_batches c.heard.reception) cs → AreListedWhole ps cs
+lists_as_whole capture cs ps h idle g steady =
+    let A : List ℕ = h.before in
+    let R : List ℕ = h.after in
+    let X : List ℕ = h.batches in
+    let p : Polarity = h.polarity in
+    let f = h.received in
+    let bits : List ℕ = A ++ (X ++ R) in
+    let start : length A + 544 * 0 ≡ length A = omega arith in
+    let there = subst (λ (n : ℕ). IsSynchronised bits n p) start (batch_there A R p ps X f 0 f.whole.0) in
+    let held = held_by bits (length A) p (subst WordsFit h.whole (capture_fits capture)) there
+    (subst (λ (l : List ℕ). IsQuiet l (length A - 544) (length A)) h.whole h.quiet) (few_lost A R p ps X f) 0 0
+    (map (λ (c : CapturedTransmission). c.heard.reception) cs) (omega arith) (omega arith)
+    (subst (λ (l : List ℕ). AreFound l 0 0 (map (λ (c : CapturedTransmission). c.heard.reception) cs)) h.whole g.found) in
+    let of = transmission_of cs held.earlier held.reception held.later held.whole in
+    let c = of.transmission in
+    let r = held.reception in
+    let k = held.on.k in
+    let is = holds_at (IsCapturedTransmission (capture_bits capture)) of.earlier c of.later (subst (All (IsCapturedTransmission (capture_bits capture))) of.among g.each) in
+    let step : c.heard.steady ≡ all_batches c.heard.reception =
+    holds_at (λ (d : CapturedTransmission). d.heard.steady ≡ all_batches d.heard.reception) of.earlier c of.later
+    (subst (All (λ (d : CapturedTransmission). d.heard.steady ≡ all_batches d.heard.reception)) of.among steady) in
+    let batches : c.heard.steady ≡ all_batches r = step ∙ ap all_batches of.same in
+    let place : ℕ = own_place A R p ps X f held.first held.run r held.is_run held.is held.on in
+    let front : List ℕ = placed_words A R p ps X f held.first held.run r held.is_run held.is held.on 0 place in
+    let back : List ℕ = placed_words A R p ps X f held.first held.run r held.is_run held.is held.on (place + 17 * f.batches) (17 * (r.batches - (k + f.batches))) in
+    let words : received (capture_bits capture) c.heard.reception ≡ front ++ (f.words ++ back) =
+    ap₂ (λ (l : List ℕ) (q : Reception). received l q) h.whole of.same ∙ received_are A R p ps X f held.first held.run r held.is_run held.is held.on in
+    let long = length-map-range_with_len (received_word bits r) 0 place in
+    let count = unsynced_count 0 front in
+    let least = least_batches A R p ps X f held.first held.run r held.is_run held.is held.on in
+    let is_whole = whole_between front f.words back f.codewords ps f.are f.near f.reads idle (16 * c.heard.steady) c.pages.items c.cuts.items
+    (omega (arith, long)) (omega (arith, words_long A R p ps X f)) (omega (arith, count, long, batches, least, f.whole.1)) (omega (arith, f.whole.1))
+    (subst (λ (ws : List ℕ). AreCaptured ws c.pages.items) words is.pages)
+    (subst (λ (ws : List ℕ). AreCutsOf ws (16 * c.heard.steady) c.cuts.items) words is.cuts) in
+    record {
+      earlier = of.earlier;
+      transmission = c;
+      later = of.later;
+      among = of.among;
+      pages_before = is_whole.pages_before;
+      pages_after = is_whole.pages_after;
+      pages = is_whole.pages;
+      cuts_before = is_whole.cuts_before;
+      cuts_after = is_whole.cuts_after;
+      as_many = is_whole.as_many;
+      cuts = is_whole.cuts;
+    }
