@@ -1,7 +1,7 @@
 -- Why no front of a page file is planned, and what `plan --at-most` leaves of its files.
 use Rattle.std.proofs.Common.{◌≡◌, ◌≢◌, ◌⊎◌, ℕ, List, length, refl, sym, subst, inl, inr, Some}
 use Rattle.std.specs.Prelude.{IsOk, Err, Ok}
-use Rattle.pocsag_words.specs.Devices.{HasFailed}
+use Rattle.pocsag_shell.specs.Readers.{FailedCut}
 use Rattle.pocsag_words.specs.declared.device.Sink.{Ghosts as Writer}
 use Rattle.pocsag_words.specs.declared.device.Source.{Ghosts as Reader}
 use Rattle.pocsag_pages.specs.declared.page.Page.{Page}
@@ -51,7 +51,7 @@ module _ {P : Type 0} (Pages : Reader P) (asked : FrontAsked) (pages pages' : P)
 
   pub front_unread : (e : RoundFault) →
       (Pages.is_known → (e ≡ round.OutOfMemory) ⊎ (e ≡ round.ReadFault) ⊎ (held_pages asked.may_wait (Pages.held pages) ≡ Err e)) →
-      (e ≡ round.ReadFault → HasFailed (Pages.failures pages) (Pages.failures pages')) → ExplainsUnplanned Pages asked pages pages' (fault.Round e)
+      (e ≡ round.ReadFault → FailedCut Pages pages pages') → ExplainsUnplanned Pages asked pages pages' (fault.Round e)
   front_unread round.ReadFault why failed = (limit, failed refl)
   front_unread round.OutOfMemory why failed = λ k. (limit, inl refl)
   front_unread round.TooLarge why failed = λ k. (limit, of_file round.TooLarge (λ e. cc (e)) (why k))

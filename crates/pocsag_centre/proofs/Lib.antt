@@ -1,4 +1,5 @@
 pub mod AsidePages
+pub mod CutFiles
 pub mod Endings
 pub mod FirstPart
 pub mod FrontRuns

@@ -1,6 +1,5 @@
 -- Why `plan` prints nothing, by the fault of its stream.
 use Rattle.std.proofs.Common.{◌≡◌, ◌≢◌, ◌⊎◌, ℕ, List, Err, Some, inl, inr, refl}
-use Rattle.pocsag_words.specs.Devices.{HasFailed}
 use Rattle.pocsag_words.specs.declared.device.Sink.{Ghosts as Writer}
 use Rattle.pocsag_words.specs.declared.device.Source.{Ghosts as Reader}
 use Rattle.pocsag_pages.specs.PageFile.{verdict}
@@ -13,6 +12,7 @@ use Rattle.pocsag_plan.specs.declared.fault.PlanFault.TheVariants as planning
 use Rattle.pocsag_plan.specs.declared.fault.StreamFault.{StreamFault}
 use Rattle.pocsag_plan.specs.declared.fault.StreamFault.TheVariants as stream
 use Rattle.pocsag_plan.specs.declared.search.Search.{Search}
+use Rattle.pocsag_shell.specs.Readers.{FailedCut}
 use Rattle.pocsag_centre.specs.Faults.{fault_of_stream}
 use Rattle.pocsag_centre.specs.Works.{ExplainsPlanFiles}
 use Rattle.pocsag_centre.specs.declared.plan.PlanFiles.{PlanFiles}
@@ -31,7 +31,7 @@ module _ {P T C : Type 0} (Pages : Reader P) (Tx : Writer T) (Cert : Writer C) (
       (Pages.is_known → Tx.is_known → Cert.is_known → IsCertificate f →
       WritesCertificatePart search.on_limit (Pages.held files.pages) search.end (Tx.taken files.tx) (Tx.taken files'.tx)
       (Cert.taken files.cert) (Cert.taken files'.cert)) →
-      (f ≡ stream.Round round.ReadFault → HasFailed (Pages.failures files.pages) (Pages.failures files'.pages)) →
+      (f ≡ stream.Round round.ReadFault → FailedCut Pages files.pages files'.pages) →
       ExplainsPlanFiles Pages Tx Cert search files files' (fault_of_stream f)
   why_unplanned (stream.Plan planning.BadLimit) why turns part whole read =
       ((turns.untouched tt).0, (turns.untouched tt).1, λ k. why k)

@@ -34,6 +34,7 @@ use Rattle.pocsag_words.specs.declared.ending.End.{End}
 use Rattle.pocsag_slots.proofs.Rearranged.{rearranged}
 use Rattle.pocsag_decode.specs.Faults.{ReadsAs}
 use Rattle.pocsag_plan.specs.declared.search.Search.{Search}
+use Rattle.pocsag_shell.specs.Readers.{FailedCut}
 use Rattle.pocsag_centre.specs.Verification.{AreAmong, HasRival, IsTransmissionOf, ShowsExpected, Verified, WasNoCertificate, WasNoRound}
 
 moved_pages : (ps qs : List Page) → IsPermutation ps qs → (R : List Page) → AreAmong qs R → AreAmong ps R
@@ -172,7 +173,7 @@ module _ {P : Type 0} (Pages : Reader P) (pages pages' : P) where
 
   pub not_round : (e : RoundFault) →
       (Pages.is_known → (e ≡ round_fault.OutOfMemory) ⊎ (e ≡ round_fault.ReadFault) ⊎ (verdict (Pages.held pages) ≡ Err e)) →
-      (e ≡ round_fault.ReadFault → HasFailed (Pages.failures pages) (Pages.failures pages')) → WasNoRound Pages pages pages' e
+      (e ≡ round_fault.ReadFault → FailedCut Pages pages pages') → WasNoRound Pages pages pages' e
   not_round round_fault.ReadFault why failed = failed refl
   not_round round_fault.OutOfMemory why failed = λ k. inl refl
   not_round round_fault.TooLarge why failed = λ k. of_file round_fault.TooLarge (λ e. cc (e)) (why k)

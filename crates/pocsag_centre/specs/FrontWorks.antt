@@ -4,11 +4,12 @@ use Rattle.pocsag_words.specs.Devices.{HasFailed, TookPrefix}
 use Rattle.pocsag_words.specs.declared.device.Sink.{Ghosts as Writer}
 use Rattle.pocsag_words.specs.declared.device.Source.{Ghosts as Reader}
 use Rattle.pocsag_branch.specs.Found.{IsNodeLimit}
+use Rattle.pocsag_shell.specs.Readers.{FailedCut}
 use Rattle.pocsag_shell.specs.Runs.{Work}
 use Rattle.pocsag_shell.specs.declared.fault.FileFault.{FileFault}
 use Rattle.pocsag_shell.specs.declared.fault.FileFault.TheVariants as file
 use Rattle.pocsag_centre.specs.FrontFiles.{ExplainsNoFront, FrontBytes, IsFrontOf, IsFrontWritten}
-use Rattle.pocsag_centre.specs.Works.{OrFailed, answered}
+use Rattle.pocsag_centre.specs.Works.{OrFailed, of_whole}
 use Rattle.pocsag_centre.specs.declared.fault.CentreFault.{CentreFault}
 use Rattle.pocsag_centre.specs.declared.fault.CentreFault.TheVariants as fault
 use Rattle.pocsag_centre.specs.declared.front.FrontAsked.{FrontAsked}
@@ -17,7 +18,7 @@ use Rattle.pocsag_centre.specs.declared.front.FrontFiles.{FrontFiles}
 -- Why no front is planned: the reader failed, behind a limit that is one, or this is so of the bytes.
 abbrev pub ExplainsUnplanned : {P : Type 0} → Reader P → FrontAsked → (pages pages_after : P) → CentreFault → Type 0
 ExplainsUnplanned Pages asked pages pages_after =
-    OrFailed (IsNodeLimit asked.search.limit × HasFailed (Pages.failures pages) (Pages.failures pages_after)) ⊥ ⊥
+    OrFailed (IsNodeLimit asked.search.limit × FailedCut Pages pages pages_after) ⊥ ⊥
     (λ f. Pages.is_known → ExplainsNoFront (Pages.held pages) asked f)
 
 -- A writer took more: all that is due, or a prefix of it.
@@ -83,6 +84,6 @@ pub record IsFrontDone {P S : Type 0} (Pages : Reader P) (Out : Writer S) (asked
 
 -- Writes the front of a page file into its files, and prints its counts.
 abbrev pub fronts : {P S : Type 0} → Reader P → Writer S → FrontAsked → (files files_after : FrontFiles P S) → Work CentreFault
-fronts Pages Out asked files files_after = answered
+fronts Pages Out asked files files_after = of_whole Pages files.pages
     (λ status text. (status ≡ 0) × (Pages.is_known → Out.is_known → IsFrontDone Pages Out asked files files_after text))
     (ExplainsFrontFiles Pages Out asked files files_after)

@@ -9,7 +9,7 @@ use Rattle.pocsag_shell.specs.Runs.{Work}
 use Rattle.pocsag_centre.specs.FrontFiles.{IsFrontRead, beyond_of, why_text}
 use Rattle.pocsag_centre.specs.FrontWorks.{ExplainsUnplanned}
 use Rattle.pocsag_centre.specs.Lines.{below_text, left_text}
-use Rattle.pocsag_centre.specs.Works.{answered}
+use Rattle.pocsag_centre.specs.Works.{of_whole}
 use Rattle.pocsag_centre.specs.declared.fault.CentreFault.{CentreFault}
 use Rattle.pocsag_centre.specs.declared.fault.CentreFault.TheVariants as fault
 use Rattle.pocsag_centre.specs.declared.slot.SlotAsked.{SlotAsked}
@@ -38,6 +38,6 @@ ExplainsNoSlot Pages asked pages pages_after f =
 
 -- `report` with a front that is asked for: prints what a plan of it takes on the air.
 abbrev pub reports_slot : {P : Type 0} → Reader P → SlotAsked → (pages pages_after : P) → Work CentreFault
-reports_slot Pages asked pages pages_after = answered
+reports_slot Pages asked pages pages_after = of_whole Pages pages
     (λ status text. (status ≡ 0) × (Pages.is_known → IsSlotReported asked (Pages.held pages) text))
     (ExplainsNoSlot Pages asked pages pages_after)

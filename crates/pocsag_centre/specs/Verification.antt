@@ -24,10 +24,10 @@ use Rattle.pocsag_plan.specs.declared.search.OnLimit.{OnLimit}
 use Rattle.pocsag_plan.specs.declared.search.OnLimit.TheVariants.{Fewest, Always}
 use Rattle.pocsag_plan.specs.declared.search.Search.{Search}
 use Rattle.pocsag_plan.specs.Verdicts.{Checked, ExplainsRound}
-use Rattle.pocsag_shell.specs.Readers.{IsSoOfHeld, WasNotRead}
+use Rattle.pocsag_shell.specs.Readers.{FailedCut, IsSoOfHeld, WasNotRead}
 use Rattle.pocsag_shell.specs.Runs.{Work}
 use Rattle.pocsag_shell.specs.declared.fault.FileFault.{FileFault}
-use Rattle.pocsag_centre.specs.Works.{answered}
+use Rattle.pocsag_centre.specs.Works.{of_whole}
 use Rattle.pocsag_centre.specs.declared.fault.CentreFault.{CentreFault}
 use Rattle.pocsag_centre.specs.declared.fault.CentreFault.TheVariants as fault
 use Rattle.pocsag_centre.specs.declared.plan.PlanFiles.{PlanFiles}
@@ -109,7 +109,7 @@ ExplainsUntaken Tx end round tx tx_after f =
 -- Why a reader gives no round, and no certificate: it failed, or this is so of its bytes. Memory for a certificate is wanted only
 -- where a byte more is.
 abbrev pub WasNoRound : {P : Type 0} → Reader P → (pages pages_after : P) → RoundFault → Type 0
-WasNoRound Pages pages pages_after round_fault.ReadFault = HasFailed (Pages.failures pages) (Pages.failures pages_after)
+WasNoRound Pages pages pages_after round_fault.ReadFault = FailedCut Pages pages pages_after
 WasNoRound Pages pages pages_after f = Pages.is_known → ExplainsRound (Pages.held pages) f
 
 abbrev pub WasNoCertificate : {C : Type 0} → Reader C → (cert cert_after : C) → CertificateFault → Type 0
@@ -139,7 +139,7 @@ pub data ExplainsVerifying {P T C : Type 0} (Pages : Reader P) (Tx : Reader T) (
 
 -- `--verify`: reads a transmission and a certificate back, and prints that they are verified.
 abbrev pub verifies : {P T C : Type 0} → Reader P → Reader T → Reader C → Search → (files files_after : PlanFiles P T C) → Work CentreFault
-verifies Pages Tx Cert search files files_after = answered
+verifies Pages Tx Cert search files files_after = of_whole Pages files.pages
     (λ status text. (status ≡ 0) × (text ≡ codes "verified" ++ (10 ∷ []))
     × (Pages.is_known → Tx.is_known → Cert.is_known →
     Verified (Pages.held files.pages) search (Tx.held files.tx) (Cert.held files.cert)))

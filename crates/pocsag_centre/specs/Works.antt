@@ -8,6 +8,7 @@ use Rattle.pocsag_pages.specs.declared.fault.RoundFault.TheVariants as round
 use Rattle.pocsag_tree.specs.declared.refusals.CertificateFault.TheVariants as certificate
 use Rattle.pocsag_plan.specs.Streams.{WritesCertificatePart, WritesPart}
 use Rattle.pocsag_plan.specs.declared.search.Search.{Search}
+use Rattle.pocsag_shell.specs.Readers.{FailedCut, IsUncut}
 use Rattle.pocsag_shell.specs.Runs.{Work}
 use Rattle.pocsag_shell.specs.declared.fault.FileFault.TheVariants as file_fault
 use Rattle.pocsag_centre.specs.Commands.{PlannedAndPrinted, PrintedPlan}
@@ -28,6 +29,14 @@ OrFailed pages_failed tx_failed cert_failed Explains (fault.Certificate certific
 OrFailed pages_failed tx_failed cert_failed Explains (fault.File file_fault.Write) = ⊥
 OrFailed pages_failed tx_failed cert_failed Explains f = Explains f
 
+-- A fault that may be told of a page file that is cut: one that comes before it is read, or that it cannot be read or is too large.
+-- Each other one is told of a page file that is whole.
+abbrev pub MayBeToldOfCut : {P : Type 0} → Reader P → (pages : P) → CentreFault → Type 0
+MayBeToldOfCut Pages pages fault.BadLimit = Unit {0}
+MayBeToldOfCut Pages pages (fault.Round round.ReadFault) = Unit {0}
+MayBeToldOfCut Pages pages (fault.Round round.TooLarge) = Unit {0}
+MayBeToldOfCut Pages pages f = IsUncut Pages pages
+
 -- A command that prints a text or tells a fault. What it prints and explains says itself where contracts know its inputs.
 abbrev pub answered : (prints : (status : ℕ) → (text : List ℕ) → Type 0) → (explains : CentreFault → Type 0) → Work CentreFault
 answered prints explains = record {
@@ -39,12 +48,19 @@ answered prints explains = record {
   ends = centre_status;
 }
 
+-- One that reads a page file: it prints only where this is whole.
+abbrev pub of_whole : {P : Type 0} → Reader P → (pages : P) → (prints : (status : ℕ) → (text : List ℕ) → Type 0)
+    → (explains : CentreFault → Type 0) → Work CentreFault
+of_whole Pages pages prints explains = answered
+    (λ status text. IsUncut Pages pages × prints status text)
+    (λ f. MayBeToldOfCut Pages pages f × explains f)
+
 -- One that ends with exit status 0 where it tells no fault, on a page file.
 abbrev pub of_pages : {P : Type 0} → Reader P → (pages pages_after : P) → (Prints : (file text : List ℕ) → Type 0)
     → (Explains : (file : List ℕ) → CentreFault → Type 0) → Work CentreFault
-of_pages Pages pages pages_after Prints Explains = answered
+of_pages Pages pages pages_after Prints Explains = of_whole Pages pages
     (λ status text. (status ≡ 0) × (Pages.is_known → Prints (Pages.held pages) text))
-    (OrFailed (HasFailed (Pages.failures pages) (Pages.failures pages_after)) ⊥ ⊥ (λ f. Pages.is_known → Explains (Pages.held pages) f))
+    (OrFailed (FailedCut Pages pages pages_after) ⊥ ⊥ (λ f. Pages.is_known → Explains (Pages.held pages) f))
 
 -- No words: prints the counts of a plan of a page file.
 abbrev pub counts_plan : {P : Type 0} → Reader P → (pages pages_after : P) → Work CentreFault
@@ -57,9 +73,9 @@ reports Pages asked pages pages_after = of_pages Pages pages pages_after (IsRepo
 -- `check` and `explain`: judges a certificate for a page file, and prints a text that tells the verdict.
 abbrev pub judges : {P C : Type 0} → Reader P → Reader C → (Tells : (is_shown : Bool) → End → (batches : ℕ) → (text : List ℕ) → Type 0)
     → (Explains : (file certificate : List ℕ) → CentreFault → Type 0) → (pages pages_after : P) → (cert cert_after : C) → Work CentreFault
-judges Pages Cert Tells Explains pages pages_after cert cert_after = answered
+judges Pages Cert Tells Explains pages pages_after cert cert_after = of_whole Pages pages
     (PrintsVerdict Pages Cert Tells pages cert)
-    (OrFailed (HasFailed (Pages.failures pages) (Pages.failures pages_after)) ⊥ (HasFailed (Cert.failures cert) (Cert.failures cert_after))
+    (OrFailed (FailedCut Pages pages pages_after) ⊥ (HasFailed (Cert.failures cert) (Cert.failures cert_after))
     (λ f. Pages.is_known → Cert.is_known → Explains (Pages.held pages) (Cert.held cert) f))
 
 -- Why `plan` prints nothing, and what it leaves then: a writer that failed took a part, the one of the transmission all before that
@@ -75,12 +91,12 @@ ExplainsPlanFiles Pages Tx Cert search files files_after (fault.File file_fault.
     (Cert.taken files.cert) (Cert.taken files_after.cert)))
 ExplainsPlanFiles Pages Tx Cert search files files_after f =
     (files_after.tx ≡ files.tx) × (files_after.cert ≡ files.cert)
-    × OrFailed (HasFailed (Pages.failures files.pages) (Pages.failures files_after.pages)) ⊥ ⊥
+    × OrFailed (FailedCut Pages files.pages files_after.pages) ⊥ ⊥
     (λ e. Pages.is_known → ExplainsUnwritten (Pages.held files.pages) search e) f
 
 -- `plan`: writes both outputs, and prints the counts of the plan.
 abbrev pub plans : {P T C : Type 0} → Reader P → Writer T → Writer C → Search → (files files_after : PlanFiles P T C) → Work CentreFault
-plans Pages Tx Cert search files files_after = answered
+plans Pages Tx Cert search files files_after = of_whole Pages files.pages
     (λ status text. (status ≡ 0) × (Pages.is_known → Tx.is_known → Cert.is_known →
     PlannedAndPrinted (Pages.held files.pages) search (Tx.taken files.tx) (Tx.taken files_after.tx)
     (Cert.taken files.cert) (Cert.taken files_after.cert) text))

@@ -8,6 +8,8 @@ ghost use Rattle.pocsag_plan.specs.Plans.{IsBounded};
 ghost use Rattle.pocsag_centre.specs.FrontFiles.{beyond_of, certificate_text, ExplainsFirst, front_text, HasCertificateText, IsOfHeld, IsFrontRead, IsPageFileOf, why_text};
 ghost use Rattle.pocsag_centre.specs.FrontWorks.{ExplainsOthers, ExplainsUnplanned, fronts, TookAll};
 ghost use Rattle.pocsag_centre.specs.Lines.{below_text, left_text, plan_text};
+ghost use Rattle.pocsag_centre.specs.Works.{MayBeToldOfCut};
+ghost use Rattle.pocsag_shell.specs.Readers.{IsUncut};
 ghost use Rattle.pocsag_shell.specs.Runs.{IsAnswerOf, Ran};
 ghost use Rattle.pocsag_shell.specs.declared.fault.FileFault.TheVariants as file_fault;
 
@@ -99,6 +101,8 @@ pub(crate) fn read_front<P: Source>(
     ensures texts { IfOk result (λ front. HasCertificateText front.why) }
     ensures limited { OnOk result
         (ExplainsUnplanned P.Source asked pages.old pages.new (CentreFault.File file_fault.OutOfMemory)) }
+    ensures whole { OnOk result (IsUncut P.Source pages.old) }
+    ensures cut { IfErr result (MayBeToldOfCut P.Source pages.old) }
     ensures explained { IfErr result (ExplainsUnplanned P.Source asked pages.old pages.new) }
 {
     page_files_are_read_back();
@@ -126,6 +130,8 @@ fn queue_front<P: Source>(
     ensures texts { IfOk result (λ front. HasCertificateText front.why) }
     ensures limited { OnOk result
         (ExplainsUnplanned P.Source asked pages.old pages.new (CentreFault.File file_fault.OutOfMemory)) }
+    ensures whole { OnOk result (IsUncut P.Source pages.old) }
+    ensures cut { IfErr result (MayBeToldOfCut P.Source pages.old) }
     ensures explained { IfErr result (ExplainsUnplanned P.Source asked pages.old pages.new) }
 {
     page_files_are_read_back();

@@ -1,23 +1,25 @@
-ghost use Rattle.std.specs.Prelude.{◌≡◌, ◌++◌, IfErr, IfOk, IsErrOf, OnOk, Ok};
-ghost use Rattle.pocsag_words.specs.Devices.{CountsFailures, Delivers, HasFailed};
+ghost use Rattle.std.specs.Prelude.{◌≡◌, ◌⊎◌, ◌++◌, false, IfErr, IfOk, IsErrOf, OnOk, Ok};
+ghost use Rattle.pocsag_words.specs.Devices.{CountsFailures, Delivers, HasFailed, IsOfCut};
 ghost use Rattle.pocsag_pages.specs.PageFile.{verdict};
 ghost use Rattle.pocsag_pages.specs.declared.fault.RoundFault.TheVariants as round_fault;
 ghost use Rattle.pocsag_tree.specs.Views.{bound_tree_of};
 ghost use Rattle.pocsag_branch.specs.Found.{IsNodeLimit};
-ghost use Rattle.pocsag_plan.specs.Plans.{IsPlanFor};
+ghost use Rattle.pocsag_plan.specs.Plans.{ExplainsPlan, IsPlanFor};
 ghost use Rattle.pocsag_plan.specs.Streams.{ExplainsStream, fault_in, IsCertificate, IsOfRound, IsTransmission, WritesBounded, WritesCertificatePart, WritesInTurn, WritesPart};
+ghost use Rattle.pocsag_plan.specs.declared.fault.PlanFault.TheVariants as planning;
 ghost use Rattle.pocsag_plan.specs.declared.fault.StreamFault.TheVariants as stream_fault;
+ghost use Rattle.pocsag_shell.specs.Readers.{FailedCut, IsUncut};
 ghost use Rattle.pocsag_shell.specs.Runs.{IsAnswerOf, IsStreamOf, Ran};
 ghost use Rattle.pocsag_centre.specs.Lines.{below_text, plan_text};
 ghost use Rattle.pocsag_centre.specs.Refusals.{ExplainsNoPlan};
-ghost use Rattle.pocsag_centre.specs.Works.{OrFailed, counts_plan, plans};
+ghost use Rattle.pocsag_centre.specs.Works.{MayBeToldOfCut, OrFailed, counts_plan, plans};
 
 use crate::fault::CentreFault;
 use crate::lines::{print_below, print_plan};
 use pocsag_pages::{Round, read_round};
 use pocsag_plan::{
-    Bounded, DEFAULT_LIMIT, OnLimit, Search, StreamFault, bounded_plan, plan_stream,
-    plan_stream_always,
+    Bounded, DEFAULT_LIMIT, OnLimit, PlanFault, Search, StreamFault, bounded_plan, plan,
+    plan_stream, plan_stream_always,
 };
 use pocsag_shell::{CommandAnswer, ErrorStream, FileFault, print_answer};
 use pocsag_words::{End, GrowingSink, Sink, Source};
@@ -57,12 +59,33 @@ pub(crate) fn read_plan<P: Source>(
     ensures read { P.is_known → IfOk result (λ found. verdict (P.held pages.old) ≡ Ok found.round) }
     ensures plan { IfOk result (λ found. IsPlanFor search found.round found.bounded) }
     ensures limited { OnOk result (IsNodeLimit search.limit) }
-    ensures explained { IfErr result (OrFailed (HasFailed (P.failures pages.old) (P.failures pages.new)) ⊥ ⊥
+    ensures whole { OnOk result (IsUncut P.Source pages.old) }
+    ensures cut { IfErr result (MayBeToldOfCut P.Source pages.old) }
+    ensures explained { IfErr result (OrFailed (FailedCut P.Source pages.old pages.new) ⊥ ⊥
         (λ f. P.is_known → ExplainsNoPlan (P.held pages.old) search f)) }
 {
     let round = read_round(alloc, pages)?;
-    let bounded = bounded_plan(alloc, &round, search)?;
+    let bounded = plan_asked(alloc, &round, search)?;
     Ok(RoundPlan { round, bounded })
+}
+
+// The plan that is asked for: of the fewest batches, or one that no round is refused.
+fn plan_asked(alloc: Global, round: &Round, search: Search) -> Result<Bounded, PlanFault>
+    ensures plan { IfOk result (IsPlanFor search round.now) }
+    ensures limited { OnOk result (IsNodeLimit search.limit) }
+    ensures fault { IfErr result (ExplainsPlan search.on_limit search.end round.now search.limit) }
+{
+    match search.on_limit {
+        OnLimit::Fewest => {
+            let plan = plan(alloc, round, search.limit, search.end)?;
+            Ok(Bounded {
+                bound: plan.batches,
+                plan,
+                stopped: None,
+            })
+        }
+        OnLimit::Always => bounded_plan(alloc, round, search),
+    }
 }
 
 /// With no words: plans a page file with the default limit and the open end, and reports its pages and batches. Returns the exit
@@ -153,6 +176,10 @@ fn stream_asked<P: Source, T: Sink, C: Sink>(
         (T.taken tx.old) (T.taken tx.new) (C.taken cert.old) (C.taken cert.new)) }
     ensures read_failed { IsErrOf result (stream_fault.Round round_fault.ReadFault) →
         HasFailed (P.failures pages.old) (P.failures pages.new) }
+    ensures uncut { P.is_known → OnOk result (P.is_cut pages.old ≡ false) }
+    ensures cut { P.is_known → IfErr result (λ e. (e ≡ stream_fault.Plan planning.BadLimit)
+        ⊎ IsOfCut (stream_fault.Round round_fault.ReadFault) (stream_fault.Round round_fault.TooLarge)
+        (P.is_cut pages.old) e) }
 {
     let Search {
         limit,

@@ -11,10 +11,12 @@ returns-then-verdict g c =
     let told = rw c.if-verdict.true at c.in-Ok-explanation.ensures.told in
     record {
       answers = (
-        λ _.
-            rw c.into_bytes-text.ensures.value (shown_told g.P.Source g.C.Source _ _ c.in_ok-round.round certificate.end certificate.batches (bound_tree_of certificate.tree)
-            (λ k. c.in_ok-round.ensures.ok k) (λ u. c.in-Ok.ensures.found u) (GivesVerdict c.args.format) _ _ _ refl refl told
-            (judged.ensures.accepted.0 c.if-verdict.true) (judged.ensures.bound c.if-verdict.true)),
+        λ _. (
+          λ k. c.in_ok-round.ensures.uncut k,
+          rw c.into_bytes-text.ensures.value (shown_told g.P.Source g.C.Source _ _ c.in_ok-round.round certificate.end certificate.batches (bound_tree_of certificate.tree)
+              (λ k. c.in_ok-round.ensures.ok k) (λ u. c.in-Ok.ensures.found u) (GivesVerdict c.args.format) _ _ _ refl refl told
+              (judged.ensures.accepted.0 c.if-verdict.true) (judged.ensures.bound c.if-verdict.true)),
+        ),
         tt,
       );
     }
@@ -26,10 +28,12 @@ returns g c =
     let told = rw c.if-verdict.false at c.in-Ok-explanation.ensures.told in
     record {
       answers = (
-        λ _.
-            rw c.into_bytes-text.ensures.value (not_shown_told g.P.Source g.C.Source _ _ c.in_ok-round.round certificate.end certificate.batches (bound_tree_of certificate.tree)
-            (λ k. c.in_ok-round.ensures.ok k) (λ u. c.in-Ok.ensures.found u) (GivesVerdict c.args.format) _ _ _ refl refl told
-            (λ accepted. let yes = judged.ensures.accepted.1 accepted in cc)),
+        λ _. (
+          λ k. c.in_ok-round.ensures.uncut k,
+          rw c.into_bytes-text.ensures.value (not_shown_told g.P.Source g.C.Source _ _ c.in_ok-round.round certificate.end certificate.batches (bound_tree_of certificate.tree)
+              (λ k. c.in_ok-round.ensures.ok k) (λ u. c.in-Ok.ensures.found u) (GivesVerdict c.args.format) _ _ _ refl refl told
+              (λ accepted. let yes = judged.ensures.accepted.1 accepted in cc)),
+        ),
         tt,
       );
     }

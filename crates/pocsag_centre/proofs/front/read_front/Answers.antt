@@ -6,6 +6,8 @@ use Rattle.pocsag_pages.specs.Queues.{left_of}
 use Rattle.pocsag_plan.specs.Fronts.{ExplainsFront}
 use Rattle.pocsag_centre.specs.FrontFiles.{IsPageFileOf}
 use Rattle.pocsag_decode.specs.PageFiles.{page_file}
+use Rattle.pocsag_centre.specs.Faults.{fault_of_front}
+use Rattle.pocsag_centre.proofs.CutFiles.{told_of_round, told_of_whole}
 use Rattle.pocsag_centre.proofs.FirstPart.{first_is, front_read, left_held, rest_listable}
 use Rattle.pocsag_centre.proofs.FrontRuns.{front_unwritten}
 use Rattle.pocsag_centre.proofs.QueueRounds.{round_firsts, round_held, round_left}
@@ -44,3 +46,14 @@ returns-in_err-longest_front-clause-explained g c =
     (front_unwritten g.P.Source c.args.asked _ _ R (λ t. round_held c.args.asked.may_wait _ R c.if-asked.false (c.in_ok-round.ensures.ok t)) refused
     (subst (λ (v : List Page). ExplainsFront c.args.asked.search v c.args.asked.batches refused)
     (sym (round_firsts R c.keeps_rules.ensures.good)) c.in_err-longest_front.ensures.fault))
+
+pub returns-in_err-round-clause-cut : goal.returns-in_err-round-clause-cut
+returns-in_err-round-clause-cut g c =
+    let p = err_from_is_err_and c.from_residual-in_err-round.result c.from_residual-in_err-round.ensures.1 in
+    let e = c.in_err-round.field-0.0 in
+    rw (p.1, p.2) (told_of_round g.P.Source _ e (λ k. c.in_err-round.ensures.cut k))
+
+pub returns-in_err-longest_front-clause-cut : goal.returns-in_err-longest_front-clause-cut
+returns-in_err-longest_front-clause-cut g c =
+    let p = err_from_is_err_and c.from_residual-in_err-longest_front.result c.from_residual-in_err-longest_front.ensures.1 in
+    rw (p.1, p.2) (told_of_whole g.P.Source _ (fault_of_front c.in_err-longest_front.field-0.0) (λ k. c.in_ok-round.ensures.uncut k))

@@ -1,6 +1,7 @@
 use Rattle.std.proofs.Common.{◌++◌, Err, ap, inl, inr, refl}
 use Rattle.std.proofs.lemmas.Result.{err_from_is_err_and}
 use Rattle.pocsag_centre.specs.Lines.{below_text, plan_text}
+use Rattle.pocsag_centre.proofs.CutFiles.{stream_cut, told_of_stream}
 use Rattle.pocsag_centre.proofs.PlanFaults.{why_unplanned}
 use Rattle.pocsag_centre.proofs.Plans.{told_planned}
 use Rattle.pocsag_centre.proofs.plan.plan_and_print.Goals as goal
@@ -10,8 +11,12 @@ returns-in-Err g c = record {
   streams = (
     λ _. tt,
     inl (
-      rw c.from.ensures (why_unplanned g.P.Source g.T.Sink g.C.Sink c.args.search c.args.files.now _ c.in-Err.fault c.in-Err.ensures.explained
-          c.in-Err.ensures.writers c.in-Err.ensures.part c.in-Err.ensures.certificate_part (λ e. c.in-Err.ensures.read_failed (ap Err e))),
+      rw c.from.ensures (
+        told_of_stream g.P.Source c.args.files.now.pages c.in-Err.fault (λ k. c.in-Err.ensures.cut k),
+        why_unplanned g.P.Source g.T.Sink g.C.Sink c.args.search c.args.files.now _ c.in-Err.fault c.in-Err.ensures.explained
+            c.in-Err.ensures.writers c.in-Err.ensures.part c.in-Err.ensures.certificate_part
+            (stream_cut g.P.Source c.args.files.now.pages (λ e. c.in-Err.ensures.read_failed (ap Err e)) (λ k. c.in-Err.ensures.cut k)),
+      ),
       refl,
     ),
   );
@@ -32,7 +37,7 @@ returns-in_err-print_bounded g c =
           λ _. (
             0,
             text,
-            (refl, λ k t u. told_planned _ c.args.search _ _ _ _ bounded (c.in-Ok.ensures.plan k) (c.in-Ok.ensures.headline k t u) text refl),
+            (λ k. c.in-Ok.ensures.uncut k, (refl, λ k t u. told_planned _ c.args.search _ _ _ _ bounded (c.in-Ok.ensures.plan k) (c.in-Ok.ensures.headline k t u) text refl)),
             λ known. (done.delivers known).1,
           ),
         )),
@@ -47,7 +52,7 @@ returns g c =
       streams = (
         λ _. (
           text,
-          (refl, λ k t u. told_planned _ c.args.search _ _ _ _ bounded (c.in-Ok.ensures.plan k) (c.in-Ok.ensures.headline k t u) text refl),
+          (λ k. c.in-Ok.ensures.uncut k, (refl, λ k t u. told_planned _ c.args.search _ _ _ _ bounded (c.in-Ok.ensures.plan k) (c.in-Ok.ensures.headline k t u) text refl)),
           λ known. (c.in_ok-print_bounded.ensures.delivers known).0,
         ),
         tt,

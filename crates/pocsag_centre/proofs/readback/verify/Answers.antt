@@ -3,6 +3,7 @@ use Rattle.std.proofs.lemmas.Result.{err_from_is_err_and}
 use Rattle.std.specs.Prelude.{Err}
 use Rattle.pocsag_tree.specs.Views.{bound_tree_of}
 use Rattle.pocsag_centre.specs.Verification.ExplainsVerifying.{no_certificate, no_round, not_due, not_taken}
+use Rattle.pocsag_centre.proofs.CutFiles.{failed_cut, told_of_round, told_of_whole}
 use Rattle.pocsag_centre.proofs.Verified.{not_certificate, not_round, verified}
 use Rattle.pocsag_centre.proofs.readback.verify.Goals as goal
 
@@ -13,7 +14,14 @@ returns-in_err-round g c =
     record {
       streams = rw (p.1, p.2) (
         λ _. tt,
-        inl (no_round e refl (not_round g.P.Source _ _ e (λ k. c.in_err-round.ensures.err k) (λ same. c.in_err-round.ensures.failed (ap Err same))), refl),
+        inl (
+          (
+            told_of_round g.P.Source _ e (λ k. c.in_err-round.ensures.cut k),
+            no_round e refl (not_round g.P.Source _ _ e (λ k. c.in_err-round.ensures.err k)
+                (failed_cut g.P.Source _ (λ same. c.in_err-round.ensures.failed (ap Err same)) (λ k. c.in_err-round.ensures.cut k))),
+          ),
+          refl,
+        ),
       );
     }
 
@@ -23,7 +31,7 @@ returns-in_err-batches g c =
     record {
       streams = rw (p.1, p.2) (
         λ _. tt,
-        inl (not_taken (c.in_ok-round.round, λ k. c.in_ok-round.ensures.ok k, c.in_err-batches.ensures.explained), refl),
+        inl ((told_of_whole g.P.Source _ c.in_err-batches.field-0.0 (λ k. c.in_ok-round.ensures.uncut k), not_taken (c.in_ok-round.round, λ k. c.in_ok-round.ensures.ok k, c.in_err-batches.ensures.explained)), refl),
       );
     }
 
@@ -34,9 +42,12 @@ returns-in-Err g c =
       streams = (
         λ _. tt,
         inl (
-          no_certificate e refl
-              (not_certificate g.C.Source _ _ e (λ k. c.in-Err.ensures.fault k) (λ same. c.in-Err.ensures.failed (ap Err same)) (λ k same. c.in-Err.ensures.room k (ap Err same)))
-              (c.in_ok-round.round, λ k. c.in_ok-round.ensures.ok k, (c.in_ok-batches.batches, c.in_ok-batches.ensures.taken)),
+          (
+            λ k. c.in_ok-round.ensures.uncut k,
+            no_certificate e refl
+                (not_certificate g.C.Source _ _ e (λ k. c.in-Err.ensures.fault k) (λ same. c.in-Err.ensures.failed (ap Err same)) (λ k same. c.in-Err.ensures.room k (ap Err same)))
+                (c.in_ok-round.round, λ k. c.in_ok-round.ensures.ok k, (c.in_ok-batches.batches, c.in_ok-batches.ensures.taken)),
+          ),
           refl,
         ),
       );
@@ -49,21 +60,24 @@ returns-then-not-shows_due g c =
       streams = (
         λ _. tt,
         inl (
-          not_due refl (λ k u v.
-              let sent = c.in_ok-batches.ensures.taken in
-              record {
-                round = c.in_ok-round.round;
-                read = c.in_ok-round.ensures.ok k;
-                holds = record {
-                  batches = c.in_ok-batches.batches;
-                  transmission = rw (sent.held u) at sent.holds;
-                  end = certificate.end;
-                  bound = certificate.batches;
-                  tree = bound_tree_of certificate.tree;
-                  text = c.in-Ok.ensures.found v;
-                  undue = λ due. let yes = c.shows_due.ensures.due.1 due in cc;
-                };
-              }),
+          (
+            λ k. c.in_ok-round.ensures.uncut k,
+            not_due refl (λ k u v.
+                let sent = c.in_ok-batches.ensures.taken in
+                record {
+                  round = c.in_ok-round.round;
+                  read = c.in_ok-round.ensures.ok k;
+                  holds = record {
+                    batches = c.in_ok-batches.batches;
+                    transmission = rw (sent.held u) at sent.holds;
+                    end = certificate.end;
+                    bound = certificate.batches;
+                    tree = bound_tree_of certificate.tree;
+                    text = c.in-Ok.ensures.found v;
+                    undue = λ due. let yes = c.shows_due.ensures.due.1 due in cc;
+                  };
+                }),
+          ),
           refl,
         ),
       );
@@ -78,11 +92,14 @@ returns-in-Ok-put_whole g c =
         λ _. (
           _,
           (
-            refl,
-            refl,
-            λ k u v. verified _ c.args.search _ _ c.in_ok-round.round c.in_ok-batches.batches certificate.end certificate.batches (bound_tree_of certificate.tree)
-                (c.in_ok-round.ensures.ok k) (rw (sent.held u) at sent.holds) (c.in-Ok.ensures.found v)
-                (c.shows_due.ensures.due.0 c.if-not-shows_due.false) (c.shows_due.ensures.bound c.if-not-shows_due.false),
+            λ k. c.in_ok-round.ensures.uncut k,
+            (
+              refl,
+              refl,
+              λ k u v. verified _ c.args.search _ _ c.in_ok-round.round c.in_ok-batches.batches certificate.end certificate.batches (bound_tree_of certificate.tree)
+                  (c.in_ok-round.ensures.ok k) (rw (sent.held u) at sent.holds) (c.in-Ok.ensures.found v)
+                  (c.shows_due.ensures.due.0 c.if-not-shows_due.false) (c.shows_due.ensures.bound c.if-not-shows_due.false),
+            ),
           ),
           λ known. (c.in-Ok-put_whole.ensures.delivers known).0,
         ),
@@ -105,11 +122,14 @@ returns g c =
             0,
             _,
             (
-              refl,
-              refl,
-              λ k u v. verified _ c.args.search _ _ c.in_ok-round.round c.in_ok-batches.batches certificate.end certificate.batches (bound_tree_of certificate.tree)
-                  (c.in_ok-round.ensures.ok k) (rw (sent.held u) at sent.holds) (c.in-Ok.ensures.found v)
-                  (c.shows_due.ensures.due.0 c.if-not-shows_due.false) (c.shows_due.ensures.bound c.if-not-shows_due.false),
+              λ k. c.in_ok-round.ensures.uncut k,
+              (
+                refl,
+                refl,
+                λ k u v. verified _ c.args.search _ _ c.in_ok-round.round c.in_ok-batches.batches certificate.end certificate.batches (bound_tree_of certificate.tree)
+                    (c.in_ok-round.ensures.ok k) (rw (sent.held u) at sent.holds) (c.in-Ok.ensures.found v)
+                    (c.shows_due.ensures.due.0 c.if-not-shows_due.false) (c.shows_due.ensures.bound c.if-not-shows_due.false),
+              ),
             ),
             λ known. (done.delivers known).1,
           ),

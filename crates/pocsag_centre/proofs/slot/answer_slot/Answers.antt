@@ -5,7 +5,7 @@ pub returns-in-Err : goal.returns-in-Err
 returns-in-Err g c = record {
   answers = (
     λ _. tt,
-    inr (refl, c.in-Err.ensures.bad.0 refl, λ known. (c.in_ok-front.front, c.in_ok-front.ensures.front known)),
+    (c.in_ok-front.ensures.whole, inr (refl, c.in-Err.ensures.bad.0 refl, λ known. (c.in_ok-front.front, c.in_ok-front.ensures.front known))),
   );
 }
 
@@ -13,14 +13,17 @@ pub returns-in-Ok-print_slot : goal.returns-in-Ok-print_slot
 returns-in-Ok-print_slot g c = record {
   answers = (
     λ _. (
-      refl,
-      λ known. record {
-        front = c.in_ok-front.front;
-        read = c.in_ok-front.ensures.front known;
-        report = c.in-Ok.report;
-        report_of = c.in-Ok.ensures.report;
-        printed = c.into_bytes.ensures ∙ rw c.new-text.ensures.kept at c.in-Ok-print_slot.ensures.printed tt;
-      },
+      c.in_ok-front.ensures.whole,
+      (
+        refl,
+        λ known. record {
+          front = c.in_ok-front.front;
+          read = c.in_ok-front.ensures.front known;
+          report = c.in-Ok.report;
+          report_of = c.in-Ok.ensures.report;
+          printed = c.into_bytes.ensures ∙ rw c.new-text.ensures.kept at c.in-Ok-print_slot.ensures.printed tt;
+        },
+      ),
     ),
     tt,
   );
