@@ -3,6 +3,7 @@ pub mod Fronts
 pub mod KeptRounds
 pub mod Plans
 pub mod Printed
+pub mod ReadJournals
 pub mod SeenLines
 pub mod Sessions
 pub mod Survival

@@ -1,6 +1,8 @@
 -- A round that a journal keeps, from its start on (this project's own).
-use Rattle.std.specs.Prelude.{◌≡◌, ◌⊎◌, ℕ, ◌<◌, List, [], length, Option, Some, None, Ok, Err}
+use Rattle.std.specs.Prelude.{◌≡◌, ◌⊎◌, ℕ, ◌<◌, ◌==◌, if◌then◌else◌, List, [], ◌∷◌, ◌++◌, codes, length, Option, Some, None, Ok, Err}
+use Rattle.std.specs.Fmt.{decimal}
 use Rattle.pocsag_words.specs.Devices.{HasFailed}
+use Rattle.pocsag_words.specs.declared.device.Sink.{Ghosts as Writer}
 use Rattle.pocsag_pages.specs.PageFile.{verdict}
 use Rattle.pocsag_pages.specs.declared.fault.RoundFault.TheVariants as round
 use Rattle.pocsag_pages.specs.declared.page.Page.{Page}
@@ -15,6 +17,8 @@ use Rattle.pocsag_open.specs.Plans.{PlacementResult}
 use Rattle.pocsag_open.specs.Survival.{ReadsAfterLines, Survives}
 use Rattle.pocsag_open.specs.declared.fault.OpenFault.{OpenFault}
 use Rattle.pocsag_open.specs.declared.fault.OpenFault.TheVariants as fault
+use Rattle.pocsag_open.specs.declared.kept_streams.TornLine.{TornLine}
+use Rattle.pocsag_open.specs.declared.kept_streams.TornLine.TheVariants.{CutOff, PassedOver}
 
 -- *Beginning*: a kept round begins with the pages as which its journal is read; or with those of a page file, where one is given
 -- and the journal holds no edit.
@@ -43,6 +47,36 @@ pub data IsKeptRound (IsKnown OutputFails : Type 0) (on_limit : OnLimit) (input 
       (before : List Page) → IsBeginning bytes file before →
       Survives IsKnown OutputFails on_limit input before out_before out_after placed_before placed_after RestartsAs may_leave →
       IsKeptRound IsKnown OutputFails on_limit input bytes file out_before out_after placed_before placed_after could_leave may_leave
+
+-- The text for one of something, or that for none or more.
+abbrev pub for_count : (count : ℕ) → (one other : List ℕ) → List ℕ
+for_count count one other = if count == 1 then one else other
+
+-- What becomes of a torn line of so many bytes.
+unfoldable pub torn_end : TornLine → (bytes : ℕ) → List ℕ
+torn_end CutOff bytes = for_count bytes (codes " byte is cut off" ++ (10 ∷ [])) (codes " bytes is cut off" ++ (10 ∷ []))
+torn_end PassedOver bytes = for_count bytes (codes " byte is passed over" ++ (10 ∷ [])) (codes " bytes is passed over" ++ (10 ∷ []))
+
+-- The line on the bytes of a torn end, if there are any.
+unfoldable pub torn_text : TornLine → (torn : ℕ) → List ℕ
+torn_text line torn = if torn == 0 then [] else codes "pocsag: a torn line of " ++ (decimal torn ++ torn_end line torn)
+
+-- What is printed of a journal that was read: that line, and one on its edits and the pages with which the round begins.
+unfoldable pub read_text : TornLine → (torn edits pages : ℕ) → List ℕ
+read_text line torn edits pages =
+    torn_text line torn ++ (codes "pocsag: " ++ (decimal edits ++ (for_count edits (codes " edit read, ") (codes " edits read, ")
+    ++ (decimal pages ++ for_count pages (codes " page" ++ (10 ∷ [])) (codes " pages" ++ (10 ∷ []))))))
+
+-- This was printed of a journal of these bytes, whose torn line is cut off; or the writer failed.
+pub record HasPrintedRead {E : Type 0} (Err : Writer E) (bytes : List ℕ) (file : Option (List ℕ)) (before after : E) : Type 0 where
+  pub edits : ℕ
+  pub torn : ℕ
+  pub kept : List Page
+  pub read : Replays bytes edits torn kept
+  pub pages : List Page
+  pub begins : IsBeginning bytes file pages
+  pub printed : (Err.is_known → Err.taken after ≡ Err.taken before ++ read_text CutOff torn edits (length pages))
+      ⊎ HasFailed (Err.failures before) (Err.failures after)
 
 -- The bytes are read as one edit at least.
 abbrev pub HoldsEdits : List ℕ → Type 0

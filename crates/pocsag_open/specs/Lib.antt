@@ -2,6 +2,7 @@ pub mod Ahead
 pub mod Answers
 pub mod Ends
 pub mod Faults
+pub mod FirstFiles
 pub mod KeptAnswers
 pub mod KeptRounds
 pub mod Lines

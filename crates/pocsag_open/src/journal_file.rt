@@ -1,4 +1,4 @@
-ghost use Rattle.std.specs.Prelude.{◌≡◌, ◌≤◌, [], length, IfOk};
+ghost use Rattle.std.specs.Prelude.{◌≡◌, ◌≤◌, [], false, length, IfOk};
 
 use crate::fault::OpenFault;
 use crate::round_files::{OpenArgs, load_pages};
@@ -254,6 +254,8 @@ impl Source for FirstPages<'_, '_> {
     ghost is_known = { ⊥ };
 
     ghost held = { λ _. [] };
+
+    ghost is_cut = { λ _. false };
 
     ghost calls = { λ pages. pages.calls };
 

@@ -1,7 +1,7 @@
 use crate::answer::KeptRound;
 use crate::fault::OpenFault;
 use crate::journal_file::{FirstPages, JournalFile, JournalPlace, remove_made};
-use crate::kept_streams::{KeptStreams, open_kept, print_read};
+use crate::kept_streams::{KeptStreams, TornLine, open_kept, print_read};
 use crate::round_files::{OpenArgs, RoundFiles};
 use pocsag_journal::{Journal, Replayed, list_journal};
 use pocsag_pages::RoundFault;
@@ -85,7 +85,13 @@ fn list_on(place: JournalPlace<'_, '_>) -> Result<u8, OpenFault> {
         &mut source,
         &mut context.out(),
     )?;
-    print_read(&mut context.err(), torn, "passed over", edits, book.len());
+    let _ = print_read(
+        &mut context.err(),
+        TornLine::PassedOver,
+        torn,
+        edits,
+        book.len(),
+    );
     Ok(0)
 }
 

@@ -1,12 +1,12 @@
 //! A round that a journal keeps, from its start on.
-ghost use Rattle.std.specs.Prelude.{◌≡◌, ◌≤◌, ◌⊎◌, ℕ, List, length, IfErr, IfOk, None, OnOk, option_map};
-ghost use Rattle.pocsag_words.specs.Devices.{HasFailed};
+ghost use Rattle.std.specs.Prelude.{◌≡◌, ◌≤◌, ◌⊎◌, ◌++◌, ℕ, List, length, IfErr, IfOk, None, OnErr, OnOk, option_map};
+ghost use Rattle.pocsag_words.specs.Devices.{CountsFailures, HasFailed};
 ghost use Rattle.pocsag_pages.specs.declared.page.Page.{Page};
 ghost use Rattle.pocsag_journal.specs.Journals.{Replays, journal_limit};
 ghost use Rattle.pocsag_journal.specs.Moments.{LeavesOnly};
 ghost use Rattle.pocsag_journal.specs.Views.{disk_of};
 ghost use Rattle.pocsag_open.specs.Ends.{AreCountless, ExplainsEnd, HasGivenUp};
-ghost use Rattle.pocsag_open.specs.KeptRounds.{ExplainsKept, HasFileFailed, IsBeginning, IsKeptRound, ReadsKept};
+ghost use Rattle.pocsag_open.specs.KeptRounds.{ExplainsKept, HasFileFailed, HasPrintedRead, IsBeginning, IsKeptRound, ReadsKept, for_count, read_text, torn_end, torn_text};
 ghost use Rattle.pocsag_open.specs.Plans.{HasFailedOutput};
 ghost use Rattle.pocsag_open.specs.Replies.{IsSession, PrintsAndPlaces};
 
@@ -16,7 +16,7 @@ use crate::outputs::OutputStore;
 use crate::session::{PlanSettings, book_of, run_open_kept};
 use pocsag_journal::{Disk, Journal, Replayed};
 use pocsag_plan::Book;
-use pocsag_shell::print;
+use pocsag_shell::{FileFault, print_numbers};
 use pocsag_words::{Sink, Source};
 use std::alloc::Global;
 
@@ -85,6 +85,13 @@ pub fn open_kept<
         (HasGivenUp journal_limit (D.held (disk_of round.new.keeper))
         (D.failures (disk_of round.old.keeper)) (D.failures (disk_of round.new.keeper))))) }
 
+    // What was read of the journal is printed to standard error before the first line is read, or nothing is.
+    ensures told { D.is_known → F.is_known → OnOk result (HasPrintedRead E.Sink (D.held (disk_of round.old.keeper))
+        (option_map F.held streams.old.pages) streams.old.err streams.new.err) }
+    ensures untold { D.is_known → F.is_known → OnErr result ((streams.new.err ≡ streams.old.err)
+        ⊎ HasPrintedRead E.Sink (D.held (disk_of round.old.keeper))
+        (option_map F.held streams.old.pages) streams.old.err streams.new.err) }
+
     // No output that a plan made is left over, whatever is answered.
     ensures none_left { P.is_known → P.made_for settings.old.store ≡ None → P.made_for settings.new.store ≡ None }
 {
@@ -92,7 +99,13 @@ pub fn open_kept<
     let (edits, torn) = (replayed.edits, replayed.torn);
     round.book = first_book(alloc, replayed, &mut streams.pages)?;
     round.keeper.compact(alloc, &round.book)?;
-    print_read(&mut streams.err, torn, "cut off", edits, round.book.len());
+    let _ = print_read(
+        &mut streams.err,
+        TornLine::CutOff,
+        torn,
+        edits,
+        round.book.len(),
+    );
     match run_open_kept(alloc, settings, round, &mut streams.input, &mut streams.out) {
         Ok(()) => Ok(()),
         Err(fault) => Err(OpenFault::File(fault)),
@@ -120,29 +133,69 @@ fn first_book<F: Source>(
     }
 }
 
-/// Prints what was read of a journal, and what became of a torn line. That it cannot be reported changes nothing.
-pub(crate) fn print_read<E: Sink>(
-    err: &mut E,
-    torn: usize,
-    fate: &str,
-    edits: usize,
-    pages: usize,
-) {
-    if torn > 0 {
-        let ending = ending(torn);
-        let _ = print(
-            err,
-            format_args!("pocsag: a torn line of {torn} byte{ending} is {fate}\n"),
-        );
-    }
-    let (of_edits, of_pages) = (ending(edits), ending(pages));
-    let _ = print(
-        err,
-        format_args!("pocsag: {edits} edit{of_edits} read, {pages} page{of_pages}\n"),
-    );
+/// What becomes of a torn line.
+#[derive(Clone, Copy)]
+pub(crate) enum TornLine {
+    CutOff,
+    PassedOver,
 }
 
-// The ending of so many: `1 page`, `2 pages`.
-fn ending(count: usize) -> &'static str {
-    if count == 1 { "" } else { "s" }
+impl TornLine {
+    // The end of what is printed of one of so many bytes.
+    #[tactic(auto, unfolding(crate::specs::KeptRounds::torn_end))]
+    fn end(self, bytes: usize) -> &'static str
+        ensures { result.now ≡ torn_end self bytes }
+    {
+        match self {
+            TornLine::CutOff => by_count(bytes, " byte is cut off\n", " bytes is cut off\n"),
+            TornLine::PassedOver => {
+                by_count(bytes, " byte is passed over\n", " bytes is passed over\n")
+            }
+        }
+    }
+}
+
+/// Prints what was read of a journal, and what becomes of a torn line. After a fault a prefix was taken.
+#[tactic(auto, unfolding(crate::specs::KeptRounds::read_text))]
+pub(crate) fn print_read<E: Sink>(
+    err: &mut E,
+    line: TornLine,
+    torn: usize,
+    edits: usize,
+    pages: usize,
+) -> Result<(), FileFault>
+    ensures printed { E.is_known → OnOk result (E.taken err.new ≡ E.taken err.old ++ read_text line torn edits pages) }
+    ensures failures { CountsFailures result (E.failures err.old) (E.failures err.new) }
+{
+    print_torn(err, line, torn)?;
+    let of_edits = by_count(edits, " edit read, ", " edits read, ");
+    let of_pages = by_count(pages, " page\n", " pages\n");
+    print_numbers(
+        err,
+        &[("pocsag: ", edits as u64), (of_edits, pages as u64)],
+        of_pages,
+    )
+}
+
+// Prints what becomes of a torn line, if there is one.
+#[tactic(auto, unfolding(crate::specs::KeptRounds::torn_text))]
+fn print_torn<E: Sink>(err: &mut E, line: TornLine, torn: usize) -> Result<(), FileFault>
+    ensures printed { E.is_known → OnOk result (E.taken err.new ≡ E.taken err.old ++ torn_text line torn) }
+    ensures failures { CountsFailures result (E.failures err.old) (E.failures err.new) }
+{
+    if torn == 0 {
+        return Ok(());
+    }
+    print_numbers(
+        err,
+        &[("pocsag: a torn line of ", torn as u64)],
+        line.end(torn),
+    )
+}
+
+// The text for one of something, or for none or more.
+fn by_count(count: usize, one: &'static str, other: &'static str) -> &'static str
+    ensures { result.now ≡ for_count count one.now other.now }
+{
+    if count == 1 { one } else { other }
 }

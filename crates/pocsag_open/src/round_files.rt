@@ -1,4 +1,7 @@
-ghost use Rattle.std.specs.Prelude.{◌≡◌, [], ◌∷◌, ◌++◌, None, IfErr, OnOk, Some};
+ghost use Rattle.std.specs.Prelude.{◌≡◌, ◌≤◌, [], ◌∷◌, ◌++◌, length, ℕ, None, Option, IfErr, IfSome, IsTrue, OnOk, Some};
+ghost use Rattle.pocsag_words.specs.Frame.{input_limit};
+ghost use Rattle.pocsag_pages.specs.Quotes.{IsWellQuoted, text_of_file};
+ghost use Rattle.pocsag_open.specs.FirstFiles.{ExplainsRefused, HoldsRoundOf};
 ghost use Rattle.pocsag_open.specs.Plans.{failed_plan, no_bytes, no_names, no_plans, placed_plan};
 
 use crate::fault::OpenFault;
@@ -62,15 +65,17 @@ fn refuse_pages(
     args: OpenArgs<'_>,
     path: &str,
     file: &[u8],
-) -> Result<(), OpenFault> {
+) -> Result<(), OpenFault>
+    ensures strict { length file.now ≤ input_limit → IsTrue args.entry.strict →
+        OnOk result (IsWellQuoted (text_of_file file.now)) }
+    ensures expected { length file.now ≤ input_limit →
+        IfSome args.entry.expect (λ count. OnOk result (HoldsRoundOf count file.now)) }
+    ensures explained { IfErr result (ExplainsRefused args.entry.strict args.entry.expect file.now) }
+{
     if file.len() > FILE_LIMIT {
         return Ok(());
     }
-    if args.strict {
-        if let Some(quote) = quote_fault(file) {
-            return Err(OpenFault::Quotes(quote));
-        }
-    }
+    refuse_quotes(args.strict, file)?;
     if args.expect.is_none() && !context.diagnostics.is_asked() {
         return Ok(());
     }
@@ -88,6 +93,20 @@ fn refuse_pages(
     match args.expect {
         Some(expected) if found != expected => Err(OpenFault::Unexpected(found, expected)),
         _ => Ok(()),
+    }
+}
+
+// Refuses a misplaced quote, where quotes are judged.
+fn refuse_quotes(strict: bool, file: &[u8]) -> Result<(), OpenFault>
+    ensures strict { IsTrue strict → OnOk result (IsWellQuoted (text_of_file file.now)) }
+    ensures explained { IfErr result (λ e. (expect : Option ℕ) → ExplainsRefused strict expect file.now e) }
+{
+    if !strict {
+        return Ok(());
+    }
+    match quote_fault(file) {
+        Some(quote) => Err(OpenFault::Quotes(quote)),
+        None => Ok(()),
     }
 }
 

@@ -1,12 +1,15 @@
-use Rattle.std.proofs.Common.{◌≡◌, ◌⊎◌, ◌∙◌, inl, inr, ℕ, refl, rules, subst}
+use Rattle.std.proofs.Common.{◌≡◌, ◌⊎◌, ◌∙◌, ◌++◌, inl, inr, ℕ, refl, rules, subst}
 use Rattle.std.specs.Prelude.{option_map}
 use Rattle.pocsag_words.specs.Devices.{HasFailed}
 use Rattle.pocsag_journal.specs.Journals.{journal_limit}
 use Rattle.pocsag_journal.specs.Views.{IsHeld, disk_of}
 use Rattle.pocsag_open.specs.Ends.{AreCountless, HasGivenUp}
-use Rattle.pocsag_open.specs.KeptRounds.{HasFileFailed, ReadsKept, begun, not_begun}
+use Rattle.pocsag_open.specs.KeptRounds.{HasFileFailed, HasPrintedRead, ReadsKept, begun, not_begun, read_text}
 use Rattle.pocsag_open.specs.Plans.{HasFailedOutput}
+use Rattle.pocsag_open.specs.declared.kept_streams.TornLine.TheVariants.{CutOff}
+use Rattle.pocsag_shell.specs.declared.fault.FileFault.{FileFault}
 use Rattle.pocsag_open.proofs.Ends.{wider}
+use Rattle.pocsag_open.proofs.ReadJournals.{printed_or_failed}
 use Rattle.pocsag_open.proofs.KeptRounds.{anew_explains, left_anew, left_read, of_disk, only_anew, only_kept}
 use Rattle.pocsag_journal.specs.Moments.{LeavesOnly}
 use Rattle.pocsag_open.proofs.kept_streams.open_kept.Goals.{After-run_open_kept, In_ok-compact}
@@ -99,3 +102,30 @@ returns-in-Err-clause-explained g c = λ d f i.
     (λ cause. subst (λ (n : ℕ). HasGivenUp journal_limit (g.D.Disk.held (disk_of c.run_open_kept.new.round.keeper)) n
     (g.D.Disk.failures (disk_of c.run_open_kept.new.round.keeper))) same cause)
     (c.in-Err.ensures.explained i d held)
+
+-- what was read of the journal was printed
+told : (g : _) (c : After-run_open_kept g) → g.D.Disk.is_known → g.F.Source.is_known →
+    HasPrintedRead g.E.Sink (g.D.Disk.held (disk_of c.args.round.now.keeper)) (option_map g.F.Source.held c.args.streams.now.pages)
+    c.args.streams.now.err c.print_read.new.err
+told g c d f =
+    let read = c.in_ok-replayed.ensures.read d in
+    let text = read_text CutOff c.in_ok-replayed.replayed.torn c.in_ok-replayed.replayed.edits c.len.result in
+    let said : (g.E.Sink.is_known → g.E.Sink.taken c.print_read.new.err ≡ g.E.Sink.taken c.args.streams.now.err ++ text)
+    ⊎ HasFailed (g.E.Sink.failures c.args.streams.now.err) (g.E.Sink.failures c.print_read.new.err) =
+    printed_or_failed {F = FileFault} g.E.Sink c.args.streams.now.err c.print_read.new.err text c.print_read.result
+    (λ known. c.print_read.ensures.printed known) c.print_read.ensures.failures in
+    record {
+      edits = c.in_ok-replayed.replayed.edits;
+      torn = c.in_ok-replayed.replayed.torn;
+      kept = c.in_ok-replayed.replayed.book;
+      read = read;
+      pages = c.in_ok-round.field-0;
+      begins = c.in_ok-round.ensures.begins f (g.D.Disk.held (disk_of c.args.round.now.keeper)) read (c.in_ok-replayed.ensures.few d);
+      printed = rw c.len.ensures at said;
+    }
+
+pub returns-in-Ok-clause-told : goal.returns-in-Ok-clause-told
+returns-in-Ok-clause-told g c = λ d f. told g (goal.at.returns-in-Ok-clause-told g c).After-run_open_kept d f
+
+pub returns-in-Err-clause-untold : goal.returns-in-Err-clause-untold
+returns-in-Err-clause-untold g c = λ d f. inr (told g (goal.at.returns-in-Err-clause-untold g c).After-run_open_kept d f)
