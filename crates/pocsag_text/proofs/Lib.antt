@@ -6,5 +6,6 @@ pub mod Mirrors
 pub mod Packs
 pub mod Payloads
 pub mod RoundTrips
+pub mod SevenItems
 pub mod Trims
 pub mod Unpacks

@@ -1,10 +1,11 @@
-ghost use Rattle.std.specs.Prelude.{◌≡◌, ℕ, ◌^◌, ◌<◌, ◌≤◌, ◌⊎◌, length, position, All, IfOk, IfErr, IsOk, OnOk};
-ghost use Rattle.pocsag_text.specs.Bits.{AreItems};
+ghost use Rattle.std.specs.Prelude.{◌≡◌, ℕ, ◌^◌, ◌<◌, ◌≤◌, ◌⊎◌, length, position, take, All, IfOk, IfErr, IsOk, OnOk};
+ghost use Rattle.std.specs.List.{flat_map};
+ghost use Rattle.pocsag_text.specs.Bits.{low_first, high_first, alpha_width, item_bits, AreItems};
 ghost use Rattle.pocsag_text.specs.Characters as numeric;
 ghost use Rattle.pocsag_text.specs.Text.{numeric_payload, alpha_payload, numeric_bits, alpha_bits, twenties, is_bad_byte, character_limit, item_limit, fault_of};
 
 use crate::CHARACTER_LIMIT;
-use crate::character::{ALPHA_WIDTH, NUMERIC_WIDTH, SPACE_CODE, code_of, code_or_space};
+use crate::character::{ALPHA_WIDTH, NUMERIC_WIDTH, SPACE_CODE, code_of, code_or_space, mirrored};
 use crate::fault::TextFault;
 use crate::packer::{ITEM_WIDTH, Packer};
 use pocsag_words::OutOfMemory;
@@ -16,6 +17,9 @@ const ITEM_BITS: usize = ITEM_WIDTH as usize;
 const ITEM_DIGITS: usize = (ITEM_WIDTH / NUMERIC_WIDTH) as usize;
 
 const ALPHA_BITS: usize = ALPHA_WIDTH as usize;
+
+// So many alphanumeric characters fill whole items, and no fewer do.
+const ALPHA_SCORE: usize = ITEM_WIDTH as usize;
 
 /// The payload of a numeric text: items of twenty bits, each below 1,048,576. The characters are
 /// the digits, `*`, `U`, the space, `-`, `]` and `[`.
@@ -89,7 +93,8 @@ fn numeric_items(alloc: Global, text: &[u8]) -> Result<Vec<u32>, OutOfMemory>
     ensures items { IfOk result (λ v. v.items ≡ twenties (numeric_bits text.now)) }
     ensures small { IfOk result (λ v. AreItems v.items) }
 {
-    let mut packer = Packer::with_room(alloc, text.len().div_ceil(ITEM_DIGITS))?;
+    let items = Vec::with_capacity(alloc, text.len().div_ceil(ITEM_DIGITS))?;
+    let mut packer = Packer::from_items(items);
     for byte in text {
         packer.push(NUMERIC_WIDTH, code_or_space(*byte))?;
     }
@@ -105,11 +110,54 @@ fn alpha_items(alloc: Global, text: &[u8]) -> Result<Vec<u32>, OutOfMemory>
     ensures items { IfOk result (λ v. v.items ≡ twenties (alpha_bits text.now)) }
     ensures small { IfOk result (λ v. AreItems v.items) }
 {
-    let mut packer = Packer::with_room(alloc, (ALPHA_BITS * text.len()).div_ceil(ITEM_BITS))?;
-    for byte in text {
+    let mut items = Vec::with_capacity(alloc, (ALPHA_BITS * text.len()).div_ceil(ITEM_BITS))?;
+    let mut rest = text;
+    while rest.len() >= ALPHA_SCORE {
+        items.extend_from_slice(&seven_items(rest))?;
+        rest = &rest[ALPHA_SCORE..];
+    }
+    let mut packer = Packer::from_items(items);
+    for byte in rest {
         packer.push(ALPHA_WIDTH, *byte)?;
     }
     let fill = (ITEM_BITS - ALPHA_BITS * text.len() % ITEM_BITS) % ITEM_BITS;
     packer.push_times(1, 0, fill)?;
     Ok(packer.into_items())
+}
+
+/// The items of the first twenty characters.
+fn seven_items(text: &[u8]) -> [u32; 7]
+    requires twenty { 20 ≤ length text.now }
+    requires small { All (λ byte. byte < 128) text.now }
+    ensures bits { item_bits result ≡ flat_map (low_first alpha_width) (take 20 text.now) }
+    ensures small { AreItems result }
+{
+    let a = bits_of_four(text);
+    let b = bits_of_four(&text[4..]);
+    let c = bits_of_four(&text[8..]);
+    let d = bits_of_four(&text[12..]);
+    let e = bits_of_four(&text[16..]);
+    [
+        a / 0x100,
+        a % 0x100 * 0x1000 + b / 0x1_0000,
+        b % 0x1_0000 * 0x10 + c / 0x100_0000,
+        c / 0x10 % 0x10_0000,
+        c % 0x10 * 0x1_0000 + d / 0x1000,
+        d % 0x1000 * 0x100 + e / 0x10_0000,
+        e % 0x10_0000,
+    ]
+}
+
+/// The 28 bits of the first four characters, the first bit highest.
+fn bits_of_four(text: &[u8]) -> u32
+    requires four { 4 ≤ length text.now }
+    requires small { All (λ byte. byte < 128) text.now }
+    ensures fits { result < 2 ^ 28 }
+    ensures bits { high_first 28 result ≡ flat_map (low_first alpha_width) (take 4 text.now) }
+{
+    let first = u32::from(mirrored(ALPHA_WIDTH, text[0]));
+    let second = u32::from(mirrored(ALPHA_WIDTH, text[1]));
+    let third = u32::from(mirrored(ALPHA_WIDTH, text[2]));
+    let fourth = u32::from(mirrored(ALPHA_WIDTH, text[3]));
+    ((first * 0x80 + second) * 0x80 + third) * 0x80 + fourth
 }

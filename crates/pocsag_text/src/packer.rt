@@ -1,11 +1,10 @@
 ghost use Rattle.std.specs.Prelude.{◌≡◌, ℕ, ◌+◌, ◌*◌, ◌%◌, ◌^◌, ◌<◌, ◌≤◌, [], ◌++◌, length, replicate, All, IfOk, OnOk};
 ghost use Rattle.std.specs.List.{flat_map};
-ghost use Rattle.pocsag_text.specs.Bits.{low_first, item_width, IsCodeOf, AreItems};
+ghost use Rattle.pocsag_text.specs.Bits.{low_first, item_width, item_bits, IsCodeOf, AreItems};
 ghost use Rattle.pocsag_text.specs.Text.{twenties};
 
 use crate::character::mirrored;
 use pocsag_words::OutOfMemory;
-use std::alloc::Global;
 use std::marker::Model;
 
 /// The bits of an item.
@@ -32,15 +31,16 @@ impl Model for Packer {
 }
 
 impl Packer {
-    /// No bits yet, with room for so many items.
-    pub fn with_room(alloc: Global, items: usize) -> Result<Packer, OutOfMemory>
-        ensures { IfOk result (λ p. p ≡ []) }
+    /// The bits of these items.
+    pub fn from_items(items: Vec<u32>) -> Packer
+        requires { AreItems items.items }
+        ensures { result ≡ item_bits items.items }
     {
-        Ok(Packer {
-            items: Vec::with_capacity(alloc, items)?,
+        Packer {
+            items,
             held: 0,
             count: 0,
-        })
+        }
     }
 
     /// Puts the lowest bits of a code behind the others, the lowest one first.

@@ -1,9 +1,10 @@
-ghost use Rattle.std.specs.Prelude.{◌≡◌, ℕ, ◌^◌, ◌<◌, ◌≤◌, List, length, map, take, All, IfOk, IsSome};
-ghost use Rattle.pocsag_text.specs.Bits.{item_bits, AreItems};
+ghost use Rattle.std.specs.Prelude.{◌≡◌, ℕ, ◌^◌, ◌<◌, ◌≤◌, List, ◌++◌, length, map, take, All, IfOk, OnOk, IsSome};
+ghost use Rattle.std.specs.List.{flat_map};
+ghost use Rattle.pocsag_text.specs.Bits.{low_first, high_first, alpha_width, item_bits, AreItems};
 ghost use Rattle.pocsag_text.specs.Characters as numeric;
 ghost use Rattle.pocsag_text.specs.Text.{numeric_payload, alpha_payload, numeric_text, alpha_text, codes_of, trim_end};
 
-use crate::character::{ALPHA_WIDTH, NUMERIC_WIDTH, character_of};
+use crate::character::{ALPHA_WIDTH, NUMERIC_WIDTH, character_of, mirrored};
 use crate::unpacker::Unpacker;
 use pocsag_words::OutOfMemory;
 use std::alloc::Global;
@@ -35,7 +36,7 @@ pub fn unpack_alpha(alloc: Global, items: &[u32]) -> Result<Vec<u8>, OutOfMemory
     ensures back { IfOk result (λ v. (t : List ℕ) → alpha_payload t ≡ Ok items.now → v.items ≡ t) }
     ensures allowed { IfOk result (λ v. All (λ c. c < 128) v.items) }
 {
-    let mut text = codes_of::<ALPHA_WIDTH>(alloc, items)?;
+    let mut text = alpha_codes(alloc, items)?;
     let len = trimmed_len(&text, 0);
     text.truncate(len);
     Ok(text)
@@ -49,11 +50,54 @@ fn codes_of<const W: u32>(alloc: Global, items: &[u32]) -> Result<Vec<u8>, OutOf
     ensures codes { IfOk result (λ v. v.items ≡ codes_of W items.now) }
     ensures small { IfOk result (λ v. All (λ code. code < 2 ^ W) v.items) }
 {
-    let mut unpacker = Unpacker::<W>::new(alloc);
+    let mut unpacker = Unpacker::<W>::from_codes(Vec::new(alloc));
     for item in items {
         unpacker = unpacker.with(*item)?;
     }
     Ok(unpacker.into_codes())
+}
+
+/// The codes of seven bits each that the items hold, without an incomplete last one: twenty of seven
+/// items at a time.
+fn alpha_codes(alloc: Global, items: &[u32]) -> Result<Vec<u8>, OutOfMemory>
+    requires { AreItems items.now }
+    ensures codes { IfOk result (λ v. v.items ≡ codes_of alpha_width items.now) }
+    ensures small { IfOk result (λ v. All (λ code. code < 128) v.items) }
+{
+    let count = items.len() / 7 * 20 + items.len() % 7 * 20 / 7;
+    let mut codes = Vec::with_capacity(alloc, count)?;
+    let mut rest = items;
+    while rest.len() >= 7 {
+        push_four(&mut codes, rest[0] * 0x100 + rest[1] / 0x1000)?;
+        push_four(&mut codes, rest[1] % 0x1000 * 0x1_0000 + rest[2] / 0x10)?;
+        let middle = rest[2] % 0x10 * 0x100_0000 + rest[3] * 0x10 + rest[4] / 0x1_0000;
+        push_four(&mut codes, middle)?;
+        push_four(&mut codes, rest[4] % 0x1_0000 * 0x1000 + rest[5] / 0x100)?;
+        push_four(&mut codes, rest[5] % 0x100 * 0x10_0000 + rest[6])?;
+        rest = &rest[7..];
+    }
+    let mut unpacker = Unpacker::<ALPHA_WIDTH>::from_codes(codes);
+    for item in rest {
+        unpacker = unpacker.with(*item)?;
+    }
+    Ok(unpacker.into_codes())
+}
+
+/// Puts the four codes of 28 bits, the first bit highest, behind the others.
+fn push_four(codes: &mut Vec<u8>, bits: u32) -> Result<(), OutOfMemory>
+    requires { bits < 2 ^ 28 }
+    ensures bits { OnOk result (flat_map (low_first alpha_width) codes.new.items
+        ≡ flat_map (low_first alpha_width) codes.old.items ++ high_first 28 bits) }
+    ensures small { OnOk result (All (λ code. code < 128) codes.old.items
+        → All (λ code. code < 128) codes.new.items) }
+{
+    codes.extend_from_slice(&[
+        mirrored(ALPHA_WIDTH, (bits / 0x20_0000) as u8),
+        mirrored(ALPHA_WIDTH, (bits / 0x4000 % 0x80) as u8),
+        mirrored(ALPHA_WIDTH, (bits / 0x80 % 0x80) as u8),
+        mirrored(ALPHA_WIDTH, (bits % 0x80) as u8),
+    ])?;
+    Ok(())
 }
 
 /// The numeric characters of the codes, in their room.

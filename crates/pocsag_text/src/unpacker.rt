@@ -1,10 +1,10 @@
 ghost use Rattle.std.specs.Prelude.{◌≡◌, ℕ, ◌/◌, ◌^◌, ◌<◌, ◌≤◌, [], ◌++◌, length, All, IfOk};
-ghost use Rattle.pocsag_text.specs.Bits.{high_first, low_number, cut, item_width};
+ghost use Rattle.std.specs.List.{flat_map};
+ghost use Rattle.pocsag_text.specs.Bits.{low_first, high_first, low_number, cut, item_width};
 
 use crate::character::mirrored;
 use crate::packer::ITEM_WIDTH;
 use pocsag_words::OutOfMemory;
-use std::alloc::Global;
 use std::marker::Model;
 
 /// Bits in the order in which they are sent, as codes of W bits each, the lowest first, and fewer
@@ -29,14 +29,15 @@ impl<const W: u32> Model for Unpacker<W> {
 }
 
 impl<const W: u32> Unpacker<W> {
-    /// No bits yet.
-    pub fn new(alloc: Global) -> Unpacker<W>
+    /// The bits of these codes.
+    pub fn from_codes(codes: Vec<u8>) -> Unpacker<W>
         requires wide { 0 < W }
         requires narrow { W ≤ 8 }
-        ensures { result ≡ [] }
+        requires small { All (λ code. code < 2 ^ W) codes.items }
+        ensures { result ≡ flat_map (low_first W) codes.items }
     {
         Unpacker {
-            codes: Vec::new(alloc),
+            codes,
             held: 0,
             count: 0,
         }
