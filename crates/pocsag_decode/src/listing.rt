@@ -239,6 +239,27 @@ pub(crate) fn write_many_records<S: Sink>(
     if writer.get_ref().len() < PIECE {
         return Ok(());
     }
+    write_all_but_last(alloc, writer, sink)
+}
+
+// Writes the records out, but for the last byte. It stands apart since the writers that it holds are large, and room for them is
+// cleared at each call.
+#[inline(never)]
+fn write_all_but_last<S: Sink>(
+    alloc: Global,
+    writer: &mut Writer<Vec<u8>>,
+    sink: &mut S,
+) -> Result<(), ListFault>
+    requires { IsReady writer.old }
+    ensures ready { OnOk result (IsReady writer.new) }
+    ensures told { S.is_known → OnOk result
+        (S.taken sink.new ++ text_in writer.new ≡ S.taken sink.old ++ text_in writer.old) }
+    ensures grown { S.is_known → OnOk result (length (S.taken sink.old) ≤ length (S.taken sink.new)) }
+    ensures kept { 0 < length (text_in writer.old) → OnOk result (0 < length (text_in writer.new)) }
+    ensures part { S.is_known → OnErr result (TookPrefix (S.taken sink.old) (S.taken sink.new) (text_in writer.old)) }
+    ensures untouched { result ≡ Err ListFault.OutOfMemory → sink.new ≡ sink.old }
+    ensures failures { NamesFailures result ListFault.WriteFault (S.failures sink.old) (S.failures sink.new) }
+{
     let full = mem::replace(writer, Writer::from_writer(Vec::new(alloc)));
     let Ok(mut records) = full.into_inner() else {
         return Err(ListFault::OutOfMemory);

@@ -1,7 +1,7 @@
 use Rattle.std.proofs.Common.{rules, ◌≡◌, ◌∷◌, [], ◌++◌, List, ℕ, ap, sym, ◌∙◌, append_assoc, arith}
 use Rattle.pocsag_decode.specs.Lines.{text_in}
 use Rattle.pocsag_decode.proofs.Prefixes.{after_fault, took_on}
-use Rattle.pocsag_decode.proofs.listing.write_many_records.Goals as goal
+use Rattle.pocsag_decode.proofs.listing.write_all_but_last.Goals as goal
 
 pub returns-in_err-write_all-clause-part : goal.returns-in_err-write_all-clause-part
 returns-in_err-write_all-clause-part g c = λ is_known.
