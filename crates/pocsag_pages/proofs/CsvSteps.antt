@@ -27,12 +27,12 @@ abbrev pub StartsField : State × Action → Type 0
 StartsField p = p.1 ≡ act.EndField → p.0 ≡ st.StartField
 
 -- what holds of both sides of a choice
-either : (P : State × Action → Type 0) (b : Bool) (p q : State × Action) → P p → P q → P (if b then p else q)
+pub either : (P : State × Action → Type 0) (b : Bool) (p q : State × Action) → P p → P q → P (if b then p else q)
 either P true p q h k = h
 either P false p q h k = k
 
 -- what holds of each step of a field that no quote stands around
-bare_step : (P : State × Action → Type 0) (c : ℕ) → P (st.StartField, act.EndField)
+pub bare_step : (P : State × Action → Type 0) (c : ℕ) → P (st.StartField, act.EndField)
     → ((b : Bool) → P (if b then st.AfterCr else st.StartRecord, act.EndRecord)) → P (st.InField, act.Copy)
     → P (in_field default_config c)
 bare_step P c comma end copy =

@@ -4,8 +4,10 @@ pub mod FirstPages
 pub mod Fronts
 pub mod GoodPages
 pub mod GrownRounds
+pub mod HeaderFronts
 pub mod Judgements
 pub mod Lengths
+pub mod MarkedRounds
 pub mod PageLists
 pub mod QueueParts
 pub mod QueueRows

@@ -1,4 +1,6 @@
+pub mod AddressMarks
 pub mod Bytes
+pub mod HeaderFronts
 pub mod Listable
 pub mod PageFile
 pub mod PageList

@@ -6,6 +6,7 @@ ghost use Rattle.pocsag_pages.specs.PageFile.{fault_after, page_of, pages_of, ro
 ghost use Rattle.pocsag_pages.specs.Queues.{queue_of_rows, queue_verdict};
 
 use crate::fault::{FieldFault, RecordFault, RoundFault};
+use crate::header_front::may_have_header;
 use crate::record::{is_header_row, page_of_row};
 use crate::round::{PAGE_LIMIT, Round};
 use crate::round_builder::RoundBuilder;
@@ -83,6 +84,10 @@ pub(crate) fn rows_behind_header(alloc: Global, bytes: &[u8]) -> Result<RowReade
 {
     if bytes.len() > FILE_LIMIT {
         return Err(RoundFault::TooLarge);
+    }
+    let may_have = may_have_header(alloc, bytes)?;
+    if !may_have {
+        return Err(RoundFault::BadHeader);
     }
     let mut reader = RowReader::of(alloc, bytes);
     let mut row = ByteRecord::new(alloc);

@@ -2,10 +2,12 @@
 //! Pages, rounds of pages and page files; and, in `specs/`, what a transmission says: readings,
 //! legal transmissions and their bytes (Recommendation ITU-R M.584-2, Annex 1).
 
+mod address_marks;
 mod csv_row;
 mod fault;
 mod file;
 mod file_head;
+mod header_front;
 mod laws;
 mod list;
 mod page;

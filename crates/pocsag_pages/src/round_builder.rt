@@ -2,31 +2,35 @@ ghost use Rattle.std.specs.Prelude.{◌≡◌, ◌≤◌, [], ◌∷◌, ◌++�
 ghost use Rattle.pocsag_pages.specs.Pages.{page_limit, has_address, page_fault_of};
 ghost use Rattle.pocsag_pages.specs.PageList.{unless_empty};
 
+use crate::address_marks::AddressMarks;
 use crate::fault::RoundFault;
 use crate::page::Page;
 use crate::round::Round;
 use pocsag_words::OutOfMemory;
 use std::alloc::Global;
-use std::collections::BTreeSet;
 use std::marker::Model;
 
-// A round that grows: its pages so far, and the set of their addresses.
+// From so many pages on their addresses are marked: of fewer pages a look through them all is faster than to clear the marks.
+const MARKED_PAGES: usize = 128;
+
+// A round that grows: its pages so far, and the set of their addresses where they are many.
 #[derive(Drop)]
 pub(crate) struct RoundBuilder {
+    alloc: Global,
     pages: Vec<Page>,
-    seen: BTreeSet<u32>,
+    marks: Option<AddressMarks>,
 }
 
 impl Model for RoundBuilder {
     ghost use Rattle.std.specs.Prelude.{List};
     ghost use Rattle.pocsag_pages.specs.declared.page.Page.{Page};
-    ghost use Rattle.pocsag_pages.specs.RoundBuilders.{IsRoundBuilder};
+    ghost use Rattle.pocsag_pages.specs.RoundBuilders.{IsMarkedRound};
 
     ghost Value = { List Page };
 
     ghost view = { λ d. d.pages.items };
 
-    ghost invariant = { λ d. IsRoundBuilder d.pages.items d.seen };
+    ghost invariant = { λ d. IsMarkedRound d.pages.items d.marks };
 }
 
 impl RoundBuilder {
@@ -34,8 +38,9 @@ impl RoundBuilder {
         ensures { result ≡ [] }
     {
         RoundBuilder {
+            alloc,
             pages: Vec::new(alloc),
-            seen: BTreeSet::new(alloc),
+            marks: None,
         }
     }
 
@@ -43,7 +48,15 @@ impl RoundBuilder {
     pub(crate) fn has(&self, address: u32) -> bool
         ensures { result ≡ has_address self.now address }
     {
-        self.seen.contains(&address)
+        if let Some(marks) = &self.marks {
+            return marks.has_mark(address);
+        }
+        for page in &self.pages {
+            if page.address == address {
+                return true;
+            }
+        }
+        false
     }
 
     // The pages with one more, or nothing where one of them has its address.
@@ -53,16 +66,37 @@ impl RoundBuilder {
         ensures longer { IfOk result (λ found. IfSome found (λ d. d ≡ self ++ page ∷ [])) }
         ensures again { result ≡ Ok None → has_address self page.address ≡ true }
     {
-        let RoundBuilder {
-            mut pages,
-            mut seen,
-        } = self;
-        let added = seen.insert(page.address)?;
-        if !added {
+        let address = page.address;
+        if self.has(address) {
             return Ok(None);
         }
+        let RoundBuilder {
+            alloc,
+            mut pages,
+            marks,
+        } = self;
         pages.push(page)?;
-        Ok(Some(RoundBuilder { pages, seen }))
+        if let Some(mut marks) = marks {
+            marks.set_mark(address);
+            return Ok(Some(RoundBuilder {
+                alloc,
+                pages,
+                marks: Some(marks),
+            }));
+        }
+        if pages.len() < MARKED_PAGES {
+            return Ok(Some(RoundBuilder {
+                alloc,
+                pages,
+                marks: None,
+            }));
+        }
+        let marks = AddressMarks::marking_all(alloc, pages.as_slice())?;
+        Ok(Some(RoundBuilder {
+            alloc,
+            pages,
+            marks: Some(marks),
+        }))
     }
 
     // The round of the pages, of which there must be one at least.
@@ -70,7 +104,11 @@ impl RoundBuilder {
         requires { length self ≤ page_limit }
         ensures { result ≡ unless_empty self }
     {
-        let RoundBuilder { pages, seen: _ } = self;
+        let RoundBuilder {
+            alloc: _,
+            pages,
+            marks: _,
+        } = self;
         if pages.is_empty() {
             return Err(RoundFault::NoPages);
         }

@@ -3,6 +3,7 @@ use Rattle.pocsag_words.specs.Frame.{input_limit}
 use Rattle.pocsag_pages.specs.PageFile.{Row, rows_of, verdict, verdict_of_rows}
 use Rattle.pocsag_pages.specs.Queues.{queue_of_all_rows, queue_verdict}
 use Rattle.pocsag_pages.specs.WideRecords.{up_to_wide}
+use Rattle.pocsag_pages.proofs.HeaderFronts.{unheaded_queue, unheaded_round}
 use Rattle.pocsag_pages.proofs.Judgements.{after_header, bad_header, large_file, no_header, small_file}
 use Rattle.pocsag_pages.proofs.QueueRows.{after_queue_header, bad_queue_header, large_queue, no_queue_header, same_queue, small_queue}
 use Rattle.pocsag_pages.proofs.WideRecords.{same_verdict}
@@ -18,6 +19,15 @@ module _ (bytes : List ℕ) (rows read : List Row) (few : length bytes ≤ input
 
 pub returns-then-bytes-gt-FILE_LIMIT-clause-err : goal.returns-then-bytes-gt-FILE_LIMIT-clause-err
 returns-then-bytes-gt-FILE_LIMIT-clause-err c = inr (large_file c.args.bytes.now (omega arith), large_queue c.args.bytes.now (omega arith))
+
+pub returns-then-not-may_have-clause-err : goal.returns-then-not-may_have-clause-err
+returns-then-not-may_have-clause-err c =
+    let bytes = c.args.bytes.now in
+    let none = c.in_ok-may_have.ensures c.if-not-may_have.true in
+    inr (
+      small_file bytes (omega arith) ∙ unheaded_round (rows_of bytes) none,
+      small_queue bytes (omega arith) ∙ unheaded_queue (rows_of bytes) none,
+    )
 
 pub returns-then-not-found-clause-err : goal.returns-then-not-found-clause-err
 returns-then-not-found-clause-err c =
