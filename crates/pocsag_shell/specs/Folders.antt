@@ -1,7 +1,8 @@
 -- What stands at the names of folders, what a crash may leave of it, and how files are put at their places (this project's own).
-use Rattle.std.specs.Prelude.{◌≡◌, ◌≢◌, ◌⊎◌, ℕ, ◌≤◌, Bool, true, List, [], ◌∷◌, take, drop, Option, Some, None, Result, OnErr, OnOk, string_bytes}
+use Rattle.std.specs.Prelude.{◌≡◌, ◌≢◌, ◌⊎◌, ℕ, ◌≤◌, Bool, true, List, [], ◌∷◌, take, drop, Option, Some, None, Result, IfErr, OnErr, OnOk, string_bytes}
 use Rattle.std.specs.List.{AllByRecursion}
 use Rattle.pocsag_words.specs.Devices.{one_more}
+use Rattle.pocsag_shell.specs.declared.fault.FileFault.{FileFault}
 use Rattle.pocsag_shell.specs.declared.staged_file.StagedFile.{StagedFile}
 
 -- A file: its bytes, and whether all of them are on the disk.
@@ -139,6 +140,16 @@ pub record MayPutAll (files : List StagedFile) (bytes : List ℕ → Option (Lis
 -- Where the call returns, no call of the folder failed; where it does not, one did.
 abbrev pub CountsCalls : {X E : Type 0} → Result X E → (before after : ℕ) → Type 0
 CountsCalls result before after = OnOk result (after ≡ before) × OnErr result (after ≡ one_more before)
+
+-- The fault of the first call that failed stays.
+abbrev pub KeepsFault : (before after : Option FileFault) → Type 0
+KeepsFault before after = (first : FileFault) → before ≡ Some first → after ≡ Some first
+
+-- *Notes*: where the call returns, the fault of the first call that failed is what it was, also if there is none; where it does not,
+-- its own fault is the first one if there was none, and an earlier one stays.
+abbrev pub NotesFault : {X : Type 0} → Result X FileFault → (before after : Option FileFault) → Type 0
+NotesFault result before after =
+    OnOk result (after ≡ before) × IfErr result (λ fault. before ≡ None → after ≡ Some fault) × KeepsFault before after
 
 -- Two calls failed between these two counts, and no other.
 abbrev pub FailsTwice : (before after : ℕ) → Type 0

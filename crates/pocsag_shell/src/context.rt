@@ -1,4 +1,5 @@
-ghost use Rattle.std.specs.Prelude.{◌≡◌, ◌⊎◌, IfErr, IfOk, IsErrAnd, IsErrOf, Ok, OnErr};
+ghost use Rattle.std.specs.IoError.{error_kind};
+ghost use Rattle.std.specs.Prelude.{◌≡◌, ◌≢◌, IfErr, IfOk, IsErrOf, Ok, OnErr};
 
 use crate::devices::WriterSink;
 use crate::diagnostics::{Diagnostics, OVER_LIMIT, OWN_REFUSAL, RefusedCall};
@@ -24,7 +25,10 @@ impl<'a> Context<'a> {
     /// The result of opening or making a file, as a fault of the command if the system refused it.
     pub fn opened<T: Drop>(&self, role: Role, found: io::Result<T>) -> Result<T, FileFault>
         ensures kept { IfOk found (λ file. result ≡ Ok file) }
-        ensures fault { OnErr found (IsErrAnd result (λ e. (e ≡ FileFault.Device) ⊎ (e ≡ FileFault.OutOfMemory))) }
+        ensures memory { IfErr found (λ error. error_kind error ≡ ErrorKind.OutOfMemory →
+            IsErrOf result FileFault.OutOfMemory) }
+        ensures fault { IfErr found (λ error. error_kind error ≢ ErrorKind.OutOfMemory →
+            IsErrOf result FileFault.Device) }
     {
         found.map_err(|error| {
             if error.kind() == ErrorKind::OutOfMemory {

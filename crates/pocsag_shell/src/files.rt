@@ -35,12 +35,8 @@ pub struct Outputs<S: Sink + Drop> {
     pub cert: S,
 }
 
-// The files behind the standard streams.
-const INPUT_STREAM: &str = "/proc/self/fd/0";
-
-const OUTPUT_STREAM: &str = "/proc/self/fd/1";
-
-const ERROR_STREAM: &str = "/proc/self/fd/2";
+// The files behind standard input, standard output and standard error.
+const STREAMS: [&str; 3] = ["/proc/self/fd/0", "/proc/self/fd/1", "/proc/self/fd/2"];
 
 // What --verbose adds where a word names such a file, and where both streams are needed and are one.
 const BEHIND_STREAM: &str =
@@ -179,12 +175,13 @@ pub fn open_outputs(
     tx: &str,
     cert: &str,
 ) -> Result<Opened, FileFault> {
-    refuse_shared(context, pages, tx, cert)?;
+    let mut found = FoundFiles::new(pages, tx, cert);
+    found.refuse(context)?;
     let opened_tx = open_output(context, Role::Transmission, tx)?;
     // A new file may have a second spelling among the paths. It may also stand behind a standard stream that was closed.
-    refuse_shared(context, pages, tx, cert)?;
+    found.refuse(context)?;
     let opened_cert = open_output(context, Role::Certificate, cert)?;
-    refuse_shared(context, pages, tx, cert)?;
+    found.refuse(context)?;
     Ok(Opened {
         tx: opened_tx,
         cert: opened_cert,
@@ -213,33 +210,80 @@ pub fn refuse_shared(
     tx: &str,
     cert: &str,
 ) -> Result<(), FileFault> {
-    let rt = context.rt;
-    refuse_one_file(rt, pages, tx, cert)?;
-    let output = Named::behind(rt, OUTPUT_STREAM);
-    let errors = Named::behind(rt, ERROR_STREAM);
-    for path in [pages, path_of(tx), path_of(cert)] {
-        let named = named_at(rt, path);
-        if are_one(named, output) || are_one(named, errors) {
-            let path = path.unwrap_or(STANDARD);
-            context.note(format_args!("{path}: {BEHIND_STREAM}"));
-            return Err(FileFault::EqualPaths);
+    FoundFiles::new(pages, tx, cert).refuse(context)
+}
+
+// The files that the words of a plan name, and those behind the standard streams. The system is asked again only about what was
+// not there.
+#[derive(Drop)]
+struct FoundFiles<'a> {
+    // The paths of the page file, the transmission and the certificate.
+    paths: [Option<&'a str>; 3],
+    named: [Option<Named>; 3],
+    // Behind standard input, standard output and standard error.
+    streams: [Option<Option<Named>>; 3],
+}
+
+impl<'a> FoundFiles<'a> {
+    fn new(pages: Option<&'a str>, tx: &'a str, cert: &'a str) -> FoundFiles<'a> {
+        FoundFiles {
+            paths: [pages, path_of(tx), path_of(cert)],
+            named: [None; 3],
+            streams: [None; 3],
         }
     }
-    for word in [tx, cert] {
-        refuse_input(context, word)?;
+
+    // Asks the system about each that was not there.
+    fn look<R: Files>(&mut self, rt: &R) {
+        for place in 0..3 {
+            if self.named[place].is_none() {
+                self.named[place] = named_at(rt, self.paths[place]);
+            }
+            if self.streams[place].is_none() {
+                self.streams[place] = Named::behind(rt, STREAMS[place]);
+            }
+        }
     }
-    // If standard output takes a file, standard error takes the lines.
-    if (tx == STANDARD || cert == STANDARD) && are_one(output, errors) {
-        context.note(ONE_STREAM);
-        return Err(FileFault::EqualPaths);
+
+    // Refuses what `refuse_shared` does, as far as it is there now.
+    fn refuse(&mut self, context: Context<'_>) -> Result<(), FileFault> {
+        self.look(context.rt);
+        let [pages, tx, cert] = self.named;
+        if name_one_file(pages, tx, cert) {
+            return Err(FileFault::EqualPaths);
+        }
+        let [input, output, errors] = self.streams;
+        let (input, output, errors) = (input.flatten(), output.flatten(), errors.flatten());
+        for place in 0..3 {
+            let named = self.named[place];
+            if are_one(named, output) || are_one(named, errors) {
+                let path = self.paths[place].unwrap_or(STANDARD);
+                context.note(format_args!("{path}: {BEHIND_STREAM}"));
+                return Err(FileFault::EqualPaths);
+            }
+        }
+        for place in 1..3 {
+            if are_one(self.named[place], input) {
+                let path = self.paths[place].unwrap_or(STANDARD);
+                context.note(format_args!("{path}: {BEHIND_INPUT}"));
+                return Err(FileFault::EqualPaths);
+            }
+        }
+        // If standard output takes a file, standard error takes the lines.
+        let [_, tx, cert] = self.paths;
+        if (tx.is_none() || cert.is_none()) && are_one(output, errors) {
+            context.note(ONE_STREAM);
+            return Err(FileFault::EqualPaths);
+        }
+        Ok(())
     }
-    Ok(())
 }
 
 /// Refuses the word of an output that names the file behind standard input.
 pub fn refuse_input(context: Context<'_>, word: &str) -> Result<(), FileFault> {
     let rt = context.rt;
-    if are_one(named_at(rt, path_of(word)), Named::behind(rt, INPUT_STREAM)) {
+    let input = Named::behind(rt, STREAMS[0]).flatten();
+    if are_one(named_at(rt, path_of(word)), input) {
         context.note(format_args!("{word}: {BEHIND_INPUT}"));
         return Err(FileFault::EqualPaths);
     }

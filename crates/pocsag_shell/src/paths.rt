@@ -67,12 +67,14 @@ impl Named {
         Some(Named::of(&fs::metadata(rt, path).ok()?))
     }
 
-    /// The file behind a stream with this path. A character device such as a terminal does not count: it keeps no bytes.
-    pub fn behind<R: Files>(rt: &R, path: &str) -> Option<Named> {
-        match fs::metadata(rt, path) {
-            Ok(metadata) if !metadata.file_type().is_char_device() => Some(Named::of(&metadata)),
-            _ => None,
+    /// The file behind a stream with this path, if the stream is open. A character device such as a terminal does not count: it
+    /// keeps no bytes.
+    pub fn behind<R: Files>(rt: &R, path: &str) -> Option<Option<Named>> {
+        let metadata = fs::metadata(rt, path).ok()?;
+        if metadata.file_type().is_char_device() {
+            return Some(None);
         }
+        Some(Some(Named::of(&metadata)))
     }
 }
 

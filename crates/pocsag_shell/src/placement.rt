@@ -1,7 +1,7 @@
-ghost use Rattle.std.specs.Prelude.{◌≡◌, ◌⊎◌, ◌≤◌, ℕ, List, Option, None, IfErr, IfOk, IsFalse, IsTrue, OnErr, OnOk};
+ghost use Rattle.std.specs.Prelude.{◌≡◌, ◌⊎◌, ◌≤◌, ℕ, List, Option, None, Some, IfErr, IfOk, IsFalse, IsTrue, OnErr, OnOk};
 ghost use Rattle.std.specs.List.{AllByRecursion};
 ghost use Rattle.pocsag_words.specs.Devices.{HasFailed, one_more};
-ghost use Rattle.pocsag_shell.specs.Folders.{HaveOwnPaths, CountsCalls, FailsTwice, IsNoPathOf, IsBack, IsDistinct, IsGone, IsPut, IsStaged, IsSameButKept, IsSameButTwo, KeepsNone, IsOnDisk, MayMove, MayPut, MayPutAll, StandBeside, StepsBy, kept_at, place_of, on_disk, staged_at};
+ghost use Rattle.pocsag_shell.specs.Folders.{HaveOwnPaths, CountsCalls, FailsTwice, IsNoPathOf, IsBack, IsDistinct, IsGone, IsPut, IsStaged, IsSameButKept, IsSameButTwo, KeepsFault, KeepsNone, IsOnDisk, MayMove, MayPut, MayPutAll, StandBeside, StepsBy, kept_at, place_of, on_disk, staged_at};
 
 use crate::fault::FileFault;
 use crate::folder::Folder;
@@ -25,6 +25,7 @@ fn rename_back<F: Folder>(folder: &mut F, file: &StagedFile, stood: bool) -> Res
         StepsBy F.moment F.left_since F.may_leave folder.old folder.new
         (MayMove (kept_at file.now) (place_of file.now) (F.held folder.old (kept_at file.now))) }
     ensures failures { F.is_known → CountsCalls result (F.failures folder.old) (F.failures folder.new) }
+    ensures noted { F.is_known → KeepsFault (F.noted_fault folder.old) (F.noted_fault folder.new) }
 {
     let place = &file.place;
     if stood {
@@ -45,6 +46,7 @@ fn bring_back<F: Folder>(folder: &mut F, file: &StagedFile, stood: bool) -> bool
         (MayMove (kept_at file.now) (place_of file.now) (F.held folder.old (kept_at file.now))) }
     ensures succeeded { F.is_known → IsTrue result → F.failures folder.new ≡ F.failures folder.old }
     ensures failed { F.is_known → IsFalse result → F.failures folder.new ≡ one_more (F.failures folder.old) }
+    ensures noted { F.is_known → KeepsFault (F.noted_fault folder.old) (F.noted_fault folder.new) }
 {
     match rename_back(folder, file, stood) {
         Ok(()) => folder.sync_names(file.role, &file.place).is_ok(),
@@ -81,6 +83,9 @@ fn put_first<F: Folder>(folder: &mut F, file: &StagedFile) -> Result<bool, Faile
         F.failures folder.new ≡ one_more (F.failures folder.old)) }
     ensures twice { F.is_known → IfErr result (λ unput. IsFalse unput.is_back →
         F.failures folder.new ≡ one_more (one_more (F.failures folder.old))) }
+    ensures unnoted { F.is_known → OnOk result (F.noted_fault folder.new ≡ F.noted_fault folder.old) }
+    ensures cause { F.is_known → F.noted_fault folder.old ≡ None →
+        IfErr result (λ unput. F.noted_fault folder.new ≡ Some unput.fault) }
 {
     let (role, place) = (file.role, &file.place);
     let stood = match folder.link(role, place, &file.kept) {
@@ -127,6 +132,9 @@ fn put_rest<F: Folder>(folder: &mut F, files: &[StagedFile]) -> Result<(), Faile
         F.failures folder.new ≡ one_more (F.failures folder.old)) }
     ensures twice { F.is_known → IfErr result (λ unput. IsFalse unput.is_back →
         F.failures folder.new ≡ one_more (one_more (F.failures folder.old))) }
+    ensures unnoted { F.is_known → OnOk result (F.noted_fault folder.new ≡ F.noted_fault folder.old) }
+    ensures cause { F.is_known → F.noted_fault folder.old ≡ None →
+        IfErr result (λ unput. F.noted_fault folder.new ≡ Some unput.fault) }
 {
     let [file, others @ ..] = files else {
         return Ok(());
@@ -156,6 +164,7 @@ fn remove_kept<F: Folder>(folder: &mut F, files: &[StagedFile])
     ensures any_moment { F.is_known → StepsBy F.moment F.left_since F.may_leave folder.old folder.new
         (IsSameButKept files.now) }
     ensures failures { F.is_known → F.failures folder.old ≤ F.failures folder.new }
+    ensures noted { F.is_known → KeepsFault (F.noted_fault folder.old) (F.noted_fault folder.new) }
 {
     let [file, others @ ..] = files else {
         return;
@@ -184,6 +193,10 @@ pub fn put_files<F: Folder>(folder: &mut F, files: &[StagedFile]) -> Result<(), 
         OnErr result (AllByRecursion (IsBack (F.held folder.new) (F.may_leave folder.new) bytes) files.now
         ⊎ FailsTwice (F.failures folder.old) (F.failures folder.new)) }
     ensures failed { F.is_known → OnErr result (HasFailed (F.failures folder.old) (F.failures folder.new)) }
+
+    // Its fault is that of the first call that failed.
+    ensures cause { F.is_known → F.noted_fault folder.old ≡ None →
+        IfErr result (λ fault. F.noted_fault folder.new ≡ Some fault) }
 
     // Where all are put nothing stands beside the places, unless a call failed, which was to remove a second name.
     ensures gone { F.is_known → (bytes : List ℕ → Option (List ℕ)) → HaveOwnPaths files.now →

@@ -20,10 +20,12 @@ const OWNER_ALONE: u32 = 0o600;
 pub struct StagedFile {
     /// What the file is to the command.
     pub role: Role,
-    pub(crate) place: String,
-    pub(crate) path: String,
-    // Where an older file of the place is kept until all files of a plan are at their places.
-    pub(crate) kept: String,
+    /// Its place.
+    pub place: String,
+    /// Where it is made, beside the place.
+    pub path: String,
+    /// Where an older file of the place is kept until all files of a plan are at their places.
+    pub kept: String,
     /// The file, locked, so that no other run takes it for one that a killed run left.
     pub file: File,
     /// The file as the system knows it.

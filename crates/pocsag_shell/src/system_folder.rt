@@ -119,6 +119,8 @@ impl Folder for SystemFolder<'_> {
 
     ghost failures = { λ _. 0 };
 
+    ghost noted_fault = { λ _. None };
+
     ghost counts_now = { λ folder t left is_known le now. absurd is_known };
 
     ghost only_now = { λ folder left is_known since. absurd is_known };
