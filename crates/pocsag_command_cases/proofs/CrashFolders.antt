@@ -3,9 +3,11 @@ use Rattle.std.proofs.Common.{◌≡◌, ◌≢◌, ◌⊎◌, inl, inr, ⊎_eli
 use Rattle.std.proofs.lemmas.Bool.{false_from_ne_true}
 use Rattle.std.proofs.lemmas.List.{take-append-le, take_all}
 use Rattle.std.proofs.lemmas.Slice.Eq.{bytes_eq-Decides}
-use Rattle.pocsag_shell.specs.Folders.{IsSameButTwo, Left, MayGo, MayMove, StepsBy, Stored, on_disk}
+use Rattle.std.specs.List.{AllByRecursion}
+use Rattle.pocsag_shell.specs.Folders.{HaveOwnPaths, IsBack, IsGone, IsOnDisk, IsPut, IsSameBut, IsSameButTwo, IsStaged, Left, MayGo, MayMove, StepsBy, Stored, on_disk, place_of, staged_at}
+use Rattle.pocsag_shell.specs.declared.staged_file.StagedFile.{StagedFile}
 use Rattle.pocsag_command_cases.proofs.Disks.{either_way}
-use Rattle.pocsag_command_cases.specs.CrashFolders.{FolderLeaves, FolderLeftSince, IsChanged, LeavesChanges, changed, standing, stands_after}
+use Rattle.pocsag_command_cases.specs.CrashFolders.{AreGone, ArePlaced, ArePlacesSame, AreTwo, FolderLeaves, FolderLeftSince, IsChanged, LeavesChanges, changed, folder_held, standing, stands_after}
 use Rattle.pocsag_command_cases.specs.declared.crash_folder.Change.{Change}
 use Rattle.pocsag_command_cases.specs.declared.crash_folder.CrashFolder.{CrashFolder}
 
@@ -146,3 +148,48 @@ may_stay from to file left = record { others = λ other one two. refl; there = i
 
 pub may_go_nowhere : (path : List ℕ) (left : Left) → MayGo path left left
 may_go_nowhere path left = record { others = λ other differ. refl; there = inl refl }
+
+-- Two files whose paths differ are made beside their places, the first one first.
+module _ {files : List StagedFile} {one two : StagedFile} (are : AreTwo files one two) where
+  pub own : HaveOwnPaths (one ∷ two ∷ [])
+  own = subst HaveOwnPaths are.0 are.1
+
+  module _ (was first made : CrashFolder) {path_one path_two : List ℕ} (is_one : path_one ≡ staged_at one) (is_two : path_two ≡ staged_at two)
+      (one_made : IsSameBut path_one (standing was.changes.items) (standing first.changes.items))
+      (two_made : IsSameBut path_two (standing first.changes.items) (standing made.changes.items)) where
+    -- each is at no place
+    at_no_place : ArePlacesSame one two was made
+    at_no_place = (
+      two_made (place_of one) (λ e. own.1.0.place.staged (e ∙ is_two)) ∙ one_made (place_of one) (λ e. own.0.place_staged (e ∙ is_one)),
+      two_made (place_of two) (λ e. own.2.0.place_staged (e ∙ is_two)) ∙ one_made (place_of two) (λ e. own.1.0.staged.place (sym (e ∙ is_one))),
+    )
+
+    -- the older files are back
+    pub both_back : (now : CrashFolder) → AllByRecursion (IsBack (folder_held now) (FolderLeaves now) (standing made.changes.items)) files →
+        ArePlacesSame one two was now
+    both_back now all =
+        let back = subst (AllByRecursion (IsBack (folder_held now) (FolderLeaves now) (standing made.changes.items))) are.0 all in
+        (one_file _ _ back.0.stands ∙ at_no_place.0, one_file _ _ back.1.0.stands ∙ at_no_place.1)
+
+    -- both are put
+    pub both_placed : (now : CrashFolder) (one_bytes two_bytes : List ℕ) → standing first.changes.items path_one ≡ Some one_bytes →
+        standing made.changes.items path_two ≡ Some two_bytes →
+        AllByRecursion (IsPut (folder_held now) (FolderLeaves now) (standing made.changes.items)) files → ArePlaced now one one_bytes two two_bytes
+    both_placed now one_bytes two_bytes one_stands two_stands all =
+        let put = subst (AllByRecursion (IsPut (folder_held now) (FolderLeaves now) (standing made.changes.items))) are.0 all in (
+          subst (IsOnDisk (folder_held now) (FolderLeaves now) (place_of one)) (two_made (staged_at one) (λ e. own.1.0.staged.staged (e ∙ is_two))
+              ∙ subst (λ (path : List ℕ). standing first.changes.items path ≡ Some one_bytes) is_one one_stands) put.0.place,
+          subst (IsOnDisk (folder_held now) (FolderLeaves now) (place_of two))
+              (subst (λ (path : List ℕ). standing made.changes.items path ≡ Some two_bytes) is_two two_stands) put.1.0.place,
+        )
+
+  module _ (made : CrashFolder) (safe : (left : Left) → FolderLeaves made left → (path : List ℕ) → left path ≡ standing made.changes.items path) where
+    is_staged : (file : StagedFile) → IsStaged (folder_held made) (FolderLeaves made) (standing made.changes.items) file
+    is_staged file = record { place = record { stands = refl; left = λ left leaves. safe left leaves (place_of file) }; staged = refl }
+
+    pub both_staged : AllByRecursion (IsStaged (folder_held made) (FolderLeaves made) (standing made.changes.items)) files
+    both_staged = rw are.0 (is_staged one, (is_staged two, tt))
+
+  -- nothing is beside the places
+  pub both_gone : (now : CrashFolder) → AllByRecursion (IsGone (folder_held now)) files → AreGone one two now
+  both_gone now all = let gone = subst (AllByRecursion (IsGone (folder_held now))) are.0 all in (gone.0, gone.1.0)

@@ -1,7 +1,8 @@
 -- What stands in a folder over memory, and what a crash might have left of it at each moment.
 use Rattle.std.specs.Prelude.{◌≡◌, ℕ, ◌≤◌, List, [], ◌∷◌, ◌++◌, take, bytes_eq, Option, None, Some, option_map, if◌then◌else◌, string_bytes}
 use Rattle.std.proofs.Math.Nat.{le_trans}
-use Rattle.pocsag_shell.specs.Folders.{Left, Stored, on_disk}
+use Rattle.pocsag_shell.specs.Folders.{HaveOwnPaths, IsGone, IsOnDisk, Left, Stored, on_disk, place_of}
+use Rattle.pocsag_shell.specs.declared.staged_file.StagedFile.{StagedFile}
 use Rattle.pocsag_command_cases.specs.declared.crash_folder.Change.{Change}
 use Rattle.pocsag_command_cases.specs.declared.crash_folder.CrashFolder.{CrashFolder}
 
@@ -50,3 +51,25 @@ FolderLeaves folder left = LeavesChanges folder.changes.items folder.settled lef
 
 abbrev pub FolderLeftSince : CrashFolder → (t : ℕ) → Left → Type 0
 FolderLeftSince folder t left = LeavesChanges folder.changes.items t left
+
+-- A file stands at its place with these bytes, and no crash takes it away.
+abbrev pub IsPlaced : CrashFolder → StagedFile → (bytes : List ℕ) → Type 0
+IsPlaced folder file bytes = IsOnDisk (folder_held folder) (FolderLeaves folder) (place_of file) (Some bytes)
+
+-- These are the two files, and all their paths differ.
+abbrev pub AreTwo : List StagedFile → (one two : StagedFile) → Type 0
+AreTwo files one two = (files ≡ one ∷ two ∷ []) × HaveOwnPaths files
+
+-- Two files do.
+abbrev pub ArePlaced : CrashFolder → (one : StagedFile) → (first : List ℕ) → (two : StagedFile) → (second : List ℕ) → Type 0
+ArePlaced folder one first two second = IsPlaced folder one first × IsPlaced folder two second
+
+-- At the places of two files stands what stood there.
+abbrev pub ArePlacesSame : (one two : StagedFile) → (was now : CrashFolder) → Type 0
+ArePlacesSame one two was now =
+    (standing now.changes.items (place_of one) ≡ standing was.changes.items (place_of one))
+    × (standing now.changes.items (place_of two) ≡ standing was.changes.items (place_of two))
+
+-- Nothing stands beside the places of two files.
+abbrev pub AreGone : (one two : StagedFile) → CrashFolder → Type 0
+AreGone one two folder = IsGone (folder_held folder) one × IsGone (folder_held folder) two

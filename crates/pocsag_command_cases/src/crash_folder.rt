@@ -1,11 +1,11 @@
 //! A folder in memory that crashes, of which each clause of `Folder` is proved, and a second run that has names in it.
 
-ghost use Rattle.std.specs.Prelude.{◌≡◌, ℕ, List, [], IfOk, IsFalse, None, OnErr, OnOk, Some, option_map, string_bytes};
-ghost use Rattle.pocsag_words.specs.Devices.{one_more};
-ghost use Rattle.pocsag_shell.specs.Folders.{CountsCalls, Left};
-ghost use Rattle.pocsag_command_cases.specs.CrashFolders.{FolderLeaves, IsChanged, standing, standing_at, stands_after};
+ghost use Rattle.std.specs.Prelude.{◌≡◌, ◌⊎◌, ℕ, List, [], IfOk, IsErrOf, IsFalse, None, OnErr, OnOk, Some, option_map, string_bytes};
+ghost use Rattle.pocsag_words.specs.Devices.{HasFailed, one_more};
+ghost use Rattle.pocsag_shell.specs.Folders.{CountsCalls, FailsTwice, IsSameBut, Left, NotesFault};
+ghost use Rattle.pocsag_command_cases.specs.CrashFolders.{AreGone, ArePlaced, ArePlacesSame, AreTwo, FolderLeaves, IsChanged, standing, standing_at, stands_after};
 
-use pocsag_shell::{FileFault, Folder, Role};
+use pocsag_shell::{FileFault, Folder, Role, StagedFile, put_files};
 use pocsag_words::DeviceFault;
 use std::alloc::{AllocError, Global};
 
@@ -59,6 +59,8 @@ pub(crate) struct CrashFolder {
     pub(crate) serves: u64,
     pub(crate) refuses: u64,
     failures: u64,
+    // The fault of the first call that was refused.
+    pub(crate) noted_fault: Option<FileFault>,
     // The names of the second run, and its steps, the last one first.
     pub(crate) others: Vec<String>,
     pub(crate) steps: Vec<OtherStep>,
@@ -76,9 +78,22 @@ impl CrashFolder {
             serves: u64::MAX,
             refuses: 0,
             failures: 0,
+            noted_fault: None,
             others: Vec::new(alloc),
             steps: Vec::new(alloc),
         }
+    }
+
+    // A call ends with this fault. It is kept if it is the first one.
+    fn fails<T>(&mut self, fault: FileFault) -> Result<T, FileFault>
+        ensures fault { IsErrOf result fault }
+        ensures noted { NotesFault result self.old.noted_fault self.new.noted_fault }
+        ensures changes { self.new.changes.items ≡ self.old.changes.items }
+        ensures settled { self.new.settled ≡ self.old.settled }
+        ensures failures { self.new.failures ≡ self.old.failures }
+    {
+        self.noted_fault = self.noted_fault.or(Some(fault));
+        Err(fault)
     }
 
     // Begins a call on two paths: the second run takes its next step, and the call may be refused. It counts as failed until it
@@ -86,6 +101,7 @@ impl CrashFolder {
     fn begin(&mut self, from: &String, to: &String) -> Result<u64, FileFault>
         ensures before { IfOk result (λ before. before ≡ self.old.failures) }
         ensures failed { self.new.failures ≡ one_more self.old.failures }
+        ensures noted { NotesFault result self.old.noted_fault self.new.noted_fault }
         ensures changes { self.new.changes.items ≡ self.old.changes.items }
         ensures settled { self.new.settled ≡ self.old.settled }
     {
@@ -94,7 +110,9 @@ impl CrashFolder {
         match self.steps.pop() {
             Some(OtherStep::Take(name)) => {
                 if bytes_after(None, self.changes.as_slice(), name.as_str()).is_none() {
-                    self.others.push(name)?;
+                    let Ok(()) = self.others.push(name) else {
+                        return self.fails(FileFault::OutOfMemory);
+                    };
                 }
             }
             Some(OtherStep::Remove(name)) => {
@@ -106,14 +124,22 @@ impl CrashFolder {
             self.serves -= 1;
         } else if self.refuses > 0 {
             self.refuses -= 1;
-            return Err(FileFault::Write);
+            return self.fails(FileFault::Write);
         }
-        for name in &self.others {
-            if name.as_str() == from.as_str() || name.as_str() == to.as_str() {
-                return Err(FileFault::Write);
-            }
+        if self.is_taken(from) || self.is_taken(to) {
+            return self.fails(FileFault::Write);
         }
         Ok(before)
+    }
+
+    // Whether the second run has a name.
+    fn is_taken(&self, path: &String) -> bool {
+        for name in &self.others {
+            if name.as_str() == path.as_str() {
+                return true;
+            }
+        }
+        false
     }
 
     // A copy of what stands at a path, if one is given.
@@ -137,6 +163,7 @@ impl CrashFolder {
         ensures same { OnErr result (self.new.changes.items ≡ self.old.changes.items) }
         ensures settled { self.new.settled ≡ self.old.settled }
         ensures failures { self.new.failures ≡ self.old.failures }
+        ensures noted_fault { self.new.noted_fault ≡ self.old.noted_fault }
     {
         let gone = String::from_str(self.alloc, gone)?;
         let to = String::from_str(self.alloc, to)?;
@@ -154,15 +181,23 @@ impl CrashFolder {
         ensures same { OnErr result (self.new.changes.items ≡ self.old.changes.items) }
         ensures settled { self.new.settled ≡ self.old.settled }
         ensures failures { CountsCalls result self.old.failures self.new.failures }
+        ensures noted { NotesFault result self.old.noted_fault self.new.noted_fault }
     {
-        let before = self.begin(from.unwrap_or(to), to)?;
-        let file = self.copy_at(from)?;
+        let before = match self.begin(from.unwrap_or(to), to) {
+            Ok(before) => before,
+            Err(fault) => return Err(fault),
+        };
+        let Ok(file) = self.copy_at(from) else {
+            return self.fails(FileFault::OutOfMemory);
+        };
         let stood = file.is_some();
         // A name that is not there is not renamed.
         if !stood && gone.as_str() != to.as_str() {
-            return Err(FileFault::Write);
+            return self.fails(FileFault::Write);
         }
-        self.change(gone.as_str(), to.as_str(), file)?;
+        let Ok(()) = self.change(gone.as_str(), to.as_str(), file) else {
+            return self.fails(FileFault::OutOfMemory);
+        };
         self.failures = before;
         Ok(stood)
     }
@@ -172,6 +207,10 @@ impl CrashFolder {
         ensures safe { OnOk result ((left : Left) → FolderLeaves self.new left →
             (path : List ℕ) → left path ≡ standing self.new.changes.items path) }
         ensures stands { OnOk result (standing self.new.changes.items path.now ≡ Some bytes.now) }
+        ensures same { OnErr result (self.new.changes.items ≡ self.old.changes.items) }
+        ensures failures { self.new.failures ≡ self.old.failures }
+        ensures others { OnOk result (IsSameBut path.now
+            (standing self.old.changes.items) (standing self.new.changes.items)) }
     {
         let file = bytes.to_vec(self.alloc)?;
         self.change(path, path, Some(file))?;
@@ -195,6 +234,8 @@ impl Folder for CrashFolder {
 
     ghost failures = { λ folder. folder.failures };
 
+    ghost noted_fault = { λ folder. folder.noted_fault };
+
     ghost counts_now = { λ folder t left is_known le now. counts_then folder.changes.items t folder.settled left le now };
 
     ghost only_now = { λ folder left is_known since. since };
@@ -208,7 +249,7 @@ impl Folder for CrashFolder {
         // No file is renamed to its own name.
         if from.as_str() == to.as_str() {
             self.failures = self.failures.saturating_add(1);
-            return Err(FileFault::Write);
+            return self.fails(FileFault::Write);
         }
         match self.act(Some(from), from, to) {
             Ok(_) => Ok(()),
@@ -228,5 +269,36 @@ impl Folder for CrashFolder {
             Ok(_) => Ok(()),
             Err(_) => Err(DeviceFault),
         }
+    }
+}
+
+/// Makes two files beside their places, whose bytes are on the disk, and puts both there, the first one first. If it returns they
+/// stand there and no crash takes them away, and nothing is left beside the places, unless a call failed; if it does not, what stood
+/// at the places still does, unless a second call failed.
+pub(crate) fn put_both(
+    folder: &mut CrashFolder,
+    files: &[StagedFile],
+    first: &[u8],
+    second: &[u8],
+) -> Result<(), FileFault>
+    ensures put { OnOk result ((one two : StagedFile) → AreTwo files.now one two →
+        ArePlaced folder.new one first.now two second.now) }
+    ensures gone { OnOk result ((one two : StagedFile) → AreTwo files.now one two →
+        AreGone one two folder.new ⊎ HasFailed folder.old.failures folder.new.failures) }
+    ensures back { OnErr result ((one two : StagedFile) → AreTwo files.now one two →
+        ArePlacesSame one two folder.old folder.new ⊎ FailsTwice folder.old.failures folder.new.failures) }
+{
+    let [one, two] = files else {
+        return Err(FileFault::Write);
+    };
+    let Ok(()) = folder.add(one.path.as_str(), first) else {
+        return Err(FileFault::OutOfMemory);
+    };
+    let Ok(()) = folder.add(two.path.as_str(), second) else {
+        return Err(FileFault::OutOfMemory);
+    };
+    match put_files(folder, files) {
+        Ok(()) => Ok(()),
+        Err(fault) => Err(fault),
     }
 }

@@ -10,6 +10,7 @@ mod centre_tests;
 pub mod comparison;
 mod crash_disk;
 mod crash_folder;
+mod crash_store;
 #[cfg(test)]
 mod fault_texts;
 #[cfg(test)]
@@ -22,3 +23,5 @@ mod receiver_tests;
 mod shell_tests;
 #[cfg(test)]
 mod sound_tests;
+#[cfg(test)]
+mod store_tests;

@@ -10,8 +10,8 @@ pub returns-then-eq-clause-any_moment : goal.returns-then-eq-clause-any_moment
 returns-then-eq-clause-any_moment c = λ is_known.
     let from = string_bytes c.args.from.now in
     let to = string_bytes c.args.to.now in
-    steps_same c.args.self.now _ (MayMove from to (folder_held c.args.self.now from)) (may_stay from to (folder_held c.args.self.now from)) refl
-    (le_refl c.args.self.now.settled)
+    steps_same c.args.self.now c.fails.new.self (MayMove from to (folder_held c.args.self.now from))
+    (may_stay from to (folder_held c.args.self.now from)) c.fails.ensures.changes (omega (arith, c.fails.ensures.settled))
 
 pub returns-in-Err-clause-others : goal.returns-in-Err-clause-others
 returns-in-Err-clause-others c = λ is_known other one two. ap (λ (l : List Change). on_disk (standing l other)) c.in-Err.ensures.same
