@@ -5,7 +5,7 @@ use Rattle.std.proofs.Math.Seq.{take-add}
 use Rattle.std.proofs.lemmas.Nat.{field_of}
 use Rattle.std.proofs.lemmas.List.{append_assoc, append-nil, drop-drop, take-append-drop}
 use Rattle.std.proofs.lemmas.List.Concat.{flat_map-append}
-use Rattle.std.proofs.lemmas.List.Elements.{All-cons, All-get_or, All-nil}
+use Rattle.std.proofs.lemmas.List.Elements.{All-append, All-cons, All-get_or, All-nil}
 use Rattle.pocsag_text.specs.Bits.{low_first, high_first, item_bits}
 use Rattle.pocsag_text.proofs.BitLists.{high_first-join, high_first-split}
 
@@ -171,20 +171,33 @@ first_seven_items (a ∷ b ∷ c ∷ d ∷ e ∷ []) h = absurd (omega arith)
 first_seven_items (a ∷ b ∷ c ∷ d ∷ e ∷ f ∷ []) h = absurd (omega arith)
 first_seven_items (a ∷ b ∷ c ∷ d ∷ e ∷ f ∷ g ∷ items) h = refl
 
--- the groups of the first seven items, put behind other bits one by one
-pub seven_taken : (items bits : List ℕ) → 7 ≤ length items → All (λ item. item < 2 ^ 20) items →
-    ((((bits ++ high_first 28 (get_or items 0 0 * 256 + get_or items 1 0 / 4096))
-    ++ high_first 28 (get_or items 1 0 % 4096 * 65536 + get_or items 2 0 / 16))
-    ++ high_first 28 (get_or items 2 0 % 16 * 16777216 + get_or items 3 0 * 16 + get_or items 4 0 / 65536))
-    ++ high_first 28 (get_or items 4 0 % 65536 * 4096 + get_or items 5 0 / 256))
-    ++ high_first 28 (get_or items 5 0 % 256 * 1048576 + get_or items 6 0)
-    ≡ bits ++ item_bits (take 7 items)
-seven_taken items bits long small =
+-- the codes of the groups of the first seven items
+pub seven_taken : (items p q r s t : List ℕ) → 7 ≤ length items → All (λ item. item < 2 ^ 20) items →
+    flat_map (low_first 7) p ≡ high_first 28 (get_or items 0 0 * 256 + get_or items 1 0 / 4096) →
+    flat_map (low_first 7) q ≡ high_first 28 (get_or items 1 0 % 4096 * 65536 + get_or items 2 0 / 16) →
+    flat_map (low_first 7) r ≡ high_first 28 (get_or items 2 0 % 16 * 16777216 + get_or items 3 0 * 16 + get_or items 4 0 / 65536) →
+    flat_map (low_first 7) s ≡ high_first 28 (get_or items 4 0 % 65536 * 4096 + get_or items 5 0 / 256) →
+    flat_map (low_first 7) t ≡ high_first 28 (get_or items 5 0 % 256 * 1048576 + get_or items 6 0) →
+    flat_map (low_first 7) (p ++ (q ++ (r ++ (s ++ (t ++ []))))) ≡ item_bits (take 7 items)
+seven_taken items p q r s t long small ep eq er es et =
     let at = λ (k : ℕ) (h : k < 7). All-get_or (λ item. item < 2 ^ 20) items k 0 (omega arith) small in
     let five = five_groups_bits (get_or items 0 0) (get_or items 1 0) (get_or items 2 0) (get_or items 3 0) (get_or items 4 0)
     (get_or items 5 0) (get_or items 6 0) (at 0 (omega arith)) (at 1 (omega arith)) (at 2 (omega arith)) (at 3 (omega arith)) (at 4 (omega arith))
     (at 5 (omega arith)) (at 6 (omega arith)) in
-    simp append_assoc (ap (λ more. bits ++ more) (five ∙ ap item_bits (sym (first_seven_items items long))))
+    simp (flat_map-append, append-nil) (rw (ep, eq, er, es, et) (five ∙ ap item_bits (sym (first_seven_items items long))))
+
+pub four_small : (a b c d : ℕ) → a < 128 → b < 128 → c < 128 → d < 128 → All (λ code. code < 128) (a ∷ b ∷ c ∷ d ∷ [])
+four_small a b c d ha hb hc hd =
+    let P = λ (code : ℕ). code < 128 in
+    All-cons P a (b ∷ c ∷ d ∷ []) ha (All-cons P b (c ∷ d ∷ []) hb (All-cons P c (d ∷ []) hc (All-cons P d [] hd (All-nil P))))
+
+pub five_groups_small : (p q r s t : List ℕ) → All (λ code. code < 128) p → All (λ code. code < 128) q → All (λ code. code < 128) r →
+    All (λ code. code < 128) s → All (λ code. code < 128) t → All (λ code. code < 128) (p ++ (q ++ (r ++ (s ++ (t ++ [])))))
+five_groups_small p q r s t hp hq hr hs ht =
+    let P = λ (code : ℕ). code < 128 in
+    All-append P p (q ++ (r ++ (s ++ (t ++ [])))) hp
+    (All-append P q (r ++ (s ++ (t ++ []))) hq
+    (All-append P r (s ++ (t ++ [])) hr (All-append P s (t ++ []) hs (All-append P t [] ht (All-nil P)))))
 
 -- some from the front of what is left are put behind what was taken
 pub front_moved : (f : ℕ → List ℕ) (before after whole rest : List ℕ) (n : ℕ) → after ≡ before ++ flat_map f (take n rest) →

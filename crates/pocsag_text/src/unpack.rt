@@ -1,4 +1,4 @@
-ghost use Rattle.std.specs.Prelude.{◌≡◌, ℕ, ◌^◌, ◌<◌, ◌≤◌, List, ◌++◌, length, map, take, All, IfOk, OnOk, IsSome};
+ghost use Rattle.std.specs.Prelude.{◌≡◌, ℕ, ◌^◌, ◌<◌, ◌≤◌, List, ◌++◌, length, map, take, All, IfOk, IsSome};
 ghost use Rattle.std.specs.List.{flat_map};
 ghost use Rattle.pocsag_text.specs.Bits.{low_first, high_first, alpha_width, item_bits, AreItems};
 ghost use Rattle.pocsag_text.specs.Characters as numeric;
@@ -68,12 +68,14 @@ fn alpha_codes(alloc: Global, items: &[u32]) -> Result<Vec<u8>, OutOfMemory>
     let mut codes = Vec::with_capacity(alloc, count)?;
     let mut rest = items;
     while rest.len() >= 7 {
-        push_four(&mut codes, rest[0] * 0x100 + rest[1] / 0x1000)?;
-        push_four(&mut codes, rest[1] % 0x1000 * 0x1_0000 + rest[2] / 0x10)?;
-        let middle = rest[2] % 0x10 * 0x100_0000 + rest[3] * 0x10 + rest[4] / 0x1_0000;
-        push_four(&mut codes, middle)?;
-        push_four(&mut codes, rest[4] % 0x1_0000 * 0x1000 + rest[5] / 0x100)?;
-        push_four(&mut codes, rest[5] % 0x100 * 0x10_0000 + rest[6])?;
+        let groups = [
+            codes_of_group(rest[0] * 0x100 + rest[1] / 0x1000),
+            codes_of_group(rest[1] % 0x1000 * 0x1_0000 + rest[2] / 0x10),
+            codes_of_group(rest[2] % 0x10 * 0x100_0000 + rest[3] * 0x10 + rest[4] / 0x1_0000),
+            codes_of_group(rest[4] % 0x1_0000 * 0x1000 + rest[5] / 0x100),
+            codes_of_group(rest[5] % 0x100 * 0x10_0000 + rest[6]),
+        ];
+        codes.extend_from_slice(groups.as_flattened())?;
         rest = &rest[7..];
     }
     let mut unpacker = Unpacker::<ALPHA_WIDTH>::from_codes(codes);
@@ -83,21 +85,18 @@ fn alpha_codes(alloc: Global, items: &[u32]) -> Result<Vec<u8>, OutOfMemory>
     Ok(unpacker.into_codes())
 }
 
-/// Puts the four codes of 28 bits, the first bit highest, behind the others.
-fn push_four(codes: &mut Vec<u8>, bits: u32) -> Result<(), OutOfMemory>
+/// The four codes of 28 bits, of which the first bit is the highest.
+fn codes_of_group(bits: u32) -> [u8; 4]
     requires { bits < 2 ^ 28 }
-    ensures bits { OnOk result (flat_map (low_first alpha_width) codes.new.items
-        ≡ flat_map (low_first alpha_width) codes.old.items ++ high_first 28 bits) }
-    ensures small { OnOk result (All (λ code. code < 128) codes.old.items
-        → All (λ code. code < 128) codes.new.items) }
+    ensures bits { flat_map (low_first alpha_width) result ≡ high_first 28 bits }
+    ensures small { All (λ code. code < 128) result }
 {
-    codes.extend_from_slice(&[
+    [
         mirrored(ALPHA_WIDTH, (bits / 0x20_0000) as u8),
         mirrored(ALPHA_WIDTH, (bits / 0x4000 % 0x80) as u8),
         mirrored(ALPHA_WIDTH, (bits / 0x80 % 0x80) as u8),
         mirrored(ALPHA_WIDTH, (bits % 0x80) as u8),
-    ])?;
-    Ok(())
+    ]
 }
 
 /// The numeric characters of the codes, in their room.
