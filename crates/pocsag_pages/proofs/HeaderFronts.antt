@@ -3,7 +3,7 @@
 use Rattle.std.proofs.Common.{◌≡◌, ℕ, zero, suc, ◌+◌, ◌*◌, ◌<◌, ◌≤◌, ◌==◌, ◌||◌, ◌&&◌, Bool, true, false, List, [], ◌∷◌, ◌++◌, length, get_or, min, take, drop, refl, sym, ap, ◌∙◌, arith}
 use Rattle.std.specs.Prelude.{Option, Some, None, Err, if◌then◌else◌, codes}
 use Rattle.std.specs.Str.{bytes_eq}
-use Rattle.std.proofs.lemmas.Bool.{and_parts, false≢true}
+use Rattle.std.proofs.lemmas.Bool.{and_parts, false_from_ne_true, false≢true}
 use Rattle.std.proofs.lemmas.List.{drop_all, drop_more, length-append, take_all, take_min}
 use Rattle.std.proofs.lemmas.Slice.Eq.{bytes_eq-Decides}
 use Rattle.csv.specs.Machine.{Read, field_after, fields_after, is_end, next_record, step}
@@ -285,13 +285,9 @@ headed_front (x ∷ []) h = h
 headed_front (x ∷ y ∷ []) h = h
 headed_front (x ∷ y ∷ z ∷ rest) h = rw (front_length (line_ends_first rest)) (marked_by (is_bom x y z) x y z rest h)
 
-unless_true : (b c : Bool) → (b ≡ true → c ≡ true) → c ≡ false → b ≡ false
-unless_true false c h e = refl
-unless_true true c h e = absurd (false≢true (sym e ∙ h refl))
-
 -- a front without the header is that of a file without it
 pub unheaded_front : (file : List ℕ) → starts_with_header (rows_of (header_front file)) ≡ false → starts_with_header (rows_of file) ≡ false
-unheaded_front file e = unless_true _ _ (headed_front file) e
+unheaded_front file e = false_from_ne_true _ (λ h. false≢true (sym e ∙ headed_front file h))
 
 -- a file without the header
 pub unheaded_round : (rows : List Row) → starts_with_header rows ≡ false → verdict_of_rows rows ≡ Err fault.BadHeader

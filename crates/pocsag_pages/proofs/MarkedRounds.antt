@@ -1,7 +1,8 @@
 -- The addresses of a round that grows, marked by bits.
-use Rattle.std.proofs.Common.{◌≡◌, ◌≢◌, ℕ, ◌+◌, ◌*◌, ◌/◌, ◌%◌, ◌^◌, ◌<◌, ◌≤◌, Bool, true, false, ◌||◌, List, [], ◌∷◌, ◌++◌, length, drop, get_or, set, take, nat_eq, bit_or, bit_and, inl, inr, refl, sym, ap, ◌∙◌, arith}
+use Rattle.std.proofs.Common.{◌≡◌, ◌≢◌, ℕ, ◌+◌, ◌*◌, ◌/◌, ◌%◌, ◌^◌, ◌<◌, ◌≤◌, true, false, ◌||◌, List, [], ◌∷◌, ◌++◌, length, drop, get_or, set, take, nat_eq, bit_or, bit_and, inl, inr, refl, sym, ap, ◌∙◌, arith}
 use Rattle.std.specs.Prelude.{None}
 use Rattle.std.specs.Int.{bit_at, w64}
+use Rattle.std.proofs.Math.Bool.{or-true, or_comm}
 use Rattle.std.proofs.lemmas.Bool.{cases_eq, cases_lt, eq-eqb, ne_eqb}
 use Rattle.std.proofs.lemmas.List.{get_or-set_same, get_or-set_other, get_or_past, drop_more, map-append, take-append-drop, take_more}
 use Rattle.std.proofs.lemmas.Nat.Bits.{bit_at-zero, bit_at_set_same, bit_at_set_other, shr_and_one}
@@ -12,12 +13,6 @@ use Rattle.pocsag_pages.specs.AddressMarks.{is_marked}
 use Rattle.pocsag_pages.specs.Pages.{addresses_of, has_address}
 use Rattle.pocsag_pages.specs.RoundBuilders.{IsMarkedRound}
 use Rattle.pocsag_pages.proofs.GrownRounds.{good_none, has_push}
-
-or_turned : (b c : Bool) → (b || c) ≡ (c || b)
-or_turned true true = refl
-or_turned true false = refl
-or_turned false true = refl
-or_turned false false = refl
 
 -- no address is marked at first
 pub none_marked : (words : List ℕ) → ((k : ℕ) → k < length words → get_or words k 0 ≡ 0) → (a : ℕ) → is_marked words a ≡ false
@@ -79,16 +74,12 @@ one_marked words b a within =
 pub marks_push : (ps : List Page) (p : Page) (words more : List ℕ) → ((a : ℕ) → is_marked words a ≡ has_address ps a) →
     ((a : ℕ) → is_marked more a ≡ (nat_eq a p.address || is_marked words a)) → (a : ℕ) → is_marked more a ≡ has_address (ps ++ p ∷ []) a
 marks_push ps p words more are step a =
-    step a ∙ ap (λ b. nat_eq a p.address || b) (are a) ∙ or_turned (nat_eq a p.address) (has_address ps a) ∙ sym (has_push ps p a)
+    step a ∙ ap (λ b. nat_eq a p.address || b) (are a) ∙ or_comm (nat_eq a p.address) (has_address ps a) ∙ sym (has_push ps p a)
 
 pub marked_none : IsMarkedRound [] None
 marked_none = record { good = good_none; marked = tt }
 
 -- a look through the pages
-or_true : (b : Bool) → (b || true) ≡ true
-or_true true = refl
-or_true false = refl
-
 pub found_there : (ps : List Page) (i : ℕ) (p : Page) (a : ℕ) → i < length ps → p ≡ get_or ps i p → p.address ≡ a → true ≡ has_address ps a
 found_there ps i p a within here same =
     let first : drop i ps ≡ p ∷ drop (i + 1) ps = drop_more ps i p within ∙ ap (λ (q : Page). q ∷ drop (i + 1) ps) (sym here) in
@@ -98,7 +89,7 @@ found_there ps i p a within here same =
     sym
     (ap (λ (qs : List Page). has_address qs a) whole ∙ ap (list_any (nat_eq a)) joined
     ∙ list_any-append (nat_eq a) (addresses_of (take i ps)) (p.address ∷ addresses_of (drop (i + 1) ps))
-    ∙ rw is (or_true (has_address (take i ps) a)))
+    ∙ rw is (or-true (has_address (take i ps) a)))
 
 pub none_there : (ps : List Page) (i : ℕ) (p : Page) (a : ℕ) → i < length ps → p ≡ get_or ps i p → p.address ≢ a →
     has_address (take i ps) a ≡ false → has_address (take (i + 1) ps) a ≡ false
