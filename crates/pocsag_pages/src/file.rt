@@ -19,6 +19,9 @@ use std::alloc::Global;
 /// The greatest number of bytes of a page file.
 pub const FILE_LIMIT: usize = INPUT_LIMIT;
 
+// The most bytes of a file whose header is not sought before its records are read: each reader makes tables.
+const SHORT_FILE: usize = 1 << 20;
+
 // The pages so far, one for each of the earlier records, and that of one record more.
 fn with_row(
     alloc: Global,
@@ -85,9 +88,11 @@ pub(crate) fn rows_behind_header(alloc: Global, bytes: &[u8]) -> Result<RowReade
     if bytes.len() > FILE_LIMIT {
         return Err(RoundFault::TooLarge);
     }
-    let may_have = may_have_header(alloc, bytes)?;
-    if !may_have {
-        return Err(RoundFault::BadHeader);
+    if bytes.len() > SHORT_FILE {
+        let may_have = may_have_header(alloc, bytes)?;
+        if !may_have {
+            return Err(RoundFault::BadHeader);
+        }
     }
     let mut reader = RowReader::of(alloc, bytes);
     let mut row = ByteRecord::new(alloc);

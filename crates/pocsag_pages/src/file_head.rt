@@ -14,7 +14,9 @@ pub(crate) const PAGE_FIELDS: usize = 3;
 // The lengths of the fronts that are looked through before the whole file is read.
 const HEAD_LENGTHS: [usize; 5] = [4 << 20, 16 << 20, 64 << 20, 128 << 20, 192 << 20];
 
-// Whether a record has more than three fields, among as many as a page file may have and one more.
+// Whether a record has more than three fields, among as many as a page file may have and one more. It stands apart since a reader
+// is large, and room for it is cleared at each call.
+#[inline(never)]
 fn has_wide_row(alloc: Global, text: &[u8]) -> Result<bool, OutOfMemory>
     ensures { IfOk result (λ wide. wide ≡ true → has_wide (rows_of text.now) ≡ true) }
 {

@@ -14,9 +14,6 @@ const MARK_BYTES: usize = 3;
 // More bytes than a header has: 18 letters, and 27 for commas, quotes and its end.
 const HEADER_BYTES: usize = 64;
 
-// The most bytes of a file that is not looked at before it is read.
-const SHORT_FILE: usize = 1 << 20;
-
 // The front of a file in which its header stands, if it has one. What stands in the place of a byte order mark is in the front.
 fn header_front(file: &[u8]) -> &[u8]
     ensures { result.now ≡ header_front file.now }
@@ -31,14 +28,13 @@ fn header_front(file: &[u8]) -> &[u8]
     file
 }
 
-// Whether a file may have the header: a long one has it only if its front does. `csv` keeps a record whole, so of a long file
-// without the header no more is read than shows so. Each reader makes tables, so a short file is read once.
+// Whether the front of a file has the header, without which the file has none. `csv` keeps a record whole, so of a long file
+// without the header no more is read than shows so. It stands apart since a reader is large, and room for it is cleared at each
+// call.
+#[inline(never)]
 pub(crate) fn may_have_header(alloc: Global, file: &[u8]) -> Result<bool, OutOfMemory>
     ensures { IfOk result (λ has. has ≡ false → starts_with_header (rows_of file.now) ≡ false) }
 {
-    if file.len() <= SHORT_FILE {
-        return Ok(true);
-    }
     let mut reader = rows_reader(alloc, header_front(file));
     let mut row = ByteRecord::new(alloc);
     let found = next_row(&mut reader, &mut row)?;
