@@ -1,4 +1,4 @@
-ghost use Rattle.std.specs.Prelude.{◌≡◌, ◌≤◌, ℕ, List, Option, None, IfOk, IsFalse, OnErr, OnOk, string_bytes};
+ghost use Rattle.std.specs.Prelude.{◌≡◌, ◌≢◌, ◌≤◌, ℕ, List, Option, None, IfOk, IsFalse, OnErr, OnOk, string_bytes};
 ghost use Rattle.pocsag_shell.specs.Folders.{CountsCalls, IsSame, IsSameBut, IsSameButTwo, KeepsFault, Left, MayGo, MayMove, NotesFault, StepsBy, Stored, on_disk};
 
 use crate::fault::FileFault;
@@ -53,7 +53,8 @@ pub trait Folder {
     fn rename(&mut self, role: Role, from: &String, to: &String) -> Result<(), FileFault>
         ensures moved { is_known → OnOk result
             (held self.new (string_bytes to.now) ≡ held self.old (string_bytes from.now)) }
-        ensures gone { is_known → OnOk result (held self.new (string_bytes from.now) ≡ None) }
+        ensures gone { is_known → string_bytes from.now ≢ string_bytes to.now →
+            OnOk result (held self.new (string_bytes from.now) ≡ None) }
         ensures others { is_known →
             IsSameButTwo (string_bytes from.now) (string_bytes to.now) (held self.old) (held self.new) }
         ensures same { is_known → OnErr result ((path : List ℕ) → held self.new path ≡ held self.old path) }

@@ -1,5 +1,4 @@
-use Rattle.std.proofs.Common.{◌≢◌, List, inr, ap, refl, ◌∙◌, arith, rules, string_bytes}
-use Rattle.std.proofs.Math.Nat.{le_refl}
+use Rattle.std.proofs.Common.{List, inr, ap, ◌∙◌, arith, string_bytes}
 use Rattle.pocsag_shell.specs.Folders.{MayMove, on_disk}
 use Rattle.pocsag_command_cases.proofs.CrashFolders.{leaves_same, makes, may_stay, one_file, steps_changed, steps_same}
 use Rattle.pocsag_command_cases.specs.CrashFolders.{folder_held, standing}
@@ -36,8 +35,7 @@ returns-in-Ok-clause-moved c = λ is_known.
     ap on_disk made.there
 
 pub returns-in-Ok-clause-gone : goal.returns-in-Ok-clause-gone
-returns-in-Ok-clause-gone c = λ is_known.
-    let differ : string_bytes c.args.from.now ≢ string_bytes c.args.to.now = search rules in
+returns-in-Ok-clause-gone c = λ is_known differ.
     let made = makes _ _ _ _ _ c.in-Ok.ensures.changed in
     ap on_disk (made.taken differ)
 
