@@ -98,8 +98,8 @@ extern "C" {
  * fronts take in all. What is left of a mebibyte is added. */
 #define POCSAG_CHECK_STACK 372736u   /* measured: 234,856 */
 #define POCSAG_EXPLAIN_STACK 372736u /* measured: 266,216 */
-#define POCSAG_PLAN_STACK 1048576u   /* pocsag_plan_at_most, pocsag_report and pocsag_frames too; measured: 197,416 */
-#define POCSAG_LISTING_STACK 196608u /* all others; measured: 154,536 */
+#define POCSAG_PLAN_STACK 1048576u   /* pocsag_plan_at_most, pocsag_report and pocsag_frames too; measured: 146,600 */
+#define POCSAG_LISTING_STACK 196608u /* all others; measured: 103,720 */
 
 /* Statuses. */
 #define POCSAG_OK 0u
