@@ -21,10 +21,9 @@ use Rattle.pocsag_pager.specs.Shown.{IsMended, said}
 use Rattle.pocsag_capture.specs.Bits.{capture_bits}
 use Rattle.pocsag_capture.specs.CapturedPages.{AreCaptured, without_orphans}
 use Rattle.pocsag_capture.specs.Extracted.{ends_cut, page_cuts}
-use Rattle.pocsag_capture.specs.PageEnds.{AreCutsOf, HasTransmissions, IsCapturedTransmission}
+use Rattle.pocsag_capture.specs.PageEnds.{AreCutsOf, CapturedTransmission, HasTransmissions, IsCapturedTransmission}
 use Rattle.pocsag_capture.specs.Receptions.{AreFound, HasFewLost, IsQuiet, IsReception, IsSyncRun, IsSynchronised, all_batches, batches_in_front, counted, held_end, last_sync, nothing, passed, received, received_word}
 use Rattle.pocsag_capture.specs.Sent.{HoldsSent, IsReceived}
-use Rattle.pocsag_capture.specs.declared.captured_transmission.CapturedTransmission.{CapturedTransmission}
 use Rattle.pocsag_capture.specs.declared.polarity.Polarity.{Polarity}
 use Rattle.pocsag_capture.specs.declared.reception.Reception.{Reception}
 use Rattle.pocsag_capture.specs.declared.reception.Run.{Run}
@@ -245,10 +244,10 @@ lists_as_whole capture cs ps h idle g steady =
     let long = length-map-range_with_len (received_word bits r) 0 place in
     let count = unsynced_count 0 front in
     let least = least_batches A R p ps X f held.first held.run r held.is_run held.is held.on in
-    let is_whole = whole_between front f.words back f.codewords ps f.are f.near f.reads idle (16 * c.heard.steady) c.pages.items c.cuts.items
+    let is_whole = whole_between front f.words back f.codewords ps f.are f.near f.reads idle (16 * c.heard.steady) c.pages c.cuts
     (omega (arith, long)) (omega (arith, words_long A R p ps X f)) (omega (arith, count, long, batches, least, f.whole.1)) (omega (arith, f.whole.1))
-    (subst (λ (ws : List ℕ). AreCaptured ws c.pages.items) words is.pages)
-    (subst (λ (ws : List ℕ). AreCutsOf ws (16 * c.heard.steady) c.cuts.items) words is.cuts) in
+    (subst (λ (ws : List ℕ). AreCaptured ws c.pages) words is.pages)
+    (subst (λ (ws : List ℕ). AreCutsOf ws (16 * c.heard.steady) c.cuts) words is.cuts) in
     record {
       earlier = of.earlier;
       transmission = c;
