@@ -240,6 +240,53 @@ const WHOLE: &[(&[u8], Result<(usize, usize, usize), JournalFault>)] = &[
     (b"hello world", Err(JournalFault::NotJournal)),
     (b"pocsag journals", Err(JournalFault::NotJournal)),
     (b"add,8,tone0,\n", Err(JournalFault::NotJournal)),
+    // Each line is what is written of its record: quotes where they are needed, and nowhere else.
+    (
+        b"pocsag journal,1\nadd,8,alpha,\"a,\"\"b\"\"\"\n",
+        Ok((1, 1, 0)),
+    ),
+    (
+        b"pocsag journal,1\nadd,8,alpha,\"a\rb\"\ncancel,8\n",
+        Ok((2, 0, 0)),
+    ),
+    (
+        b"pocsag journal,1\nadd,8,alpha,a\rb\n",
+        Err(JournalFault::BadLine(2)),
+    ),
+    (
+        b"pocsag journal,1\nclear\n\"clear\"\n",
+        Err(JournalFault::BadLine(3)),
+    ),
+    (
+        b"pocsag journal,1\nclear\r\n",
+        Err(JournalFault::BadLine(2)),
+    ),
+    (
+        b"pocsag journal,1\n\xef\xbb\xbfclear\n",
+        Err(JournalFault::BadLine(2)),
+    ),
+    (
+        b"pocsag journal,1\nadd,8,tone0,\"\"\n",
+        Err(JournalFault::BadLine(2)),
+    ),
+    (
+        b"pocsag journal,1\nadd,8,tone0\n",
+        Err(JournalFault::BadLine(2)),
+    ),
+    (b"pocsag journal,1\n\n", Err(JournalFault::BadLine(2))),
+    (b"pocsag journal,1\n\"\"\n", Err(JournalFault::BadLine(2))),
+    (
+        b"pocsag journal,1\nadd,8,alpha,\"a\nclear\n\"\n",
+        Err(JournalFault::BadLine(2)),
+    ),
+    (
+        b"pocsag journal,1\nadd,8,alpha,a\0\n",
+        Err(JournalFault::BadLine(2)),
+    ),
+    (
+        b"pocsag journal,1\nadd,8,alpha,\xff\n",
+        Err(JournalFault::BadLine(2)),
+    ),
 ];
 
 // A torn end is passed over, the first bad line reported, and a first line that is another or torn.

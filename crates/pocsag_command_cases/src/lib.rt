@@ -16,6 +16,8 @@ mod fault_texts;
 #[cfg(test)]
 mod journal_tests;
 #[cfg(test)]
+mod line_tests;
+#[cfg(test)]
 mod open_tests;
 #[cfg(test)]
 mod receiver_tests;

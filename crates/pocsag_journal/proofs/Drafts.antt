@@ -1,7 +1,6 @@
 -- A draft that gains a page, and one that gives some up.
-use Rattle.std.proofs.Common.{◌≡◌, ℕ, ◌<◌, ◌-◌, Bool, true, false, cond, List, [], ◌∷◌, ◌++◌, arith, drop, length, nat_eq, take, refl, sym, ap, ◌∙◌, subst, length-append}
+use Rattle.std.proofs.Common.{◌≡◌, ℕ, ◌<◌, ◌-◌, Bool, true, false, cond, List, [], ◌∷◌, ◌++◌, arith, drop, length, nat_eq, refl, sym, ap, ◌∙◌, subst, length-append}
 use Rattle.std.specs.Prelude.{Option, Some, None, option_map, slice_get}
-use Rattle.std.specs.Option.{option_map_or}
 use Rattle.std.specs.Map.{keys_of, values_of, lookup, lookup_entry, remove_entry}
 use Rattle.std.proofs.lemmas.Option.{same_Some}
 use Rattle.std.proofs.lemmas.List.{drop-map, length-drop, map-append, take_all}
@@ -13,13 +12,13 @@ use Rattle.pocsag_pages.specs.declared.fault.PageFault.{PageFault}
 use Rattle.pocsag_pages.specs.declared.page.Page.{Page}
 use Rattle.pocsag_pages.proofs.FirstPages.{good_last}
 use Rattle.pocsag_pages.proofs.GrownRounds.{addresses_push, good_push}
-use Rattle.pocsag_plan.specs.OpenRound.{add_fault, fault_beside, without}
+use Rattle.pocsag_plan.specs.OpenRound.{add_fault, fault_beside}
 use Rattle.pocsag_plan.specs.declared.refusal.AddFault.TheVariants as fault
 use Rattle.pocsag_plan.proofs.Edits.{not_found, values_push}
 use Rattle.pocsag_plan.proofs.Entries.{AreKeyed, without_is}
 use Rattle.pocsag_plan.proofs.Refusals.{MayFollow}
 use Rattle.pocsag_journal.specs.Drafts.{IsDraft}
-use Rattle.pocsag_journal.proofs.EditedPages.{MayStand, left_stand, none_stand}
+use Rattle.pocsag_journal.proofs.EditedPages.{left_stand, none_stand}
 use Rattle.pocsag_journal.proofs.Refusals.{same_nat}
 
 -- no entry has a key that no look-up finds

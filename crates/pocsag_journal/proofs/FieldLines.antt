@@ -1,7 +1,7 @@
 -- A record is one line exactly where none of its fields has a line feed.
-use Rattle.std.proofs.Common.{◌≡◌, ◌≢◌, ℕ, ◌==◌, Bool, cond, inl, inr, List, [], ◌∷◌, ◌++◌, refl, sym, ◌∙◌, subst, arith, append_assoc, append-nil}
+use Rattle.std.proofs.Common.{◌≡◌, ◌≢◌, ℕ, ◌==◌, Bool, cond, inl, inr, List, [], ◌∷◌, ◌++◌, length, refl, sym, ◌∙◌, subst, arith, append_assoc, append-nil, length-append}
 use Rattle.std.specs.List.{AllByRecursion}
-use Rattle.std.proofs.lemmas.Bool.{cases_Bool}
+use Rattle.std.proofs.lemmas.Bool.{cases_Bool, ne_eqb}
 use Rattle.std.proofs.lemmas.List.{append_cancel_right}
 use Rattle.csv.specs.Machine.{line_feed}
 use Rattle.csv.specs.Writing.{default_writer, escaped, field_text, fields_text, is_blank, needs_quotes, quoted, row_body, row_text}
@@ -96,6 +96,15 @@ blank_feedless row = elim (cases_Bool (is_blank default_writer row)) [
 
 in_one : (row : Row) → row_text default_writer row ≡ (row_body default_writer row ++ blank row) ++ line_feed ∷ []
 in_one row = sym (append_assoc (row_body default_writer row) (blank row) (line_feed ∷ []))
+
+-- they stand where the text shows nothing
+pub blank_is : (row : Row) → is_blank default_writer row ≡ (length (row_body default_writer row) == 0)
+unfolding is_blank fields_text
+blank_is [] = refl
+blank_is (f ∷ []) = rw (append-nil (field_text default_writer f)) refl
+blank_is (f ∷ g ∷ rest) =
+    let size = length-append (field_text default_writer f) (fields_text default_writer (g ∷ rest)) in
+    sym (ne_eqb (length (row_body default_writer (f ∷ g ∷ rest))) 0 (λ e. absurd (omega (arith, size, e))))
 
 pub row_line : (row : Row) → row ≢ [] → AllByRecursion HasNoLineFeed row → IsLine row
 row_line [] some none = absurd (some refl)

@@ -15,6 +15,8 @@ pub mod Prefixes
 pub mod Readings
 pub mod Refusals
 pub mod Replays
+pub mod RowReads
+pub mod RowWrites
 pub mod TextLines
 mod PrintedReplays
 pub mod TornLines

@@ -1,31 +1,29 @@
 -- Lines that are the text of edits.
-use Rattle.std.proofs.Common.{◌≡◌, ◌≢◌, ◌⊎◌, inl, inr, ℕ, ◌+◌, ◌<◌, ◌≤◌, add-one, arith, append_assoc, length, Bool, true, false, cond, List, [], ◌∷◌, ◌++◌, refl, sym, ap, ◌∙◌, subst}
+use Rattle.std.proofs.Common.{◌≡◌, ◌≢◌, ◌⊎◌, inl, inr, ℕ, ◌+◌, ◌-◌, ◌<◌, ◌≤◌, arith, append_assoc, length, take, Bool, true, false, cond, List, [], ◌∷◌, ◌++◌, refl, sym, ap, ◌∙◌, subst}
 use Rattle.std.specs.List.{AllByRecursion}
-use Rattle.std.specs.Prelude.{Option, Some, None, IsSome, codes, option_map}
-use Rattle.std.specs.Borrow.{Bor}
+use Rattle.std.specs.Prelude.{Some, None, codes}
 use Rattle.std.specs.Str.{bytes_eq}
-use Rattle.std.proofs.lemmas.List.{append-nil, length-append}
-use Rattle.std.proofs.lemmas.Option.{same_Some}
+use Rattle.std.proofs.Math.Seq.{take-append_seam}
+use Rattle.std.proofs.lemmas.List.{append-nil, append_cancel_right, length-append}
 use Rattle.std.proofs.lemmas.Slice.Eq.{bytes_eq-Decides}
-use Rattle.csv.specs.Machine.{Read, line_feed, next_record}
-use Rattle.csv.specs.Reading.{default_config, strip_bom}
-use Rattle.csv.specs.Writing.{default_writer, row_text}
-use Rattle.csv.specs.declared.parser.State.TheVariants as st
-use Rattle.csv.specs.declared.reader.Reader.{Reader}
-use Rattle.csv.proofs.RoundTrip.{read-write, read-write-many}
+use Rattle.csv.specs.Machine.{line_feed}
+use Rattle.csv.specs.Writing.{default_writer, fields_text, is_blank, row_body, row_text}
 use Rattle.pocsag_pages.specs.PageFile.{Row}
-use Rattle.pocsag_pages.specs.Rows.{IsAtRecord}
+use Rattle.pocsag_pages.specs.RecordTexts.{IsLostAt, IsRowText}
 use Rattle.pocsag_pages.specs.declared.page.Page.{Page}
-use Rattle.pocsag_journal.specs.Runs.{Asked, IsDone, IsEdit, IsRefusedFor, IsRun, asked_of, cancel, clear, sent, wants_memory}
+use Rattle.pocsag_pages.proofs.RowTexts.{rows_are}
+use Rattle.pocsag_journal.specs.Runs.{Asked, IsDone, IsEdit, IsRefusedFor, IsRun, asked_of, cancel, sent, wants_memory}
 use Rattle.pocsag_journal.specs.declared.refusal.Refusal.{Refusal}
-use Rattle.pocsag_journal.specs.LineTexts.{HasNoLineFeed, IsWholeLine}
+use Rattle.pocsag_journal.specs.declared.refusal.Refusal.TheVariants as refusal
+use Rattle.pocsag_journal.specs.declared.refusal.UndoneFault.{UndoneFault}
+use Rattle.pocsag_journal.specs.LineTexts.{HasNoLineFeed, IsUnread, IsWholeLine}
 use Rattle.pocsag_journal.specs.Runs.{first_record}
 use Rattle.pocsag_journal.proofs.Fields.{is_word}
-use Rattle.pocsag_journal.specs.Readers.{IsBefore, GivesRow}
 use Rattle.pocsag_journal.specs.Journals.{IsBadLine, IsFirstCut, IsLine, MakesLine, Replays, journal_text, rows_text}
 use Rattle.pocsag_journal.proofs.EditRuns.{run_on}
+use Rattle.pocsag_journal.proofs.FieldLines.{row_spelled}
 use Rattle.pocsag_journal.proofs.Prefixes.{all_more, journal_more, short}
-use Rattle.pocsag_journal.proofs.TextLines.{back_is, first_line}
+use Rattle.pocsag_journal.proofs.TextLines.{first_line}
 
 pub is_true : (b : Bool) (asked : Asked) (before after : List Page) → IsDone (cond b (Some asked) None) before after → b ≡ true
 is_true true asked before after d = refl
@@ -47,61 +45,99 @@ pair_word w a before after d = of_two (bytes_eq w (codes "cancel")) (bytes_eq w 
     of_two false true e f d = inr (is_word w (codes "sent") f)
     of_two false false e f d = absurd d
 
--- behind the text of an edit, the reader has read its record, and no more
-pub edit_is_read : (row : Row) (before after : List Page) (rest : List ℕ) → IsEdit row before after →
-    next_record default_config st.StartRecord [] [] (row_text default_writer row ++ rest) ≡ Some (row, st.StartRecord, rest)
-edit_is_read row before after rest d = rw (back_is row (edit_some row before after d)) at (read-write row rest)
+-- what holds of each record whose first field is the word of an edit holds of an edit
+pub edit_by_word : (P : Row → Type 0) → P (codes "clear" ∷ []) → ((a : List ℕ) → P (codes "cancel" ∷ a ∷ [])) → ((a : List ℕ) → P (codes "sent" ∷ a ∷ [])) →
+    ((a k m : List ℕ) → P (codes "add" ∷ a ∷ k ∷ m ∷ [])) → (row : Row) (pages after : List Page) → IsEdit row pages after → P row
+unfolding asked_of
+edit_by_word P of_clear of_cancel of_sent of_add [] pages after d = absurd d
+edit_by_word P of_clear of_cancel of_sent of_add (w ∷ []) pages after d =
+    subst (λ (x : List ℕ). P (x ∷ [])) (sym (is_word w (codes "clear") (is_true _ _ pages after d))) of_clear
+edit_by_word P of_clear of_cancel of_sent of_add (w ∷ a ∷ []) pages after d =
+    let of = λ (x : List ℕ). P (x ∷ a ∷ []) in
+    elim (pair_word w a pages after d) [ inl e ↦ subst of (sym e) (of_cancel a) | inr e ↦ subst of (sym e) (of_sent a) ]
+edit_by_word P of_clear of_cancel of_sent of_add (w ∷ a ∷ k ∷ []) pages after d = absurd d
+edit_by_word P of_clear of_cancel of_sent of_add (w ∷ a ∷ k ∷ m ∷ []) pages after d =
+    subst (λ (x : List ℕ). P (x ∷ a ∷ k ∷ m ∷ [])) (sym (is_word w (codes "add") (is_true _ _ pages after d))) (of_add a k m)
+edit_by_word P of_clear of_cancel of_sent of_add (w ∷ a ∷ k ∷ m ∷ n ∷ row) pages after d = absurd d
 
-line_read : (line : List ℕ) (row : Row) (before after : List Page) (rest : List ℕ) → row_text default_writer row ≡ line →
-    IsEdit row before after → next_record default_config st.StartRecord [] [] (line ++ rest) ≡ Some (row, st.StartRecord, rest)
-line_read line row before after rest e d =
-    subst (λ (l : List ℕ). next_record default_config st.StartRecord [] [] (l ++ rest) ≡ Some (row, st.StartRecord, rest)) e
-    (edit_is_read row before after rest d)
+-- the text of an edit, without its line feed
+pub edit_body : (row : Row) (pages after : List Page) → IsEdit row pages after → row_text default_writer row ≡ row_body default_writer row ++ line_feed ∷ []
+unfolding fields_text is_blank
+edit_body = edit_by_word (λ row. row_text default_writer row ≡ row_body default_writer row ++ line_feed ∷ []) refl (λ a. refl) (λ a. refl) (λ a k m. refl)
+
+pub no_body : (row : Row) (pages after : List Page) → IsEdit row pages after → row_body default_writer row ≢ []
+unfolding fields_text
+no_body = edit_by_word (λ row. row_body default_writer row ≢ []) (λ e. cc e) (λ a e. cc e) (λ a e. cc e) (λ a k m e. cc e)
+
+-- which is that of its record
+pub edit_spelled : (row : Row) (pages after : List Page) → IsEdit row pages after → IsRowText row (row_body default_writer row)
+edit_spelled [] pages after d = absurd (edit_some [] pages after d refl)
+edit_spelled (f ∷ rest) pages after d = row_spelled f rest
+
+-- a text that is not empty is that of one record
+first_of : List Row → Row
+first_of [] = []
+first_of (row ∷ rows) = row
+
+pub one_spelled : (row other : Row) (text : List ℕ) → text ≢ [] → IsRowText row text → IsRowText other text → other ≡ row
+unfolding first_of
+one_spelled row other text some p q =
+    ap first_of (sym (rows_are other text q (λ e. some e)) ∙ rows_are row text p (λ e. some e))
+
+-- and not where it is lost
+pub lost_none : (row : Row) (text front : List ℕ) (byte : ℕ) → IsRowText row text → IsLostAt text front byte → ⊥
+lost_none row text front byte spelled lost = lost.lost lost.rest row (subst (λ (t : List ℕ). IsRowText row t) lost.parts spelled)
+
+-- a line that is the text of an edit spells its record
+line_spelled : (row : Row) (before after : List Page) (line body : List ℕ) → IsEdit row before after → row_text default_writer row ≡ line →
+    line ≡ body ++ line_feed ∷ [] → IsRowText row body × (body ≢ [])
+line_spelled row before after line body d text e =
+    let same : row_body default_writer row ≡ body =
+    append_cancel_right (row_body default_writer row) body (line_feed ∷ []) (sym (edit_body row before after d) ∙ text ∙ e) in
+    (subst (IsRowText row) same (edit_spelled row before after d), λ none. no_body row before after d (same ∙ none))
+
+-- a line of which no record is read is the text of no edit
+pub unread_line : (line body : List ℕ) (why : Refusal) (before after : List Page) → line ≡ body ++ line_feed ∷ [] → IsUnread body why →
+    ((f : UndoneFault) → why ≢ refusal.Undone f) → MakesLine false line before after
+unread_line line body refusal.InQuotes before after e unread done = λ row other text d.
+    unread.0 row (line_spelled row before other line body d text e).0
+unread_line line body refusal.StrayQuote before after e unread done = λ row other text d.
+    lost_none row body unread.0 unread.1.0 (line_spelled row before other line body d text e).0 unread.1.1
+unread_line line body refusal.Unknown before after e (inl stray) done = λ row other text d.
+    lost_none row body stray.0 stray.1.0 (line_spelled row before other line body d text e).0 stray.1.1
+unread_line line body refusal.Unknown before after e (inr none) done = λ row other text d.
+    (line_spelled row before other line body d text e).1 none
+unread_line line body (refusal.Undone f) before after e unread done = absurd (done f refl)
+unread_line line body (refusal.Field f) before after e unread done = absurd unread
+unread_line line body (refusal.Add f) before after e unread done = absurd unread
+unread_line line body (refusal.Cancel f) before after e unread done = absurd unread
 
 -- a line that is the text of an edit is read as that
-read_is : (line rest : List ℕ) (read : Row) (taker : Reader (Bor (List ℕ))) → GivesRow (Some read) (line ++ rest) taker →
-    (row : Row) (before after : List Page) → row_text default_writer row ≡ line → IsEdit row before after → read ≡ row
-read_is line rest read taker t row before after e d =
-    t.2 ∙ ap (λ (r : Read). r.0) (same_Some t.0 (row, st.StartRecord, rest) (sym t.1 ∙ line_read line row before after rest e d))
-
-pub none_made : (line rest : List ℕ) (taker : Reader (Bor (List ℕ))) (before after : List Page) → GivesRow None (line ++ rest) taker →
-    MakesLine false line before after
-none_made line rest taker before after t = λ row other text d. cc (sym t ∙ line_read line row before other rest text d)
+read_is : (line body : List ℕ) (read row : Row) (before after : List Page) → line ≡ body ++ line_feed ∷ [] → IsRowText read body →
+    row_text default_writer row ≡ line → IsEdit row before after → read ≡ row
+read_is line body read row before after e spelled text d =
+    let its = line_spelled row before after line body d text e in
+    one_spelled row read body its.1 its.0 spelled
 
 same_bytes : (line : List ℕ) → bytes_eq line line ≡ true
 same_bytes line = (bytes_eq-Decides line line).1 refl
 
-pub other_text : (line rest : List ℕ) (read : Row) (taker : Reader (Bor (List ℕ))) (before after : List Page) →
-    GivesRow (Some read) (line ++ rest) taker → bytes_eq (row_text default_writer read) line ≡ false → MakesLine false line before after
-other_text line rest read taker before after t n = λ row other text d.
-    let same = read_is line rest read taker t row before other text d in
+pub other_text : (line body : List ℕ) (read : Row) (before after : List Page) → line ≡ body ++ line_feed ∷ [] → IsRowText read body →
+    bytes_eq (row_text default_writer read) line ≡ false → MakesLine false line before after
+other_text line body read before after e spelled n = λ row other text d.
+    let same = read_is line body read row before other e spelled text d in
     let is : row_text default_writer read ≡ line = ap (λ (r : Row). row_text default_writer r) same ∙ text in
     let yes : bytes_eq (row_text default_writer read) line ≡ true = rw is (same_bytes line) in
     cc (sym yes ∙ n)
 
-pub edit_refused : (line rest : List ℕ) (read : Row) (taker : Reader (Bor (List ℕ))) (before after : List Page) (why : Refusal) →
-    GivesRow (Some read) (line ++ rest) taker → IsRefusedFor read before why → wants_memory why ≡ false → MakesLine false line before after
-edit_refused line rest read taker before after why t refused n = λ row other text d.
-    let same = read_is line rest read taker t row before other text d in
+pub edit_refused : (line body : List ℕ) (read : Row) (before after : List Page) (why : Refusal) → line ≡ body ++ line_feed ∷ [] →
+    IsRowText read body → IsRefusedFor read before why → wants_memory why ≡ false → MakesLine false line before after
+edit_refused line body read before after why e spelled refused n = λ row other text d.
+    let same = read_is line body read row before other e spelled text d in
     elim refused [
       | inl memory ↦ cc (sym memory ∙ n)
       | inr none ↦ none other (subst (λ (r : Row). IsEdit r before other) (sym same) d)
     ]
-
-pub edit_made : (line : List ℕ) (read : Row) (before after : List Page) → bytes_eq (row_text default_writer read) line ≡ true →
-    IsEdit read before after → MakesLine true line before after
-edit_made line read before after t d = (read, edit_some read before after d, is_word _ _ t, d)
-
--- behind an edit that was made, the reader stands before the next line
-pub behind_edit : (line rest : List ℕ) (read : Row) (taker : Reader (Bor (List ℕ))) (before after : List Page) →
-    GivesRow (Some read) (line ++ rest) taker → bytes_eq (row_text default_writer read) line ≡ true → IsEdit read before after →
-    IsBefore taker rest
-behind_edit line rest read taker before after t text d =
-    let same = same_Some t.0 (read, st.StartRecord, rest) (sym t.1 ∙ line_read line read before after rest (is_word _ _ text) d) in
-    record {
-      state = t.3 ∙ ap (λ (r : Read). r.1) same;
-      source = t.4 ∙ ap (λ (r : Read). Some r.2) same;
-    }
 
 -- the lines so far were made
 pub record Made (bytes rest : List ℕ) (edits : ℕ) (pages : List Page) : Type 0 where
@@ -111,37 +147,6 @@ pub record Made (bytes rest : List ℕ) (edits : ℕ) (pages : List Page) : Type
   pub run : IsRun rows [] pages
   pub as_many : edits ≡ length rows
   pub few : edits + length rest ≤ length bytes
-
--- they were made, and the reader stands behind them
-pub record Replaying (taker : Reader (Bor (List ℕ))) (bytes rest : List ℕ) (edits : ℕ) (pages : List Page) : Type 0 where
-  pub made : Made bytes rest edits pages
-  pub stands : IsAtRecord taker
-  pub before : IsBefore taker rest
-
--- the first record is read of its line
-pub first_is_read : (rest : List ℕ) →
-    next_record default_config st.StartRecord [] [] (row_text default_writer first_record ++ rest) ≡ Some (first_record, st.StartRecord, rest)
-first_is_read rest = read-write-many (codes "pocsag journal") (codes "1") [] rest
-
--- whose text begins with no byte order mark
-pub first_plain : (rest : List ℕ) → strip_bom (row_text default_writer first_record ++ rest) ≡ row_text default_writer first_record ++ rest
-unfolding strip_bom
-first_plain rest = refl
-
--- a reader of a journal stands before its first line
-pub before_first : (bytes rest : List ℕ) (taker : Reader (Bor (List ℕ))) → bytes ≡ row_text default_writer first_record ++ rest →
-    IsBefore taker (strip_bom bytes) → IsBefore taker bytes
-before_first bytes rest taker e before = subst (IsBefore taker) (ap strip_bom e ∙ first_plain rest ∙ sym e) before
-
--- and then before the edits
-pub behind_first : {A : Type 0} (f : A → Row) (bytes rest : List ℕ) (o : Option A) (taker : Reader (Bor (List ℕ))) →
-    bytes ≡ row_text default_writer first_record ++ rest → GivesRow (option_map f o) bytes taker → (IsSome o → IsAtRecord taker) →
-    IsAtRecord taker × IsBefore taker rest
-behind_first f bytes rest None taker e t at = cc (sym t ∙ ap (next_record default_config st.StartRecord [] []) e ∙ first_is_read rest)
-behind_first f bytes rest (Some row) taker e t at =
-    let same = same_Some t.0 (first_record, st.StartRecord, rest)
-    (sym t.1 ∙ ap (next_record default_config st.StartRecord [] []) e ∙ first_is_read rest) in
-    (at refl, record { state = t.3 ∙ ap (λ (r : Read). r.1) same; source = t.4 ∙ ap (λ (r : Read). Some r.2) same })
 
 pub nothing_read : (bytes : List ℕ) (pages : List Page) → pages ≡ [] → IsFirstCut bytes → Replays bytes 0 (length bytes) pages
 unfolding IsRun
@@ -171,7 +176,7 @@ made_first bytes rest pages e p =
       few = rw (e, length-append (row_text default_writer first_record) rest) (omega arith);
     }
 
-some_bytes : (line : List ℕ) → IsWholeLine line → 1 ≤ length line
+pub some_bytes : (line : List ℕ) → IsWholeLine line → 1 ≤ length line
 some_bytes line whole = rw (whole.parts, length-append whole.body (line_feed ∷ [])) (omega arith)
 
 pub made_on : (bytes rest line behind : List ℕ) (edits : ℕ) (before after : List Page) → Made bytes rest edits before → rest ≡ line ++ behind →
@@ -191,6 +196,15 @@ made_on bytes rest line behind edits before after made e whole m =
       as_many = rw (length-append made.rows (m.0 ∷ []), made.as_many) refl;
       few = omega (arith, most, least, so_far);
     }
+
+-- a whole line, and what stands before its line feed
+pub line_parts : (line : List ℕ) → IsWholeLine line → line ≡ take (length line - 1) line ++ line_feed ∷ []
+line_parts line whole =
+    let size : length line ≡ length whole.body + 1 = ap length whole.parts ∙ length-append whole.body (line_feed ∷ []) in
+    let place : length line - 1 ≡ length whole.body = omega (arith, size) in
+    let body : take (length line - 1) line ≡ whole.body =
+    ap (λ (n : ℕ). take n line) place ∙ ap (take (length whole.body)) whole.parts ∙ take-append_seam whole.body (line_feed ∷ []) in
+    whole.parts ∙ ap (λ (l : List ℕ). l ++ line_feed ∷ []) (sym body)
 
 pub shorter : (rest line behind : List ℕ) → rest ≡ line ++ behind → IsWholeLine line → length behind < length rest
 shorter rest line behind e whole =

@@ -9,7 +9,6 @@ pub mod Keepers
 pub mod LineTexts
 pub mod Moments
 pub mod PageLines
-pub mod Readers
 pub mod Restarts
 pub mod Runs
 pub mod Views

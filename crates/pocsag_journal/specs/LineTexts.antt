@@ -6,7 +6,7 @@ use Rattle.csv.specs.Reading.{strip_bom}
 use Rattle.pocsag_journal.specs.declared.refusal.Refusal.{Refusal}
 use Rattle.pocsag_journal.specs.declared.refusal.Refusal.TheVariants as refusal
 use Rattle.pocsag_journal.specs.declared.refusal.UndoneFault.TheVariants as undone
-use Rattle.pocsag_pages.specs.RecordTexts.{EndsInQuotes, HasNoRecord, HasStrayByte, HasStrayQuote}
+use Rattle.pocsag_pages.specs.RecordTexts.{EndsInQuotes, HasNoRecord, HasStrayByte, HasStrayQuote, IsRowText}
 
 -- Why a text is no record that an edit could be: it ends in quotes, a quote is out of place, another byte is, or it is
 -- empty; or memory was wanting to read it.
@@ -16,6 +16,11 @@ IsUnread text refusal.StrayQuote = HasStrayQuote text
 IsUnread text refusal.Unknown = HasStrayByte text ⊎ (text ≡ [])
 IsUnread text (refusal.Undone f) = f ≡ undone.OutOfMemory
 IsUnread text _ = ⊥
+
+-- What is wrong with a text is told without memory: where memory was wanting, the text is that of a record, and not empty.
+abbrev pub IsToldWithoutMemory : (text : List ℕ) → Refusal → Type 0
+IsToldWithoutMemory text (refusal.Undone f) = (text ≢ []) × ((fields : List (List ℕ)) × IsRowText fields text)
+IsToldWithoutMemory text _ = Unit {0}
 
 -- Whether a byte is that of a carriage return.
 abbrev pub is_return : Option ℕ → Bool

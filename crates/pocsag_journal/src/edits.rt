@@ -6,12 +6,13 @@ ghost use Rattle.pocsag_journal.specs.Asks.{IsAskedBy, IsAskedIn, IsPlanEnd, end
 ghost use Rattle.pocsag_journal.specs.Edited.{SpellsCount};
 ghost use Rattle.pocsag_journal.specs.Runs.{asked_by_line, asked_in, asked_of};
 ghost use Rattle.pocsag_pages.specs.RecordTexts.{IsRowText};
-ghost use Rattle.pocsag_journal.specs.LineTexts.{IsUnread, record_text};
+ghost use Rattle.pocsag_journal.specs.LineTexts.{IsToldWithoutMemory, IsUnread, record_text};
 
-use crate::quote::{quote_state_of, without_return};
-use crate::refusal::{Refusal, UndoneFault};
+use crate::lines::without_return;
+use crate::refusal::Refusal;
+use crate::text::row_of;
 use csv::ByteRecord;
-use pocsag_pages::{QuoteState, only_row};
+use pocsag_pages::behind_mark;
 use pocsag_words::End;
 use std::alloc::Global;
 use std::str;
@@ -55,19 +56,9 @@ pub fn record_of(alloc: Global, line: &[u8]) -> Result<ByteRecord, Refusal>
     // The line is what the product would write for the record, or differs from it in quoting alone.
     ensures spelled { IfOk result (λ row. IsRowText (fields_of row) (record_text line.now)) }
     ensures refused { IfErr result (IsUnread (record_text line.now)) }
+    ensures memory { IfErr result (IsToldWithoutMemory (record_text line.now)) }
 {
-    let bare = without_return(line);
-    match quote_state_of(bare) {
-        QuoteState::Open => return Err(Refusal::InQuotes),
-        QuoteState::Broken => return Err(Refusal::StrayQuote),
-        QuoteState::Ended => return Err(Refusal::Unknown),
-        QuoteState::Start | QuoteState::Bare | QuoteState::Closed => {}
-    }
-    match only_row(alloc, bare) {
-        Ok(Some(row)) => Ok(row),
-        Ok(None) => Err(Refusal::Unknown),
-        Err(_) => Err(Refusal::Undone(UndoneFault::OutOfMemory)),
-    }
+    row_of(alloc, behind_mark(without_return(line)))
 }
 
 /// What the record asks for.

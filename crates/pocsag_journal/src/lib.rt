@@ -14,8 +14,6 @@ mod journal;
 mod keeper;
 mod lines;
 mod list;
-mod quote;
-mod reader;
 mod refusal;
 mod replay;
 mod sizes;

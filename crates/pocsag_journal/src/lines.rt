@@ -1,5 +1,5 @@
 ghost use Rattle.std.specs.Prelude.{◌≡◌, ◌↔◌, ◌++◌, IfNone, IfSome, IsTrue};
-ghost use Rattle.pocsag_journal.specs.LineTexts.{HasNoLineFeed, IsWholeLine};
+ghost use Rattle.pocsag_journal.specs.LineTexts.{HasNoLineFeed, IsWholeLine, without_return};
 
 use memchr::memchr;
 
@@ -20,5 +20,15 @@ pub fn is_one_line(bytes: &[u8]) -> bool
     match split_line(bytes) {
         Some(parts) => parts.1.is_empty(),
         None => false,
+    }
+}
+
+/// The line without a carriage return at its end.
+pub fn without_return(line: &[u8]) -> &[u8]
+    ensures { result.now ≡ without_return line.now }
+{
+    match line.last() {
+        Some(b'\r') => &line[..line.len() - 1],
+        _ => line,
     }
 }

@@ -1,20 +1,18 @@
-ghost use Rattle.std.specs.Prelude.{◌≡◌, ◌≤◌, ◌++◌, ℕ, List, [], length, true, IfErr, IfOk, MatchResult, OnOk};
+ghost use Rattle.std.specs.Prelude.{◌≡◌, ◌≤◌, ◌++◌, ℕ, List, [], length, IfErr, IfOk, MatchResult, OnOk};
 ghost use Rattle.csv.specs.Writing.{default_writer, row_text};
-ghost use Rattle.pocsag_pages.specs.Rows.{IsAtRecord};
 ghost use Rattle.pocsag_pages.specs.PageFile.{Row};
 ghost use Rattle.pocsag_pages.specs.declared.page.Page.{Page};
-ghost use Rattle.pocsag_journal.specs.Readers.{IsBefore};
 ghost use Rattle.pocsag_journal.specs.Runs.{IsRun, first_record};
 ghost use Rattle.pocsag_journal.specs.Faults.{ExplainsReplay, IsPrinted, IsPrintedOf};
 ghost use Rattle.pocsag_journal.specs.Journals.{IsRead, MakesLine, Replays, ReplaysAs, journal_limit};
+ghost use Rattle.pocsag_journal.specs.LineTexts.{IsWholeLine};
 
 use crate::draft::Draft;
 use crate::edit::edit_record;
 use crate::fault::JournalFault;
 use crate::lines::split_line;
-use crate::reader::{read_row, reader_of};
-use crate::text::{first_line, row_line};
-use csv::Reader;
+use crate::refusal::Refusal;
+use crate::text::{first_line, row_line, row_of};
 use pocsag_pages::{WholeFault, read_whole};
 use pocsag_plan::Book;
 use pocsag_words::{OutOfMemory, Source};
@@ -82,16 +80,13 @@ pub(crate) fn replay(alloc: Global, bytes: &[u8]) -> Result<Replayed, JournalFau
     Err(JournalFault::NotJournal)
 }
 
-// Makes the edits of the lines behind the first, one after another. One reader reads them all, and no edit takes longer
-// because there are many pages.
+// Makes the edits of the lines behind the first, one after another. None takes longer because there are many pages.
 fn replay_lines(alloc: Global, bytes: &[u8], behind: &[u8]) -> Result<Replayed, JournalFault>
     requires few { length bytes.now ≤ journal_limit }
     requires first { bytes.now ≡ row_text default_writer first_record ++ behind.now }
     ensures read { IfOk result (λ replayed. Replays bytes.now replayed.edits replayed.torn replayed.book) }
     ensures told { IfErr result (λ e. IsPrinted bytes.now e) }
 {
-    let mut reader = reader_of(alloc, bytes);
-    let _first = read_row(alloc, &mut reader)?;
     let mut draft = Draft::new(alloc)?;
     let mut edits = 0;
     let mut rest = behind;
@@ -107,7 +102,7 @@ fn replay_lines(alloc: Global, bytes: &[u8], behind: &[u8]) -> Result<Replayed, 
                 });
             }
         };
-        let made = replay_line(alloc, &mut reader, &mut draft, next.0)?;
+        let made = replay_line(alloc, &mut draft, next.0)?;
         if !made {
             return Err(JournalFault::BadLine(edits + 2));
         }
@@ -116,24 +111,17 @@ fn replay_lines(alloc: Global, bytes: &[u8], behind: &[u8]) -> Result<Replayed, 
     }
 }
 
-// Makes the edit that a line is the text of, if it is that of one that the pages accept, and says whether it is. The reader
-// stands before the line, and then behind it.
-fn replay_line(
-    alloc: Global,
-    reader: &mut Reader<&[u8]>,
-    draft: &mut Draft,
-    line: &[u8],
-) -> Result<bool, OutOfMemory>
-    requires { IsAtRecord reader.old }
-    ensures made { (rest : List ℕ) → IsBefore reader.old (line.now ++ rest) →
-        IfOk result (λ made. MakesLine made line.now draft.old draft.new) }
-    ensures stands { IfOk result (λ made. made ≡ true → IsAtRecord reader.new) }
-    ensures behind { (rest : List ℕ) → IsBefore reader.old (line.now ++ rest) →
-        IfOk result (λ made. made ≡ true → IsBefore reader.new rest) }
+// Makes the edit that a line is the text of, if it is that of one that the pages accept, and says whether it is.
+fn replay_line(alloc: Global, draft: &mut Draft, line: &[u8]) -> Result<bool, OutOfMemory>
+    requires { IsWholeLine line.now }
+    ensures { IfOk result (λ made. MakesLine made line.now draft.old draft.new) }
 {
-    let row = match read_row(alloc, reader)? {
-        Some(row) => row,
-        None => return Ok(false),
+    let row = match row_of(alloc, &line[..line.len() - 1]) {
+        Ok(row) => row,
+        Err(unread) => match unread {
+            Refusal::Undone(_) => return Err(OutOfMemory),
+            _ => return Ok(false),
+        },
     };
     let text = row_line(alloc, &row)?;
     let same = text.as_slice() == line;

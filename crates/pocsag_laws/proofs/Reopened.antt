@@ -15,7 +15,7 @@ use Rattle.pocsag_words.specs.declared.ending.End.{End}
 use Rattle.pocsag_journal.specs.Asks.{AsksPlan}
 use Rattle.pocsag_pages.specs.QuoteStates.{MayEnd, quote_state_after, quote_state_from}
 use Rattle.pocsag_journal.specs.Runs.{IsEdit, IsRun, asked_of, first_record, wants_memory}
-use Rattle.pocsag_pages.specs.RecordTexts.{IsLostAt, IsRowText}
+use Rattle.pocsag_pages.specs.RecordTexts.{IsRowText}
 use Rattle.pocsag_journal.specs.LineTexts.{IsUnread, IsWholeLine, is_return, record_text, without_return}
 use Rattle.pocsag_pages.specs.declared.quote_state.QuoteState.{QuoteState}
 use Rattle.pocsag_pages.specs.declared.quote_state.QuoteState.TheVariants as at
@@ -24,13 +24,12 @@ use Rattle.pocsag_journal.specs.declared.refusal.Refusal.TheVariants as refusal
 use Rattle.pocsag_journal.specs.declared.refusal.UndoneFault.{UndoneFault}
 use Rattle.pocsag_journal.specs.declared.refusal.UndoneFault.TheVariants as undone
 use Rattle.pocsag_journal.proofs.FieldLines.{row_spelled}
-use Rattle.pocsag_journal.proofs.Fields.{is_word}
-use Rattle.pocsag_pages.proofs.RowTexts.{row_place, rows_are}
+use Rattle.pocsag_pages.proofs.RowTexts.{row_place}
 use Rattle.pocsag_journal.specs.Growth.{kept_line_limit}
 use Rattle.pocsag_journal.specs.Journals.{IsLine, journal_text, rows_text}
 use Rattle.pocsag_journal.proofs.EditRuns.{edit_once}
 use Rattle.pocsag_journal.proofs.LineLengths.{line_length}
-use Rattle.pocsag_journal.proofs.Replays.{edit_some, is_true, pair_word}
+use Rattle.pocsag_journal.proofs.Replays.{edit_body, edit_by_word, edit_spelled, lost_none, no_body, one_spelled}
 use Rattle.pocsag_journal.proofs.TextLines.{at_line, first_line, no_whole_line, split_lines}
 use Rattle.pocsag_open.specs.Lines.{AreLines, IsFirstLine}
 use Rattle.pocsag_open.specs.Plans.{PlacementResult}
@@ -39,33 +38,9 @@ use Rattle.pocsag_laws.specs.Reopened.{NamesNoMemory}
 use Rattle.pocsag_open.specs.Replies.{AreReplies, IsLineReply, IsRefusalPrinted, IsReply, IsSession, edited, listed, noted, planned, read, refused, sent_first, too_long, unread}
 use Rattle.pocsag_open.proofs.Sessions.{plan_or_heading}
 
--- what holds of each record whose first field is the word of an edit holds of an edit
-by_word : (P : Row → Type 0) → P (codes "clear" ∷ []) → ((a : List ℕ) → P (codes "cancel" ∷ a ∷ [])) → ((a : List ℕ) → P (codes "sent" ∷ a ∷ [])) →
-    ((a k m : List ℕ) → P (codes "add" ∷ a ∷ k ∷ m ∷ [])) → (row : Row) (pages after : List Page) → IsEdit row pages after → P row
-unfolding asked_of
-by_word P clear cancel sent add [] pages after d = absurd d
-by_word P clear cancel sent add (w ∷ []) pages after d =
-    subst (λ (x : List ℕ). P (x ∷ [])) (sym (is_word w (codes "clear") (is_true _ _ pages after d))) clear
-by_word P clear cancel sent add (w ∷ a ∷ []) pages after d =
-    let of = λ (x : List ℕ). P (x ∷ a ∷ []) in
-    elim (pair_word w a pages after d) [ inl e ↦ subst of (sym e) (cancel a) | inr e ↦ subst of (sym e) (sent a) ]
-by_word P clear cancel sent add (w ∷ a ∷ k ∷ []) pages after d = absurd d
-by_word P clear cancel sent add (w ∷ a ∷ k ∷ m ∷ []) pages after d =
-    subst (λ (x : List ℕ). P (x ∷ a ∷ k ∷ m ∷ [])) (sym (is_word w (codes "add") (is_true _ _ pages after d))) (add a k m)
-by_word P clear cancel sent add (w ∷ a ∷ k ∷ m ∷ n ∷ row) pages after d = absurd d
-
--- the text of an edit, without its line feed
-edit_body : (row : Row) (pages after : List Page) → IsEdit row pages after → row_text default_writer row ≡ row_body default_writer row ++ line_feed ∷ []
-unfolding fields_text is_blank
-edit_body = by_word (λ row. row_text default_writer row ≡ row_body default_writer row ++ line_feed ∷ []) refl (λ a. refl) (λ a. refl) (λ a k m. refl)
-
 edit_plain : (row : Row) (pages after : List Page) → IsEdit row pages after → strip_bom (row_body default_writer row) ≡ row_body default_writer row
 unfolding fields_text strip_bom
-edit_plain = by_word (λ row. strip_bom (row_body default_writer row) ≡ row_body default_writer row) refl (λ a. refl) (λ a. refl) (λ a k m. refl)
-
-no_body : (row : Row) (pages after : List Page) → IsEdit row pages after → row_body default_writer row ≢ []
-unfolding fields_text
-no_body = by_word (λ row. row_body default_writer row ≢ []) (λ e. cc e) (λ a e. cc e) (λ a e. cc e) (λ a k m e. cc e)
+edit_plain = edit_by_word (λ row. strip_bom (row_body default_writer row) ≡ row_body default_writer row) refl (λ a. refl) (λ a. refl) (λ a k m. refl)
 
 -- no text of a record ends with a carriage return
 returned : (q : QuoteState) → MayEnd (quote_state_after q 13) → ⊥
@@ -98,11 +73,6 @@ whole_text row text spelled =
     no_return at.Start h.0 (subst (λ (l : List ℕ). MayEnd (quote_state_from at.Start l)) h.1 (row_place row text spelled))) in
     rw none refl
 
--- the line of an edit reads as its record alone
-edit_spelled : (row : Row) (pages after : List Page) → IsEdit row pages after → IsRowText row (row_body default_writer row)
-edit_spelled [] pages after d = absurd (edit_some [] pages after d refl)
-edit_spelled (f ∷ rest) pages after d = row_spelled f rest
-
 record_is : (row : Row) (pages after : List Page) → IsEdit row pages after → record_text (row_body default_writer row) ≡ row_body default_writer row
 record_is row pages after d =
     let body = row_body default_writer row in
@@ -115,15 +85,6 @@ edit_line row pages after d = subst (IsRowText row) (sym (record_is row pages af
 some_text : (row : Row) (pages after : List Page) → IsEdit row pages after → record_text (row_body default_writer row) ≢ []
 some_text row pages after d none = no_body row pages after d (sym (record_is row pages after d) ∙ none)
 
-first_of : List Row → Row
-first_of [] = []
-first_of (row ∷ rows) = row
-
-one_record : (row other : Row) (text : List ℕ) → text ≢ [] → IsRowText row text → IsRowText other text → other ≡ row
-unfolding first_of
-one_record row other text some p q =
-    ap first_of (sym (rows_are other text q (λ e. some e)) ∙ rows_are row text p (λ e. some e))
-
 -- why it may be refused
 no_memory_words : (why : Refusal) → wants_memory why ≡ true → refusal_words why ≡ codes "out of memory"
 no_memory_words (refusal.Field field.OutOfMemory) e = refl
@@ -133,9 +94,6 @@ no_memory_words _ e = absurd (cc e)
 refused_told : (why : Refusal) (told : List ℕ) → refusal_words why ≡ codes "out of memory" → IsRefusalPrinted why told → NamesNoMemory told
 refused_told why told e is =
     record { front = []; rest = []; parts = is ∙ ap (λ (w : List ℕ). codes "refused: " ++ (w ++ line_feed ∷ [])) e }
-
-lost_none : (row : Row) (text front : List ℕ) (byte : ℕ) → IsRowText row text → IsLostAt text front byte → ⊥
-lost_none row text front byte spelled lost = lost.lost lost.rest row (subst (λ (t : List ℕ). IsRowText row t) lost.parts spelled)
 
 unread_told : (row : Row) (text : List ℕ) (why : Refusal) (told : List ℕ) → text ≢ [] → IsRowText row text → IsUnread text why →
     IsRefusalPrinted why told → NamesNoMemory told
@@ -195,7 +153,7 @@ line_reply IsKnown OutputFails on_limit line row pages after due told placed sho
 line_reply IsKnown OutputFails on_limit line row pages after due told placed short spelled some reply (unread why few is s t n) =
     inr (unread_told row (record_text line) why told some spelled is t)
 line_reply IsKnown OutputFails on_limit line row pages after due told placed short spelled some reply (read other few is here) =
-    reply (subst (λ (r : Row). IsReply IsKnown OutputFails on_limit r pages after told placed) (one_record row other (record_text line) some spelled is) here)
+    reply (subst (λ (r : Row). IsReply IsKnown OutputFails on_limit r pages after told placed) (one_spelled row other (record_text line) some spelled is) here)
 
 -- the first line of a text that begins with a whole one
 same_body : (xs ys : List ℕ) (b : ℕ) → xs ++ b ∷ [] ≡ ys ++ b ∷ [] → xs ≡ ys

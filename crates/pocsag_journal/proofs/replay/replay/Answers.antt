@@ -1,4 +1,4 @@
-use Rattle.std.proofs.Common.{Bool, ℕ, List, ◌++◌, length, drop, ap, arith, subst, sym, ◌∙◌, true≢false}
+use Rattle.std.proofs.Common.{ℕ, List, ◌++◌, length, drop, ap, sym, ◌∙◌, true≢false}
 use Rattle.std.specs.Prelude.{Some, None, codes}
 use Rattle.std.proofs.lemmas.Bool.Decides.{Decides-eqb}
 use Rattle.std.proofs.lemmas.Slice.Eq.{starts_is, strip_prefix_is}

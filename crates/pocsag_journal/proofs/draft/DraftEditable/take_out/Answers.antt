@@ -1,4 +1,4 @@
-use Rattle.std.proofs.Common.{◌≡◌, List, ℕ, false, Contains, ap, sym, ◌∙◌, subst}
+use Rattle.std.proofs.Common.{List, ℕ, false, Contains, ap, sym, ◌∙◌, subst}
 use Rattle.std.specs.Prelude.{is_some}
 use Rattle.lru.specs.LruCache.{LruCache}
 use Rattle.pocsag_pages.specs.declared.page.Page.{Page}
