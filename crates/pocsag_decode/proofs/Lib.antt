@@ -3,6 +3,7 @@ pub mod Judgements
 pub mod ListedFields
 pub mod Listings
 pub mod OneFault
+pub mod PageReaders
 pub mod PageRows
 pub mod Pieces
 pub mod Preambles

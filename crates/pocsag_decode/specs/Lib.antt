@@ -6,6 +6,7 @@ pub mod ListedFields
 pub mod Listers
 pub mod Listing
 pub mod OpenPages
+pub mod PageReaders
 pub mod PageFiles
 pub mod PartialWords
 pub mod Places

@@ -10,6 +10,7 @@ mod laws;
 mod lister;
 mod listing;
 mod open_page;
+mod page_reader;
 mod partial_word;
 mod repair;
 mod repaired;
@@ -23,8 +24,12 @@ pub use laws::{
     readings_of_bytes_are_one, repair_restores,
 };
 pub use lister::{list_owned, list_sent};
-pub use listing::{kind_of_page, list, message_of, whole_message, write_page_file};
+pub use listing::{
+    begin_listing, kind_of_page, list, message_of, whole_message, write_many_records,
+    write_page_file, write_records,
+};
 pub use open_page::{Growing, OpenPage};
+pub use page_reader::{PageReader, PageSource};
 pub use repair::repair_all;
 pub use repaired::Repaired;
 pub use state::Decoder;

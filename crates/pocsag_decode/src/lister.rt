@@ -17,7 +17,7 @@ ghost use Rattle.pocsag_decode.specs.Listing.{header, listing};
 
 use crate::fault::ListFault;
 use crate::judge::IDLE_BATCH;
-use crate::listing::{begun, put_spent, write_many_records, write_records};
+use crate::listing::{begin_listing, put_spent, write_many_records, write_records};
 use crate::open_page::OpenPage;
 use csv::Writer;
 use pocsag_pages::{Page, Payload, preamble_len};
@@ -157,7 +157,7 @@ pub fn list_sent<S: Sink>(alloc: Global, bytes: &[u8], sink: &mut S) -> Result<(
     let len = rest.len() / BATCH_BYTES * BATCH_BYTES;
     let mut lister = Lister {
         alloc,
-        records: begun(alloc)?,
+        records: begin_listing(alloc)?,
         current: None,
         room: Vec::new(alloc),
     };
@@ -199,6 +199,6 @@ pub fn list_owned<S: Sink>(alloc: Global, pages: Vec<Page>, sink: &mut S) -> Res
     // A device's fault is answered only where that device failed.
     ensures failures { NamesFailures result ListFault.WriteFault (S.failures sink.old) (S.failures sink.new) }
 {
-    let mut records = begun(alloc)?;
+    let mut records = begin_listing(alloc)?;
     put_all(alloc, &mut records, pages, sink)
 }

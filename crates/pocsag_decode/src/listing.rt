@@ -191,8 +191,8 @@ pub(crate) fn put_spent(
     Ok(room)
 }
 
-// A writer with the record of the names.
-pub(crate) fn begun(alloc: Global) -> Result<Writer<Vec<u8>>, AllocError>
+/// A writer with the record of the names.
+pub fn begin_listing(alloc: Global) -> Result<Writer<Vec<u8>>, AllocError>
     ensures ready { IfOk result IsReady }
     ensures text { IfOk result (λ w. text_in w ≡ row_text default_writer header) }
 {
@@ -201,8 +201,8 @@ pub(crate) fn begun(alloc: Global) -> Result<Writer<Vec<u8>>, AllocError>
     Ok(writer)
 }
 
-// Writes all records out.
-pub(crate) fn write_records<S: Sink>(
+/// Writes all records out. After a fault a prefix was written, and nothing where memory was refused.
+pub fn write_records<S: Sink>(
     alloc: Global,
     writer: &mut Writer<Vec<u8>>,
     sink: &mut S,
@@ -220,8 +220,9 @@ pub(crate) fn write_records<S: Sink>(
     Ok(())
 }
 
-// Writes the records so far out where they are many, but for the last byte: while memory may be refused, the listing is not whole.
-pub(crate) fn write_many_records<S: Sink>(
+/// Writes the records so far out where they are many, but for the last byte: while memory may be refused, the listing is not whole.
+/// After a fault a prefix was written, and nothing where memory was refused.
+pub fn write_many_records<S: Sink>(
     alloc: Global,
     writer: &mut Writer<Vec<u8>>,
     sink: &mut S,
@@ -281,7 +282,7 @@ fn pages_text(alloc: Global, for_file: bool, pages: &[Page]) -> Result<Vec<u8>, 
     requires { All IsListable pages.now }
     ensures { IfOk result (λ v. v.items ≡ pages_text for_file pages.now) }
 {
-    let mut writer = begun(alloc)?;
+    let mut writer = begin_listing(alloc)?;
     for page in pages {
         put_page(alloc, &mut writer, for_file, page)?;
     }

@@ -1,4 +1,4 @@
-ghost use Rattle.std.specs.Prelude.{◌≡◌, ℕ, ◌+◌, ◌^◌, ◌<◌, ◌++◌, ◌∷◌, [], None, true, not, List, IsTrue, is_some, OnErr, OnOk, IfOk};
+ghost use Rattle.std.specs.Prelude.{◌≡◌, ℕ, ◌+◌, ◌^◌, ◌<◌, ◌++◌, ◌∷◌, [], None, Some, true, not, List, IsTrue, is_some, OnErr, OnOk, IfOk};
 ghost use Rattle.pocsag_words.specs.declared.codeword.Kind.{Kind};
 ghost use Rattle.pocsag_words.specs.Kinds.{IsInRange};
 ghost use Rattle.pocsag_pages.specs.Reading.{frame_at};
@@ -19,6 +19,51 @@ pub struct OpenPage {
     pub function: u8,
     /// The items of its message so far, of 20 bits each.
     pub items: Vec<u32>,
+}
+
+impl OpenPage {
+    // The page, where no more of its message comes.
+    pub(crate) fn into_page(self) -> Page
+        ensures { closed (Some self) ≡ result ∷ [] }
+    {
+        Page {
+            address: self.address,
+            function: self.function,
+            payload: Payload::from_vec(self.items),
+        }
+    }
+}
+
+// Takes one codeword more, which stands in this frame, and gives the page that it ends. A message codeword where no page is open
+// is passed over.
+pub(crate) fn take_kind(
+    alloc: Global,
+    current: &mut Option<OpenPage>,
+    frame: u32,
+    kind: Kind,
+) -> Result<Option<OpenPage>, AllocError>
+    requires ranges { IsInRange kind }
+    requires frame { frame < 8 }
+    ensures reads { IfOk result (λ ended. (i : ℕ) (ks : List Kind) → frame ≡ frame_at i →
+        resumed i current.old (kind ∷ ks) ≡ closed ended ++ resumed (i + 1) current.new ks) }
+{
+    match kind {
+        Kind::Idle => Ok(current.take()),
+        Kind::Address { high, function } => {
+            let opened = OpenPage {
+                address: 8 * high + frame,
+                function,
+                items: Vec::new(alloc),
+            };
+            Ok(mem::replace(current, Some(opened)))
+        }
+        Kind::Message(bits) => {
+            if let Some(page) = current {
+                page.items.push(bits)?;
+            }
+            Ok(None)
+        }
+    }
 }
 
 /// The pages of the codewords that were read.

@@ -28,8 +28,8 @@ returns-clause-part g c = λ is_known.
     took)
     (c.list_batches.ensures.part is_known)
 
-pub returns-in_err-begun-clause-stopped : goal.returns-in_err-begun-clause-stopped
-returns-in_err-begun-clause-stopped g c = λ is_known _ pages reads. omega (arith, listing_some pages)
+pub returns-in_err-begin_listing-clause-stopped : goal.returns-in_err-begin_listing-clause-stopped
+returns-in_err-begin_listing-clause-stopped g c = λ is_known _ pages reads. omega (arith, listing_some pages)
 
 pub returns-clause-stopped : goal.returns-clause-stopped
 returns-clause-stopped g c = λ is_known refused pages reads.

@@ -1,0 +1,87 @@
+//! Pages that are handed out one after the other.
+ghost use Rattle.std.specs.Prelude.{◌≡◌, ◌∷◌, [], List, All, IfOk, MatchOption};
+ghost use Rattle.std.specs.Vec.Iter.{into_iter_items};
+ghost use Rattle.pocsag_pages.specs.declared.page.Page.{Page};
+ghost use Rattle.pocsag_pages.specs.Listable.{IsListable};
+ghost use Rattle.pocsag_decode.specs.Faults.{ReadsAs};
+ghost use Rattle.pocsag_decode.specs.PageReaders.{pages_left};
+
+use crate::open_page::{OpenPage, take_kind};
+use pocsag_pages::{Page, preamble_len};
+use pocsag_words::{BATCH_WORDS, kind_of_number};
+use std::alloc::{AllocError, Global};
+use std::vec;
+
+// The words of a batch, its synchronisation codeword among them.
+const WORDS: usize = BATCH_WORDS as usize;
+
+/// What hands out pages one after the other.
+pub trait PageSource {
+    // The pages that are left.
+    ghost left: { Self → List Page };
+
+    /// The next page, or none where none is left.
+    fn next_page(&mut self) -> Result<Option<Page>, AllocError>
+        ensures { IfOk result (λ found.
+            MatchOption found (left self.old ≡ []) (λ p. left self.old ≡ p ∷ left self.new)) };
+}
+
+/// A reader of the pages of a transmission, which holds one page.
+#[derive(Drop)]
+pub struct PageReader<'a> {
+    alloc: Global,
+    // The words behind the preamble.
+    words: &'a [[u8; 4]],
+    // The place of the word that is read next.
+    place: usize,
+    // The page that a message codeword would continue.
+    current: Option<OpenPage>,
+}
+
+impl<'a> PageReader<'a> {
+    /// A reader of the pages that the bytes of a transmission read as, which takes no memory. Of bytes that have a fault nothing is
+    /// promised: `judge_bytes` finds it before.
+    pub fn new(alloc: Global, bytes: &'a [u8]) -> PageReader<'a>
+        ensures left { (pages : List Page) → ReadsAs bytes.now pages → pages_left result ≡ pages }
+        ensures listable { (pages : List Page) → ReadsAs bytes.now pages → All IsListable pages }
+    {
+        let (_, rest) = bytes.split_at(preamble_len(bytes));
+        let (words, _) = rest.as_chunks::<4>();
+        PageReader {
+            alloc,
+            words,
+            place: 0,
+            current: None,
+        }
+    }
+}
+
+impl<'a> PageSource for PageReader<'a> {
+    ghost left = { pages_left };
+
+    fn next_page(&mut self) -> Result<Option<Page>, AllocError> {
+        for place in self.place..self.words.len() {
+            self.place = place + 1;
+            if place % WORDS == 0 {
+                continue;
+            }
+            let frame = (place % WORDS - 1) as u32 / 2;
+            let kind = kind_of_number(u32::from_be_bytes(self.words[place]));
+            if let Some(page) = take_kind(self.alloc, &mut self.current, frame, kind)? {
+                return Ok(Some(page.into_page()));
+            }
+        }
+        match self.current.take() {
+            Some(page) => Ok(Some(page.into_page())),
+            None => Ok(None),
+        }
+    }
+}
+
+impl PageSource for vec::IntoIter<Page> {
+    ghost left = { into_iter_items };
+
+    fn next_page(&mut self) -> Result<Option<Page>, AllocError> {
+        Ok(self.next())
+    }
+}
