@@ -18,7 +18,7 @@ use Rattle.pocsag_pages.specs.Bytes.{body_bytes, sync_word, synced, unsynced}
 use Rattle.pocsag_pages.proofs.Lengths.{unsynced_codeword, unsynced_more, unsynced_sync}
 use Rattle.pocsag_pager.specs.Shown.{IsMended, said}
 use Rattle.pocsag_capture.specs.CapturedPages.{stays_open, without_orphans}
-use Rattle.pocsag_capture.specs.Extracted.{count_cut, ends_cut, far_words, near_errors, page_cuts, sum_at_synchronisations}
+use Rattle.pocsag_capture.specs.Extracted.{count_cut, cuts_from, far_words, near_errors, page_cuts, sum_at_synchronisations}
 use Rattle.pocsag_capture.specs.Lost.{lost_words, mended_errors, wrong_bits}
 use Rattle.pocsag_capture.specs.Receptions.{received_word}
 use Rattle.pocsag_capture.specs.TakenWords.{TakesWord, cut_by, end_by, is_lost}
@@ -59,10 +59,6 @@ lost_more (Some u ∷ ms) m = lost_more ms m
 -- the open page ends at the end of the words
 abbrev pub last_end : Bool → Option Bool
 last_end b = if b then Some true else None
-
--- whether the pages that end at words or behind them are cut: the one that is open before them, and theirs
-abbrev pub cuts_from : (steady index : ℕ) → Bool → List (Option Kind) → List Bool
-cuts_from steady i b ms = option_to_list (if b then Some (ends_cut steady i ms) else None) ++ page_cuts steady i ms
 
 pub cuts_step : (steady i : ℕ) (b : Bool) (m : Option Kind) (ms : List (Option Kind))
     → cuts_from steady i b (m ∷ ms) ≡ option_to_list (end_by (nat_le steady i) b m) ++ cuts_from steady (i + 1) (stays_open b m) ms

@@ -6,6 +6,7 @@ pub mod InFront
 pub mod Joined
 pub mod Once
 pub mod PageEnds
+pub mod PagesLeft
 pub mod Polarities
 pub mod SearchLemmas
 pub mod SentBits

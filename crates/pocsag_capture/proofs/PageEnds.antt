@@ -24,83 +24,15 @@ use Rattle.pocsag_pager.proofs.Mended.{all_mended_same}
 use Rattle.pocsag_capture.specs.Bits.{capture_bits}
 use Rattle.pocsag_capture.specs.CapturedPages.{AreCaptured, HasCaptured, without_orphan, without_orphans}
 use Rattle.pocsag_capture.specs.Extracted.{count_cut, ends_cut, page_cuts}
-use Rattle.pocsag_capture.specs.PageEnds.{AreCutsOf, HasTransmissions, IsCapturedTransmission, IsPageEnd, UncutStandWhole, pages_captured}
+use Rattle.pocsag_capture.specs.PageEnds.{AreCutsOf, CapturedTransmission, HasTransmissions, IsCapturedTransmission, IsPageEnd, UncutStandWhole, pages_captured}
 use Rattle.pocsag_capture.specs.Receptions.{all_batches, received, received_word}
 use Rattle.pocsag_capture.specs.Slips.{AreInStep}
 use Rattle.pocsag_capture.specs.TakenWords.{TakesWord, cut_by}
-use Rattle.pocsag_capture.specs.declared.captured_transmission.CapturedTransmission.{CapturedTransmission}
 use Rattle.pocsag_capture.specs.declared.corrector.WordCorrector.{WordCorrector}
 use Rattle.pocsag_capture.specs.declared.reception.Reception.{Reception}
 use Rattle.pocsag_capture.proofs.Joined.{one_captured}
 use Rattle.pocsag_capture.proofs.Extracts.{extract_of}
 use Rattle.pocsag_capture.proofs.CorrectedWords.{IsCorrecting, correcting_codeword, first_words, last_end}
-
--- ---- the words of a reception, of which the first were taken
-
-pub record IsCapturing (bits : List ℕ) (r : Reception) (place steady : ℕ) (s : WordCorrector) (growing : Growing) (cuts : List Bool) : Type 0 where
-  pub correcting : IsCorrecting bits r place steady s
-  pub open_page : is_some growing.current ≡ s.is_open
-  pub pages : (more : List Kind)
-      → pages_from 0 (map kind_of correcting.codewords ++ more) ≡ growing.pages.items ++ resumed (length correcting.codewords) growing.current more
-  pub ended : cuts ≡ correcting.ended
-
-pub message_by : (b : Bool) (m : Option Kind) → IsTrue (is_message (without_orphan b m)) → IsTrue b
-message_by true m message = refl
-message_by false None message = absurd (cc message)
-message_by false (Some Idle) message = absurd (cc message)
-message_by false (Some (Address high function)) message = absurd (cc message)
-message_by false (Some (Message bits)) message = absurd (cc message)
-
-pub capturing_word : (bits : List ℕ) (r : Reception) (place w steady : ℕ) (s t : WordCorrector) (growing : Growing) (cuts : List Bool)
-    (is : w ≡ received_word bits r place) (f : IsCapturing bits r place steady s growing cuts) (v frame : ℕ) (k : Kind) (is_out : Bool) (ended : Option Bool)
-    (after : Growing) (cuts' : List Bool) → place % 17 ≢ 0 → is_out ≡ nat_le (17 * steady) place → frame ≡ (place % 17 - 1) / 2 → k ≡ kind_of v
-    → TakesWord s t is_out w v ended → cuts' ≡ cuts ++ option_to_list ended
-    → ((i : ℕ) (ks : List Kind) → frame ≡ frame_at i → growing.pages.items ++ resumed i growing.current (k ∷ ks)
-    ≡ after.pages.items ++ resumed (i + 1) after.current ks)
-    → is_some after.current ≡ not (is_idle k) → IsCapturing bits r (place + 1) steady t after cuts'
-capturing_word bits r place w steady s t growing cuts is f v frame k is_out ended after cuts' inside step at_frame said_so takes pushed reads current =
-    let codewords = f.correcting.codewords in
-    let kinds_more : (more : List Kind) → map kind_of (codewords ++ v ∷ []) ++ more ≡ map kind_of codewords ++ kind_of v ∷ more =
-    λ more. simp (map-append, append_assoc) in
-    let one_more : length (codewords ++ v ∷ []) ≡ length codewords + 1 = omega (arith, length-append codewords (v ∷ [])) in
-    record {
-      correcting = correcting_codeword bits r place w steady s t is f.correcting v is_out ended inside step takes;
-      open_page = current ∙ ap (λ (j : Kind). not (is_idle j)) (said_so ∙ takes.kind) ∙ sym takes.open_after;
-      pages = λ more.
-          ap (pages_from 0) (kinds_more more) ∙ f.pages (kind_of v ∷ more)
-          ∙ ap (λ (j : Kind). growing.pages.items ++ resumed (length codewords) growing.current (j ∷ more)) (sym said_so)
-          ∙ reads (length codewords) more (omega (arith, f.correcting.long))
-          ∙ ap (λ (n : ℕ). after.pages.items ++ resumed n after.current more) (sym one_more);
-      ended = pushed ∙ ap (λ (l : List Bool). l ++ option_to_list ended) f.ended;
-    }
-
--- all of them
-pub record IsCaptured (bits : List ℕ) (c : CapturedTransmission) : Type 0 where
-  pub is : IsCapturedTransmission bits c
-  pub listable : All IsListable c.pages.items
-
-pub capturing_all : (bits : List ℕ) (c : CapturedTransmission) (place : ℕ) (s : WordCorrector) (growing : Growing) (cuts : List Bool) → place ≡ 17 * all_batches c.heard.reception
-    → AreInStep bits c.heard.reception c.heard.steady → c.heard.corrected ≡ s.corrected → c.heard.lost ≡ s.lost
-    → c.heard.cut ≡ s.cut + cut_by (last_end s.is_open) → c.cuts.items ≡ cuts ++ option_to_list (last_end s.is_open)
-    → c.pages.items ≡ growing.pages.items ++ closed growing.current
-    → IsCapturing bits c.heard.reception place c.heard.steady s growing cuts → IsCaptured bits c
-capturing_all bits c place s growing cuts all steady corrected lost cut ends pages f =
-    let codewords = f.correcting.codewords in
-    let extract = extract_of bits c.heard s place f.correcting all steady corrected lost cut in
-    let same : c.pages.items ≡ pages_from 0 (map kind_of codewords) =
-    pages_end growing.pages.items growing.current (length codewords) (map kind_of codewords) f.pages c.pages.items pages in
-    record {
-      is = record {
-        pages = subst (λ (ps : List Page). AreCaptured (received bits c.heard.reception) ps) (sym same) (one_captured bits c.heard codewords extract);
-        cuts = record {
-          mended = f.correcting.mended;
-          each = subst (λ (n : ℕ). AllZip IsMended (unsynced 0 (first_words bits c.heard.reception n)) f.correcting.mended) all f.correcting.each;
-          holds = ends ∙ ap (λ (l : List Bool). l ++ option_to_list (last_end s.is_open)) f.ended ∙ sym (simp append-nil at (f.correcting.ends []));
-        };
-        told = record { steady = steady; codewords = codewords; extracted = extract.extracted };
-      };
-      listable = subst (All IsListable) (sym same) (codewords_listable codewords f.correcting.are);
-    }
 
 -- ---- pages that are not cut stand whole
 
@@ -236,7 +168,7 @@ as_many_cuts words steady ps cuts f g =
 
 each_captured : (bits : List ℕ) (cs : List CapturedTransmission) → All (IsCapturedTransmission bits) cs
     → AllZip (λ (r : Reception) (here : List Page). AreCaptured (received bits r) here) (map (λ (c : CapturedTransmission). c.heard.reception) cs)
-    (map (λ (c : CapturedTransmission). c.pages.items) cs)
+    (map (λ (c : CapturedTransmission). c.pages) cs)
 each_captured bits [] all = tt
 each_captured bits (c ∷ cs) all = ((All-head (IsCapturedTransmission bits) c cs all).pages, each_captured bits cs (All-tail (IsCapturedTransmission bits) c cs all))
 
@@ -244,14 +176,14 @@ pub transmissions_are_captured_lem : (capture : List ℕ) (cs : List CapturedTra
     → HasCaptured capture (map (λ (c : CapturedTransmission). c.heard.reception) cs) (pages_captured cs)
 transmissions_are_captured_lem capture cs f = record {
   found = f.found;
-  pages = map (λ (c : CapturedTransmission). c.pages.items) cs;
+  pages = map (λ (c : CapturedTransmission). c.pages) cs;
   each = each_captured (capture_bits capture) cs f.each;
   all = refl;
 }
 
 -- ---- how many pages are cut
 
-pub cuts_are_counted : (bits : List ℕ) (c : CapturedTransmission) → IsCapturedTransmission bits c → c.heard.cut ≡ length (filter (λ (is_cut : Bool). is_cut) c.cuts.items)
+pub cuts_are_counted : (bits : List ℕ) (c : CapturedTransmission) → IsCapturedTransmission bits c → c.heard.cut ≡ length (filter (λ (is_cut : Bool). is_cut) c.cuts)
 cuts_are_counted bits c f =
     let extracted = f.told.extracted in
     let words = unsynced 0 (received bits c.heard.reception) in

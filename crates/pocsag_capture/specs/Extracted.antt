@@ -1,5 +1,5 @@
 -- A reception as a transmission: its words corrected.
-use Rattle.std.specs.Prelude.{◌≡◌, ℕ, ◌+◌, ◌%◌, ◌==◌, nat_le, if◌then◌else◌, List, [], ◌∷◌, filter, length, map, Bool, true, false, Option, Some, None, bit_xor, count_ones}
+use Rattle.std.specs.Prelude.{◌≡◌, ℕ, ◌+◌, ◌%◌, ◌==◌, nat_le, if◌then◌else◌, List, [], ◌∷◌, ◌++◌, filter, length, map, Bool, true, false, Option, Some, None, bit_xor, count_ones, option_to_list}
 use Rattle.std.specs.List.{AllZip}
 use Rattle.pocsag_words.specs.Frame.{batch_words}
 use Rattle.pocsag_words.specs.Kinds.{kind_of}
@@ -48,6 +48,10 @@ page_cuts steady i (None ∷ ms) = page_cuts steady (i + 1) ms
 page_cuts steady i (Some Idle ∷ ms) = page_cuts steady (i + 1) ms
 page_cuts steady i (Some (Address high function) ∷ ms) = ends_cut steady (i + 1) ms ∷ page_cuts steady (i + 1) ms
 page_cuts steady i (Some (Message bits) ∷ ms) = page_cuts steady (i + 1) ms
+
+-- The same where a page may be open before these words: whether it is cut, and then of theirs.
+abbrev pub cuts_from : (steady index : ℕ) → (is_open : Bool) → List (Option Kind) → List Bool
+cuts_from steady i is_open ms = option_to_list (if is_open then Some (ends_cut steady i ms) else None) ++ page_cuts steady i ms
 
 -- How many pages are cut.
 abbrev pub count_cut : List Bool → ℕ

@@ -4,6 +4,7 @@ pub mod Extracted
 pub mod ExtractedBytes
 pub mod Lost
 pub mod PageEnds
+pub mod PagesLeft
 pub mod Receptions
 pub mod Runs
 pub mod Sent

@@ -11,7 +11,7 @@ use Rattle.pocsag_capture.specs.CapturedPages.{AreCaptured}
 use Rattle.pocsag_capture.specs.Extracted.{page_cuts}
 use Rattle.pocsag_capture.specs.ExtractedBytes.{IsStatsOf}
 use Rattle.pocsag_capture.specs.Receptions.{AreReceptions, received}
-use Rattle.pocsag_capture.specs.declared.captured_transmission.CapturedTransmission.{CapturedTransmission}
+use Rattle.pocsag_capture.specs.declared.reception.ReceptionStats.{ReceptionStats}
 
 -- *State*: of each page of the words of a reception, of whose codewords so many are in step, in order, whether it is cut; a page that is
 -- not cut is whole.
@@ -43,10 +43,18 @@ pub record StandsWhole (words : List ℕ) (steady : ℕ) (p : Page) : Type 0 whe
 abbrev pub UncutStandWhole : (words : List ℕ) → (steady : ℕ) → List Page → (cuts : List Bool) → Type 0
 UncutStandWhole words steady ps cuts = AllZip (λ (p : Page) (is_cut : Bool). is_cut ≡ false → StandsWhole words steady p) ps cuts
 
+-- A transmission in a capture, as it was read: its number, counted from 1, how it was received, and its pages in order, of each of them
+-- whether it is cut.
+pub record CapturedTransmission : Type 0 where
+  pub number : ℕ
+  pub heard : ReceptionStats
+  pub pages : List Page
+  pub cuts : List Bool
+
 -- *Captured transmission*: the pages of a reception, of each of them whether it is cut, and how the reception was received.
 pub record IsCapturedTransmission (bits : List ℕ) (c : CapturedTransmission) : Type 0 where
-  pub pages : AreCaptured (received bits c.heard.reception) c.pages.items
-  pub cuts : AreCutsOf (received bits c.heard.reception) (16 * c.heard.steady) c.cuts.items
+  pub pages : AreCaptured (received bits c.heard.reception) c.pages
+  pub cuts : AreCutsOf (received bits c.heard.reception) (16 * c.heard.steady) c.cuts
   pub told : IsStatsOf bits c.heard
 
 -- The transmissions are numbered in order, from this number on.
@@ -62,4 +70,4 @@ pub record HasTransmissions (capture : List ℕ) (cs : List CapturedTransmission
 
 -- The pages of transmissions, one behind the other.
 abbrev pub pages_captured : List CapturedTransmission → List Page
-pages_captured cs = flat_map (λ here. here) (map (λ (c : CapturedTransmission). c.pages.items) cs)
+pages_captured cs = flat_map (λ here. here) (map (λ (c : CapturedTransmission). c.pages) cs)

@@ -13,7 +13,7 @@ use crate::reception::{BATCH, Reception};
 use pocsag_words::{IDLE_WORD, Kind, SYNC_WORD, kind, repair};
 
 // What is known of the words so far.
-#[derive(Drop)]
+#[derive(Clone, Copy)]
 pub(crate) struct WordCorrector {
     // Whether the next message codeword continues a page.
     pub(crate) is_open: bool,

@@ -3,7 +3,7 @@
 //! and extracted as a transmission of whole bytes, which the decoder, the pager and the pictures read like any other.
 
 mod bits;
-mod captured_transmission;
+mod captured_pages;
 mod corrector;
 mod extract;
 mod fault;
@@ -15,7 +15,7 @@ mod search;
 mod slip;
 mod sync_table;
 
-pub use captured_transmission::{CapturedTransmission, capture_pages};
+pub use captured_pages::{CapturedPage, CapturedPages};
 pub use extract::{Extracted, extract_all, extract_one, receptions_in};
 pub use fault::CaptureFault;
 pub use polarity::Polarity;

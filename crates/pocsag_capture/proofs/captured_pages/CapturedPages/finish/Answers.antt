@@ -1,0 +1,45 @@
+use Rattle.std.proofs.Common.{◌≡◌, ◌+◌, [], ℕ, Bool, Option, refl, sym, ap, ◌∙◌, arith}
+use Rattle.pocsag_decode.specs.OpenPages.{resumed}
+use Rattle.pocsag_decode.specs.PageReaders.{codewords_before}
+use Rattle.pocsag_decode.specs.declared.open_page.OpenPage.{OpenPage}
+use Rattle.pocsag_capture.specs.Bits.{capture_bits}
+use Rattle.pocsag_capture.specs.CapturedPages.{without_orphans}
+use Rattle.pocsag_capture.specs.Receptions.{received_word}
+use Rattle.pocsag_capture.specs.TakenWords.{cut_by}
+use Rattle.pocsag_capture.specs.declared.corrector.WordCorrector.{WordCorrector}
+use Rattle.pocsag_capture.proofs.PagesLeft.{left_none, received_none, walks_none, walks_on}
+use Rattle.pocsag_capture.proofs.captured_pages.CapturedPages.finish.Goals as goal
+
+pub loop-place-init : goal.loop-place-init
+loop-place-init c =
+    let can = c.requires.can in
+    walks_none _ _ _ _ _ can.few_bits can.few_lost can.few_cut can.few_before
+
+pub loop-place-preserved : goal.loop-place-preserved
+loop-place-preserved c =
+    let walk = c.args.self in
+    walks_on (capture_bits walk.capture.now) walk.reception walk.steady walk.place walk.corrector c.loop-place.place
+    (received_word (capture_bits walk.capture.now) walk.reception c.loop-place.place) c.loop-place.corrector c.correct_at.new.self c.correct_at.result refl
+    (omega arith) c.correct_at.ensures.sync c.correct_at.ensures.inside c.correct_at.ensures.counted c.correct_at.ensures.taken c.loop-place.invariant
+
+pub returns : goal.returns
+returns c =
+    let walk = c.args.self in
+    let f = c.loop-place.invariant in
+    let last = c.close.ensures.cut in
+    let at_end = received_none (capture_bits walk.capture.now) walk.reception c.loop-place.place _ c.loop-place.corrector _ (omega (arith, c.requires.can.within)) refl refl (ap (λ (s : WordCorrector). s.corrected) last)
+    (ap (λ (s : WordCorrector). s.lost) last)
+    (ap (λ (s : WordCorrector). s.cut) last ∙ ap (λ (e : Option Bool). c.loop-place.corrector.cut + cut_by e) c.close.ensures.ended) in
+    let h = f.left _ ([], [], _, at_end) in
+    record {
+      ends = (_, h.2, record { mended = h.0; codewords = h.1; received = h.3; pages = refl });
+      over = λ over.
+          let place : c.loop-place.place ≡ walk.place = omega (arith, c.requires.can.within, over.all) in
+          record {
+            mended = [];
+            codewords = [];
+            received = left_none (capture_bits walk.capture.now) walk.reception walk.steady walk.place walk.corrector c.loop-place.place c.loop-place.corrector _ f
+                place over.closes at_end;
+            pages = sym (ap (λ (o : Option OpenPage). resumed (codewords_before walk.place) o (without_orphans walk.corrector.is_open [])) over.none);
+          };
+    }
