@@ -1,9 +1,9 @@
 -- The pages of a sent transmission are listed as whole.
-use Rattle.std.proofs.Common.{◌≡◌, ◌⊎◌, ℕ, suc, ◌+◌, ◌-◌, ◌*◌, ◌%◌, ◌<◌, ◌≤◌, List, [], ◌∷◌, ◌++◌, length, map, take, drop, All, Option, Some, None, Bool, true, false, refl, sym, ap, ap₂, subst, ◌∙◌, inl, inr, arith, append_assoc}
-use Rattle.std.specs.Prelude.{nat_le, replicate}
-use Rattle.std.specs.List.{AllZip, range_with_len}
+use Rattle.std.proofs.Common.{◌≡◌, ℕ, ◌+◌, ◌-◌, ◌*◌, ◌%◌, ◌<◌, ◌≤◌, List, [], ◌∷◌, ◌++◌, length, map, take, drop, All, Option, Some, None, Bool, false, refl, sym, ap, ap₂, subst, ◌∙◌, inl, inr, arith}
+use Rattle.std.specs.Prelude.{replicate}
+use Rattle.std.specs.List.{AllZip}
 use Rattle.std.proofs.lemmas.Bool.{cases_lt, lt-leb}
-use Rattle.std.proofs.lemmas.List.{length-append, length-map, map-append, take-append-drop}
+use Rattle.std.proofs.lemmas.List.{length-map, map-append, take-append-drop}
 use Rattle.std.proofs.lemmas.List.Elements.{All-head, All-tail}
 use Rattle.std.proofs.lemmas.List.FromFn.{length-map-range_with_len}
 use Rattle.std.proofs.lemmas.Slice.Zip.{AllZip-long}
@@ -15,20 +15,19 @@ use Rattle.pocsag_pages.specs.declared.page.Page.{Page}
 use Rattle.pocsag_pages.specs.Bytes.{synced, unsynced}
 use Rattle.pocsag_pages.specs.Plain.{HasNoOrphan, pages_from}
 use Rattle.pocsag_pages.specs.Reading.{EndsIdle, Reads}
-use Rattle.pocsag_pages.proofs.Lengths.{synced_count, unsynced_count, unsynced_more}
+use Rattle.pocsag_pages.proofs.Lengths.{unsynced_count, unsynced_more}
 use Rattle.pocsag_pages.proofs.Readings.{reads_plainly}
 use Rattle.pocsag_pager.specs.Shown.{IsMended, said}
 use Rattle.pocsag_capture.specs.Bits.{capture_bits}
 use Rattle.pocsag_capture.specs.CapturedPages.{AreCaptured, without_orphans}
 use Rattle.pocsag_capture.specs.Extracted.{ends_cut, page_cuts}
-use Rattle.pocsag_capture.specs.PageEnds.{AreCutsOf, HasTransmissions, IsCapturedTransmission}
-use Rattle.pocsag_capture.specs.Receptions.{AreFound, HasFewLost, IsQuiet, IsReception, IsSyncRun, IsSynchronised, all_batches, batches_in_front, counted, held_end, last_sync, nothing, passed, received, received_word}
-use Rattle.pocsag_capture.specs.Sent.{HoldsSent, IsReceived}
-use Rattle.pocsag_capture.specs.declared.captured_transmission.CapturedTransmission.{CapturedTransmission}
+use Rattle.pocsag_capture.specs.PageEnds.{AreCutsOf, CapturedTransmission, HasTransmissions, IsCapturedTransmission}
+use Rattle.pocsag_capture.specs.Receptions.{AreFound, HasFewLost, IsQuiet, IsReception, IsSyncRun, IsSynchronised, all_batches, counted, held_end, last_sync, nothing, passed, received, received_word}
+use Rattle.pocsag_capture.specs.Sent.{HoldsSent}
 use Rattle.pocsag_capture.specs.declared.polarity.Polarity.{Polarity}
 use Rattle.pocsag_capture.specs.declared.reception.Reception.{Reception}
 use Rattle.pocsag_capture.specs.declared.reception.Run.{Run}
-use Rattle.pocsag_capture.proofs.Joined.{keeps_no_orphan, no_orphan_any, no_orphan_join, pages_join, pages_shift}
+use Rattle.pocsag_capture.proofs.Joined.{no_orphan_any, no_orphan_join, pages_join, pages_shift}
 use Rattle.pocsag_capture.proofs.Once.{WordsFit, capture_fits}
 use Rattle.pocsag_capture.proofs.PageEnds.{as_many, plain_pages}
 use Rattle.pocsag_capture.proofs.SentBits.{IsOn, after_closed, batch_there, end_early, ends_closed, few_lost, least_batches, mended_again, on_run, open_after_all, own_place, placed_words, received_are, said_some, unsynced_shift, without_orphans_long, without_orphans_same, without_orphans_two, words_long, zip_split}
@@ -245,10 +244,10 @@ lists_as_whole capture cs ps h idle g steady =
     let long = length-map-range_with_len (received_word bits r) 0 place in
     let count = unsynced_count 0 front in
     let least = least_batches A R p ps X f held.first held.run r held.is_run held.is held.on in
-    let is_whole = whole_between front f.words back f.codewords ps f.are f.near f.reads idle (16 * c.heard.steady) c.pages.items c.cuts.items
+    let is_whole = whole_between front f.words back f.codewords ps f.are f.near f.reads idle (16 * c.heard.steady) c.pages c.cuts
     (omega (arith, long)) (omega (arith, words_long A R p ps X f)) (omega (arith, count, long, batches, least, f.whole.1)) (omega (arith, f.whole.1))
-    (subst (λ (ws : List ℕ). AreCaptured ws c.pages.items) words is.pages)
-    (subst (λ (ws : List ℕ). AreCutsOf ws (16 * c.heard.steady) c.cuts.items) words is.cuts) in
+    (subst (λ (ws : List ℕ). AreCaptured ws c.pages) words is.pages)
+    (subst (λ (ws : List ℕ). AreCutsOf ws (16 * c.heard.steady) c.cuts) words is.cuts) in
     record {
       earlier = of.earlier;
       transmission = c;

@@ -8,10 +8,9 @@ ghost use Rattle.pocsag_decode.specs.Faults.{ReadsAs};
 ghost use Rattle.pocsag_pager.specs.Shown.{AreShown};
 ghost use Rattle.pocsag_capture.specs.Bits.{capture_bits};
 ghost use Rattle.pocsag_capture.specs.CapturedPages.{AreCaptured, HasCaptured};
-ghost use Rattle.pocsag_capture.specs.PageEnds.{AreCutsOf, HasTransmissions, IsCapturedTransmission, UncutStandWhole, pages_captured};
+ghost use Rattle.pocsag_capture.specs.PageEnds.{AreCutsOf, CapturedTransmission, HasTransmissions, IsCapturedTransmission, UncutStandWhole, pages_captured};
 ghost use Rattle.pocsag_capture.specs.Receptions.{all_batches};
 ghost use Rattle.pocsag_capture.specs.Sent.{HoldsSent, StandAmong};
-ghost use Rattle.pocsag_capture.specs.declared.captured_transmission.CapturedTransmission.{CapturedTransmission};
 ghost use Rattle.pocsag_capture.specs.declared.reception.Reception.{Reception};
 ghost use Rattle.pocsag_laws.specs.ListedWhole.{AreListedWhole};
 
@@ -36,7 +35,7 @@ pub fn transmissions_are_captured()
     ensures captured { (capture : List ℕ) (cs : List CapturedTransmission) → HasTransmissions capture cs →
         HasCaptured capture (map (λ (c : CapturedTransmission). c.heard.reception) cs) (pages_captured cs) }
     ensures cut { (bits : List ℕ) (c : CapturedTransmission) → IsCapturedTransmission bits c →
-        c.heard.cut ≡ length (filter (λ (is_cut : Bool). is_cut) c.cuts.items) }
+        c.heard.cut ≡ length (filter (λ (is_cut : Bool). is_cut) c.cuts) }
     ensures whole { (words : List ℕ) (steady : ℕ) (ps : List Page) (cuts : List Bool) → AreCaptured words ps →
         AreCutsOf words steady cuts → UncutStandWhole (unsynced 0 words) steady ps cuts }
 {}

@@ -1,4 +1,6 @@
+pub mod CaptureRows
 pub mod CapturedTexts
 pub mod Read
 pub mod Received
+pub mod Streams
 pub mod Works

@@ -1,5 +1,5 @@
 -- What a command did over the bytes of a transmission.
-use Rattle.std.proofs.Common.{◌≡◌, ◌+◌, ◌<◌, ℕ, Bool, true, false, List, ◌++◌, length, Err, ap, inl, inr, refl, ◌∙◌, arith}
+use Rattle.std.proofs.Common.{◌≡◌, ◌⊎◌, ◌+◌, ◌<◌, ℕ, Bool, true, false, List, ◌++◌, length, Err, ap, inl, inr, refl, ◌∙◌, arith}
 use Rattle.std.specs.Prelude.{IfNone, IfSome}
 use Rattle.pocsag_words.specs.Devices.{HasFailed, TookPrefix}
 use Rattle.pocsag_words.specs.Frame.{input_limit}
@@ -38,12 +38,17 @@ use Rattle.pocsag_receiver.proofs.Received.{never_refused}
 module _ {O : Type 0} (Out : Writer O) (out out' : O) (due : List ℕ) where
   pub unlisted : (e : ListFault) → (e ≡ listing.WriteFault → HasFailed (Out.failures out) (Out.failures out'))
       → (Out.is_known → TookPrefix (Out.taken out) (Out.taken out') due)
-      → (Out.is_known → e ≡ listing.OutOfMemory → length (Out.taken out') < length (Out.taken out) + length due)
+      → (e ≡ listing.OutOfMemory → (out' ≡ out) ⊎ (Out.is_known → length (Out.taken out') < length (Out.taken out) + length due))
       → IsStreamOf (writing due) Out out out' (Err (fault_of_list e))
   unlisted listing.WriteFault failed part short =
       (λ _. tt, inr (inl (refl, failed refl, λ _. (0, due, (refl, refl), part))))
-  unlisted listing.OutOfMemory failed part short =
-      (λ _. tt, inr (inr (refl, λ _. (0, due, (refl, refl), λ k. (part k, short k refl)))))
+  unlisted listing.OutOfMemory failed part short = (
+    λ _. tt,
+    elim (short refl) [
+      | inl same ↦ inl (refl, same)
+      | inr less ↦ inr (inr (refl, λ _. (0, due, (refl, refl), λ k. (part k, less k))))
+    ],
+  )
 
 -- ---- bytes that are repaired
 

@@ -8,11 +8,12 @@ use Rattle.json.specs.Print.{print}
 use Rattle.json.specs.Tree.{json_tokens}
 use Rattle.pocsag_pages.specs.declared.page.Page.{Page}
 use Rattle.pocsag_capture.specs.Bits.{inverts}
-use Rattle.pocsag_capture.specs.declared.captured_transmission.CapturedTransmission.{CapturedTransmission}
+use Rattle.pocsag_capture.specs.PageEnds.{CapturedTransmission}
 use Rattle.pocsag_decode.specs.Listing.{header}
 use Rattle.pocsag_receiver.specs.Forms.{page_members, record_read}
 use Rattle.pocsag_receiver.specs.declared.captured.Mark.{Mark}
 use Rattle.pocsag_receiver.specs.declared.captured.Picking.{Picking}
+use Rattle.pocsag_receiver.specs.declared.form.Row.{Row}
 
 -- The state of a page.
 abbrev pub state_field : (is_cut : Bool) → List ℕ
@@ -22,6 +23,11 @@ state_field is_cut = if is_cut then codes "cut" else codes "whole"
 abbrev pub state_fields : (is_cut : Option Bool) → List (List ℕ)
 state_fields None = []
 state_fields (Some is_cut) = state_field is_cut ∷ []
+
+-- Whether a page with this mark is cut, where it has one.
+abbrev pub cut_of : Option Mark → Option Bool
+cut_of None = None
+cut_of (Some m) = Some m.is_cut
 
 -- The record of a page, and its state.
 abbrev pub captured_row : List Bool → (is_cut : Bool) → Page → List ℕ
@@ -35,6 +41,18 @@ mark_members m =
     (member (codes "transmission") (number (decimal m.transmission))
     (member (codes "inverted") (boolean m.is_inverted)
     (member (codes "bit") (number (decimal m.bit)) no_members)))
+
+-- The same where a page may have no mark.
+abbrev pub members_of : Option Mark → Members
+members_of None = no_members
+members_of (Some m) = mark_members m
+
+-- The record of a page with its mark, where it has one, and its line of JSON.
+abbrev pub row_record : List Bool → Row → List ℕ
+row_record texts r = row_text default_writer (record_read texts r.page ++ state_fields (cut_of r.mark))
+
+abbrev pub row_line : List Bool → Row → List ℕ
+row_line texts r = print (json_tokens (object (page_members texts r.page (members_of r.mark)))) ++ 10 ∷ []
 
 -- The JSON object of a page of a capture.
 abbrev pub captured_object : List Bool → Mark → Page → Json
@@ -53,6 +71,10 @@ mark_of c is_cut = record {
   bit = c.heard.reception.bit;
 }
 
+-- The same where the number, the polarity and the bit are at hand.
+abbrev pub marked : Mark → (is_cut : Bool) → Mark
+marked m is_cut = record { is_cut = is_cut; transmission = m.transmission; is_inverted = m.is_inverted; bit = m.bit }
+
 -- Whether the pages of an address are asked for: those of all addresses, or those of one.
 abbrev pub is_picked : (only : Option ℕ) → (address : ℕ) → Bool
 is_picked None address = true
@@ -65,11 +87,18 @@ picked_pages only text_of (p ∷ ps) [] = []
 picked_pages only text_of (p ∷ ps) (is_cut ∷ cuts) =
     (if is_picked only p.address then text_of is_cut p else []) ++ picked_pages only text_of ps cuts
 
+-- Those pages themselves, each with its mark.
+abbrev pub picked_rows : (only : Option ℕ) → (mark : Bool → Mark) → List Page → (cuts : List Bool) → List Row
+picked_rows only mark [] cuts = []
+picked_rows only mark (p ∷ ps) [] = []
+picked_rows only mark (p ∷ ps) (is_cut ∷ cuts) =
+    (if is_picked only p.address then record { page = p; mark = Some (mark is_cut) } ∷ [] else []) ++ picked_rows only mark ps cuts
+
 -- What is listed of a transmission: a record or a line of JSON for each page that is asked for.
 abbrev pub captured_text : Picking → CapturedTransmission → List ℕ
 captured_text k c =
-    if k.is_json then picked_pages k.only (λ is_cut p. captured_line k.texts (mark_of c is_cut) p) c.pages.items c.cuts.items
-    else picked_pages k.only (captured_row k.texts) c.pages.items c.cuts.items
+    if k.is_json then picked_pages k.only (λ is_cut p. captured_line k.texts (mark_of c is_cut) p) c.pages c.cuts
+    else picked_pages k.only (captured_row k.texts) c.pages c.cuts
 
 -- What stands before them: in CSV the record of the names.
 abbrev pub captured_header : (is_json : Bool) → List ℕ

@@ -5,13 +5,11 @@ use Rattle.pocsag_pages.specs.declared.page.Page.{Page}
 use Rattle.pocsag_pages.specs.Bytes.{unsynced}
 use Rattle.pocsag_capture.specs.Bits.{capture_bits}
 use Rattle.pocsag_capture.specs.ExtractedBytes.{ExplainsNone, ExplainsUnextracted, ExtractsOne}
-use Rattle.pocsag_capture.specs.PageEnds.{AreNumbered, HasTransmissions, IsCapturedTransmission, UncutStandWhole, pages_captured}
+use Rattle.pocsag_capture.specs.PageEnds.{CapturedTransmission, HasTransmissions, UncutStandWhole, pages_captured}
 use Rattle.pocsag_capture.specs.Receptions.{AreReceptions, received}
 use Rattle.pocsag_capture.specs.Sent.{StandAmong}
 use Rattle.pocsag_capture.specs.Slips.{AreInStep}
-use Rattle.pocsag_capture.specs.declared.captured_transmission.CapturedTransmission.{CapturedTransmission}
 use Rattle.pocsag_capture.specs.declared.reception.ReceptionStats.{ReceptionStats}
-use Rattle.pocsag_capture.specs.declared.reception.Reception.{Reception}
 use Rattle.pocsag_pager.specs.Faults.{address_fault}
 use Rattle.pocsag_shell.specs.declared.fault.FileFault.TheVariants as file
 use Rattle.pocsag_show.specs.declared.view.View.{View}
@@ -20,15 +18,6 @@ use Rattle.pocsag_receiver.specs.Views.{IsBehindLast}
 use Rattle.pocsag_receiver.specs.declared.captured.Picking.{Picking}
 use Rattle.pocsag_receiver.specs.declared.fault.ReceiverFault.{ReceiverFault}
 use Rattle.pocsag_receiver.specs.declared.fault.ReceiverFault.TheVariants as fault
-
--- The text of receptions, and how each was received is reported behind the others.
-pub record TextOfTransmissions (bits : List ℕ) (k : Picking) (receptions : List Reception) (heard_before heard_after : List ReceptionStats) (text : List ℕ) : Type 0 where
-  pub transmissions : List CapturedTransmission
-  pub of : map (λ (c : CapturedTransmission). c.heard.reception) transmissions ≡ receptions
-  pub each : All (IsCapturedTransmission bits) transmissions
-  pub numbers : AreNumbered 1 transmissions
-  pub printed : heard_after ≡ heard_before ++ map (λ (c : CapturedTransmission). c.heard) transmissions
-  pub written : text ≡ captured_listing k transmissions
 
 -- The text is the listing of a capture: of those of its pages that are asked for, each with its state. How each transmission
 -- was received is reported. The address that is asked for, if one is, is one that a pager can have.
@@ -45,7 +34,7 @@ pub record ListsWhole (capture : List ℕ) (k : Picking) (out_before out_after :
   pub transmissions : List CapturedTransmission
   pub found : AreReceptions (capture_bits capture) (map (λ (c : CapturedTransmission). c.heard.reception) transmissions)
   pub in_step : All (λ (c : CapturedTransmission). AreInStep (capture_bits capture) c.heard.reception c.heard.steady) transmissions
-  pub whole : All (λ (c : CapturedTransmission). UncutStandWhole (unsynced 0 (received (capture_bits capture) c.heard.reception)) (16 * c.heard.steady) c.pages.items c.cuts.items) transmissions
+  pub whole : All (λ (c : CapturedTransmission). UncutStandWhole (unsynced 0 (received (capture_bits capture) c.heard.reception)) (16 * c.heard.steady) c.pages c.cuts) transmissions
   pub listed : out_after ≡ out_before ++ captured_listing k transmissions
 
 -- Pages were listed among which these stand, one behind the other: of all of them those that are asked for.

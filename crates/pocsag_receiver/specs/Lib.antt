@@ -4,5 +4,6 @@ pub mod Faults
 pub mod Forms
 pub mod Listings
 pub mod Repair
+pub mod Rows
 pub mod Views
 pub mod Works

@@ -75,7 +75,7 @@ hears hearing = streamed (IsHeard hearing) (ExplainsHearing hearing.address)
 
 -- `decode --capture` and `hear --capture`: lists the pages of the transmissions of a capture.
 abbrev pub lists_capture : Picking → (heard : List ReceptionStats) → Task ReceiverFault
-lists_capture picking heard = whole (IsCaptureListed picking heard) (ExplainsCaptured picking.only)
+lists_capture picking heard = streamed (IsCaptureListed picking heard) (ExplainsCaptured picking.only)
 
 -- Shows a transmission,
 abbrev pub views : View → Task ReceiverFault

@@ -10,13 +10,14 @@ ghost use Rattle.pocsag_shell.specs.Runs.{IsStreamOf, Ran};
 ghost use Rattle.pocsag_receiver.specs.Captures.{ExplainsCaptured, ListsAmong, ListsWhole};
 ghost use Rattle.pocsag_receiver.specs.Works.{lists_capture, shows_capture};
 
-use crate::captured::{Picking, text_captured};
+use crate::captured::{CaptureRows, Picking};
 use crate::fault::ReceiverFault;
+use crate::form::list_rows;
 use crate::show::show_bytes;
 use pocsag_capture::{Extracted, ReceptionStats, extract_one, receptions_in};
 use pocsag_decode::readings_have_no_fault;
 use pocsag_pager::Pager;
-use pocsag_shell::{ErrorStream, FileFault, put_whole, read_transmission};
+use pocsag_shell::{ErrorStream, FileFault, read_transmission};
 use pocsag_show::View;
 use pocsag_words::{Sink, Source};
 use std::alloc::Global;
@@ -59,20 +60,15 @@ fn list_captured<O: Sink>(
         O.Sink out.old out.new result }
 {
     let found = receptions_in(alloc, capture).map_err(ReceiverFault::Capture)?;
-    judge_address(alloc, capture_listing.picking.only)?;
-    let mut heard = Vec::new(alloc);
-    let receptions = found.as_slice();
-    let Ok(text) = text_captured(
-        alloc,
-        capture_listing.picking,
-        capture,
-        receptions,
-        &mut heard,
-    ) else {
+    let picking = capture_listing.picking;
+    judge_address(alloc, picking.only)?;
+    let Ok(mut rows) = CaptureRows::new(alloc, capture, picking.only, found.as_slice()) else {
         return Err(ReceiverFault::File(FileFault::OutOfMemory));
     };
-    capture_listing.heard = heard;
-    put_whole(out, text.as_slice())?;
+    let names = b"address,kind,message,state\n";
+    let listed = list_rows(alloc, picking.form(), names, &mut rows, out);
+    capture_listing.heard = rows.finish();
+    listed?;
     Ok(0)
 }
 

@@ -1,16 +1,17 @@
-//! The forms in which the pages of captures are listed: each with its state.
-ghost use Rattle.std.specs.Prelude.{◌≡◌, ◌+◌, ◌^◌, ◌<◌, ◌≤◌, ◌++◌, All, length, IfOk};
+//! The rows of a capture: those of its pages that are asked for, each with its mark, one after the other.
+ghost use Rattle.std.specs.Prelude.{◌≡◌, ◌+◌, ◌^◌, ◌<◌, ◌≤◌, All, List, None, Some, length, IfOk};
 ghost use Rattle.pocsag_words.specs.Frame.{input_limit};
-ghost use Rattle.pocsag_pages.specs.Listable.{IsListable};
 ghost use Rattle.pocsag_capture.specs.Bits.{capture_bits};
+ghost use Rattle.pocsag_capture.specs.PagesLeft.{IsHandedOut};
 ghost use Rattle.pocsag_capture.specs.Receptions.{behind};
 ghost use Rattle.pocsag_capture.specs.declared.reception.Reception.{Reception};
-ghost use Rattle.pocsag_receiver.specs.Captures.{TextOfTransmissions};
-ghost use Rattle.pocsag_receiver.specs.CapturedForms.{captured_line, captured_text, is_picked, mark_of, picked_pages};
+ghost use Rattle.pocsag_capture.specs.declared.reception.ReceptionStats.{ReceptionStats};
+ghost use Rattle.pocsag_receiver.specs.CapturedForms.{is_picked};
+ghost use Rattle.pocsag_receiver.specs.Rows.{AreRowsBehind, AreRowsFrom, AreRowsLeft, AreRowsOf, CanHandOut, form_of, most_rows};
+ghost use Rattle.pocsag_receiver.specs.declared.form.Row.{Row};
 
-use crate::form::{begin_page_object, end_object, put_read, state_name};
-use pocsag_capture::{CapturedTransmission, Reception, ReceptionStats, capture_pages};
-use pocsag_pages::Page;
+use crate::form::{ListForm, Row, RowSource};
+use pocsag_capture::{CapturedPages, Reception, ReceptionStats};
 use std::alloc::{AllocError, Global};
 
 /// Which pages of a capture are listed, and in which form.
@@ -22,6 +23,19 @@ pub struct Picking {
     pub texts: [bool; 3],
     /// As lines of JSON; otherwise as CSV.
     pub is_json: bool,
+}
+
+impl Picking {
+    /// The form.
+    pub(crate) fn form(self) -> ListForm
+        ensures { result ≡ form_of self }
+    {
+        if self.is_json {
+            ListForm::Json(self.texts)
+        } else {
+            ListForm::Texts(self.texts)
+        }
+    }
 }
 
 /// What is reported of a page of a capture besides the page.
@@ -37,6 +51,29 @@ pub struct Mark {
     pub bit: u64,
 }
 
+// A reception of which the pages are handed out.
+#[derive(Drop)]
+pub(crate) struct Begun<'a> {
+    // The mark of its pages, but for whether they are cut.
+    pub(crate) mark: Mark,
+    pub(crate) pages: CapturedPages<'a>,
+}
+
+// The rows of receptions.
+#[derive(Drop)]
+pub(crate) struct CaptureRows<'a> {
+    pub(crate) alloc: Global,
+    pub(crate) capture: &'a [u8],
+    // The address of which the pages are asked for, or all.
+    pub(crate) only: Option<u32>,
+    pub(crate) found: &'a [Reception],
+    // The place of the reception that is begun.
+    pub(crate) place: usize,
+    pub(crate) current: Option<Begun<'a>>,
+    // How those before it were received, and room for the others.
+    pub(crate) heard: Vec<ReceptionStats>,
+}
+
 // Whether the pages of an address are asked for: those of all addresses, or those of one.
 fn is_picked(only: Option<u32>, address: u32) -> bool
     ensures { result ≡ is_picked only address }
@@ -47,114 +84,135 @@ fn is_picked(only: Option<u32>, address: u32) -> bool
     }
 }
 
-// The lines before these, and that of a page.
-fn with_captured_line(
-    alloc: Global,
-    lines: Vec<u8>,
-    texts: [bool; 3],
-    page: &Page,
-    mark: Mark,
-) -> Result<Vec<u8>, AllocError>
-    requires { IsListable page.now }
-    ensures { IfOk result (λ v. v.items ≡ lines.items ++ captured_line texts mark page.now) }
-{
-    let mut writer = begin_page_object(alloc, lines, texts, page)?;
-    writer.key("state")?;
-    writer.string(state_name(mark.is_cut))?;
-    writer.key("transmission")?;
-    writer.u64(mark.transmission)?;
-    writer.key("inverted")?;
-    writer.boolean(mark.is_inverted)?;
-    writer.key("bit")?;
-    writer.u64(mark.bit)?;
-    end_object(writer)
-}
-
-// The lines before these, and those of the pages of a transmission that are asked for.
-fn with_lines(
-    alloc: Global,
-    before: Vec<u8>,
-    picking: Picking,
-    captured: &CapturedTransmission,
-) -> Result<Vec<u8>, AllocError>
-    requires listable { All IsListable captured.now.pages.items }
-    requires long { length captured.now.cuts.items ≡ length captured.now.pages.items }
-    ensures { IfOk result (λ v. v.items ≡ before.items ++ picked_pages picking.only
-        (λ is_cut p. captured_line picking.texts (mark_of captured.now is_cut) p)
-        captured.now.pages.items captured.now.cuts.items) }
-{
-    let pages = captured.pages.as_slice();
-    let cuts = captured.cuts.as_slice();
-    let reception = captured.heard.reception;
-    let is_inverted = reception.polarity.is_inverted();
-    let mut lines = before;
-    for index in 0..pages.len() {
-        let page = &pages[index];
-        if !is_picked(picking.only, page.address) {
-            continue;
+impl<'a> CaptureRows<'a> {
+    /// The rows of these receptions. Behind it no memory is taken but for the pages.
+    pub(crate) fn new(
+        alloc: Global,
+        capture: &'a [u8],
+        only: Option<u32>,
+        found: &'a [Reception],
+    ) -> Result<CaptureRows<'a>, AllocError>
+        requires few { length capture.now ≤ input_limit }
+        requires ends { All (λ (r : Reception). behind r < 2 ^ 60) found.now }
+        ensures can { IfOk result (λ source. CanHandOut source source.current) }
+        ensures all { IfOk result (λ source. (rows : List Row) (heard : List ReceptionStats) →
+            AreRowsLeft source source.current rows heard →
+            AreRowsOf (capture_bits capture.now) only 1 found.now rows heard) }
+    {
+        let mut heard = Vec::new(alloc);
+        for reception in found {
+            heard.push(ReceptionStats {
+                reception: *reception,
+                steady: 0,
+                corrected: 0,
+                lost: 0,
+                cut: 0,
+            })?;
         }
-        let mark = Mark {
-            is_cut: cuts[index],
-            transmission: captured.number,
-            is_inverted,
-            bit: reception.bit,
+        let mut source = CaptureRows {
+            alloc,
+            capture,
+            only,
+            found,
+            place: 0,
+            current: None,
+            heard,
         };
-        lines = with_captured_line(alloc, lines, picking.texts, page, mark)?;
+        source.begin();
+        Ok(source)
     }
-    Ok(lines)
-}
 
-// The text before these, and what is listed of a transmission: lines of JSON, or records.
-fn with_transmission(
-    alloc: Global,
-    before: Vec<u8>,
-    picking: Picking,
-    captured: &CapturedTransmission,
-) -> Result<Vec<u8>, AllocError>
-    requires listable { All IsListable captured.now.pages.items }
-    requires long { length captured.now.cuts.items ≡ length captured.now.pages.items }
-    ensures { IfOk result (λ v. v.items ≡ before.items ++ captured_text picking captured.now) }
-{
-    if picking.is_json {
-        return with_lines(alloc, before, picking, captured);
-    }
-    let mut writer = csv::Writer::from_writer(before);
-    let pages = captured.pages.as_slice();
-    let cuts = captured.cuts.as_slice();
-    for index in 0..pages.len() {
-        let page = &pages[index];
-        if !is_picked(picking.only, page.address) {
-            continue;
+    // Begins the reception at the place, if one is there.
+    fn begin(&mut self)
+        requires can { CanHandOut self.old None }
+        ensures can { CanHandOut self.new self.new.current }
+        ensures left { (rows : List Row) (heard : List ReceptionStats) →
+            AreRowsLeft self.new self.new.current rows heard → AreRowsFrom self.old self.old.place rows heard }
+        ensures place { self.new.place ≡ self.old.place }
+        ensures found { self.new.found.now ≡ self.old.found.now }
+    {
+        if self.place == self.found.len() {
+            self.current = None;
+            return;
         }
-        put_read(alloc, &mut writer, picking.texts, page, Some(cuts[index]))?;
+        let reception = self.found[self.place];
+        self.current = Some(Begun {
+            mark: Mark {
+                is_cut: true,
+                transmission: self.place as u64 + 1,
+                is_inverted: reception.polarity.is_inverted(),
+                bit: reception.bit,
+            },
+            pages: CapturedPages::new(self.alloc, self.capture, reception),
+        });
     }
-    writer.into_inner().map_err(|_| AllocError)
+
+    // Ends this reception, and begins the next.
+    fn end(&mut self, begun: Begun<'a>)
+        requires can { CanHandOut self.old (Some begun) }
+        ensures can { CanHandOut self.new self.new.current }
+        ensures left { (rows : List Row) (heard : List ReceptionStats) →
+            AreRowsLeft self.new self.new.current rows heard →
+            (before : List Row) × AreRowsBehind self.old begun.entry before heard }
+        ensures over { IsHandedOut begun.entry.pages → (rows : List Row) (heard : List ReceptionStats) →
+            AreRowsLeft self.new self.new.current rows heard → AreRowsBehind self.old begun.entry rows heard }
+        ensures place { self.new.place ≡ self.old.place + 1 }
+        ensures found { self.new.found.now ≡ self.old.found.now }
+    {
+        let Begun { mark: _, pages } = begun;
+        self.heard[self.place] = pages.finish();
+        self.place += 1;
+        self.begin();
+    }
+
+    /// How each reception was received, with the words that are left.
+    pub(crate) fn finish(mut self) -> Vec<ReceptionStats>
+        requires can { CanHandOut self self.current }
+        ensures ends { (rows : List Row) × AreRowsLeft self.entry self.entry.current rows result.items }
+    {
+        while let Some(begun) = self.current.take() {
+            self.end(begun);
+        }
+        self.heard
+    }
 }
 
-/// The listing of the receptions of a capture. How each was received is put behind the others.
-pub(crate) fn text_captured(
-    alloc: Global,
-    picking: Picking,
-    capture: &[u8],
-    found: &[Reception],
-    heard: &mut Vec<ReceptionStats>,
-) -> Result<Vec<u8>, AllocError>
-    requires few { length capture.now ≤ input_limit }
-    requires some { All (λ (r : Reception). 0 < r.batches) found.now }
-    requires ends { All (λ (r : Reception). behind r < 2 ^ 60) found.now }
-    ensures { IfOk result (λ text.
-        TextOfTransmissions (capture_bits capture.now) picking found.now heard.old.items heard.new.items text.items) }
-{
-    let mut text = Vec::new(alloc);
-    if !picking.is_json {
-        text.extend_from_slice(b"address,kind,message,state\n")?;
+impl<'a> RowSource for CaptureRows<'a> {
+    ghost Told = { List ReceptionStats };
+
+    ghost is_sound = { λ source. CanHandOut source source.current };
+
+    ghost can_list = { λ _. Unit {0} };
+
+    ghost leaves = { λ source. AreRowsLeft source source.current };
+
+    ghost most = { most_rows };
+
+    fn next_row(&mut self) -> Result<Option<Row>, AllocError> {
+        while let Some(mut begun) = self.current.take() {
+            let next = begun.pages.next_page();
+            let Ok(found) = next else {
+                self.current = Some(begun);
+                return Err(AllocError);
+            };
+            let Some(captured) = found else {
+                self.end(begun);
+                continue;
+            };
+            let mark = Mark {
+                is_cut: captured.is_cut,
+                transmission: begun.mark.transmission,
+                is_inverted: begun.mark.is_inverted,
+                bit: begun.mark.bit,
+            };
+            self.current = Some(begun);
+            if is_picked(self.only, captured.page.address) {
+                return Ok(Some(Row {
+                    page: captured.page,
+                    mark: Some(mark),
+                }));
+            }
+        }
+        Ok(None)
     }
-    let mut number = 0;
-    for reception in found {
-        number += 1;
-        let captured = capture_pages(alloc, capture, number, *reception)?;
-        text = with_transmission(alloc, text, picking, &captured)?;
-        heard.push(captured.heard)?;
-    }
-    Ok(text)
 }

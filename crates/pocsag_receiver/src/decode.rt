@@ -11,10 +11,10 @@ ghost use Rattle.pocsag_receiver.specs.Forms.{listed_in};
 ghost use Rattle.pocsag_receiver.specs.Works.{decodes, lists};
 
 use crate::fault::ReceiverFault;
-use crate::form::{ListForm, list_in};
+use crate::form::{ListForm, list_from};
 use crate::repair::{Repairing, repair_asked};
-use pocsag_decode::{decode, judge_bytes, list_sent};
-use pocsag_shell::{ErrorStream, FileFault, read_transmission};
+use pocsag_decode::{PageReader, judge_bytes, list_sent};
+use pocsag_shell::{ErrorStream, read_transmission};
 use pocsag_words::{Sink, Source};
 use std::alloc::Global;
 
@@ -39,8 +39,7 @@ fn list_decoded_in<O: Sink>(
         list_sent(alloc, bytes, out)?;
         return Ok(0);
     }
-    let pages = decode(alloc, bytes).map_err(|_| ReceiverFault::File(FileFault::OutOfMemory))?;
-    list_in(alloc, form, pages, out)
+    list_from(alloc, form, &mut PageReader::new(alloc, bytes), out)
 }
 
 // Lists the pages of the bytes of a transmission, with repair those that its words read as once each is repaired.

@@ -1,9 +1,12 @@
-use Rattle.std.proofs.Common.{◌≡◌, Err, ap, refl}
+use Rattle.std.proofs.Common.{◌≡◌, All, Err, ap, inr, refl, subst, sym, ◌∙◌}
 use Rattle.std.proofs.lemmas.Result.{err_from_is_err_and}
+use Rattle.pocsag_pages.specs.Listable.{IsListable}
 use Rattle.pocsag_decode.specs.Listing.{listing}
+use Rattle.pocsag_decode.specs.PageReaders.{pages_left}
 use Rattle.pocsag_shell.proofs.Readers.{streams_as}
 use Rattle.pocsag_shell.specs.Readers.{over_bytes}
 use Rattle.pocsag_receiver.specs.Faults.{fault_of_list}
+use Rattle.pocsag_receiver.specs.Forms.{listed_in}
 use Rattle.pocsag_receiver.specs.Works.{lists, writing}
 use Rattle.pocsag_receiver.specs.declared.form.ListForm.TheVariants as forms
 use Rattle.pocsag_receiver.proofs.Received.{passed_on}
@@ -17,7 +20,7 @@ returns-in_err-list_sent g c =
     let done = c.in_err-list_sent.ensures in
     let plain : c.args.form ≡ forms.Listing = cc in
     let put = unlisted g.O.Sink c.args.out.now c.list_sent.new.sink (listing read.0) c.in_err-list_sent.field-0.0 (λ is. done.failures.1 (ap Err is))
-    (λ known. done.part known read.0 read.1) (λ known is. done.stopped known (ap Err is) read.0 read.1) in
+    (λ known. done.part known read.0 read.1) (λ is. inr (λ known. done.stopped known (ap Err is) read.0 read.1)) in
     let as_list = streams_as (writing (listing read.0)) (over_bytes (lists c.args.form) g.O.Sink c.args.bytes.now) g.O.Sink c.args.out.now c.list_sent.new.sink
     (Err (fault_of_list c.in_err-list_sent.field-0.0)) (λ k. tt)
     (λ s text q. (q.0, record { pages = read.0; reads = read.1; listed = rw plain q.1 })) (λ f why. rw why read) (λ f why. why) (λ f why. why) put in
@@ -36,4 +39,20 @@ returns-in-Listing g c =
         ),
         tt,
       );
+    }
+
+pub list_from-requires : goal.list_from-requires
+list_from-requires g c =
+    let read = passed_on _ _ _ _ _ c.map_err.ensures.cases c.map_err.ensures.variant c.in_ok-map_err.was c.judge_bytes.ensures.ok in
+    subst (All IsListable) (sym (c.new.ensures.left read.0 read.1)) (c.new.ensures.listable read.0 read.1)
+
+pub returns : goal.returns
+returns g c =
+    let read = passed_on _ _ _ _ _ c.map_err.ensures.cases c.map_err.ensures.variant c.in_ok-map_err.was c.judge_bytes.ensures.ok in
+    let left = c.new.ensures.left read.0 read.1 in record {
+      streams = streams_as (writing (listed_in c.args.form (pages_left c.new.result))) (over_bytes (lists c.args.form) g.O.Sink c.args.bytes.now) g.O.Sink
+          c.args.out.now c.list_from.new.sink c.list_from.result (λ k. tt) (λ s text q. (
+            q.0,
+            record { pages = read.0; reads = read.1; listed = q.1 ∙ ap (listed_in c.args.form) left },
+          )) (λ f why. rw why read) (λ f why. why) (λ f why. why) c.list_from.ensures.streams;
     }

@@ -1,0 +1,5 @@
+use Rattle.std.proofs.Common.{◌≡◌, length}
+use Rattle.pocsag_receiver.proofs.captured.CaptureRows.new.Given as goal
+
+abbrev pub invariant-loop-reception : goal.invariant-loop-reception
+invariant-loop-reception l = length l.heard.items ≡ l.reception-index
