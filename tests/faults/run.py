@@ -277,13 +277,16 @@ def try_plan(tally, library, folder):
     tally.check("plan one byte at a time", holds, short)
 
 
-def try_printing(tally, library, name, words, files, folder):
-    """A command that reads files and prints: after a refusal a prefix of its text was printed."""
+def try_printing(tally, library, name, words, files, folder, in_pieces=False):
+    """A command that reads files and prints: after a refusal a prefix of its text was printed, which is not all of it; nothing where
+    memory was refused, unless the text is written in pieces."""
     for file, content in files.items():
         (folder / file).write_bytes(content)
     command = [str(PROGRAM)] + [str(folder / word) if word in files else word for word in words]
     ample, _ = run(command, library)
     tally.check(name, ample.returncode == 0 and len(ample.stdout) > 5, ample)
+
+    behind = set()
 
     def judge(kind, text):
         def judge_one(number, done):
@@ -292,8 +295,9 @@ def try_printing(tally, library, name, words, files, folder):
                 done.returncode == 3
                 and (done.stderr == text or (kind == "WRITE" and text.endswith(done.stderr)))
                 and ample.stdout.startswith(done.stdout)
-                and (kind == "WRITE" or done.stdout == b"")
+                and (kind == "WRITE" or done.stdout == b"" or (in_pieces and done.stdout != ample.stdout))
             )
+            behind.update({kind} if is_refused and done.stdout else ())
             kept = all((folder / file).read_bytes() == content for file, content in files.items())
             tally.check(f"{name} without {kind} {number}", (is_ample or is_refused) and kept, done)
 
@@ -302,6 +306,7 @@ def try_printing(tally, library, name, words, files, folder):
     for kind, text in (("ALLOC", OUT_OF_MEMORY), ("READ", CANNOT_READ), ("WRITE", CANNOT_WRITE)):
         count = each_refusal(command, library, kind, b"", nothing, judge(kind, text))
         tally.check(f"{name}: {kind}", count > 0, count)
+    tally.check(f"{name}: memory refused behind a part", ("ALLOC" in behind) == in_pieces, behind)
     short, _ = run(command, library, short=True)
     tally.check(f"{name} one byte at a time", short.returncode == 0 and short.stdout == ample.stdout, short)
 
@@ -473,6 +478,9 @@ CERTIFICATE = bytes.fromhex("5043423200000000030200013000020000010080 00".replac
 # One page across two batches.
 ACROSS = transmission([*15 * [IDLE], ZERO, codeword(MESSAGE | digits("12345")[0])])
 
+# Three pages, of which two are more text than is written at once, in each form. A transmission of 4 MB is written as it is read.
+LONG = transmission(3 * [ZERO, *400_000 * [codeword(MESSAGE | digits("12345")[0])]])
+
 
 def main():
     tally = Tally()
@@ -501,6 +509,9 @@ def main():
         for words in (["decode", "tx.bin"], ["decode", "tx.bin", "--repair"], ["hear", "7", "tx.bin"]):
             for form in (["--json"], ["--text", "0"]):
                 try_printing(tally, library, f"{words[0]} {form[0]}", [*words, *form], files, folder)
+        for form in ([], ["--json"], ["--text", "0"], ["--capture"], ["--capture", "--json"]):
+            words = ["decode", "tx.bin", *form]
+            try_printing(tally, library, f"{' '.join(words)}, long", words, {"tx.bin": LONG}, folder, in_pieces=True)
         try_printing(tally, library, "wav", ["wav", "tx.bin", "--samples", "8000"], files, folder)
         for words in (["decode", "tx.bin"], ["hear", "7", "tx.bin"], ["show", "tx.bin"]):
             try_printing(tally, library, f"{words[0]} --capture", [*words, "--capture"], files, folder)

@@ -3,13 +3,14 @@
 
 use crate::same;
 use pocsag_capture::{CaptureFault, Polarity, Reception, ReceptionStats};
+use pocsag_core_cases::given::cut;
 use pocsag_receiver::{
     CaptureListing, Picking, ReceiverFault, Viewing, run_list_capture, run_show_capture,
 };
 use pocsag_shell::ErrorStream;
 use pocsag_show::{Rows, View};
 use pocsag_words::{MemorySink, SliceSource};
-use std::alloc::Global;
+use std::alloc::{AllocError, Global};
 use std::process::Abort;
 
 type Errors = ErrorStream<ReceiverFault, MemorySink<100>>;
@@ -164,4 +165,103 @@ fn cut_tones() -> [u8; 68] {
 fn tones_are_cut(rt: HostRuntime) {
     let due = "address,kind,message,state\n8,tone0,,cut\n9,tone0,,whole\n15,tone0,,cut\n";
     expect_listing(&rt, rt.alloc(), &cut_tones(), LISTED, due);
+}
+
+// The bytes of a capture of many batches.
+const MANY: usize = 4_080;
+
+// Sixty batches with a tone in each codeword, of addresses 8 to 15, two of each in turn.
+fn many_tones() -> [u8; MANY] {
+    let mut capture = [0; MANY];
+    for place in 0..MANY {
+        capture[place] = match place % 68 {
+            0..=3 => [0x7c, 0xd2, 0x15, 0xd8][place % 4],
+            _ => [0x00, 0x00, 0x26, 0xec][place % 4],
+        };
+    }
+    capture
+}
+
+// Their lines of JSON, behind two receptions of a lone tone: that of the transmission with this number, which begins at this bit.
+fn lines_of_many(alloc: Global, number: u32, bit: u64) -> Result<Vec<u8>, AllocError> {
+    let mut lines = Vec::new(alloc);
+    for tone in 0..960 {
+        let address = 8 + tone / 2 % 8;
+        let state = if tone == 959 { "cut" } else { "whole" };
+        let line = format!(in alloc;
+            "{{\"address\":{address},\"function\":0,\"kind\":\"tone0\",\"message\":\"\",\"state\":\"{state}\",\"transmission\":{number},\"inverted\":false,\"bit\":{bit}}}\n"
+        )?;
+        lines.extend_from_slice(line.as_bytes())?;
+    }
+    Ok(lines)
+}
+
+// Lists the pages of a capture as JSON, where the writer fails behind so many bytes: the exit status, what is written, and of how
+// many transmissions it is reported how they were received.
+fn list_in_json(alloc: Global, capture: &[u8], fails_at: u64) -> (u8, MemorySink<200_000>, usize) {
+    let mut asked = CaptureListing {
+        picking: Picking {
+            only: None,
+            texts: [false; 3],
+            is_json: true,
+        },
+        heard: Vec::new(alloc),
+    };
+    let mut out = MemorySink::new(50_000, fails_at);
+    let tx = &mut SliceSource::new(capture);
+    let status = run_list_capture(alloc, &mut asked, tx, &mut out, &mut errors());
+    (status, out, asked.heard.len())
+}
+
+// A text longer than what waits before it is written: all of it, and a part where a write is refused.
+#[test]
+fn many_tones_are_listed_as_they_are_read(rt: HostRuntime) {
+    let capture = many_tones();
+    let alloc = rt.alloc();
+    let due = lines_of_many(alloc, 1, 0).expect(&rt, "memory");
+    let due = due.as_slice();
+    let (status, out, heard) = list_in_json(alloc, &capture, 200_000);
+    same!(rt; status, 0);
+    same!(rt; out.bytes(), due);
+    same!(rt; heard, 1);
+    for fails_at in [0, 1, 50_000, 65_535, 65_536, 65_700, 100_000] {
+        let (status, out, heard) = list_in_json(alloc, &capture, fails_at as u64);
+        same!(rt; status, 3, fails_at);
+        same!(rt; out.bytes(), cut(due, fails_at), fails_at);
+        same!(rt; heard, 1, fails_at);
+    }
+}
+
+// Two transmissions, of which the first is longer than what waits: the pages of the second stand behind those of the first, and
+// how both were received is reported also where the writer fails in the first.
+#[test]
+fn pages_of_the_second_transmission_stand_behind(rt: HostRuntime) {
+    let alloc = rt.alloc();
+    let mut capture = Vec::from_slice(alloc, &many_tones()).expect(&rt, "memory");
+    capture
+        .extend_from_slice(&[0xff; 150])
+        .expect(&rt, "memory");
+    capture
+        .extend_from_slice(&many_tones())
+        .expect(&rt, "memory");
+    let mut due = lines_of_many(alloc, 1, 0).expect(&rt, "memory");
+    let second = lines_of_many(alloc, 2, 33_840).expect(&rt, "memory");
+    due.extend_from_slice(second.as_slice())
+        .expect(&rt, "memory");
+    let (status, out, heard) = list_in_json(alloc, capture.as_slice(), 65_000);
+    same!(rt; (status, heard), (3, 2));
+    same!(rt; out.bytes(), cut(due.as_slice(), 65_000));
+    let mut asked = CaptureListing {
+        picking: Picking {
+            only: None,
+            texts: [false; 3],
+            is_json: true,
+        },
+        heard: Vec::new(alloc),
+    };
+    let mut all = MemorySink::<400_000>::new(400_000, 400_000);
+    let tx = &mut SliceSource::new(capture.as_slice());
+    let status = run_list_capture(alloc, &mut asked, tx, &mut all, &mut errors());
+    same!(rt; status, 0);
+    same!(rt; all.bytes(), due.as_slice());
 }

@@ -2,6 +2,7 @@
 
 use crate::same;
 use pocsag_centre::{ExplainFiles, run_explain};
+use pocsag_core_cases::given::{SECOND, SYNC, cut};
 use pocsag_decode::Repaired;
 use pocsag_findings::Format;
 use pocsag_plan::plan_stream;
@@ -276,5 +277,50 @@ fn repairs_are_counted(rt: HostRuntime) -> Result<(), Fail> {
         same!(rt; status, 0);
         same!(rt; decoding.repairing.corrected, Repaired { words, bits });
     }
+    Ok(())
+}
+
+// Lists the transmission in a form to sinks that take all of the text, or its first so many bytes and then fail.
+fn expect_pieces(rt: &impl Abort, alloc: Global, form: ListForm, sent: &[u8], text: &[u8]) {
+    for room in [
+        0,
+        1,
+        65_535,
+        65_560,
+        text.len().saturating_sub(1),
+        text.len(),
+    ] {
+        let mut tx = SliceSource::new(sent);
+        let mut out = MemorySink::<80_000>::new(20_000, room as u64);
+        let (repairing, mut err) = (Repairing::new(false), errors());
+        let mut decoding = Decoding { form, repairing };
+        let status = run_decode(alloc, &mut decoding, &mut tx, &mut out, &mut err);
+        let due = if room < text.len() { 3 } else { 0 };
+        same!(rt; status, due, room);
+        same!(rt; out.bytes(), cut(text, room), room);
+    }
+}
+
+#[test]
+fn long_texts_are_written_in_pieces(rt: HostRuntime) -> Result<(), Fail> {
+    let alloc = rt.alloc();
+    let mut sent = vec![in alloc; 0xaa; 72]?;
+    let (mut lines, mut records) = (Vec::new(alloc), Vec::new(alloc));
+    records.extend_from_slice(b"address,kind,message\n")?;
+    for _ in 0..80 {
+        sent.extend_from_slice(&SYNC.to_be_bytes())?;
+        for slot in 0..16 {
+            sent.extend_from_slice(&SECOND.to_be_bytes())?;
+            let address = 8 + slot / 2;
+            let line = format!(in alloc;
+                "{{\"address\":{address},\"function\":0,\"kind\":\"tone0\",\"message\":\"\"}}\n"
+            )?;
+            lines.extend_from_slice(line.as_bytes())?;
+            records.extend_from_slice(format!(in alloc; "{address},tone0,\n")?.as_bytes())?;
+        }
+    }
+    let (json, texts) = (ListForm::Json([false; 3]), ListForm::Texts([true; 3]));
+    expect_pieces(&rt, alloc, json, sent.as_slice(), lines.as_slice());
+    expect_pieces(&rt, alloc, texts, sent.as_slice(), records.as_slice());
     Ok(())
 }

@@ -5,7 +5,9 @@ use crate::given::{
     transmission,
 };
 use crate::same;
-use pocsag_decode::{DecodeFault, Decoder, ListFault, decode, list, repair_all};
+use pocsag_decode::{
+    DecodeFault, Decoder, ListFault, PageReader, PageSource, decode, list, repair_all,
+};
 use pocsag_pages::Page;
 use pocsag_words::{MemorySink, OutOfMemory};
 use std::alloc::Global;
@@ -72,6 +74,23 @@ fn decode_by_byte(alloc: Global, bytes: &[u8]) -> Result<Vec<Page>, DecodeFault>
     decoder.finish()
 }
 
+// The pages that a reader hands out, which has none left behind them.
+fn handed_out(
+    rt: &impl Abort,
+    alloc: Global,
+    bytes: &[u8],
+    count: usize,
+) -> Result<Vec<Page>, OutOfMemory> {
+    let mut reader = PageReader::new(alloc, bytes);
+    let mut pages = Vec::new(alloc);
+    for _ in 0..count {
+        pages.push(reader.next_page()?.expect(rt, "a page"))?;
+    }
+    same!(rt; reader.next_page()?, None, count);
+    same!(rt; reader.next_page()?, None, count);
+    Ok(pages)
+}
+
 fn expect_decoded(
     rt: &impl Abort,
     alloc: Global,
@@ -85,6 +104,9 @@ fn expect_decoded(
     };
     same!(rt; decode(alloc, bytes), due, sent);
     same!(rt; decode_by_byte(alloc, bytes), due, sent);
+    if let Ok(due) = due {
+        same!(rt; handed_out(rt, alloc, bytes, due.len())?, due, sent);
+    }
     Ok(())
 }
 
