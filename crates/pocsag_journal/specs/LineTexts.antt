@@ -6,15 +6,16 @@ use Rattle.csv.specs.Reading.{strip_bom}
 use Rattle.pocsag_journal.specs.declared.refusal.Refusal.{Refusal}
 use Rattle.pocsag_journal.specs.declared.refusal.Refusal.TheVariants as refusal
 use Rattle.pocsag_journal.specs.declared.refusal.UndoneFault.TheVariants as undone
-use Rattle.pocsag_pages.specs.RecordTexts.{EndsInQuotes, HasNoRecord, HasStrayByte, HasStrayQuote}
+use Rattle.pocsag_pages.specs.PageFile.{Row}
+use Rattle.pocsag_pages.specs.RecordTexts.{EndsInQuotes, HasNoRecord, HasStrayByte, HasStrayQuote, IsRowText}
 
--- Why a text is no record that an edit could be: it ends in quotes, a quote is out of place, another byte is, or it is
--- empty; or memory was wanting to read it.
+-- Why no record was read of a text: it ends in quotes, a quote is out of place, another byte is, or it is empty; or it is that of
+-- a record, which there was no memory to read.
 abbrev pub IsUnread : (text : List ℕ) → Refusal → Type 0
 IsUnread text refusal.InQuotes = HasNoRecord text × EndsInQuotes text
 IsUnread text refusal.StrayQuote = HasStrayQuote text
 IsUnread text refusal.Unknown = HasStrayByte text ⊎ (text ≡ [])
-IsUnread text (refusal.Undone f) = f ≡ undone.OutOfMemory
+IsUnread text (refusal.Undone f) = (f ≡ undone.OutOfMemory) × ((row : Row) × IsRowText row text)
 IsUnread text _ = ⊥
 
 -- Whether a byte is that of a carriage return.

@@ -72,7 +72,7 @@ other_reasons : (text : List ℕ) (why : Refusal) → IsUnread text why → why 
 other_reasons text refusal.InQuotes h n = inl (refl, h)
 other_reasons text refusal.StrayQuote h n = inr (inl (refl, h))
 other_reasons text refusal.Unknown h n = inr (inr (refl, h))
-other_reasons text (refusal.Undone f) h n = absurd (n (ap (λ (g : UndoneFault). refusal.Undone g) h))
+other_reasons text (refusal.Undone f) h n = absurd (n (ap (λ (g : UndoneFault). refusal.Undone g) h.0))
 other_reasons text (refusal.Field f) h n = absurd h
 other_reasons text (refusal.Add f) h n = absurd h
 other_reasons text (refusal.Cancel f) h n = absurd h

@@ -144,7 +144,7 @@ unread_told row text refusal.StrayQuote told some spelled h is = absurd (lost_no
 unread_told row text refusal.Unknown told some spelled (inl h) is = absurd (lost_none row text h.0 h.1.0 spelled h.1.1)
 unread_told row text refusal.Unknown told some spelled (inr none) is = absurd (some none)
 unread_told row text (refusal.Undone f) told some spelled h is =
-    refused_told (refusal.Undone undone.OutOfMemory) told refl (subst (λ (g : UndoneFault). IsRefusalPrinted (refusal.Undone g) told) h is)
+    refused_told (refusal.Undone undone.OutOfMemory) told refl (subst (λ (g : UndoneFault). IsRefusalPrinted (refusal.Undone g) told) h.0 is)
 unread_told row text (refusal.Field f) told some spelled h is = absurd h
 unread_told row text (refusal.Add f) told some spelled h is = absurd h
 unread_told row text (refusal.Cancel f) told some spelled h is = absurd h

@@ -4,6 +4,7 @@ use Rattle.pocsag_pages.specs.QuoteStates.{MayEnd, quote_state_from}
 use Rattle.pocsag_pages.specs.declared.quote_state.QuoteState.{QuoteState}
 use Rattle.pocsag_pages.specs.declared.quote_state.QuoteState.TheVariants as at
 use Rattle.pocsag_journal.specs.LineTexts.{record_text}
+use Rattle.pocsag_pages.proofs.QuoteStates.{text_of}
 use Rattle.pocsag_pages.proofs.RowTexts.{empty_is, may_end, no_row, open_quote, row_is}
 use Rattle.pocsag_pages.proofs.Strays.{stray_byte, stray_quote}
 use Rattle.pocsag_journal.proofs.edits.record_of.Goals.{After-quote_state_of}
@@ -35,3 +36,8 @@ returns-in-Ok-None c =
     let may = subst MayEnd (sym (stands (goal.at.returns-in-Ok-None c).After-quote_state_of _ refl)) (may_end _ c.in-Start.is) in
     let read = rw (c.without_return-bare.ensures, c.in-Ok-None.field-0-is) at c.in-Ok-None.ensures in
     record { spelled = tt; refused = inr (empty_is _ may (sym read)) }
+
+pub returns-in-Err-clause-refused : goal.returns-in-Err-clause-refused
+returns-in-Err-clause-refused c =
+    let may = subst MayEnd (sym (stands (goal.at.returns-in-Err-clause-refused c).After-quote_state_of _ refl)) (may_end _ c.in-Start.is) in
+    (refl, text_of _ may)
