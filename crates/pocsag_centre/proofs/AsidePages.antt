@@ -1,5 +1,5 @@
 -- The pages of a queue that are set aside, and the others.
-use Rattle.std.proofs.Common.{◌≡◌, ℕ, ◌≤◌, Bool, true, false, not, ◌&&◌, inl, inr, List, [], ◌∷◌, ◌++◌, All, length, nat_eq, filter, refl, sym, ap, subst, ◌∙◌, arith}
+use Rattle.std.proofs.Common.{◌≡◌, ℕ, ◌<◌, ◌≤◌, Bool, true, false, not, ◌&&◌, inl, inr, List, [], ◌∷◌, ◌++◌, All, length, nat_eq, filter, refl, sym, ap, subst, ◌∙◌, arith}
 use Rattle.std.specs.Prelude.{None}
 use Rattle.std.specs.List.{AllByRecursion, IsDistinct, list_any}
 use Rattle.std.proofs.lemmas.Bool.{cases_Bool}
@@ -14,7 +14,7 @@ use Rattle.pocsag_decode.specs.PageFiles.{IsSpellable, page_file}
 use Rattle.pocsag_centre.specs.FrontFiles.{IsPageFileOf}
 use Rattle.pocsag_centre.proofs.QueueRounds.{AreReadBack, held_back}
 use Rattle.pocsag_centre.specs.declared.front.FrontAsked.{FrontAsked}
-use Rattle.pocsag_centre.specs.Oversized.{aside_of, fits_alone, is_aside, planned_of}
+use Rattle.pocsag_centre.specs.Oversized.{aside_of, fits_alone, is_aside, is_parted, planned_of}
 
 -- pages that a test takes out of others
 module _ (f : Page → Bool) where
@@ -61,8 +61,8 @@ module _ (f : Page → Bool) where
         | inr n ↦ rw n (taken_same ps p h)
       ]
 
--- nothing is set aside where no page fits
-module _ (asked : FrontAsked) (Q : List Page) (off : list_any (fits_alone asked.search.end asked.batches) Q ≡ false) where
+-- nothing is set aside of pages of which none is to be
+module _ (asked : FrontAsked) (Q : List Page) (off : is_parted asked Q ≡ false) where
   none_is : (p : Page) → is_aside asked Q p ≡ false
   none_is p = rw off refl
 
@@ -80,13 +80,51 @@ twice : (f : Bool) → not (not f) ≡ f
 twice true = refl
 twice false = refl
 
+some_kept : (f g : Page → Bool) → ((p : Page) → g p ≡ f p) → (ps : List Page) → list_any f ps ≡ true → 0 < length (filter g ps)
+some_kept f g same [] any = absurd (cc)
+some_kept f g same (p ∷ ps) any =
+    elim (cases_Bool (f p)) [
+      | inl e ↦ rw (same p, e) (omega arith)
+      | inr n ↦ rw (same p, n) (some_kept f g same ps (rw n at any))
+    ]
+
 -- where pages are set aside, those that do not fit are
-module _ (asked : FrontAsked) (Q : List Page) (on : list_any (fits_alone asked.search.end asked.batches) Q ≡ true) where
+module _ (asked : FrontAsked) (Q : List Page) (on : is_parted asked Q ≡ true) where
+  abbrev fits : Page → Bool
+  fits = fits_alone asked.search.end asked.batches
+
   pub aside_is : (p : Page) → is_aside asked Q p ≡ not (fits_alone asked.search.end asked.batches p)
   aside_is p = flips _ (fits_alone asked.search.end asked.batches p) on
 
   pub planned_is : (p : Page) → not (is_aside asked Q p) ≡ fits_alone asked.search.end asked.batches p
   planned_is p = ap not (aside_is p) ∙ twice (fits_alone asked.search.end asked.batches p)
+
+  some_fits : (b : Bool) → (b && list_any fits Q) ≡ true → list_any fits Q ≡ true
+  some_fits true h = h
+  some_fits false h = absurd (cc)
+
+  some_planned : 0 < length (planned_of asked Q)
+  some_planned = some_kept fits (λ p. not (is_aside asked Q p)) planned_is Q (some_fits asked.sets_aside on)
+
+-- what is planned of a queue is one, and of a round is one
+module _ (asked : FrontAsked) (Q : List Page) where
+  pub planned_queue : IsQueue Q → IsQueue (planned_of asked Q)
+  planned_queue queue =
+      let f : Page → Bool = λ p. not (is_aside asked Q p) in
+      elim (cases_Bool (is_parted asked Q)) [
+        | inl on ↦
+            record {
+              some = some_planned asked Q on;
+              few = omega (arith, length-filter f Q, count_by-le-length f Q, queue.few);
+              each = All-filter f (λ p. page_fault_of p ≡ None) Q queue.each;
+            }
+        | inr off ↦ subst IsQueue (sym (all_planned asked Q off)) queue
+      ]
+
+  pub planned_good : AreGood Q → AreGood (planned_of asked Q)
+  planned_good good =
+      let f : Page → Bool = λ p. not (is_aside asked Q p) in
+      record { each = All-filter f (λ p. page_fault_of p ≡ None) Q good.each; apart = (taken_distinct f Q good.apart).0 }
 
 pub queue_listable : (Q : List Page) → IsQueue Q → All IsListable Q
 queue_listable Q queue =
@@ -94,9 +132,9 @@ queue_listable Q queue =
 
 -- what is written of a part of a queue holds it
 pub part_back : AreReadBack → (f : Page → Bool) (may_wait : Bool) (Q : List Page) → IsQueue Q → (may_wait ≡ false → AreGood Q) → All IsSpellable Q
-    → (S : List Page) (file : List ℕ) → S ≡ filter f Q → file ≡ page_file S → IsPageFileOf may_wait (filter f Q) file
-part_back back f may_wait Q queue apart texts S file is written =
+    → (S : List Page) → S ≡ filter f Q → IsPageFileOf may_wait S (page_file S)
+part_back back f may_wait Q queue apart texts S is =
     let few : length (filter f Q) ≤ page_limit = omega (arith, length-filter f Q, count_by-le-length f Q, queue.few) in
-    let held = held_back back may_wait (filter f Q) (All-filter f (λ p. page_fault_of p ≡ None) Q queue.each)
-    (λ off. (taken_distinct f Q (apart off).apart).0) few (All-filter f IsSpellable Q texts) in
-    subst (λ (v : List ℕ). IsPageFileOf may_wait (filter f Q) v) (sym (written ∙ ap page_file is)) held
+    subst (λ (ps : List Page). IsPageFileOf may_wait ps (page_file ps)) (sym is)
+    (held_back back may_wait (filter f Q) (All-filter f (λ p. page_fault_of p ≡ None) Q queue.each)
+    (λ off. (taken_distinct f Q (apart off).apart).0) few (All-filter f IsSpellable Q texts))

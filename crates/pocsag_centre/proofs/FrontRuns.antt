@@ -1,6 +1,6 @@
 -- Why no front of a page file is planned, and what `plan --at-most` leaves of its files.
-use Rattle.std.proofs.Common.{◌≡◌, ◌≢◌, ◌⊎◌, ℕ, List, length, refl, sym, subst, inl, inr, Some}
-use Rattle.std.specs.Prelude.{IsOk, Err, Ok}
+use Rattle.std.proofs.Common.{◌≡◌, ◌≢◌, ◌⊎◌, ℕ, List, [], ◌++◌, length, refl, sym, subst, inl, inr, Some}
+use Rattle.std.specs.Prelude.{IsFalse, IsOk, IsTrue, Err, Ok}
 use Rattle.pocsag_shell.specs.Readers.{FailedCut}
 use Rattle.pocsag_words.specs.declared.device.Sink.{Ghosts as Writer}
 use Rattle.pocsag_words.specs.declared.device.Source.{Ghosts as Reader}
@@ -19,27 +19,30 @@ use Rattle.pocsag_plan.specs.declared.fault.PlanFault.TheVariants as planning
 use Rattle.pocsag_plan.specs.declared.fault.StreamFault.{StreamFault}
 use Rattle.pocsag_plan.specs.declared.fault.StreamFault.TheVariants as stream
 use Rattle.pocsag_plan.specs.declared.front.FrontPlan.{FrontPlan}
-use Rattle.pocsag_shell.specs.declared.fault.FileFault.{FileFault}
 use Rattle.pocsag_shell.specs.declared.fault.FileFault.TheVariants as file
 use Rattle.pocsag_centre.specs.Faults.{fault_of_front}
-use Rattle.pocsag_centre.specs.FrontFiles.{beyond_of, certificate_text, ExplainsHeld, front_text, IsFrontOf, IsFrontRead, IsFrontWritten}
-use Rattle.pocsag_centre.specs.FrontWorks.{ExplainsFrontFiles, ExplainsOthers, ExplainsUnplanned, IsFrontDone, TookAll}
-use Rattle.pocsag_centre.specs.FrontWorks.ExplainsFrontFiles.{cert_failed, rest_failed, tx_failed, unwritten, why_failed}
+use Rattle.pocsag_centre.specs.Checks.{ExplainsHeld, IsExpected}
+use Rattle.pocsag_centre.specs.FrontFiles.{beyond_of, certificate_text, IsFrontOf, IsFrontRead, IsFrontWritten, why_text}
+use Rattle.pocsag_centre.specs.FrontWorks.{ExplainsFrontFiles, ExplainsOthers, ExplainsUnplanned, IsFrontBegun, IsFrontDone, TookAll}
+use Rattle.pocsag_centre.specs.FrontWorks.ExplainsFrontFiles.{cert_failed, others_failed, tx_failed}
+use Rattle.pocsag_centre.specs.Lines.{aside_text, below_text, left_text, plan_text}
+use Rattle.pocsag_centre.specs.Oversized.{planned_of}
 use Rattle.pocsag_centre.specs.declared.fault.CentreFault.TheVariants as fault
 use Rattle.pocsag_centre.specs.declared.front.FrontAsked.{FrontAsked}
 use Rattle.pocsag_centre.specs.declared.front.FrontFiles.{FrontFiles}
 use Rattle.pocsag_centre.proofs.FirstPart.{front_of, front_sent}
 
 -- why there is no front of the round says why none of its page file is written
-pub front_unwritten : {P : Type 0} (Pages : Reader P) (asked : FrontAsked) (pages pages' : P) (Q : List Page) →
-    (Pages.is_known → held_pages asked.may_wait (Pages.held pages) ≡ Ok Q) → (e : NoFront) →
-    ExplainsFront asked.search (firsts Q) asked.batches e → ExplainsUnplanned Pages asked pages pages' (fault_of_front e)
-front_unwritten Pages asked pages pages' Q read (front.Plan planning.BadLimit) said = λ k. said
-front_unwritten Pages asked pages pages' Q read (front.Plan (planning.SearchLimit stop)) said =
-    λ k. (said.0, said.1, record { queue = Q; read = read k; holds = (bound_tree_of stop.tree, said.2) })
-front_unwritten Pages asked pages pages' Q read (front.Plan planning.OutOfMemory) said = λ k. (said, subst IsOk (sym (read k)) refl)
-front_unwritten Pages asked pages pages' Q read (front.FirstPage needed) said =
-    λ k. (said.0, record { queue = Q; read = read k; holds = said.1 })
+module _ {P : Type 0} (Pages : Reader P) (asked : FrontAsked) (pages pages' : P) (Q : List Page)
+    (read : Pages.is_known → held_pages asked.may_wait (Pages.held pages) ≡ Ok Q) (expected : IsExpected asked.expect (length Q)) where
+  pub front_unwritten : (e : NoFront) → ExplainsFront asked.search (firsts (planned_of asked Q)) asked.batches e
+      → ExplainsUnplanned Pages asked pages pages' (fault_of_front e)
+  front_unwritten (front.Plan planning.BadLimit) said = λ k. said
+  front_unwritten (front.Plan (planning.SearchLimit stop)) said =
+      λ k. (said.0, said.1, record { queue = Q; read = read k; holds = (expected, (bound_tree_of stop.tree, said.2)) })
+  front_unwritten (front.Plan planning.OutOfMemory) said = λ k. (said, subst IsOk (sym (read k)) refl)
+  front_unwritten (front.FirstPage needed) said =
+      λ k. (said.0, record { queue = Q; read = read k; holds = (expected, said.1) })
 
 -- so does why its page file was not read
 module _ {P : Type 0} (Pages : Reader P) (asked : FrontAsked) (pages pages' : P) (limit : IsNodeLimit asked.search.limit) where
@@ -61,74 +64,57 @@ module _ {P : Type 0} (Pages : Reader P) (asked : FrontAsked) (pages pages' : P)
 
 -- What `plan --at-most` leaves of its files, where the front is read.
 module _ {P S : Type 0} (Pages : Reader P) (Out : Writer S) (asked : FrontAsked) (files files' : FrontFiles P S) (front : FrontPlan)
-    (is : Pages.is_known → IsFrontRead (Pages.held files.pages) asked front) (text : List ℕ)
-    (printed : text ≡ front_text front.bounded (length front.rest.items) asked.batches (beyond_of front.why))
+    (pages : List Page) (is : Pages.is_known → IsFrontRead (Pages.held files.pages) asked front pages) (aside text : List ℕ)
+    (written : IsTrue asked.sets_aside → aside ≡ page_file pages) (none : IsFalse asked.sets_aside → aside ≡ [])
+    (printed : text ≡ plan_text front.bounded.plan.pages front.bounded.plan.batches ++ below_text front.bounded.plan.batches front.bounded.bound
+    ++ left_text (length front.rest.items) ++ why_text asked.batches (beyond_of front.why) ++ aside_text asked.sets_aside (length pages))
     (counted : files'.count ≡ front.bounded.plan.pages) where
   abbrev rest : List ℕ
   rest = page_file front.rest.items
 
-  this_front : Pages.is_known → IsFrontOf (Pages.held files.pages) asked files'.count rest (certificate_text front.why) text
-  this_front k = rw counted (front_of (Pages.held files.pages) asked front (is k) text printed)
+  this_front : Pages.is_known → IsFrontOf (Pages.held files.pages) asked files'.count rest aside (certificate_text front.why) text
+  this_front k = rw counted (front_of (Pages.held files.pages) asked front pages (is k) aside text written none printed)
 
   this_sent : Pages.is_known → (sent certificate : List ℕ) → HeadlineOf front.round front.bounded sent certificate →
-      IsFrontWritten (Pages.held files.pages) asked files'.count (record { tx = sent; cert = certificate; rest = rest; why = certificate_text front.why }) text
+      IsFrontWritten (Pages.held files.pages) asked files'.count (record { rest = rest; aside = aside; why = certificate_text front.why; tx = sent; cert = certificate }) text
   this_sent k sent certificate headline =
-      rw counted (front_sent (Pages.held files.pages) asked front (is k) text printed sent certificate headline)
+      rw counted (front_sent (Pages.held files.pages) asked front pages (is k) aside text written none printed sent certificate headline)
 
-  pub others_told : (e : FileFault) → ExplainsOthers Out files.rest files'.rest files.why files'.why rest (certificate_text front.why) e →
-      files'.tx ≡ files.tx → files'.cert ≡ files.cert →
-      ExplainsUnplanned Pages asked files.pages files'.pages (fault.File file.OutOfMemory) →
-      ExplainsFrontFiles Pages Out asked files files' (fault.File e)
-  others_told file.OutOfMemory same tx cert memory = unwritten memory (same.0, same.1, tx, cert)
-  others_told file.Write (inl first) tx cert memory =
-      rest_failed refl first.0 (first.1, tx, cert) (λ k. (rest, certificate_text front.why, text, this_front k, first.2))
-  others_told file.Write (inr second) tx cert memory =
-      why_failed refl second.0 (tx, cert) (λ k. (rest, certificate_text front.why, text, this_front k, second.1))
-  others_told file.EqualPaths never tx cert memory = absurd never
-  others_told file.Device never tx cert memory = absurd never
-  others_told file.Owner never tx cert memory = absurd never
-  others_told file.TooLarge never tx cert memory = absurd never
+  pub others_told : ExplainsOthers Out files.rest files'.rest files.aside files'.aside files.why files'.why rest aside (certificate_text front.why) →
+      files'.tx ≡ files.tx → files'.cert ≡ files.cert → ExplainsFrontFiles Pages Out asked files files' (fault.File file.Write)
+  others_told failed tx cert = others_failed refl (tx, cert) (rest, aside, (certificate_text front.why), failed, λ k. (text, this_front k))
 
-  module _ (others : Out.is_known → TookAll Out files.rest files'.rest rest × TookAll Out files.why files'.why (certificate_text front.why)) where
+  module _ (took_rest : Out.is_known → TookAll Out files.rest files'.rest rest) (took_aside : Out.is_known → TookAll Out files.aside files'.aside aside)
+      (took_why : Out.is_known → TookAll Out files.why files'.why (certificate_text front.why)) where
+    begun : Pages.is_known → Out.is_known → (sent certificate : List ℕ) → HeadlineOf front.round front.bounded sent certificate →
+        IsFrontBegun Pages Out asked files files' text
+    begun k u sent certificate headline = record {
+      due = record { rest = rest; aside = aside; why = certificate_text front.why; tx = sent; cert = certificate };
+      front = this_sent k sent certificate headline;
+      rest = took_rest u;
+      aside = took_aside u;
+      why = took_why u;
+    }
+
     pub unsent_told : (f : StreamFault) → IsUnsent f →
         WritesInTurn Out.failures Out.failures files.tx files'.tx files.cert files'.cert (Some f) →
         (Out.is_known → IsTransmission f → WritesPartOf (HeadlineOf front.round front.bounded) (Out.taken files.tx) (Out.taken files'.tx)) →
         (Out.is_known → IsCertificate f →
         WritesCertificatePartOf (HeadlineOf front.round front.bounded) (Out.taken files.tx) (Out.taken files'.tx) (Out.taken files.cert) (Out.taken files'.cert)) →
         ExplainsFrontFiles Pages Out asked files files' (fault.File file.Write)
+    unfolding begun
     unsent_told (stream.Transmission f) unsent turns part whole =
-        tx_failed refl (turns.write_failed tt) (turns.not_begun tt) (λ k u.
-        let p = part u tt in (
-          record { tx = p.sent; cert = p.certificate; rest = rest; why = certificate_text front.why },
-          text,
-          this_sent k p.sent p.certificate p.headline,
-          (others u).0,
-          (others u).1,
-          p.part,
-        ))
+        tx_failed refl (turns.write_failed tt) (turns.not_begun tt)
+        (λ k u. let p = part u tt in (text, begun k u p.sent p.certificate p.headline, p.part))
     unsent_told (stream.Certificate f) unsent turns part whole =
-        cert_failed refl (turns.certificate_failed tt) (λ k u.
-        let p = whole u tt in (
-          record { tx = p.sent; cert = p.certificate; rest = rest; why = certificate_text front.why },
-          text,
-          this_sent k p.sent p.certificate p.headline,
-          (others u).0,
-          (others u).1,
-          p.transmission,
-          p.part,
-        ))
+        cert_failed refl (turns.certificate_failed tt)
+        (λ k u. let p = whole u tt in (text, begun k u p.sent p.certificate p.headline, p.transmission, p.part))
     unsent_told (stream.Plan f) unsent turns part whole = absurd unsent
     unsent_told (stream.Round f) unsent turns part whole = absurd unsent
 
     pub front_done : (Out.is_known → WritesAllOf (HeadlineOf front.round front.bounded) (Out.taken files.tx) (Out.taken files'.tx) (Out.taken files.cert) (Out.taken files'.cert)) →
         Pages.is_known → Out.is_known → IsFrontDone Pages Out asked files files' text
+    unfolding begun
     front_done sends k u =
         let p = sends u in
-        record {
-          due = record { tx = p.sent; cert = p.certificate; rest = rest; why = certificate_text front.why };
-          front = this_sent k p.sent p.certificate p.headline;
-          rest = (others u).0;
-          why = (others u).1;
-          tx = p.transmission;
-          cert = p.text;
-        }
+        record { begun = begun k u p.sent p.certificate p.headline; tx = p.transmission; cert = p.text }

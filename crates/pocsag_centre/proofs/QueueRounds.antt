@@ -5,7 +5,7 @@ use Rattle.std.specs.List.{AllByRecursion, IsDistinct, list_any}
 use Rattle.std.proofs.lemmas.Bool.{cases_Bool, or_right}
 use Rattle.std.proofs.lemmas.Bool.Decides.{nat_tests}
 use Rattle.std.proofs.lemmas.List.{append-nil}
-use Rattle.std.proofs.lemmas.List.Elements.{All-cons, All-head, All-nil, All-tail, All-weaker}
+use Rattle.std.proofs.lemmas.List.Elements.{All-weaker}
 use Rattle.std.proofs.lemmas.List.Folds.{list_any-append}
 use Rattle.std.proofs.lemmas.List.{map-append}
 use Rattle.pocsag_pages.specs.declared.page.Page.{Page}
@@ -15,7 +15,7 @@ use Rattle.pocsag_pages.specs.Pages.{AreGood, addresses_of, has_address, page_fa
 use Rattle.pocsag_pages.specs.PageFile.{verdict}
 use Rattle.pocsag_pages.specs.Queues.{IsQueue, firsts, firsts_after, held_pages, is_sent, left_after, left_of, queue_verdict}
 use Rattle.pocsag_pages.proofs.GoodPages.{good_page}
-use Rattle.pocsag_pages.proofs.QueueParts.{first_again, first_new, firsts_none, left_all, left_few, left_kept, left_none, left_sent}
+use Rattle.pocsag_pages.proofs.QueueParts.{first_new, firsts_none, left_all, left_few, left_kept, left_none, left_sent}
 use Rattle.pocsag_decode.specs.PageFiles.{IsSpellable, page_file}
 use Rattle.pocsag_decode.proofs.PageRows.{free_address}
 use Rattle.pocsag_centre.specs.FrontFiles.{IsPageFileOf}
@@ -70,15 +70,6 @@ first_sent before (p ∷ ps) B good =
 pub round_left : (F S : List Page) → AreGood (F ++ S) → left_of F (F ++ S) ≡ S
 round_left F S good = first_sent [] F S good
 
--- what holds of each page of a queue holds of its round
-pub firsts_all : (P : Page → Type 0) (before ps : List Page) → All P ps → All P (firsts_after before ps)
-firsts_all P before [] all = rw (firsts_none before) (All-nil P)
-firsts_all P before (p ∷ ps) all =
-    elim (cases_Bool (has_address before p.address)) [
-      | inl e ↦ rw (first_again before ps p e) (firsts_all P before ps (All-tail P p ps all))
-      | inr n ↦ rw (first_new before ps p n) (All-cons P p _ (All-head P p ps all) (firsts_all P (before ++ p ∷ []) ps (All-tail P p ps all)))
-    ]
-
 -- of pages that stand apart those that are left do, too
 left_apart : (P : ℕ → Type 0) (sent before ps : List Page) → AllByRecursion P (addresses_of ps) → AllByRecursion P (addresses_of (left_after sent before ps))
 left_apart P sent before [] all = rw (left_none sent before) tt
@@ -115,10 +106,6 @@ pub held_spellable : (may_wait : Bool) (file : List ℕ) (Q : List Page) → hel
     → All IsSpellable Q
 held_spellable true file Q read rounds queues = queues file Q read
 held_spellable false file Q read rounds queues = rounds file Q read
-
-pub round_held : (may_wait : Bool) (file : List ℕ) (R : List Page) → may_wait ≡ false → verdict file ≡ Ok R → held_pages may_wait file ≡ Ok R
-round_held false file R off read = read
-round_held true file R off read = absurd (cc)
 
 -- the pages that are left of a queue
 module _ (Q sent : List Page) (queue : IsQueue Q) where

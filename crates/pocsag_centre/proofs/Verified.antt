@@ -1,6 +1,6 @@
 -- What was read back, and what was found in its place.
 use Rattle.std.proofs.Common.{◌≡◌, ◌≢◌, ℕ, ◌<◌, ◌≤◌, ◌==◌, ◌&&◌, Bool, true, false, eq-eqb, tests, List, length, get_or, map, refl, sym, ap, ◌∙◌, subst, inl, inr, arith}
-use Rattle.std.specs.Prelude.{◌⊎◌, Contains, Err, IsPermutation, Ok}
+use Rattle.std.specs.Prelude.{◌⊎◌, Contains, Err, IfErr, IfOk, IsPermutation, Ok, OnOk, Result}
 use Rattle.std.specs.Cmp.{ranks}
 use Rattle.std.specs.Cmp.Lexicographic.{pointwise}
 use Rattle.std.specs.Ordering.{MatchOrdering, nat_cmp, ordering_index}
@@ -15,7 +15,6 @@ use Rattle.std.proofs.lemmas.List.Elements.{All-weaker}
 use Rattle.pocsag_pages.specs.declared.fault.RoundFault.{RoundFault}
 use Rattle.pocsag_pages.specs.declared.fault.RoundFault.TheVariants as round_fault
 use Rattle.pocsag_pages.specs.declared.page.Page.{Page}
-use Rattle.pocsag_pages.specs.PageFile.{verdict}
 use Rattle.pocsag_pages.specs.Pages.{IsRound}
 use Rattle.pocsag_pages.specs.Reading.{AreApart, EndsAs, IsBatchList}
 use Rattle.pocsag_pages.proofs.GoodPages.{apart_pages}
@@ -26,16 +25,22 @@ use Rattle.pocsag_tree.specs.Parts.{HasFirst}
 use Rattle.pocsag_tree.specs.declared.refusals.CertificateFault.{CertificateFault}
 use Rattle.pocsag_tree.specs.declared.refusals.CertificateFault.TheVariants as tree_fault
 use Rattle.pocsag_plan.specs.Plans.{NoneHasFewer}
-use Rattle.pocsag_plan.specs.Verdicts.{ExplainsRound}
-use Rattle.pocsag_words.specs.Devices.{HasFailed}
+use Rattle.pocsag_words.specs.Devices.{HasFailed, IsOfCut}
 use Rattle.pocsag_words.specs.Kinds.{kind_of}
+use Rattle.pocsag_words.specs.declared.device.Sink.{Ghosts as Writer}
 use Rattle.pocsag_words.specs.declared.device.Source.{Ghosts as Reader}
 use Rattle.pocsag_words.specs.declared.ending.End.{End}
 use Rattle.pocsag_slots.proofs.Rearranged.{rearranged}
 use Rattle.pocsag_decode.specs.Faults.{ReadsAs}
 use Rattle.pocsag_plan.specs.declared.search.Search.{Search}
 use Rattle.pocsag_shell.specs.Readers.{FailedCut}
-use Rattle.pocsag_centre.specs.Verification.{AreAmong, HasRival, IsTransmissionOf, ShowsExpected, Verified, WasNoCertificate, WasNoRound}
+use Rattle.pocsag_shell.specs.Runs.{IsStreamOf}
+use Rattle.pocsag_centre.specs.Verification.{AreAmong, HasRival, IsTransmissionOf, ShowsExpected, Verified, WasNoCertificate, WasNoRound, verifies, verifies_round}
+use Rattle.pocsag_centre.specs.Verification.ExplainsVerifying.{no_round, unverified}
+use Rattle.pocsag_centre.specs.declared.fault.CentreFault.{CentreFault}
+use Rattle.pocsag_centre.specs.declared.fault.CentreFault.TheVariants as fault
+use Rattle.pocsag_centre.specs.declared.plan.PlanFiles.{PlanFiles}
+use Rattle.pocsag_centre.proofs.CutFiles.{failed_cut, told_of_round, told_of_whole}
 
 moved_pages : (ps qs : List Page) → IsPermutation ps qs → (R : List Page) → AreAmong qs R → AreAmong ps R
 moved_pages ps qs moved R among = record {
@@ -145,35 +150,32 @@ transmission end R X ps r among ends n same =
     }
 
 -- the bound that is due was shown
-pub verified : (file : List ℕ) (search : Search) (sent certificate : List ℕ) (R : List Page) (batches : ℕ) (end : End) (bound : ℕ) (tree : BoundTree) →
-    verdict file ≡ Ok R → IsTransmissionOf search.end R batches sent → IsText end bound tree certificate →
-    ShowsExpected search R batches end bound tree → NoneHasFewer search.end R bound → Verified file search sent certificate
-verified file search sent certificate R batches end bound tree read is text due fewest = record {
+pub verified : (search : Search) (sent certificate : List ℕ) (R : List Page) (batches : ℕ) (end : End) (bound : ℕ) (tree : BoundTree) →
+    IsTransmissionOf search.end R batches sent → IsText end bound tree certificate →
+    ShowsExpected search R batches end bound tree → NoneHasFewer search.end R bound → Verified R search sent certificate
+verified search sent certificate R batches end bound tree is text due fewest = record {
   bound = bound;
-  checked = record {
-    round = R;
-    read = read;
-    tree = tree;
-    text = subst (λ (e : End). IsText e bound tree certificate) due.same_end text;
-    accepted = due.accepted;
-    bound = fewest;
-  };
+  tree = tree;
+  text = subst (λ (e : End). IsText e bound tree certificate) due.same_end text;
+  accepted = due.accepted;
+  none_fewer = fewest;
   batches = batches;
   transmission = is;
   due = due.due;
 }
 
 -- why a reader gave no round,
-module _ {P : Type 0} (Pages : Reader P) (pages pages' : P) where
-  of_file : (e : RoundFault) → e ≢ round_fault.ReadFault → (e ≡ round_fault.OutOfMemory) ⊎ (e ≡ round_fault.ReadFault) ⊎ (verdict (Pages.held pages) ≡ Err e) →
-      ExplainsRound (Pages.held pages) e
+module _ {P : Type 0} (Pages : Reader P) (judge : List ℕ → Result (List Page) RoundFault) (pages pages' : P) where
+  abbrev WhyNone : RoundFault → Type 0
+  WhyNone e = (e ≡ round_fault.OutOfMemory) ⊎ (e ≡ round_fault.ReadFault) ⊎ (judge (Pages.held pages) ≡ Err e)
+
+  of_file : (e : RoundFault) → e ≢ round_fault.ReadFault → WhyNone e → (e ≡ round_fault.OutOfMemory) ⊎ (judge (Pages.held pages) ≡ Err e)
   of_file e other (inl same) = inl same
   of_file e other (inr (inl same)) = absurd (other same)
   of_file e other (inr (inr read)) = inr read
 
-  pub not_round : (e : RoundFault) →
-      (Pages.is_known → (e ≡ round_fault.OutOfMemory) ⊎ (e ≡ round_fault.ReadFault) ⊎ (verdict (Pages.held pages) ≡ Err e)) →
-      (e ≡ round_fault.ReadFault → FailedCut Pages pages pages') → WasNoRound Pages pages pages' e
+  pub not_round : (e : RoundFault) → (Pages.is_known → WhyNone e) →
+      (e ≡ round_fault.ReadFault → FailedCut Pages pages pages') → WasNoRound Pages judge pages pages' e
   not_round round_fault.ReadFault why failed = failed refl
   not_round round_fault.OutOfMemory why failed = λ k. inl refl
   not_round round_fault.TooLarge why failed = λ k. of_file round_fault.TooLarge (λ e. cc (e)) (why k)
@@ -201,3 +203,46 @@ module _ {C : Type 0} (Cert : Reader C) (cert cert' : C) where
   not_certificate tree_fault.BadField why failed room = λ k. of_text tree_fault.BadField (λ never. never) (why k)
   not_certificate tree_fault.TooDeep why failed room = λ k. of_text tree_fault.TooDeep (λ never. never) (why k)
   not_certificate tree_fault.TooMany why failed room = λ k. of_text tree_fault.TooMany (λ never. never) (why k)
+
+-- what reading a round's files back wrote is what reading back those of the page file does, whose round it is
+module _ {P T C O : Type 0} (Pages : Reader P) (Tx : Reader T) (Cert : Reader C) (Out : Writer O) (judge : List ℕ → Result (List Page) RoundFault)
+    (search : Search) (files files' : PlanFiles P T C) (out out' : O) where
+  abbrev Streams : Result ℕ CentreFault → Type 0
+  Streams result = IsStreamOf (verifies Pages Tx Cert judge search files files') Out out out' result
+
+  abbrev RoundStreams : List Page → Result ℕ CentreFault → Type 0
+  RoundStreams R result = IsStreamOf (verifies_round Tx Cert search R files.tx files'.tx files.cert files'.cert) Out out out' result
+
+  of_round : (R : List Page) → (Pages.is_known → judge (Pages.held files.pages) ≡ Ok R) → (Pages.is_known → Pages.is_cut files.pages ≡ false) →
+      (result : Result ℕ CentreFault) → RoundStreams R result → Streams result
+  of_round R read whole (Ok s) stream =
+      (λ t. let p = stream.0 t in (p.0, (whole, (p.1.0, p.1.1, λ u v. (R, read, p.1.2 u v))), p.2), tt)
+  of_round R read whole (Err f) stream = (
+    λ t. tt,
+    elim stream.1 [
+      | inl why ↦ inl ((told_of_whole Pages files.pages f whole, unverified (R, read, why.0)), why.1)
+      | inr (inl why) ↦
+          inr (inl (why.0, why.1, λ t. let p = why.2 t in (p.0, p.1, (whole, (p.2.0, p.2.1, λ u v. (R, read, p.2.2 u v))), p.3)))
+      | inr (inr why) ↦ absurd why.0
+    ],
+  )
+
+  pub streamed : (round : Result (List Page) RoundFault) (result : Result ℕ CentreFault) →
+      (Pages.is_known → IfOk round (λ R. judge (Pages.held files.pages) ≡ Ok R)) →
+      (Pages.is_known → IfErr round (WhyNone Pages judge files.pages files'.pages)) →
+      (Pages.is_known → OnOk round (Pages.is_cut files.pages ≡ false)) →
+      (Pages.is_known → IfErr round (IsOfCut round_fault.ReadFault round_fault.TooLarge (Pages.is_cut files.pages))) →
+      (round ≡ Err round_fault.ReadFault → HasFailed (Pages.failures files.pages) (Pages.failures files'.pages)) →
+      IfErr round (λ e. (result ≡ Err (fault.Round e)) × (out' ≡ out)) → IfOk round (λ R. RoundStreams R result) → Streams result
+  streamed (Ok R) result ok err uncut cut failed none stream = of_round R ok uncut result stream
+  streamed (Err e) result ok err uncut cut failed none stream =
+      rw none.0 (
+        λ t. tt,
+        inl (
+          (
+            told_of_round Pages files.pages e cut,
+            no_round e refl (not_round Pages judge files.pages files'.pages e err (failed_cut Pages files.pages (λ same. failed (ap Err same)) cut)),
+          ),
+          none.1,
+        ),
+      )

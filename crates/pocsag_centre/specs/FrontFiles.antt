@@ -1,9 +1,9 @@
 -- The front of a page file: what is written of the pages that are sent and of the others, and why nothing is. Where pages may
--- wait for earlier ones of their address, the round is the first page of each address; else the file has no two for one.
-use Rattle.std.specs.Prelude.{◌≡◌, ◌⊎◌, ℕ, ◌+◌, ◌<◌, ◌≤◌, Bool, false, List, [], ◌++◌, length, take, Option, Some, None, IsOk, Ok, Err}
+-- wait for earlier ones of their address, the round is the first page of each address that is planned; else the file has no two for
+-- one.
+use Rattle.std.specs.Prelude.{◌≡◌, ◌⊎◌, ℕ, ◌+◌, ◌<◌, ◌≤◌, Bool, false, List, [], ◌++◌, length, take, Option, Some, None, IsFalse, IsOk, IsTrue, Result, Ok, Err}
 use Rattle.pocsag_pages.specs.declared.page.Page.{Page}
 use Rattle.pocsag_pages.specs.declared.fault.RoundFault.{RoundFault}
-use Rattle.pocsag_pages.specs.declared.fault.RoundFault.TheVariants as round_fault
 use Rattle.pocsag_pages.specs.Queues.{firsts, held_pages, left_of}
 use Rattle.pocsag_pages.specs.PageList.{unless_empty}
 use Rattle.pocsag_tree.specs.BoundTrees.{BoundTree}
@@ -22,8 +22,11 @@ use Rattle.pocsag_plan.specs.Fronts.{FirstNeeds, IsFrontFor, IsLongestFront, IsU
 use Rattle.pocsag_plan.specs.Headline.{RoundHeadline}
 use Rattle.pocsag_plan.specs.Plans.{IsPlanFor, MayStop}
 use Rattle.pocsag_shell.specs.declared.fault.FileFault.TheVariants as file_fault
-use Rattle.pocsag_centre.specs.Lines.{below_text, left_text, plan_text, undecided_text}
+use Rattle.pocsag_centre.specs.Checks.{ExplainsHeld, HoldsPages, IsExpected, IsOfHeld, IsUnexpected}
+use Rattle.pocsag_centre.specs.Lines.{aside_text, below_text, left_text, plan_text, undecided_text}
+use Rattle.pocsag_centre.specs.Oversized.{aside_of, planned_of}
 use Rattle.pocsag_centre.specs.declared.front.FrontAsked.{FrontAsked}
+use Rattle.pocsag_centre.specs.declared.readback.WrittenFront.{WrittenFront}
 use Rattle.pocsag_centre.specs.declared.fault.CentreFault.{CentreFault}
 use Rattle.pocsag_centre.specs.declared.fault.CentreFault.TheVariants as fault
 
@@ -31,16 +34,7 @@ use Rattle.pocsag_centre.specs.declared.fault.CentreFault.TheVariants as fault
 abbrev pub IsPageFileOf : (may_wait : Bool) → List Page → List ℕ → Type 0
 IsPageFileOf may_wait ps rest = held_pages may_wait rest ≡ unless_empty ps
 
--- The page file holds pages, and this is so of them; and why it holds none: memory refused, or its fault.
-pub record IsOfHeld (may_wait : Bool) (file : List ℕ) (Holds : List Page → Type 0) : Type 0 where
-  pub queue : List Page
-  pub read : held_pages may_wait file ≡ Ok queue
-  pub holds : Holds queue
-
-abbrev pub ExplainsHeld : (may_wait : Bool) → (file : List ℕ) → RoundFault → Type 0
-ExplainsHeld may_wait file f = (f ≡ round_fault.OutOfMemory) ⊎ (held_pages may_wait file ≡ Err f)
-
--- The last line on a front of at most so many batches: what the certificate for one page more shows, where there is one.
+-- The line on a front of at most so many batches: what the certificate for one page more shows, where there is one.
 abbrev pub why_text : (batches : ℕ) → (beyond : Option ℕ) → List ℕ
 why_text batches None = []
 why_text batches (Some bound) = undecided_text batches bound
@@ -79,69 +73,100 @@ abbrev pub certificate_text : Option Certificate → List ℕ
 certificate_text None = []
 certificate_text (Some c) = written_text c.end c.batches (bound_tree_of c.tree)
 
--- The front of a page file that so many batches carry, and the pages that are left.
-pub record IsFrontRead (file : List ℕ) (asked : FrontAsked) (front : FrontPlan) : Type 0 where
-  pub queue : List Page
-  pub read : held_pages asked.may_wait file ≡ Ok queue
-  pub first : front.round ≡ take (length front.round) (firsts queue)
-  pub left : front.rest.items ≡ left_of front.round queue
-  pub front_for : IsFrontFor asked.search (firsts queue) asked.batches (length front.round)
-  pub longest : asked.search.on_limit ≡ Fewest → IsLongestFront asked.search.end (firsts queue) asked.batches (length front.round)
+-- The front of pages that so many batches carry, and those that are left of them.
+pub record IsFrontOfPages (asked : FrontAsked) (pages : List Page) (front : FrontPlan) : Type 0 where
+  pub first : front.round ≡ take (length front.round) (firsts pages)
+  pub left : front.rest.items ≡ left_of front.round pages
+  pub front_for : IsFrontFor asked.search (firsts pages) asked.batches (length front.round)
+  pub longest : asked.search.on_limit ≡ Fewest → IsLongestFront asked.search.end (firsts pages) asked.batches (length front.round)
   pub plan_of : IsPlanFor asked.search front.round front.bounded
   pub within : front.bounded.plan.batches ≤ asked.batches
-  pub no_more : IsWhyNoMore asked.search (firsts queue) asked.batches (length front.round) front.why
-  -- The page file of the pages that are left holds them.
-  pub others_of : IsPageFileOf asked.may_wait front.rest.items (page_file front.rest.items)
+  pub no_more : IsWhyNoMore asked.search (firsts pages) asked.batches (length front.round) front.why
 
--- The front of a page file that so many batches carry: what REST and WHY are due of it, and the text that is printed.
-pub record IsFrontOf (file : List ℕ) (asked : FrontAsked) (count : ℕ) (rest why text : List ℕ) : Type 0 where
-  -- The front: the first pages of the round, as many as so many batches carry; and their plan.
+-- The front of a page file, which holds as many pages as are expected, and the pages of it that are set aside.
+pub record IsFrontRead (file : List ℕ) (asked : FrontAsked) (front : FrontPlan) (aside : List Page) : Type 0 where
   pub queue : List Page
   pub read : held_pages asked.may_wait file ≡ Ok queue
-  pub front : IsFrontFor asked.search (firsts queue) asked.batches count
-  pub longest : asked.search.on_limit ≡ Fewest → IsLongestFront asked.search.end (firsts queue) asked.batches count
+  pub expected : IsExpected asked.expect (length queue)
+  pub front_of : IsFrontOfPages asked (planned_of asked queue) front
+  pub aside_is : aside ≡ aside_of asked queue
+  -- The page files of the pages that are left, and of these, hold them.
+  pub others_of : IsPageFileOf asked.may_wait front.rest.items (page_file front.rest.items)
+  pub aside_held : IsPageFileOf asked.may_wait aside (page_file aside)
+
+-- The front of pages that so many batches carry: what REST and WHY are due of it, and the lines on it.
+pub record IsFrontDue (asked : FrontAsked) (pages : List Page) (count : ℕ) (rest why lines : List ℕ) : Type 0 where
+  -- The front: the first pages of the round, as many as so many batches carry; and their plan.
+  pub front : IsFrontFor asked.search (firsts pages) asked.batches count
+  pub longest : asked.search.on_limit ≡ Fewest → IsLongestFront asked.search.end (firsts pages) asked.batches count
   pub bounded : Bounded
-  pub pages : bounded.plan.pages ≡ count
-  pub plan_of : IsPlanFor asked.search (take count (firsts queue)) bounded
+  pub pages_of : bounded.plan.pages ≡ count
+  pub plan_of : IsPlanFor asked.search (take count (firsts pages)) bounded
   pub within : bounded.plan.batches ≤ asked.batches
   -- REST is the page file of the others, in the order of the file;
-  pub rest_of : IsPageFileOf asked.may_wait (left_of (take count (firsts queue)) queue) rest
+  pub rest_of : IsPageFileOf asked.may_wait (left_of (take count (firsts pages)) pages) rest
   -- WHY is why the next page of the round is not in the front;
   pub beyond : Option ℕ
-  pub why_of : IsWhyWritten asked.search (firsts queue) asked.batches count beyond why
-  -- and the text is the counts of the plan, the bound where it is below the batches, how many pages are left, and what is shown
+  pub why_of : IsWhyWritten asked.search (firsts pages) asked.batches count beyond why
+  -- and the lines are the counts of the plan, the bound where it is below the batches, how many pages are left, and what is shown
   -- of one page more.
-  pub printed : text ≡ front_text bounded (length (left_of (take count (firsts queue)) queue)) asked.batches beyond
+  pub printed : lines ≡ front_text bounded (length (left_of (take count (firsts pages)) pages)) asked.batches beyond
 
--- What the four files of a front are due.
+-- What the five files of a front are due.
 pub record FrontBytes : Type 0 where
+  pub rest : List ℕ
+  pub aside : List ℕ
+  pub why : List ℕ
   pub tx : List ℕ
   pub cert : List ℕ
-  pub rest : List ℕ
-  pub why : List ℕ
+
+-- ASIDE is the page file of the pages that are set aside, where that is asked for, and else nothing.
+abbrev pub IsAsideFile : FrontAsked → (pages : List Page) → (aside : List ℕ) → Type 0
+IsAsideFile asked pages aside =
+    (IsTrue asked.sets_aside → IsPageFileOf asked.may_wait pages aside) × (IsFalse asked.sets_aside → aside ≡ [])
+
+-- The front of a page file, which holds as many pages as are expected: what REST, ASIDE and WHY are due of it, and the text that is
+-- printed, the lines on it and on the pages that are set aside.
+pub record IsFrontOf (file : List ℕ) (asked : FrontAsked) (count : ℕ) (rest aside why text : List ℕ) : Type 0 where
+  pub queue : List Page
+  pub read : held_pages asked.may_wait file ≡ Ok queue
+  pub expected : IsExpected asked.expect (length queue)
+  pub lines : List ℕ
+  pub due : IsFrontDue asked (planned_of asked queue) count rest why lines
+  pub aside_file : IsAsideFile asked (aside_of asked queue) aside
+  pub printed : text ≡ lines ++ aside_text asked.sets_aside (length (aside_of asked queue))
 
 -- The same, and TX and CERT are what the headline with its bound says of the first pages.
 pub record IsFrontWritten (file : List ℕ) (asked : FrontAsked) (count : ℕ) (due : FrontBytes) (text : List ℕ) : Type 0 where
-  pub front : IsFrontOf file asked count due.rest due.why text
-  pub headline : RoundHeadline (take count (firsts front.queue)) asked.search.end front.bounded.plan.batches front.bounded.bound
-      (bound_tree_of front.bounded.plan.tree) due.tx due.cert
+  pub front : IsFrontOf file asked count due.rest due.aside due.why text
+  pub headline : RoundHeadline (take count (firsts (planned_of asked front.queue))) asked.search.end front.due.bounded.plan.batches
+      front.due.bounded.bound (bound_tree_of front.due.bounded.plan.tree) due.tx due.cert
 
--- Why no front of a page file is written. The limit is judged before the file.
+-- The page file holds as many pages as are expected, and this is so of those that are planned.
+abbrev pub IsOfPlanned : FrontAsked → (file : List ℕ) → (List Page → Type 0) → Type 0
+IsOfPlanned asked file Holds =
+    IsOfHeld asked.may_wait file (λ queue. IsExpected asked.expect (length queue) × Holds (planned_of asked queue))
+
+-- Why no front of a page file is written. The limit is judged before the file, and how many pages it holds before they are planned.
 abbrev pub ExplainsNoFront : (file : List ℕ) → FrontAsked → CentreFault → Type 0
 ExplainsNoFront file asked fault.BadLimit = ¬ IsNodeLimit asked.search.limit
 ExplainsNoFront file asked (fault.Round f) = IsNodeLimit asked.search.limit × ExplainsHeld asked.may_wait file f
+ExplainsNoFront file asked (fault.Unexpected found wanted) =
+    IsNodeLimit asked.search.limit × HoldsPages asked.may_wait file found × IsUnexpected asked.expect found wanted
 ExplainsNoFront file asked (fault.FirstPage needed) =
     IsNodeLimit asked.search.limit
-    × IsOfHeld asked.may_wait file (λ queue. FirstNeeds asked.search (firsts queue) asked.batches needed)
+    × IsOfPlanned asked file (λ pages. FirstNeeds asked.search (firsts pages) asked.batches needed)
 ExplainsNoFront file asked (fault.SearchLimit least found) =
     MayStop asked.search.on_limit × IsNodeLimit asked.search.limit
-    × IsOfHeld asked.may_wait file (λ queue. (tree : BoundTree) × StopsAtFront asked.search (firsts queue) asked.batches least found tree)
+    × IsOfPlanned asked file (λ pages. (tree : BoundTree) × StopsAtFront asked.search (firsts pages) asked.batches least found tree)
 ExplainsNoFront file asked (fault.File file_fault.OutOfMemory) =
     IsNodeLimit asked.search.limit × IsOk (held_pages asked.may_wait file)
 ExplainsNoFront file asked _ = ⊥
 
--- Why there is no page file of the first pages of one.
-abbrev pub ExplainsFirst : (may_wait : Bool) → (file : List ℕ) → CentreFault → Type 0
-ExplainsFirst may_wait file (fault.Round f) = ExplainsHeld may_wait file f
-ExplainsFirst may_wait file (fault.File file_fault.OutOfMemory) = IsOk (held_pages may_wait file)
-ExplainsFirst may_wait file _ = ⊥
+-- The pages that a front of so many has: the first of the round.
+abbrev pub sent_of : FrontAsked → (count : ℕ) → Result (List Page) RoundFault → Result (List Page) RoundFault
+sent_of asked count (Ok queue) = unless_empty (take count (firsts (planned_of asked queue)))
+sent_of asked count (Err f) = Err f
+
+abbrev pub sent_pages : WrittenFront → (file : List ℕ) → Result (List Page) RoundFault
+sent_pages sent file = sent_of sent.asked sent.count (held_pages sent.asked.may_wait file)

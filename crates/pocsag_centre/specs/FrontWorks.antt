@@ -1,12 +1,11 @@
--- `plan --at-most`: what it does over the bytes of a page file, and what its four other files take.
-use Rattle.std.specs.Prelude.{◌≡◌, ◌⊎◌, ℕ, List, ◌++◌}
+-- `plan --at-most`: what it does over the bytes of a page file, and what its five other files take.
+use Rattle.std.specs.Prelude.{◌≡◌, ℕ, List, ◌++◌}
 use Rattle.pocsag_words.specs.Devices.{HasFailed, TookPrefix}
 use Rattle.pocsag_words.specs.declared.device.Sink.{Ghosts as Writer}
 use Rattle.pocsag_words.specs.declared.device.Source.{Ghosts as Reader}
 use Rattle.pocsag_branch.specs.Found.{IsNodeLimit}
 use Rattle.pocsag_shell.specs.Readers.{FailedCut}
 use Rattle.pocsag_shell.specs.Runs.{Work}
-use Rattle.pocsag_shell.specs.declared.fault.FileFault.{FileFault}
 use Rattle.pocsag_shell.specs.declared.fault.FileFault.TheVariants as file
 use Rattle.pocsag_centre.specs.FrontFiles.{ExplainsNoFront, FrontBytes, IsFrontOf, IsFrontWritten}
 use Rattle.pocsag_centre.specs.Works.{OrFailed, of_whole}
@@ -28,59 +27,56 @@ TookAll Out before after due = Out.taken after ≡ Out.taken before ++ due
 abbrev pub TookSome : {S : Type 0} → Writer S → (before after : S) → (due : List ℕ) → Type 0
 TookSome Out before after due = TookPrefix (Out.taken before) (Out.taken after) due
 
--- Why REST and then WHY did not take these bytes, and what they took: memory was refused before, or one of both failed.
-abbrev pub ExplainsOthers : {S : Type 0} → Writer S → (rest rest_after why why_after : S) → (due_rest due_why : List ℕ) → FileFault → Type 0
-ExplainsOthers Out rest rest_after why why_after due_rest due_why file.OutOfMemory = (rest_after ≡ rest) × (why_after ≡ why)
-ExplainsOthers Out rest rest_after why why_after due_rest due_why file.Write =
-    (HasFailed (Out.failures rest) (Out.failures rest_after) × (why_after ≡ why)
-    × (Out.is_known → TookSome Out rest rest_after due_rest))
-    ⊎ (HasFailed (Out.failures why) (Out.failures why_after)
-    × (Out.is_known → TookAll Out rest rest_after due_rest × TookSome Out why why_after due_why))
-ExplainsOthers Out rest rest_after why why_after due_rest due_why _ = ⊥
+-- Why REST, ASIDE and WHY, in this order, did not take what they are due, and what they took: one of them failed behind a prefix
+-- of that, those before it took all, and those behind it are as they were.
+pub data ExplainsOthers {S : Type 0} (Out : Writer S) (rest rest_after aside aside_after why why_after : S) (due_rest due_aside due_why : List ℕ) : Type 0 where
+  rest_failed : HasFailed (Out.failures rest) (Out.failures rest_after) → (aside_after ≡ aside) × (why_after ≡ why)
+      → (Out.is_known → TookSome Out rest rest_after due_rest)
+      → ExplainsOthers Out rest rest_after aside aside_after why why_after due_rest due_aside due_why
+  aside_failed : HasFailed (Out.failures aside) (Out.failures aside_after) → why_after ≡ why
+      → (Out.is_known → TookAll Out rest rest_after due_rest × TookSome Out aside aside_after due_aside)
+      → ExplainsOthers Out rest rest_after aside aside_after why why_after due_rest due_aside due_why
+  why_failed : HasFailed (Out.failures why) (Out.failures why_after)
+      → (Out.is_known → TookAll Out rest rest_after due_rest × TookAll Out aside aside_after due_aside × TookSome Out why why_after due_why)
+      → ExplainsOthers Out rest rest_after aside aside_after why why_after due_rest due_aside due_why
+
+-- REST, ASIDE and WHY took all that they are due of the front.
+pub record IsFrontBegun {P S : Type 0} (Pages : Reader P) (Out : Writer S) (asked : FrontAsked) (files files_after : FrontFiles P S) (text : List ℕ) : Type 0 where
+  pub due : FrontBytes
+  pub front : IsFrontWritten (Pages.held files.pages) asked files_after.count due text
+  pub rest : TookAll Out files.rest files_after.rest due.rest
+  pub aside : TookAll Out files.aside files_after.aside due.aside
+  pub why : TookAll Out files.why files_after.why due.why
 
 -- Why nothing is printed of a front, and what its files took then.
 pub data ExplainsFrontFiles {P S : Type 0} (Pages : Reader P) (Out : Writer S) (asked : FrontAsked) (files files_after : FrontFiles P S) (f : CentreFault) : Type 0 where
   -- No front is planned, or memory is refused behind the plan: nothing was written.
   unwritten : ExplainsUnplanned Pages asked files.pages files_after.pages f
-      → (files_after.rest ≡ files.rest) × (files_after.why ≡ files.why) × (files_after.tx ≡ files.tx) × (files_after.cert ≡ files.cert)
+      → (files_after.rest ≡ files.rest) × (files_after.aside ≡ files.aside) × (files_after.why ≡ files.why)
+      × (files_after.tx ≡ files.tx) × (files_after.cert ≡ files.cert)
       → ExplainsFrontFiles Pages Out asked files files_after f
-  -- REST failed behind a prefix of what is due, and the others are as they were.
-  rest_failed : f ≡ fault.File file.Write → HasFailed (Out.failures files.rest) (Out.failures files_after.rest)
-      → (files_after.why ≡ files.why) × (files_after.tx ≡ files.tx) × (files_after.cert ≡ files.cert)
-      → (Pages.is_known → (rest : List ℕ) × (why : List ℕ) × (text : List ℕ)
-      × IsFrontOf (Pages.held files.pages) asked files_after.count rest why text
-      × (Out.is_known → TookSome Out files.rest files_after.rest rest))
+  -- REST, ASIDE or WHY failed, and TX and CERT are as they were.
+  others_failed : f ≡ fault.File file.Write → (files_after.tx ≡ files.tx) × (files_after.cert ≡ files.cert)
+      → ((rest : List ℕ) × (aside : List ℕ) × (why : List ℕ)
+      × ExplainsOthers Out files.rest files_after.rest files.aside files_after.aside files.why files_after.why rest aside why
+      × (Pages.is_known → (text : List ℕ) × IsFrontOf (Pages.held files.pages) asked files_after.count rest aside why text))
       → ExplainsFrontFiles Pages Out asked files files_after f
-  -- WHY did so, behind all of REST.
-  why_failed : f ≡ fault.File file.Write → HasFailed (Out.failures files.why) (Out.failures files_after.why)
-      → (files_after.tx ≡ files.tx) × (files_after.cert ≡ files.cert)
-      → (Pages.is_known → (rest : List ℕ) × (why : List ℕ) × (text : List ℕ)
-      × IsFrontOf (Pages.held files.pages) asked files_after.count rest why text
-      × (Out.is_known → TookAll Out files.rest files_after.rest rest × TookSome Out files.why files_after.why why))
-      → ExplainsFrontFiles Pages Out asked files files_after f
-  -- TX did so, behind all of these,
+  -- TX failed behind all of these and a prefix of what is due,
   tx_failed : f ≡ fault.File file.Write → HasFailed (Out.failures files.tx) (Out.failures files_after.tx) → files_after.cert ≡ files.cert
-      → (Pages.is_known → Out.is_known → (due : FrontBytes) × (text : List ℕ)
-      × IsFrontWritten (Pages.held files.pages) asked files_after.count due text
-      × TookAll Out files.rest files_after.rest due.rest × TookAll Out files.why files_after.why due.why
-      × TookSome Out files.tx files_after.tx due.tx)
+      → (Pages.is_known → Out.is_known → (text : List ℕ) × (begun : IsFrontBegun Pages Out asked files files_after text)
+      × TookSome Out files.tx files_after.tx begun.due.tx)
       → ExplainsFrontFiles Pages Out asked files files_after f
   -- and last CERT.
   cert_failed : f ≡ fault.File file.Write → HasFailed (Out.failures files.cert) (Out.failures files_after.cert)
-      → (Pages.is_known → Out.is_known → (due : FrontBytes) × (text : List ℕ)
-      × IsFrontWritten (Pages.held files.pages) asked files_after.count due text
-      × TookAll Out files.rest files_after.rest due.rest × TookAll Out files.why files_after.why due.why
-      × TookAll Out files.tx files_after.tx due.tx × TookSome Out files.cert files_after.cert due.cert)
+      → (Pages.is_known → Out.is_known → (text : List ℕ) × (begun : IsFrontBegun Pages Out asked files files_after text)
+      × TookAll Out files.tx files_after.tx begun.due.tx × TookSome Out files.cert files_after.cert begun.due.cert)
       → ExplainsFrontFiles Pages Out asked files files_after f
 
--- Each of the four files took all that is due of the front, and so is the text.
+-- Each of the five files took all that is due of the front, and so is the text.
 pub record IsFrontDone {P S : Type 0} (Pages : Reader P) (Out : Writer S) (asked : FrontAsked) (files files_after : FrontFiles P S) (text : List ℕ) : Type 0 where
-  pub due : FrontBytes
-  pub front : IsFrontWritten (Pages.held files.pages) asked files_after.count due text
-  pub rest : TookAll Out files.rest files_after.rest due.rest
-  pub why : TookAll Out files.why files_after.why due.why
-  pub tx : TookAll Out files.tx files_after.tx due.tx
-  pub cert : TookAll Out files.cert files_after.cert due.cert
+  pub begun : IsFrontBegun Pages Out asked files files_after text
+  pub tx : TookAll Out files.tx files_after.tx begun.due.tx
+  pub cert : TookAll Out files.cert files_after.cert begun.due.cert
 
 -- Writes the front of a page file into its files, and prints its counts.
 abbrev pub fronts : {P S : Type 0} → Reader P → Writer S → FrontAsked → (files files_after : FrontFiles P S) → Work CentreFault

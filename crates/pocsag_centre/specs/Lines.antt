@@ -29,7 +29,12 @@ below_text batches bound = if nat_lt bound batches then bound_text ends.Open bou
 unfoldable pub left_text : ℕ → List ℕ
 left_text left = codes "left " ++ (decimal left ++ (10 ∷ []))
 
--- The last line on a front of at most so many batches, `at least N batches with one page more`, only where the certificate
+-- The line on the pages that are set aside, `oversized N`, where it is asked for.
+unfoldable pub aside_text : (is_asked : Bool) → (count : ℕ) → List ℕ
+aside_text false count = []
+aside_text true count = codes "oversized " ++ (decimal count ++ (10 ∷ []))
+
+-- The line on a front of at most so many batches, `at least N batches with one page more`, only where the certificate
 -- for one page more shows no more than these.
 unfoldable pub undecided_text : (batches bound : ℕ) → List ℕ
 undecided_text batches bound =

@@ -1,15 +1,12 @@
 -- *Oversized*: a page that alone needs more batches than are allowed, and the pages of a queue that are set aside for it (this
 -- project's own).
-use Rattle.std.specs.Prelude.{◌≡◌, ◌==◌, ◌&&◌, ℕ, ◌+◌, ◌*◌, ◌%◌, Bool, List, filter, length, not, nat_le, if◌then◌else◌, Ok}
+use Rattle.std.specs.Prelude.{◌==◌, ◌&&◌, ℕ, ◌+◌, ◌*◌, ◌%◌, Bool, List, filter, length, not, nat_le, if◌then◌else◌}
 use Rattle.std.specs.List.{list_any}
 use Rattle.pocsag_words.specs.declared.ending.End.{End}
 use Rattle.pocsag_words.specs.declared.ending.End.TheVariants as ends
 use Rattle.pocsag_pages.specs.declared.page.Page.{Page}
-use Rattle.pocsag_pages.specs.Queues.{held_pages}
 use Rattle.pocsag_pages.specs.Reading.{batch_length, page_length}
 use Rattle.pocsag_plan.specs.Frames.{frame_count}
-use Rattle.pocsag_centre.specs.FrontFiles.{IsPageFileOf}
-use Rattle.pocsag_centre.specs.declared.oversized.PartedFile.{PartedFile}
 use Rattle.pocsag_centre.specs.declared.front.FrontAsked.{FrontAsked}
 
 -- How many idle codewords the end asks for behind a page that is sent alone.
@@ -27,22 +24,17 @@ least_alone end p = 2 * (p.address % frame_count) + page_length p + idles_behind
 abbrev pub fits_alone : End → (batches : ℕ) → Page → Bool
 fits_alone end batches p = nat_le (least_alone end p) (batch_length * batches)
 
--- The page of a queue is set aside: it does not fit alone, and some page does.
-abbrev pub is_aside : FrontAsked → (queue : List Page) → Page → Bool
-is_aside asked queue p =
-    list_any (fits_alone asked.search.end asked.batches) queue && not (fits_alone asked.search.end asked.batches p)
+-- Pages of a queue are set aside: that is asked for, and some page fits alone.
+abbrev pub is_parted : FrontAsked → (queue : List Page) → Bool
+is_parted asked queue = asked.sets_aside && list_any (fits_alone asked.search.end asked.batches) queue
 
--- The pages of a queue that are set aside, and the others, in order.
+-- This page of it is one of them: it does not fit alone.
+abbrev pub is_aside : FrontAsked → (queue : List Page) → Page → Bool
+is_aside asked queue p = is_parted asked queue && not (fits_alone asked.search.end asked.batches p)
+
+-- The pages of a queue that are set aside, and those that are planned, in order.
 abbrev pub aside_of : FrontAsked → List Page → List Page
 aside_of asked queue = filter (is_aside asked queue) queue
 
 abbrev pub planned_of : FrontAsked → List Page → List Page
 planned_of asked queue = filter (λ p. not (is_aside asked queue p)) queue
-
--- The page file of the pages that are planned, that of those that are set aside, and how many these are.
-pub record IsParted (asked : FrontAsked) (file : List ℕ) (parted : PartedFile) : Type 0 where
-  pub queue : List Page
-  pub read : held_pages asked.may_wait file ≡ Ok queue
-  pub planned : IsPageFileOf asked.may_wait (planned_of asked queue) parted.planned.items
-  pub aside : IsPageFileOf asked.may_wait (aside_of asked queue) parted.aside.items
-  pub count : parted.count ≡ length (aside_of asked queue)

@@ -1,5 +1,5 @@
 -- What `--verify` reads back where its exit status is 0, and what it finds where it is 1.
-use Rattle.std.specs.Prelude.{◌≡◌, ◌≢◌, ◌⊎◌, ℕ, ◌+◌, false, List, [], ◌∷◌, ◌++◌, codes, length, map, All, Contains, Ok}
+use Rattle.std.specs.Prelude.{◌≡◌, ◌≢◌, ◌⊎◌, ℕ, ◌+◌, false, List, [], ◌∷◌, ◌++◌, codes, length, map, All, Contains, Result, Ok, Err}
 use Rattle.pocsag_words.specs.Devices.{HasFailed}
 use Rattle.pocsag_words.specs.Kinds.{kind_of}
 use Rattle.pocsag_words.specs.declared.device.Source.{Ghosts as Reader}
@@ -7,7 +7,6 @@ use Rattle.pocsag_words.specs.declared.ending.End.{End}
 use Rattle.pocsag_pages.specs.declared.page.Page.{Page}
 use Rattle.pocsag_pages.specs.declared.fault.RoundFault.{RoundFault}
 use Rattle.pocsag_pages.specs.declared.fault.RoundFault.TheVariants as round_fault
-use Rattle.pocsag_pages.specs.PageFile.{verdict}
 use Rattle.pocsag_pages.specs.Bytes.{Sent}
 use Rattle.pocsag_pages.specs.Reading.{EndsAs, IsLegalList}
 use Rattle.pocsag_tree.specs.Answers.{given_before}
@@ -19,15 +18,14 @@ use Rattle.pocsag_tree.specs.declared.refusals.CertificateFault.TheVariants as c
 use Rattle.pocsag_check.specs.Acceptance.{IsAcceptedFor}
 use Rattle.pocsag_decode.specs.Faults.{HasFault, ReadsAs, WantsMemory}
 use Rattle.pocsag_decode.specs.declared.fault.DecodeFault.TheVariants as decoding
-use Rattle.pocsag_plan.specs.Streams.{IsOfRound}
+use Rattle.pocsag_plan.specs.Plans.{NoneHasFewer}
 use Rattle.pocsag_plan.specs.declared.search.OnLimit.{OnLimit}
 use Rattle.pocsag_plan.specs.declared.search.OnLimit.TheVariants.{Fewest, Always}
 use Rattle.pocsag_plan.specs.declared.search.Search.{Search}
-use Rattle.pocsag_plan.specs.Verdicts.{Checked, ExplainsRound}
 use Rattle.pocsag_shell.specs.Readers.{FailedCut, IsSoOfHeld, WasNotRead}
 use Rattle.pocsag_shell.specs.Runs.{Work}
 use Rattle.pocsag_shell.specs.declared.fault.FileFault.{FileFault}
-use Rattle.pocsag_centre.specs.Works.{of_whole}
+use Rattle.pocsag_centre.specs.Works.{answered, of_whole}
 use Rattle.pocsag_centre.specs.declared.fault.CentreFault.{CentreFault}
 use Rattle.pocsag_centre.specs.declared.fault.CentreFault.TheVariants as fault
 use Rattle.pocsag_centre.specs.declared.plan.PlanFiles.{PlanFiles}
@@ -56,13 +54,16 @@ abbrev pub IsExpectedBound : OnLimit → (bound batches : ℕ) → Type 0
 IsExpectedBound Fewest bound batches = bound ≡ batches
 IsExpectedBound Always bound batches = (bound ≡ batches) ⊎ (bound + 1 ≡ batches)
 
--- The transmission is one of the page file's round and the end, in so many batches, and the certificate is a
--- text of the end, a bound and a tree that the checker accepts for them: the bound that is due.
-pub record Verified (file : List ℕ) (search : Search) (sent certificate : List ℕ) : Type 0 where
+-- The transmission is one of the round and the end, in so many batches, and the certificate is a text of the end, a bound and a tree
+-- that the checker accepts for them, so that no transmission has fewer batches than the bound: the one that is due.
+pub record Verified (round : List Page) (search : Search) (sent certificate : List ℕ) : Type 0 where
   pub bound : ℕ
-  pub checked : Checked file certificate search.end bound
+  pub tree : BoundTree
+  pub text : IsText search.end bound tree certificate
+  pub accepted : IsAcceptedFor false search.end round bound tree
+  pub none_fewer : NoneHasFewer search.end round bound
   pub batches : ℕ
-  pub transmission : IsTransmissionOf search.end checked.round batches sent
+  pub transmission : IsTransmissionOf search.end round batches sent
   pub due : IsExpectedBound search.on_limit bound batches
 
 -- The bytes read as pages that are not those of the round.
@@ -106,11 +107,12 @@ ExplainsUntaken Tx end round tx tx_after f =
     ((e : FileFault) × (f ≡ fault.File e) × WasNotRead Tx tx tx_after e)
     ⊎ IsSoOfHeld Tx tx (λ bytes. ExplainsReadback end round bytes f)
 
--- Why a reader gives no round, and no certificate: it failed, or this is so of its bytes. Memory for a certificate is wanted only
--- where a byte more is.
-abbrev pub WasNoRound : {P : Type 0} → Reader P → (pages pages_after : P) → RoundFault → Type 0
-WasNoRound Pages pages pages_after round_fault.ReadFault = FailedCut Pages pages pages_after
-WasNoRound Pages pages pages_after f = Pages.is_known → ExplainsRound (Pages.held pages) f
+-- Why a reader gives no round of the bytes, which are judged so, and no certificate: it failed, or this is so of its bytes. Memory
+-- for a certificate is wanted only where a byte more is.
+abbrev pub WasNoRound : {P : Type 0} → Reader P → (judge : List ℕ → Result (List Page) RoundFault) → (pages pages_after : P) → RoundFault → Type 0
+WasNoRound Pages judge pages pages_after round_fault.ReadFault = FailedCut Pages pages pages_after
+WasNoRound Pages judge pages pages_after f =
+    Pages.is_known → (f ≡ round_fault.OutOfMemory) ⊎ (judge (Pages.held pages) ≡ Err f)
 
 abbrev pub WasNoCertificate : {C : Type 0} → Reader C → (cert cert_after : C) → CertificateFault → Type 0
 WasNoCertificate Cert cert cert_after certificate_fault.ReadFault = HasFailed (Cert.failures cert) (Cert.failures cert_after)
@@ -118,29 +120,43 @@ WasNoCertificate Cert cert cert_after certificate_fault.OutOfMemory =
     Cert.is_known → HasFirst certificate_fault.Truncated (given_before (Cert.held cert) (Cert.held cert_after))
 WasNoCertificate Cert cert cert_after f = Cert.is_known → HasFirst f (Cert.held cert)
 
--- The page file that a reader holds is that of a round, of which this is so.
-abbrev pub IsSoOfRound : {P : Type 0} → Reader P → (pages : P) → (List Page → Type 0) → Type 0
-IsSoOfRound Pages pages Holds = (round : List Page) × (Pages.is_known → verdict (Pages.held pages) ≡ Ok round) × Holds round
-
--- Why a transmission and a certificate are not verified for a page file: the first fault of the page file, of the transmission
--- and of the certificate, and last that this does not show the bound that is due.
-pub data ExplainsVerifying {P T C : Type 0} (Pages : Reader P) (Tx : Reader T) (Cert : Reader C) (search : Search) (files files_after : PlanFiles P T C) (f : CentreFault) : Type 0 where
-  no_round : (e : RoundFault) → f ≡ fault.Round e → WasNoRound Pages files.pages files_after.pages e
-      → ExplainsVerifying Pages Tx Cert search files files_after f
-  not_taken : IsSoOfRound Pages files.pages (λ round. ExplainsUntaken Tx search.end round files.tx files_after.tx f)
-      → ExplainsVerifying Pages Tx Cert search files files_after f
-  no_certificate : (e : CertificateFault) → f ≡ fault.Certificate e → WasNoCertificate Cert files.cert files_after.cert e
-      → IsSoOfRound Pages files.pages (λ round. (batches : ℕ) × IsSoOfHeld Tx files.tx (IsTransmissionOf search.end round batches))
-      → ExplainsVerifying Pages Tx Cert search files files_after f
+-- Why a transmission and a certificate are not verified for a round: the first fault of the transmission and of the certificate, and
+-- last that this does not show the bound that is due.
+pub data ExplainsUnverified {T C : Type 0} (Tx : Reader T) (Cert : Reader C) (search : Search) (round : List Page) (tx tx_after : T) (cert cert_after : C) (f : CentreFault) : Type 0 where
+  not_taken : ExplainsUntaken Tx search.end round tx tx_after f
+      → ExplainsUnverified Tx Cert search round tx tx_after cert cert_after f
+  no_certificate : (e : CertificateFault) → f ≡ fault.Certificate e → WasNoCertificate Cert cert cert_after e
+      → ((batches : ℕ) × IsSoOfHeld Tx tx (IsTransmissionOf search.end round batches))
+      → ExplainsUnverified Tx Cert search round tx tx_after cert cert_after f
   not_due : f ≡ fault.NotTheBound
-      → (Pages.is_known → Tx.is_known → Cert.is_known →
-      IsOfRound (Pages.held files.pages) (λ round. IsNotDue search round (Tx.held files.tx) (Cert.held files.cert)))
-      → ExplainsVerifying Pages Tx Cert search files files_after f
+      → (Tx.is_known → Cert.is_known → IsNotDue search round (Tx.held tx) (Cert.held cert))
+      → ExplainsUnverified Tx Cert search round tx tx_after cert cert_after f
 
--- `--verify`: reads a transmission and a certificate back, and prints that they are verified.
-abbrev pub verifies : {P T C : Type 0} → Reader P → Reader T → Reader C → Search → (files files_after : PlanFiles P T C) → Work CentreFault
-verifies Pages Tx Cert search files files_after = of_whole Pages files.pages
+-- The bytes that a reader holds are judged to be those of a round, of which this is so.
+abbrev pub IsSoOfRound : {P : Type 0} → Reader P → (judge : List ℕ → Result (List Page) RoundFault) → (pages : P) → (List Page → Type 0) → Type 0
+IsSoOfRound Pages judge pages Holds = (round : List Page) × (Pages.is_known → judge (Pages.held pages) ≡ Ok round) × Holds round
+
+-- Why a transmission and a certificate are not verified for a page file, whose fault comes first.
+pub data ExplainsVerifying {P T C : Type 0} (Pages : Reader P) (Tx : Reader T) (Cert : Reader C) (judge : List ℕ → Result (List Page) RoundFault) (search : Search) (files files_after : PlanFiles P T C) (f : CentreFault) : Type 0 where
+  no_round : (e : RoundFault) → f ≡ fault.Round e → WasNoRound Pages judge files.pages files_after.pages e
+      → ExplainsVerifying Pages Tx Cert judge search files files_after f
+  unverified : IsSoOfRound Pages judge files.pages
+      (λ round. ExplainsUnverified Tx Cert search round files.tx files_after.tx files.cert files_after.cert f)
+      → ExplainsVerifying Pages Tx Cert judge search files files_after f
+
+-- Reads a transmission and a certificate of a round back, and prints that they are verified.
+abbrev pub verifies_round : {T C : Type 0} → Reader T → Reader C → Search → (round : List Page) → (tx tx_after : T) → (cert cert_after : C)
+    → Work CentreFault
+verifies_round Tx Cert search round tx tx_after cert cert_after = answered
     (λ status text. (status ≡ 0) × (text ≡ codes "verified" ++ (10 ∷ []))
-    × (Pages.is_known → Tx.is_known → Cert.is_known →
-    Verified (Pages.held files.pages) search (Tx.held files.tx) (Cert.held files.cert)))
-    (ExplainsVerifying Pages Tx Cert search files files_after)
+    × (Tx.is_known → Cert.is_known → Verified round search (Tx.held tx) (Cert.held cert)))
+    (ExplainsUnverified Tx Cert search round tx tx_after cert cert_after)
+
+-- `--verify`: the same for the round that is sent of a page file, which is judged so.
+abbrev pub verifies : {P T C : Type 0} → Reader P → Reader T → Reader C → (judge : List ℕ → Result (List Page) RoundFault) → Search
+    → (files files_after : PlanFiles P T C) → Work CentreFault
+verifies Pages Tx Cert judge search files files_after = of_whole Pages files.pages
+    (λ status text. (status ≡ 0) × (text ≡ codes "verified" ++ (10 ∷ []))
+    × (Tx.is_known → Cert.is_known →
+    IsSoOfRound Pages judge files.pages (λ round. Verified round search (Tx.held files.tx) (Cert.held files.cert))))
+    (ExplainsVerifying Pages Tx Cert judge search files files_after)

@@ -1,7 +1,7 @@
-ghost use Rattle.std.specs.Prelude.{◌≡◌, ◌↔◌, IfErr, IsErrOf, OnOk};
+ghost use Rattle.std.specs.Prelude.{◌≡◌, ◌↔◌, ℕ, IfErr, IsErrOf, OnOk};
 ghost use Rattle.pocsag_branch.specs.Found.{IsNodeLimit};
 ghost use Rattle.pocsag_pages.specs.Quotes.{IsWellQuoted, text_of_file};
-ghost use Rattle.pocsag_centre.specs.Checks.{ExplainsExpecting, ExplainsStrict, HoldsPages};
+ghost use Rattle.pocsag_centre.specs.Checks.{ExplainsExpecting, ExplainsStrict, HoldsPages, IsExpected, IsUnexpected};
 
 use crate::fault::CentreFault;
 use pocsag_pages::{held_pages, quote_fault};
@@ -11,6 +11,7 @@ use std::alloc::Global;
 /// Refuses a node limit that is out of its range, so that nothing is opened for it.
 pub fn refuse_bad_limit(search: Search) -> Result<(), CentreFault>
     ensures bad { IsErrOf result CentreFault.BadLimit ↔ (¬ IsNodeLimit search.limit) }
+    ensures good { OnOk result (IsNodeLimit search.limit) }
     ensures alone { IfErr result (λ e. e ≡ CentreFault.BadLimit) }
 {
     if is_node_limit(search.limit) {
@@ -42,9 +43,17 @@ pub fn expected_file(
     ensures explained { IfErr result (ExplainsExpecting may_wait pages.now expected) }
 {
     let queue = held_pages(alloc, may_wait, pages)?;
-    let found = queue.len() as u32;
-    if found != expected {
-        return Err(CentreFault::Unexpected(found, expected));
+    refuse_other_count(queue.len() as u32, Some(expected))
+}
+
+// Refuses another number of pages than is expected, if a number is.
+pub(crate) fn refuse_other_count(found: u32, expect: Option<u32>) -> Result<(), CentreFault>
+    ensures expected { OnOk result (IsExpected expect found) }
+    ensures unexpected { IfErr result (λ f.
+        (wanted : ℕ) × (f ≡ CentreFault.Unexpected found wanted) × IsUnexpected expect found wanted) }
+{
+    match expect {
+        Some(wanted) if found != wanted => Err(CentreFault::Unexpected(found, wanted)),
+        _ => Ok(()),
     }
-    Ok(())
 }

@@ -1,27 +1,28 @@
-ghost use Rattle.std.specs.Prelude.{◌≡◌, ◌++◌, false, length, take, All, IfErr, IfOk, OnOk};
+ghost use Rattle.std.specs.Prelude.{◌≡◌, ◌++◌, [], length, All, IfErr, IfOk, IsFalse, IsTrue, OnErr, OnOk};
 ghost use Rattle.pocsag_words.specs.Devices.{CountsFailures, Delivers};
 ghost use Rattle.pocsag_pages.specs.Listable.{IsListable};
-ghost use Rattle.pocsag_pages.specs.Queues.{firsts};
+ghost use Rattle.pocsag_pages.specs.Pages.{AreGood};
+ghost use Rattle.pocsag_pages.specs.Queues.{IsQueue, firsts};
 ghost use Rattle.pocsag_decode.specs.PageFiles.{page_file};
 ghost use Rattle.pocsag_branch.specs.Found.{IsNodeLimit};
+ghost use Rattle.pocsag_plan.specs.Fronts.{ExplainsFront};
 ghost use Rattle.pocsag_plan.specs.Plans.{IsBounded};
-ghost use Rattle.pocsag_centre.specs.FrontFiles.{beyond_of, certificate_text, ExplainsFirst, front_text, HasCertificateText, IsOfHeld, IsFrontRead, IsPageFileOf, why_text};
+ghost use Rattle.pocsag_centre.specs.FrontFiles.{beyond_of, certificate_text, HasCertificateText, IsFrontOfPages, IsFrontRead, why_text};
 ghost use Rattle.pocsag_centre.specs.FrontWorks.{ExplainsOthers, ExplainsUnplanned, fronts, TookAll};
-ghost use Rattle.pocsag_centre.specs.Lines.{below_text, left_text, plan_text};
+ghost use Rattle.pocsag_centre.specs.Lines.{aside_text, below_text, left_text, plan_text};
 ghost use Rattle.pocsag_centre.specs.Works.{MayBeToldOfCut};
 ghost use Rattle.pocsag_shell.specs.Readers.{IsUncut};
 ghost use Rattle.pocsag_shell.specs.Runs.{IsAnswerOf, Ran};
 ghost use Rattle.pocsag_shell.specs.declared.fault.FileFault.TheVariants as file_fault;
 
-use crate::checks::refuse_bad_limit;
+use crate::checks::{refuse_bad_limit, refuse_other_count};
 use crate::fault::CentreFault;
+use crate::oversized::{Parted, part_pages};
 use crate::plan::print_bounded;
-use pocsag_decode::{
-    ListFault, page_files_are_read_back, pages_of_files_are_spellable, write_page_file,
-};
-use pocsag_pages::{Page, first_pages, held_pages, left_pages, read_pages, read_round};
-use pocsag_plan::{FrontPlan, Search, longest_front, send};
-use pocsag_shell::{CommandAnswer, ErrorStream, FileFault, print_answer, print_numbers};
+use pocsag_decode::{page_files_are_read_back, pages_of_files_are_spellable, write_page_file};
+use pocsag_pages::{Page, Round, first_pages, left_pages, read_pages};
+use pocsag_plan::{FrontPlan, NoFront, PlanFault, Search, longest_front, send};
+use pocsag_shell::{CommandAnswer, ErrorStream, FileFault, print_answer, print_numbers, put_whole};
 use pocsag_tree::{Certificate, write_text};
 use pocsag_words::{GrowingSink, Sink, Source};
 use std::alloc::Global;
@@ -33,6 +34,10 @@ pub struct FrontAsked {
     pub batches: u32,
     /// Whether a page may wait for an earlier one of its address: the round is the first page of each address.
     pub may_wait: bool,
+    /// Whether the pages that alone need more batches are set aside, unless all do.
+    pub sets_aside: bool,
+    /// How many pages the page file must hold, if that is given.
+    pub expect: Option<u32>,
     pub search: Search,
 }
 
@@ -47,16 +52,34 @@ pub struct FrontFiles<P: Drop, S: Drop> {
     pub cert: S,
     /// The page file of the pages that are left, in the order of the page file; without a page it is the header alone.
     pub rest: S,
+    /// Where pages are set aside, that of these; nothing, where that is not asked for.
+    pub aside: S,
     /// Where pages are left, the certificate of the first pages and one more.
     pub why: S,
     /// How many first pages were planned.
     pub count: u32,
 }
 
+// The front of a page file, and the pages of it that are set aside.
+#[derive(Drop)]
+pub(crate) struct FrontRead {
+    pub(crate) front: FrontPlan,
+    pub(crate) aside: Vec<Page>,
+}
+
+// The lines on a front, and the page files of the pages that are left and of those that are set aside.
+#[derive(Drop)]
+struct FrontOutput {
+    lines: Vec<u8>,
+    rest: Vec<u8>,
+    aside: Vec<u8>,
+}
+
 /// `plan PAGES TX CERT --at-most B`: plans the longest front of a page file's round that so many batches carry, as is asked: its
-/// transmission, the certificate of its bound, the page file of the others, and why there is not one page more; and reports the
-/// counts. Faults in order: `BadLimit`, before the file is read; `Round`; `FirstPage`, where not even the first page fits;
-/// `SearchLimit`; want of memory. Returns the exit status.
+/// transmission, the certificate of its bound, the page files of the others and of those that are set aside, and why there is not
+/// one page more; and reports the counts. Faults in order: `BadLimit`, before the file is read; `Round`; `Unexpected`, where the
+/// file holds another number of pages than is expected; `FirstPage`, where not even the first page fits; `SearchLimit`; want of
+/// memory. Returns the exit status.
 pub fn run_front<P: Source + Drop, S: Sink + Drop, O: Sink, E: Sink + Drop>(
     alloc: Global,
     asked: FrontAsked,
@@ -70,7 +93,7 @@ pub fn run_front<P: Source + Drop, S: Sink + Drop, O: Sink, E: Sink + Drop>(
     print_answer(answer_of_front(alloc, asked, files), out, err)
 }
 
-// What `plan --at-most` answers, once its files have all that is due. Its text is made before the first file is written.
+// What `plan --at-most` answers, once its files have all that is due. Its texts are made before the first file is written.
 fn answer_of_front<P: Source + Drop, S: Sink + Drop>(
     alloc: Global,
     asked: FrontAsked,
@@ -78,27 +101,39 @@ fn answer_of_front<P: Source + Drop, S: Sink + Drop>(
 ) -> Result<CommandAnswer, CentreFault>
     ensures answers { IsAnswerOf (fronts P.Source S.Sink asked files.old files.new) result }
 {
-    let front = read_front(alloc, asked, &mut files.pages)?;
-    let text = text_of_front(alloc, &front, asked.batches)?;
+    let read = read_front(alloc, asked, &mut files.pages)?;
+    let texts = texts_of_front(alloc, asked, &read)?;
+    let front = &read.front;
     files.count = front.bounded.plan.pages;
-    put_others(alloc, &front, &mut files.rest, &mut files.why)?;
+    put_others(
+        &texts,
+        &front.why,
+        &mut files.rest,
+        &mut files.aside,
+        &mut files.why,
+    )?;
     match send(&front.round, &front.bounded, &mut files.tx, &mut files.cert) {
-        Ok(()) => Ok(CommandAnswer { status: 0, text }),
+        Ok(()) => Ok(CommandAnswer {
+            status: 0,
+            text: texts.lines,
+        }),
         Err(_) => Err(CentreFault::File(FileFault::Write)),
     }
 }
 
-// The front of a page file.
+// The front of a page file, which is read once.
 pub(crate) fn read_front<P: Source>(
     alloc: Global,
     asked: FrontAsked,
     pages: &mut P,
-) -> Result<FrontPlan, CentreFault>
-    ensures front { P.is_known → IfOk result (IsFrontRead (P.held pages.old) asked) }
-    ensures planned { IfOk result (λ front.
-        IsBounded front.bounded.plan.end front.round front.bounded.plan front.bounded.bound) }
-    ensures listable { IfOk result (λ front. All IsListable front.rest.items) }
-    ensures texts { IfOk result (λ front. HasCertificateText front.why) }
+) -> Result<FrontRead, CentreFault>
+    ensures front { P.is_known →
+        IfOk result (λ read. IsFrontRead (P.held pages.old) asked read.front read.aside.items) }
+    ensures planned { IfOk result (λ read. IsBounded read.front.bounded.plan.end read.front.round
+        read.front.bounded.plan read.front.bounded.bound) }
+    ensures listable { IfOk result (λ read. All IsListable read.front.rest.items) }
+    ensures listable_aside { IfOk result (λ read. All IsListable read.aside.items) }
+    ensures texts { IfOk result (λ read. HasCertificateText read.front.why) }
     ensures limited { OnOk result
         (ExplainsUnplanned P.Source asked pages.old pages.new (CentreFault.File file_fault.OutOfMemory)) }
     ensures whole { OnOk result (IsUncut P.Source pages.old) }
@@ -108,37 +143,32 @@ pub(crate) fn read_front<P: Source>(
     page_files_are_read_back();
     pages_of_files_are_spellable();
     refuse_bad_limit(asked.search)?;
-    if asked.may_wait {
-        return queue_front(alloc, asked, pages);
-    }
-    let round = read_round(alloc, pages)?;
-    round.keeps_rules();
-    Ok(longest_front(alloc, round, asked.batches, asked.search)?)
+    let queue = read_pages(alloc, asked.may_wait, pages)?;
+    refuse_other_count(queue.len() as u32, asked.expect)?;
+    let Ok(Parted { planned, aside }) = part_pages(alloc, asked, queue) else {
+        return Err(CentreFault::File(FileFault::OutOfMemory));
+    };
+    let front = queue_front(alloc, asked, planned)?;
+    Ok(FrontRead { front, aside })
 }
 
-// The same of a page file whose pages are not all in the round.
-fn queue_front<P: Source>(
-    alloc: Global,
-    asked: FrontAsked,
-    pages: &mut P,
-) -> Result<FrontPlan, CentreFault>
-    requires { IsNodeLimit asked.search.limit }
-    ensures front { P.is_known → IfOk result (IsFrontRead (P.held pages.old) asked) }
+// The front of pages that are a round, or a queue where pages may wait for earlier ones of their address.
+fn queue_front(alloc: Global, asked: FrontAsked, queue: Vec<Page>) -> Result<FrontPlan, NoFront>
+    requires limited { IsNodeLimit asked.search.limit }
+    requires queue { IsQueue queue.items }
+    requires apart { IsFalse asked.may_wait → AreGood queue.items }
+    ensures front { IfOk result (IsFrontOfPages asked queue.items) }
     ensures planned { IfOk result (λ front.
         IsBounded front.bounded.plan.end front.round front.bounded.plan front.bounded.bound) }
-    ensures listable { IfOk result (λ front. All IsListable front.rest.items) }
     ensures texts { IfOk result (λ front. HasCertificateText front.why) }
-    ensures limited { OnOk result
-        (ExplainsUnplanned P.Source asked pages.old pages.new (CentreFault.File file_fault.OutOfMemory)) }
-    ensures whole { OnOk result (IsUncut P.Source pages.old) }
-    ensures cut { IfErr result (MayBeToldOfCut P.Source pages.old) }
-    ensures explained { IfErr result (ExplainsUnplanned P.Source asked pages.old pages.new) }
+    ensures fault { IfErr result (ExplainsFront asked.search (firsts queue.items) asked.batches) }
 {
-    page_files_are_read_back();
-    pages_of_files_are_spellable();
-    let queue = read_pages(alloc, asked.may_wait, pages)?;
+    if !asked.may_wait {
+        let whole = longest_front(alloc, Round::of(queue), asked.batches, asked.search)?;
+        return Ok(whole);
+    }
     let Ok(firsts) = first_pages(alloc, queue.as_slice()) else {
-        return Err(CentreFault::File(FileFault::OutOfMemory));
+        return Err(NoFront::Plan(PlanFault::OutOfMemory));
     };
     let front = longest_front(alloc, firsts, asked.batches, asked.search)?;
     let FrontPlan {
@@ -148,7 +178,7 @@ fn queue_front<P: Source>(
         why,
     } = front;
     let Ok(rest) = left_pages(alloc, queue, round.pages()) else {
-        return Err(CentreFault::File(FileFault::OutOfMemory));
+        return Err(NoFront::Plan(PlanFault::OutOfMemory));
     };
     Ok(FrontPlan {
         round,
@@ -158,25 +188,72 @@ fn queue_front<P: Source>(
     })
 }
 
-// Writes the page file of the pages that are left, and then the certificate of one page more.
-fn put_others<S: Sink>(
+// The texts of a front.
+fn texts_of_front(
     alloc: Global,
-    front: &FrontPlan,
+    asked: FrontAsked,
+    read: &FrontRead,
+) -> Result<FrontOutput, CentreFault>
+    requires listable { All IsListable read.now.front.rest.items }
+    requires listable_aside { All IsListable read.now.aside.items }
+    ensures lines { IfOk result (λ texts. texts.lines.items
+        ≡ plan_text read.now.front.bounded.plan.pages read.now.front.bounded.plan.batches
+        ++ below_text read.now.front.bounded.plan.batches read.now.front.bounded.bound
+        ++ left_text (length read.now.front.rest.items) ++ why_text asked.batches (beyond_of read.now.front.why)
+        ++ aside_text asked.sets_aside (length read.now.aside.items)) }
+    ensures rest { IfOk result (λ texts. texts.rest.items ≡ page_file read.now.front.rest.items) }
+    ensures aside { IfOk result
+        (λ texts. IsTrue asked.sets_aside → texts.aside.items ≡ page_file read.now.aside.items) }
+    ensures no_aside { IfOk result (λ texts. IsFalse asked.sets_aside → texts.aside.items ≡ []) }
+    ensures memory { IfErr result (λ e. e ≡ CentreFault.File file_fault.OutOfMemory) }
+{
+    let mut lines = GrowingSink::new(alloc);
+    if print_front(asked, read, &mut lines).is_err() {
+        return Err(CentreFault::File(FileFault::OutOfMemory));
+    }
+    let lines = lines.into_bytes();
+    let rest = written_pages(alloc, read.front.rest.as_slice())?;
+    if !asked.sets_aside {
+        let aside = Vec::new(alloc);
+        return Ok(FrontOutput { lines, rest, aside });
+    }
+    let aside = written_pages(alloc, read.aside.as_slice())?;
+    Ok(FrontOutput { lines, rest, aside })
+}
+
+// The page file of the pages.
+fn written_pages(alloc: Global, pages: &[Page]) -> Result<Vec<u8>, CentreFault>
+    requires { All IsListable pages.now }
+    ensures file { IfOk result (λ file. file.items ≡ page_file pages.now) }
+    ensures memory { IfErr result (λ e. e ≡ CentreFault.File file_fault.OutOfMemory) }
+{
+    let mut sink = GrowingSink::new(alloc);
+    write_page_file(alloc, pages, &mut sink).map_err(|_| CentreFault::File(
+        FileFault::OutOfMemory,
+    ))?;
+    Ok(sink.into_bytes())
+}
+
+// Writes the page files of the pages that are left and that are set aside, and then the certificate of one page more.
+fn put_others<S: Sink>(
+    texts: &FrontOutput,
+    beyond: &Option<Certificate>,
     rest: &mut S,
+    aside: &mut S,
     why: &mut S,
 ) -> Result<(), FileFault>
-    requires listable { All IsListable front.now.rest.items }
-    requires texts { HasCertificateText front.now.why }
-    ensures rest { S.is_known → OnOk result (TookAll S.Sink rest.old rest.new (page_file front.now.rest.items)) }
-    ensures why { S.is_known → OnOk result (TookAll S.Sink why.old why.new (certificate_text front.now.why)) }
-    ensures explained { IfErr result (ExplainsOthers S.Sink rest.old rest.new why.old why.new
-        (page_file front.now.rest.items) (certificate_text front.now.why)) }
+    requires { HasCertificateText beyond.now }
+    ensures rest { S.is_known → OnOk result (TookAll S.Sink rest.old rest.new texts.now.rest.items) }
+    ensures aside { S.is_known → OnOk result (TookAll S.Sink aside.old aside.new texts.now.aside.items) }
+    ensures why { S.is_known → OnOk result (TookAll S.Sink why.old why.new (certificate_text beyond.now)) }
+    ensures lost { IfErr result (λ e. e ≡ FileFault.Write) }
+    ensures explained { OnErr result (ExplainsOthers S.Sink rest.old rest.new aside.old aside.new why.old why.new
+        texts.now.rest.items texts.now.aside.items (certificate_text beyond.now)) }
 {
-    match write_page_file(alloc, front.rest.as_slice(), rest) {
-        Ok(()) => put_why(&front.why, why),
-        Err(ListFault::OutOfMemory) => Err(FileFault::OutOfMemory),
-        Err(_) => Err(FileFault::Write),
-    }
+    put_whole(rest, texts.rest.as_slice())?;
+    put_whole(aside, texts.aside.as_slice())?;
+    put_why(beyond, why)?;
+    Ok(())
 }
 
 // Writes the certificate, if there is one.
@@ -194,68 +271,21 @@ fn put_why<S: Sink>(why: &Option<Certificate>, sink: &mut S) -> Result<(), FileF
     write_text(*end, *batches, tree, sink).map_err(|_| FileFault::Write)
 }
 
-/// A page file of the first pages of the round of the bytes of a page file, so many, or all where it has fewer.
-pub fn first_file(
-    alloc: Global,
-    may_wait: bool,
-    pages: &[u8],
-    count: usize,
-) -> Result<Vec<u8>, CentreFault>
-    ensures first { IfOk result (λ file.
-        IsOfHeld may_wait pages.now (λ queue. IsPageFileOf false (take count (firsts queue)) file.items)) }
-    ensures explained { IfErr result (ExplainsFirst may_wait pages.now) }
-{
-    page_files_are_read_back();
-    pages_of_files_are_spellable();
-    let queue = held_pages(alloc, may_wait, pages)?;
-    let Ok(round) = first_pages(alloc, queue.as_slice()) else {
-        return Err(CentreFault::File(FileFault::OutOfMemory));
-    };
-    let count = count.min(round.pages().len());
-    let first = &round.pages()[..count];
-    written_pages(alloc, first)
-}
-
-// The page file of the pages.
-pub(crate) fn written_pages(alloc: Global, pages: &[Page]) -> Result<Vec<u8>, CentreFault>
-    requires { All IsListable pages.now }
-    ensures file { IfOk result (λ file. file.items ≡ page_file pages.now) }
-    ensures memory { IfErr result (λ e. e ≡ CentreFault.File file_fault.OutOfMemory) }
-{
-    let mut sink = GrowingSink::new(alloc);
-    write_page_file(alloc, pages, &mut sink).map_err(|_| CentreFault::File(
-        FileFault::OutOfMemory,
-    ))?;
-    Ok(sink.into_bytes())
-}
-
-// The counts of a front, as `print_front` prints them.
-fn text_of_front(alloc: Global, front: &FrontPlan, batches: u32) -> Result<Vec<u8>, CentreFault>
-    ensures text { IfOk result (λ text. text.items
-        ≡ front_text front.now.bounded (length front.now.rest.items) batches (beyond_of front.now.why)) }
-    ensures memory { IfErr result (λ e. e ≡ CentreFault.File file_fault.OutOfMemory) }
-{
-    let mut text = GrowingSink::new(alloc);
-    match print_front(front, batches, &mut text) {
-        Ok(()) => Ok(text.into_bytes()),
-        Err(_) => Err(CentreFault::File(FileFault::OutOfMemory)),
-    }
-}
-
-// Prints the counts of a front, with its bound where that is below its batches; how many pages are left; and what is shown
-// of one page more, where that is no more than the batches that were asked for.
+// Prints the counts of a front, with its bound where that is below its batches; how many pages are left; what is shown of one
+// page more, where that is no more than the batches that were asked for; and how many pages are set aside.
 #[tactic(auto, unfolding(crate::specs::Lines::left_text))]
-fn print_front<O: Sink>(front: &FrontPlan, batches: u32, out: &mut O) -> Result<(), FileFault>
+fn print_front<O: Sink>(asked: FrontAsked, read: &FrontRead, out: &mut O) -> Result<(), FileFault>
     ensures printed { O.is_known → OnOk result (O.taken out.new ≡ O.taken out.old
-        ++ plan_text front.now.bounded.plan.pages front.now.bounded.plan.batches
-        ++ below_text front.now.bounded.plan.batches front.now.bounded.bound
-        ++ left_text (length front.now.rest.items) ++ why_text batches (beyond_of front.now.why)) }
-    ensures lost { IfErr result (λ e. e ≡ FileFault.Write) }
-    ensures failures { CountsFailures result (O.failures out.old) (O.failures out.new) }
+        ++ plan_text read.now.front.bounded.plan.pages read.now.front.bounded.plan.batches
+        ++ below_text read.now.front.bounded.plan.batches read.now.front.bounded.bound
+        ++ left_text (length read.now.front.rest.items) ++ why_text asked.batches (beyond_of read.now.front.why)
+        ++ aside_text asked.sets_aside (length read.now.aside.items)) }
 {
+    let front = &read.front;
     print_bounded(&front.bounded, out)?;
     print_numbers(out, &[("left ", front.rest.len() as u64)], "\n")?;
-    print_why(&front.why, batches, out)
+    print_why(&front.why, asked.batches, out)?;
+    print_aside(asked, read.aside.len(), out)
 }
 
 /// Prints what is shown of one page more, where there is one and it is no more than the batches that were asked for.
@@ -278,4 +308,20 @@ pub(crate) fn print_why<O: Sink>(
     }
     let number = [("at least ", why.batches as u64)];
     print_numbers(out, &number, " batches with one page more\n")
+}
+
+/// Prints how many pages are set aside, where that is asked for.
+#[tactic(auto, unfolding(crate::specs::Lines::aside_text))]
+pub(crate) fn print_aside<O: Sink>(
+    asked: FrontAsked,
+    count: usize,
+    out: &mut O,
+) -> Result<(), FileFault>
+    ensures printed { O.is_known →
+        OnOk result (O.taken out.new ≡ O.taken out.old ++ aside_text asked.sets_aside count) }
+{
+    if !asked.sets_aside {
+        return Ok(());
+    }
+    print_numbers(out, &[("oversized ", count as u64)], "\n")
 }

@@ -6,7 +6,7 @@ use crate::explain::{ExplainFiles, run_explain};
 use crate::fault::CentreFault;
 use crate::note::{note_file, note_first, quote_asked};
 use crate::plan::{DEFAULT_SEARCH, run_input};
-use crate::plan_files::{Streams, front_asked, plan_command, refuse_unmet, set_aside};
+use crate::plan_files::{Streams, front_asked, plan_command, refuse_before, refuse_unmet};
 use crate::report::{ReportAsked, run_report};
 use crate::slot::{SlotAsked, run_slot_report};
 use crate::texts::{BAD_SLOT, EARLY_STRICT};
@@ -18,8 +18,9 @@ use clap::{ArgMatches, Error};
 use pocsag_findings::Format;
 use pocsag_shell::{
     CERT, Call, Context, Group, Names, PAGES, PAGES_READ, Role, STANDARD, STRICT, TX, Tables,
-    load_both, load_file, path_of, print,
+    first_asked, load_both, load_file, path_of, print,
 };
+use pocsag_words::Source;
 use std::alloc::AllocError;
 use std::io::IsTerminal;
 
@@ -114,8 +115,7 @@ fn plan_input(
         search: DEFAULT_SEARCH,
     };
     let mut pages = load_file(context, Role::PageFile, None, PAGES_READ)?;
-    refuse_unmet(context, None, &pages, asked)?;
-    let quote = quote_asked(context, &pages);
+    let quote = refuse_unmet(context, None, &pages, asked)?;
     let status = run_input(
         context.alloc,
         &mut pages,
@@ -180,8 +180,7 @@ fn report_path(
         return report_slot(context, args.rate, slot, streams);
     }
     let mut pages = load_file(context, Role::PageFile, args.pages, PAGES_READ)?;
-    refuse_unmet(context, args.pages, &pages, args.search)?;
-    let quote = quote_asked(context, &pages);
+    let quote = refuse_unmet(context, args.pages, &pages, args.search)?;
     let asked = ReportAsked {
         rate: args.rate,
         search: args.search.search,
@@ -211,24 +210,19 @@ fn report_slot(
         return Ok(2);
     }
     let front = front_asked(slot, limit)?;
-    let pages = load_file(context, Role::PageFile, slot.pages, PAGES_READ)?;
-    refuse_unmet(context, slot.pages, &pages, slot.search)?;
-    let quote = quote_asked(context, &pages);
-    let mut aside = set_aside(context, slot, front, pages)?;
-    let asked = SlotAsked {
-        rate,
-        front,
-        aside: slot.oversized.is_some().then_some(aside.count),
-    };
+    let mut pages = load_file(context, Role::PageFile, slot.pages, PAGES_READ)?;
+    let quote = refuse_before(context, slot.pages, &pages, slot.search)?;
+    let begins = first_asked(context, pages.lent().unwrap_or(&[]));
+    let asked = SlotAsked { rate, front };
     let status = run_slot_report(
         context.alloc,
         asked,
-        &mut aside.pages,
+        &mut pages,
         &mut streams.out,
         &mut streams.err,
     );
     let fault = streams.err.fault();
-    note_file(context, slot.pages, &aside.pages, quote, fault);
-    note_first(context, slot, front, aside.begins, fault);
+    note_file(context, slot.pages, &pages, quote, fault);
+    note_first(context, slot, front, begins, fault);
     Ok(status)
 }

@@ -1,63 +1,32 @@
 //! Pages that alone need more batches than are allowed.
-ghost use Rattle.std.specs.Prelude.{◌≡◌, IfErr, IfOk};
+ghost use Rattle.std.specs.Prelude.{◌≡◌, IfOk};
 ghost use Rattle.std.specs.List.{list_any};
-ghost use Rattle.pocsag_centre.specs.FrontFiles.{ExplainsFirst};
-ghost use Rattle.pocsag_centre.specs.Oversized.{IsParted, aside_of, fits_alone, planned_of};
+ghost use Rattle.pocsag_centre.specs.Oversized.{aside_of, fits_alone, is_parted, planned_of};
 
-use crate::fault::CentreFault;
-use crate::front::{FrontAsked, written_pages};
-use pocsag_decode::{page_files_are_read_back, pages_of_files_are_spellable};
-use pocsag_pages::{Page, held_pages};
-use pocsag_shell::FileFault;
+use crate::front::FrontAsked;
+use pocsag_pages::Page;
 use pocsag_words::{BATCH_CODEWORDS, End, FRAMES, OutOfMemory};
 use std::alloc::Global;
 
-/// A page file in two parts.
+/// The pages of a page file that are planned, and those that are set aside.
 #[derive(Drop)]
-pub struct PartedFile {
-    /// The page file of the pages that are planned.
-    pub planned: Vec<u8>,
-    /// That of the pages that are set aside; without one it is the header alone.
-    pub aside: Vec<u8>,
-    /// How many pages are set aside.
-    pub count: usize,
+pub(crate) struct Parted {
+    pub(crate) planned: Vec<Page>,
+    pub(crate) aside: Vec<Page>,
 }
 
-// The same of pages.
-#[derive(Drop)]
-struct Parted {
-    planned: Vec<Page>,
-    aside: Vec<Page>,
-}
-
-/// `--oversized`: parts the bytes of a page file. The pages that alone need more batches than are asked for are set aside, unless
-/// all do: then none is, and a plan of the file refuses its first page.
-pub fn part_file(alloc: Global, asked: FrontAsked, pages: &[u8]) -> Result<PartedFile, CentreFault>
-    ensures parted { IfOk result (IsParted asked pages.now) }
-    ensures explained { IfErr result (ExplainsFirst asked.may_wait pages.now) }
-{
-    page_files_are_read_back();
-    pages_of_files_are_spellable();
-    let queue = held_pages(alloc, asked.may_wait, pages)?;
-    let Ok(Parted { planned, aside }) = part_pages(alloc, asked, queue) else {
-        return Err(CentreFault::File(FileFault::OutOfMemory));
-    };
-    let count = aside.len();
-    let planned = written_pages(alloc, planned.as_slice())?;
-    let aside = written_pages(alloc, aside.as_slice())?;
-    Ok(PartedFile {
-        planned,
-        aside,
-        count,
-    })
-}
-
-fn part_pages(alloc: Global, asked: FrontAsked, queue: Vec<Page>) -> Result<Parted, OutOfMemory>
+/// `--oversized`: parts pages. Those that alone need more batches than are asked for are set aside, unless all do: then none is, and
+/// a plan of them refuses the first page.
+pub(crate) fn part_pages(
+    alloc: Global,
+    asked: FrontAsked,
+    queue: Vec<Page>,
+) -> Result<Parted, OutOfMemory>
     ensures planned { IfOk result (λ parted. parted.planned.items ≡ planned_of asked queue.items) }
     ensures aside { IfOk result (λ parted. parted.aside.items ≡ aside_of asked queue.items) }
 {
     let mut aside = Vec::new(alloc);
-    if !has_fitting(queue.as_slice(), asked.search.end, asked.batches) {
+    if !is_parted(asked, queue.as_slice()) {
         return Ok(Parted {
             planned: queue,
             aside,
@@ -72,6 +41,13 @@ fn part_pages(alloc: Global, asked: FrontAsked, queue: Vec<Page>) -> Result<Part
         }
     }
     Ok(Parted { planned, aside })
+}
+
+// Whether pages of these are set aside: that is asked for, and some page fits alone.
+fn is_parted(asked: FrontAsked, pages: &[Page]) -> bool
+    ensures { result ≡ is_parted asked pages.now }
+{
+    asked.sets_aside && has_fitting(pages, asked.search.end, asked.batches)
 }
 
 fn has_fitting(pages: &[Page], end: End, batches: u32) -> bool

@@ -3,20 +3,19 @@ ghost use Rattle.pocsag_shell.specs.declared.fault.FileFault.TheVariants as file
 ghost use Rattle.pocsag_shell.specs.Paths.{HasEqual, paths_of};
 
 use crate::args::{FrontLimit, PlanArgs, SearchArgs};
-use crate::checks::{expected_file, refuse_bad_limit, strict_file};
+use crate::checks::{expected_file, strict_file};
 use crate::fault::CentreFault;
-use crate::front::{FrontAsked, FrontFiles, first_file, run_front};
+use crate::front::{FrontAsked, FrontFiles, run_front};
 use crate::note::{note_file, note_first, quote_asked};
-use crate::oversized::part_file;
 use crate::plan::{PlanFiles, run_plan};
-use crate::readback::run_verify;
-use pocsag_pages::FILE_LIMIT;
-use pocsag_plan::most_batches;
+use crate::readback::{WrittenFront, run_verify, run_verify_front};
+use pocsag_pages::{FILE_LIMIT, QuoteFault};
+use pocsag_plan::{is_node_limit, most_batches};
 use pocsag_shell::{
     CERT_READ, Context, FileFault, Loaded, MemoryStreams, Output, Outputs, PAGES_READ, Role,
     STANDARD, StagedFile, first_asked, is_regular, is_regular_or_none, load, load_file,
-    open_output, open_outputs, open_source, path_of, print, print_numbers, put_staged, put_whole,
-    refuse_equal, refuse_input, refuse_one_file, refuse_shared, write_over,
+    open_output, open_outputs, open_source, path_of, print, put_staged, put_whole, refuse_equal,
+    refuse_input, refuse_one_file, refuse_shared, write_over,
 };
 use pocsag_words::{GrowingSink, MemorySink, Sink, Source};
 use std::fs::File;
@@ -39,30 +38,50 @@ const BAD_REST: &str = "--rest and --why name files, and go with --at-most or --
 
 const BAD_OVERSIZED: &str = "--oversized names a file, and goes with --at-most or --airtime";
 
-/// Refuses a page file that does not meet what is asked of it. What cannot be read is for the command to refuse.
+/// Refuses a page file that does not meet what is asked of it. What cannot be read is for the command to refuse. Returns the first
+/// misplaced quote, where `--verbose` asks for it; one that `--strict` let pass has none.
 pub(crate) fn refuse_unmet(
     context: Context<'_>,
     path: Option<&str>,
     pages: &Loaded,
     asked: SearchArgs,
-) -> Result<(), CentreFault> {
+) -> Result<Option<QuoteFault>, CentreFault> {
     let Some(file) = pages.lent() else {
-        return Ok(());
+        return Ok(None);
     };
     if file.len() > FILE_LIMIT {
-        return Ok(());
+        return Ok(None);
     }
+    let mut quote = None;
     if asked.strict {
         strict_file(file)?;
+    } else {
+        quote = quote_asked(context, pages);
     }
     let Some(expected) = asked.expect else {
-        return Ok(());
+        return Ok(quote);
     };
-    let met = expected_file(context.alloc, asked.may_wait, file, expected);
-    if let Err(fault) = met {
-        note_file(context, path, pages, None, Some(fault));
+    match expected_file(context.alloc, asked.may_wait, file, expected) {
+        Ok(()) => Ok(quote),
+        Err(fault) => {
+            note_file(context, path, pages, None, Some(fault));
+            Err(fault)
+        }
     }
-    met
+}
+
+/// The same before a front is planned, which counts the pages itself, but behind the limit of its search.
+pub(crate) fn refuse_before(
+    context: Context<'_>,
+    path: Option<&str>,
+    pages: &Loaded,
+    asked: SearchArgs,
+) -> Result<Option<QuoteFault>, CentreFault> {
+    let mut asked = asked;
+    if is_node_limit(asked.search.limit) {
+        asked.expect = None;
+    }
+    refuse_unmet(context, path, pages, asked)
 }
 
 /// `plan`: plans from file to files, or from and to the standard streams. Where standard output takes one of
@@ -152,14 +171,14 @@ fn plan_files<O: Sink>(
     streams: &mut Streams,
     out: &mut O,
 ) -> Result<u8, CentreFault> {
-    let (status, first) = match args.front {
+    let (status, sent) = match args.front {
         Some(limit) => write_front(context, args, limit, streams, out)?,
         None => (write_plan(context, args, streams, out)?, None),
     };
     if status != 0 || !args.verify {
         return Ok(status);
     }
-    read_files_back(context, args, first, streams, out)
+    read_files_back(context, args, sent, streams, out)
 }
 
 // Plans a page file, and then writes its transmission and its certificate.
@@ -172,8 +191,7 @@ fn write_plan<O: Sink>(
     let mut source = open_source(context, Role::PageFile, args.pages)?;
     let mut outputs = open_outputs(context, args.pages, args.tx, args.cert)?.emptied(context)?;
     let pages = load(context, &mut source, PAGES_READ)?;
-    refuse_unmet(context, args.pages, &pages, args.search)?;
-    let quote = quote_asked(context, &pages);
+    let quote = refuse_unmet(context, args.pages, &pages, args.search)?;
     let mut files = PlanFiles {
         pages,
         tx: GrowingSink::new(context.alloc),
@@ -203,14 +221,14 @@ fn write_plan<O: Sink>(
     Ok(status)
 }
 
-// Plans the front of a page file, and then writes it. Returns how many pages it has too.
+// Plans the front of a page file, and then writes it. Returns the front too.
 fn write_front<O: Sink>(
     context: Context<'_>,
     args: PlanArgs<'_>,
     limit: FrontLimit,
     streams: &mut Streams,
     out: &mut O,
-) -> Result<(u8, Option<u32>), CentreFault> {
+) -> Result<(u8, Option<WrittenFront>), CentreFault> {
     let asked = front_asked(args, limit)?;
     refuse_rest(context, args)?;
     let mut source = open_source(context, Role::PageFile, args.pages)?;
@@ -218,14 +236,14 @@ fn write_front<O: Sink>(
     let others = open_others(context, args)?;
     let outputs = opened.emptied(context)?;
     let pages = load(context, &mut source, PAGES_READ)?;
-    refuse_unmet(context, args.pages, &pages, args.search)?;
-    let quote = quote_asked(context, &pages);
-    let aside = set_aside(context, args, asked, pages)?;
+    let quote = refuse_before(context, args.pages, &pages, args.search)?;
+    let begins = first_asked(context, pages.lent().unwrap_or(&[]));
     let mut files = FrontFiles {
-        pages: aside.pages,
+        pages,
         tx: GrowingSink::new(context.alloc),
         cert: GrowingSink::new(context.alloc),
         rest: GrowingSink::new(context.alloc),
+        aside: GrowingSink::new(context.alloc),
         why: GrowingSink::new(context.alloc),
         count: 0,
     };
@@ -239,16 +257,13 @@ fn write_front<O: Sink>(
     );
     let fault = streams.err.fault();
     note_file(context, args.pages, &files.pages, quote, fault);
-    note_first(context, args, asked, aside.begins, fault);
-    let first = files.count;
+    note_first(context, args, asked, begins, fault);
+    let count = files.count;
     if status == 0 {
-        if args.oversized.is_some() {
-            print_numbers(&mut lines, &[("oversized ", aside.count as u64)], "\n")?;
-        }
-        put_front_files(context, others, outputs, aside.file, files)?;
+        put_front_files(context, others, outputs, files)?;
         put_whole(out, lines.bytes())?;
     }
-    Ok((status, Some(first)))
+    Ok((status, Some(WrittenFront { asked, count })))
 }
 
 /// What is asked of a front.
@@ -266,50 +281,10 @@ pub(crate) fn front_asked(
     Ok(FrontAsked {
         batches,
         may_wait: args.search.may_wait,
+        sets_aside: args.oversized.is_some(),
+        expect: args.search.expect,
         search: args.search.search,
     })
-}
-
-/// The page file that is planned, the page file of the pages that are set aside, and how many these are; and, where `--verbose`
-/// asks for it, how the page file begins.
-#[derive(Drop)]
-pub(crate) struct Aside {
-    pub(crate) pages: Loaded,
-    file: Vec<u8>,
-    pub(crate) count: usize,
-    pub(crate) begins: Option<String>,
-}
-
-/// Sets the pages aside that alone need too many batches, where that is asked for. What cannot be read is for the command to
-/// refuse.
-pub(crate) fn set_aside(
-    context: Context<'_>,
-    args: PlanArgs<'_>,
-    asked: FrontAsked,
-    pages: Loaded,
-) -> Result<Aside, CentreFault> {
-    let begins = first_asked(context, pages.lent().unwrap_or(&[]));
-    let (Some(_), Some(bytes)) = (args.oversized, pages.lent()) else {
-        return Ok(Aside {
-            pages,
-            file: Vec::new(context.alloc),
-            count: 0,
-            begins,
-        });
-    };
-    refuse_bad_limit(asked.search)?;
-    match part_file(context.alloc, asked, bytes) {
-        Ok(parted) => Ok(Aside {
-            pages: Loaded::new(context.alloc, parted.planned, false),
-            file: parted.aside,
-            count: parted.count,
-            begins,
-        }),
-        Err(fault) => {
-            note_file(context, args.pages, &pages, None, Some(fault));
-            Err(fault)
-        }
-    }
 }
 
 // Opens the files of a front beside its transmission and certificate, behind these and before any file is emptied.
@@ -333,10 +308,10 @@ fn put_front_files<S: Sink + Drop>(
     context: Context<'_>,
     others: Vec<(Role, Output<File>)>,
     mut outputs: Outputs<S>,
-    aside: Vec<u8>,
     files: FrontFiles<Loaded, GrowingSink>,
 ) -> Result<(), FileFault> {
     let (rest, why) = (files.rest.into_bytes(), files.why.into_bytes());
+    let aside = files.aside.into_bytes();
     for (role, output) in others {
         let bytes = match role {
             Role::Rest => rest.as_slice(),
@@ -368,62 +343,30 @@ fn refuse_rest(context: Context<'_>, args: PlanArgs<'_>) -> Result<(), FileFault
     Ok(())
 }
 
-// Reads the files back and compares them with the page file, or with so many of its first pages.
+// Reads the files back and compares them with the page file, or with the front of it that was sent.
 fn read_files_back<O: Sink>(
     context: Context<'_>,
     args: PlanArgs<'_>,
-    first: Option<u32>,
+    sent: Option<WrittenFront>,
     streams: &mut Streams,
     out: &mut O,
 ) -> Result<u8, CentreFault> {
-    let mut pages = load_file(context, Role::PageFile, args.pages, PAGES_READ)?;
-    if let (Some(first), Some(limit)) = (first, args.front) {
-        pages = set_aside(context, args, front_asked(args, limit)?, pages)?.pages;
-        pages = load_first(context, args, pages, first)?;
-    }
-    let quote = quote_asked(context, &pages);
+    let pages = load_file(context, Role::PageFile, args.pages, PAGES_READ)?;
     let tx = load_file(context, Role::Transmission, Some(args.tx), PAGES_READ)?;
     let cert = load_file(context, Role::Certificate, Some(args.cert), CERT_READ)?;
     let mut files = PlanFiles { pages, tx, cert };
     let mut lines: MemorySink<LINES> = MemorySink::new(LINES, LINES as u64);
-    let search = args.search.search;
-    let status = run_verify(
-        context.alloc,
-        search,
-        &mut files,
-        &mut lines,
-        &mut streams.err,
-    );
-    note_file(
-        context,
-        args.pages,
-        &files.pages,
-        quote,
-        streams.err.fault(),
-    );
+    let (alloc, search, err) = (context.alloc, args.search.search, &mut streams.err);
+    let status = match sent {
+        Some(sent) => run_verify_front(alloc, sent, &mut files, &mut lines, err),
+        None => run_verify(alloc, search, &mut files, &mut lines, err),
+    };
+    let fault = streams.err.fault();
+    note_file(context, args.pages, &files.pages, None, fault);
     if status == 0 {
         put_whole(out, lines.bytes())?;
     }
     Ok(status)
-}
-
-// A page file of so many first pages of the round. What cannot be read is for the command to refuse.
-fn load_first(
-    context: Context<'_>,
-    args: PlanArgs<'_>,
-    pages: Loaded,
-    first: u32,
-) -> Result<Loaded, CentreFault> {
-    let Some(file) = pages.lent() else {
-        return Ok(pages);
-    };
-    match first_file(context.alloc, args.search.may_wait, file, first as usize) {
-        Ok(file) => Ok(Loaded::new(context.alloc, file, false)),
-        Err(fault) => {
-            note_file(context, args.pages, &pages, None, Some(fault));
-            Err(fault)
-        }
-    }
 }
 
 // `--keep`: plans beside the places of the files, puts all there once they are whole, and then reports the lines.

@@ -1,20 +1,27 @@
-ghost use Rattle.std.specs.Prelude.{◌≡◌, ◌⊎◌, ◌↔◌, List, ℕ, Contains, map, IfErr, IfOk, IsFalse, IsTrue};
+ghost use Rattle.std.specs.Prelude.{◌≡◌, ◌⊎◌, ◌↔◌, List, ℕ, false, Contains, map, Err, IfErr, IfOk, IsFalse, IsTrue, Ok, OnOk};
 ghost use Rattle.std.specs.List.Sorted.{IsNonDecreasingBy};
+ghost use Rattle.pocsag_words.specs.Devices.{HasFailed, IsOfCut};
 ghost use Rattle.pocsag_words.specs.Kinds.{kind_of};
 ghost use Rattle.pocsag_pages.specs.Bytes.{Sent};
+ghost use Rattle.pocsag_pages.specs.PageFile.{verdict};
 ghost use Rattle.pocsag_pages.specs.Pages.{IsRound};
 ghost use Rattle.pocsag_pages.specs.Reading.{EndsAs, EndsIdle};
 ghost use Rattle.pocsag_tree.specs.Views.{bound_tree_of};
 ghost use Rattle.pocsag_shell.specs.Readers.{IsSoOfHeld};
 ghost use Rattle.pocsag_shell.specs.Runs.{IsStreamOf, Ran};
 ghost use Rattle.pocsag_plan.specs.Plans.{NoneHasFewer};
-ghost use Rattle.pocsag_centre.specs.Verification.{AreAmong, ExplainsReadback, ExplainsUntaken, HasRival, IsExpectedBound, IsTransmissionOf, ShowsExpected, verifies};
+ghost use Rattle.pocsag_centre.specs.FrontFiles.{sent_pages};
+ghost use Rattle.pocsag_centre.specs.Verification.{AreAmong, ExplainsReadback, ExplainsUntaken, HasRival, IsExpectedBound, IsTransmissionOf, ShowsExpected, verifies, verifies_round};
 
 use crate::fault::CentreFault;
+use crate::front::FrontAsked;
+use crate::oversized::{Parted, part_pages};
 use crate::plan::PlanFiles;
 use pocsag_check::check;
 use pocsag_decode::decode;
-use pocsag_pages::{Page, Round, preamble_len, read_round, read_whole};
+use pocsag_pages::{
+    Page, Round, RoundFault, first_pages, preamble_len, read_pages, read_round, read_whole,
+};
 use pocsag_plan::{OnLimit, Search};
 use pocsag_shell::{ErrorStream, FileFault, put_whole};
 use pocsag_tree::{Certificate, read_certificate};
@@ -23,6 +30,15 @@ use std::alloc::Global;
 
 // The bytes of the idle codeword.
 const IDLE_BYTES: [u8; 4] = [0x7A, 0x89, 0xC1, 0x97];
+
+/// A front that was written.
+#[derive(Clone, Copy)]
+pub struct WrittenFront {
+    /// What was asked for.
+    pub asked: FrontAsked,
+    /// How many pages it has.
+    pub count: u32,
+}
 
 /// `--verify`: reads a transmission and a certificate back, and reports `verified` where the one holds the pages of the page file
 /// and ends as is asked for, and the other shows its number of batches for them and the end, or, where no round is to be refused,
@@ -34,26 +50,82 @@ pub fn run_verify<P: Source + Drop, T: Source + Drop, C: Source + Drop, O: Sink,
     out: &mut O,
     err: &mut ErrorStream<CentreFault, E>,
 ) -> u8
-    ensures ran { Ran (verifies P.Source T.Source C.Source search files.old files.new) O.Sink E.Sink
+    ensures ran { Ran (verifies P.Source T.Source C.Source verdict search files.old files.new) O.Sink E.Sink
         result out.old out.new err.old err.new }
 {
-    err.end(verify(alloc, search, files, out))
+    let round = read_round(alloc, &mut files.pages);
+    err.end(verify(alloc, search, round, files, out))
 }
 
-// The same, whose fault is still to be printed. The text is written without memory for it.
+/// The same of a front, whose pages are the first of the round of those that are planned of the page file.
+pub fn run_verify_front<
+    P: Source + Drop,
+    T: Source + Drop,
+    C: Source + Drop,
+    O: Sink,
+    E: Sink + Drop,
+>(
+    alloc: Global,
+    sent: WrittenFront,
+    files: &mut PlanFiles<P, T, C>,
+    out: &mut O,
+    err: &mut ErrorStream<CentreFault, E>,
+) -> u8
+    ensures ran { Ran (verifies P.Source T.Source C.Source (sent_pages sent) sent.asked.search files.old files.new)
+        O.Sink E.Sink result out.old out.new err.old err.new }
+{
+    let round = read_sent(alloc, sent, &mut files.pages);
+    err.end(verify(alloc, sent.asked.search, round, files, out))
+}
+
+// The pages of a front, of its page file.
+fn read_sent<P: Source>(
+    alloc: Global,
+    sent: WrittenFront,
+    pages: &mut P,
+) -> Result<Round, RoundFault>
+    ensures ok { P.is_known → IfOk result (λ r. sent_pages sent (P.held pages.old) ≡ Ok r) }
+    ensures err { P.is_known → IfErr result
+        (λ e. (e ≡ RoundFault.OutOfMemory) ⊎ (e ≡ RoundFault.ReadFault)
+        ⊎ (sent_pages sent (P.held pages.old) ≡ Err e)) }
+    ensures uncut { P.is_known → OnOk result (P.is_cut pages.old ≡ false) }
+    ensures cut { P.is_known → IfErr result (IsOfCut RoundFault.ReadFault RoundFault.TooLarge (P.is_cut pages.old)) }
+    ensures failed { result ≡ Err RoundFault.ReadFault → HasFailed (P.failures pages.old) (P.failures pages.new) }
+{
+    let queue = read_pages(alloc, sent.asked.may_wait, pages)?;
+    let Ok(Parted { planned, aside: _ }) = part_pages(alloc, sent.asked, queue) else {
+        return Err(RoundFault::OutOfMemory);
+    };
+    let Ok(round) = first_pages(alloc, planned.as_slice()) else {
+        return Err(RoundFault::OutOfMemory);
+    };
+    let count = (sent.count as usize).min(round.pages().len());
+    if count == 0 {
+        return Err(RoundFault::NoPages);
+    }
+    match round.split(count) {
+        Ok((first, _)) => Ok(first),
+        Err(_) => Err(RoundFault::OutOfMemory),
+    }
+}
+
+// Reads the files of a round back, or tells why there is none; the fault is still to be printed. The text is written without
+// memory for it.
 fn verify<P: Source + Drop, T: Source + Drop, C: Source + Drop, O: Sink>(
     alloc: Global,
     search: Search,
+    round: Result<Round, RoundFault>,
     files: &mut PlanFiles<P, T, C>,
     out: &mut O,
 ) -> Result<u8, CentreFault>
-    ensures streams { IsStreamOf (verifies P.Source T.Source C.Source search files.old files.new) O.Sink
-        out.old out.new result }
+    ensures kept { files.new.pages ≡ files.old.pages }
+    ensures no_round { IfErr round (λ e. (result ≡ Err (CentreFault.Round e)) × (out.new ≡ out.old)) }
+    ensures streams { IfOk round (λ r. IsStreamOf (verifies_round T.Source C.Source search r
+        files.old.tx files.new.tx files.old.cert files.new.cert) O.Sink out.old out.new result) }
 {
-    let PlanFiles { pages, tx, cert } = files;
-    let round = read_round(alloc, pages)?;
-    let batches = read_batches(alloc, tx, &round, search.end)?;
-    let certificate = match read_certificate(alloc, cert) {
+    let round = round?;
+    let batches = read_batches(alloc, &mut files.tx, &round, search.end)?;
+    let certificate = match read_certificate(alloc, &mut files.cert) {
         Ok(certificate) => certificate,
         Err(fault) => return Err(CentreFault::Certificate(fault)),
     };

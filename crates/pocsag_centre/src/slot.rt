@@ -2,13 +2,13 @@ ghost use Rattle.std.specs.Prelude.{◌≡◌, ◌++◌, length, OnOk};
 ghost use Rattle.pocsag_plan.specs.Reports.{report_text};
 ghost use Rattle.pocsag_shell.specs.Runs.{IsAnswerOf, Ran};
 ghost use Rattle.pocsag_centre.specs.FrontFiles.{beyond_of, why_text};
-ghost use Rattle.pocsag_centre.specs.Lines.{below_text, left_text};
-ghost use Rattle.pocsag_centre.specs.Slots.{aside_text, reports_slot};
+ghost use Rattle.pocsag_centre.specs.Lines.{aside_text, below_text, left_text};
+ghost use Rattle.pocsag_centre.specs.Slots.{reports_slot};
 
 use crate::fault::CentreFault;
-use crate::front::{FrontAsked, print_why, read_front};
+use crate::front::{FrontAsked, FrontRead, print_aside, print_why, read_front};
 use crate::lines::print_below;
-use pocsag_plan::{FrontPlan, Report, report};
+use pocsag_plan::{Report, report};
 use pocsag_shell::{CommandAnswer, ErrorStream, FileFault, print, print_answer, print_numbers};
 use pocsag_words::{GrowingSink, Sink, Source};
 use std::alloc::Global;
@@ -19,13 +19,11 @@ pub struct SlotAsked {
     /// Bits a second.
     pub rate: u32,
     pub front: FrontAsked,
-    /// How many pages were set aside, where that is reported too.
-    pub aside: Option<usize>,
 }
 
 /// `report PAGES --rate R --at-most B`: reports what `plan` with `--at-most B` would send, and writes no file: what the transmission
 /// of the front takes on the air at a rate, its bound where that is below the batches, how many pages are left, what is shown of one
-/// page more, and how many pages were set aside. Faults in order: those of `run_front`, and `BadRate` behind them. Returns the exit
+/// page more, and how many pages are set aside. Faults in order: those of `run_front`, and `BadRate` behind them. Returns the exit
 /// status.
 pub fn run_slot_report<P: Source, O: Sink, E: Sink + Drop>(
     alloc: Global,
@@ -48,13 +46,13 @@ fn answer_slot<P: Source>(
 ) -> Result<CommandAnswer, CentreFault>
     ensures answers { IsAnswerOf (reports_slot P.Source asked pages.old pages.new) result }
 {
-    let front = read_front(alloc, asked.front, pages)?;
-    let report = match report(&front.bounded.plan, asked.rate) {
+    let read = read_front(alloc, asked.front, pages)?;
+    let report = match report(&read.front.bounded.plan, asked.rate) {
         Ok(report) => report,
         Err(_) => return Err(CentreFault::BadRate),
     };
     let mut text = GrowingSink::new(alloc);
-    match print_slot(asked, &front, report, &mut text) {
+    match print_slot(asked.front, &read, report, &mut text) {
         Ok(()) => Ok(CommandAnswer {
             status: 0,
             text: text.into_bytes(),
@@ -64,23 +62,22 @@ fn answer_slot<P: Source>(
 }
 
 // Prints the report of a front, and behind it what `plan` prints of one.
-#[tactic(auto, unfolding(crate::specs::Lines::left_text, crate::specs::Slots::aside_text))]
+#[tactic(auto, unfolding(crate::specs::Lines::left_text))]
 fn print_slot<O: Sink>(
-    asked: SlotAsked,
-    front: &FrontPlan,
+    asked: FrontAsked,
+    read: &FrontRead,
     report: Report,
     out: &mut O,
 ) -> Result<(), FileFault>
     ensures printed { O.is_known → OnOk result (O.taken out.new ≡ O.taken out.old ++ report_text report
-        ++ below_text report.batches front.now.bounded.bound ++ left_text (length front.now.rest.items)
-        ++ why_text asked.front.batches (beyond_of front.now.why) ++ aside_text asked.aside) }
+        ++ below_text report.batches read.now.front.bounded.bound ++ left_text (length read.now.front.rest.items)
+        ++ why_text asked.batches (beyond_of read.now.front.why)
+        ++ aside_text asked.sets_aside (length read.now.aside.items)) }
 {
+    let front = &read.front;
     print(out, report)?;
     print_below(report.batches, front.bounded.bound, out)?;
     print_numbers(out, &[("left ", front.rest.len() as u64)], "\n")?;
-    print_why(&front.why, asked.front.batches, out)?;
-    let Some(count) = asked.aside else {
-        return Ok(());
-    };
-    print_numbers(out, &[("oversized ", count as u64)], "\n")
+    print_why(&front.why, asked.batches, out)?;
+    print_aside(asked, read.aside.len(), out)
 }

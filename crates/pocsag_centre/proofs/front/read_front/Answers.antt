@@ -1,59 +1,112 @@
-use Rattle.std.proofs.Common.{◌≡◌, List, false, length, refl, sym, subst}
+use Rattle.std.proofs.Common.{◌≡◌, Err, List, All, length, not, sym, ap, subst, rules}
+use Rattle.std.proofs.lemmas.List.Elements.{All-filter}
 use Rattle.std.proofs.lemmas.Result.{err_from_is_err_and}
 use Rattle.pocsag_pages.specs.declared.page.Page.{Page}
+use Rattle.pocsag_pages.specs.Listable.{IsListable}
 use Rattle.pocsag_pages.specs.Pages.{AreGood}
-use Rattle.pocsag_pages.specs.Queues.{left_of}
+use Rattle.pocsag_pages.specs.Queues.{IsQueue, firsts, left_of}
+use Rattle.pocsag_decode.specs.PageFiles.{IsSpellable}
 use Rattle.pocsag_plan.specs.Fronts.{ExplainsFront}
-use Rattle.pocsag_centre.specs.FrontFiles.{IsPageFileOf}
-use Rattle.pocsag_decode.specs.PageFiles.{page_file}
+use Rattle.pocsag_centre.specs.Checks.{IsExpected}
 use Rattle.pocsag_centre.specs.Faults.{fault_of_front}
-use Rattle.pocsag_centre.proofs.CutFiles.{told_of_round, told_of_whole}
-use Rattle.pocsag_centre.proofs.FirstPart.{first_is, front_read, left_held, rest_listable}
-use Rattle.pocsag_centre.proofs.FrontRuns.{front_unwritten}
-use Rattle.pocsag_centre.proofs.QueueRounds.{round_firsts, round_held, round_left}
+use Rattle.pocsag_centre.specs.FrontFiles.{IsFrontOfPages}
+use Rattle.pocsag_centre.specs.Oversized.{is_aside, planned_of}
+use Rattle.pocsag_centre.proofs.AsidePages.{part_back, planned_good, planned_queue, queue_listable}
+use Rattle.pocsag_centre.proofs.CutFiles.{failed_cut, told_of_round, told_of_whole}
+use Rattle.pocsag_centre.proofs.FrontRuns.{front_unread, front_unwritten}
+use Rattle.pocsag_centre.proofs.QueueRounds.{AreReadBack, held_spellable, left_back, left_listable}
 use Rattle.pocsag_centre.proofs.front.read_front.Goals as goal
+
+pub queue_front-requires-clause-queue : goal.queue_front-requires-clause-queue
+queue_front-requires-clause-queue g c =
+    subst IsQueue (sym c.in-Ok.ensures.planned) (planned_queue c.args.asked c.in_ok-queue.queue.items c.in_ok-queue.ensures.queue)
+
+pub queue_front-requires-clause-apart : goal.queue_front-requires-clause-apart
+queue_front-requires-clause-apart g c = λ off.
+    subst AreGood (sym c.in-Ok.ensures.planned) (planned_good c.args.asked c.in_ok-queue.queue.items (c.in_ok-queue.ensures.apart off))
 
 pub returns-clause-front : goal.returns-clause-front
 returns-clause-front g c = λ t.
-    let R = c.in_ok-round.round in
-    let read = c.in_ok-round.ensures.ok t in
-    let front = c.in_ok-longest_front.field-0 in
-    let found = c.in_ok-longest_front.ensures in
-    let off : c.args.asked.may_wait ≡ false = c.if-asked.false in
-    let held = round_held c.args.asked.may_wait _ R off read in
-    let good : AreGood R = c.keeps_rules.ensures.good in
-    let behind : left_of front.round R ≡ front.rest.items =
-    subst (λ (v : List Page). left_of front.round v ≡ front.rest.items) found.parts
-    (round_left front.round front.rest.items (subst AreGood (sym found.parts) good)) in
-    let others : IsPageFileOf false front.rest.items (page_file front.rest.items) =
-    left_held _ R front.round front.rest.items read c.keeps_rules.ensures
-    (c.pages_of_files_are_spellable.ensures.files _ R read) c.page_files_are_read_back.ensures.pages found.parts in
-    front_read _ c.args.asked R R front held (sym (round_firsts R good)) (first_is R front.round front.rest.items _ found.parts refl)
-    (sym behind) found.front found.longest found.plan found.within found.why
-    (subst (λ b. IsPageFileOf b front.rest.items (page_file front.rest.items)) (sym off) others)
+    let asked = c.args.asked in
+    let Q = c.in_ok-queue.queue.items in
+    let W = planned_of asked Q in
+    let front = c.in_ok-front.front in
+    let aside = c.in-Ok.field-0.aside.items in
+    let queue = c.in_ok-queue.ensures.queue in
+    let read = c.in_ok-queue.ensures.ok t in
+    let texts : All IsSpellable Q =
+    held_spellable asked.may_wait _ Q read c.pages_of_files_are_spellable.ensures.files c.pages_of_files_are_spellable.ensures.queues in
+    let back : AreReadBack = (c.page_files_are_read_back.ensures.pages, c.page_files_are_read_back.ensures.queues) in
+    let many : c.len.result ≡ length Q = search rules in
+    let found : IsFrontOfPages asked W front =
+    subst (λ (v : List Page). IsFrontOfPages asked v front) c.in-Ok.ensures.planned c.in_ok-front.ensures.front in
+    record {
+      queue = Q;
+      read = read;
+      expected = subst (IsExpected asked.expect) many c.in_ok-refuse_other_count.ensures.expected;
+      front_of = found;
+      aside_is = c.in-Ok.ensures.aside;
+      others_of = left_back W front.round (planned_queue asked Q queue) back asked.may_wait (λ off. planned_good asked Q (c.in_ok-queue.ensures.apart off))
+          (All-filter (λ p. not (is_aside asked Q p)) IsSpellable Q texts) front.rest.items found.left;
+      aside_held = part_back back (is_aside asked Q) asked.may_wait Q queue c.in_ok-queue.ensures.apart texts aside c.in-Ok.ensures.aside;
+    }
 
 pub returns-clause-listable : goal.returns-clause-listable
 returns-clause-listable g c =
-    let front = c.in_ok-longest_front.field-0 in
-    rest_listable c.in_ok-round.round front.round front.rest.items (length front.round) c.in_ok-longest_front.ensures.parts refl c.keeps_rules.ensures
+    let asked = c.args.asked in
+    let Q = c.in_ok-queue.queue.items in
+    let front = c.in_ok-front.front in
+    let left : front.rest.items ≡ left_of front.round (planned_of asked Q) =
+    subst (λ (v : List Page). front.rest.items ≡ left_of front.round v) c.in-Ok.ensures.planned c.in_ok-front.ensures.front.left in
+    subst (All IsListable) (sym left) (left_listable (planned_of asked Q) front.round (planned_queue asked Q c.in_ok-queue.ensures.queue))
 
-pub returns-in_err-longest_front-clause-explained : goal.returns-in_err-longest_front-clause-explained
-returns-in_err-longest_front-clause-explained g c =
-    let p = err_from_is_err_and c.from_residual-in_err-longest_front.result c.from_residual-in_err-longest_front.ensures.1 in
-    let refused = c.in_err-longest_front.field-0.0 in
-    let R = c.in_ok-round.round in
+pub returns-clause-listable_aside : goal.returns-clause-listable_aside
+returns-clause-listable_aside g c =
+    let Q = c.in_ok-queue.queue.items in
+    subst (All IsListable) (sym c.in-Ok.ensures.aside)
+    (All-filter (is_aside c.args.asked Q) IsListable Q (queue_listable Q c.in_ok-queue.ensures.queue))
+
+pub returns-in_err-queue-clause-cut : goal.returns-in_err-queue-clause-cut
+returns-in_err-queue-clause-cut g c =
+    let p = err_from_is_err_and c.from_residual-in_err-queue.result c.from_residual-in_err-queue.ensures.1 in
+    let e = c.in_err-queue.field-0.0 in
+    rw (p.1, p.2) (told_of_round g.P.Source _ e (λ k. c.in_err-queue.ensures.cut k))
+
+pub returns-in_err-queue-clause-explained : goal.returns-in_err-queue-clause-explained
+returns-in_err-queue-clause-explained g c =
+    let p = err_from_is_err_and c.from_residual-in_err-queue.result c.from_residual-in_err-queue.ensures.1 in
+    let e = c.in_err-queue.field-0.0 in
+    rw (p.1, p.2) (front_unread g.P.Source c.args.asked _ _ c.in_ok-refuse_bad_limit.ensures.good e (λ k. c.in_err-queue.ensures.err k)
+    (failed_cut g.P.Source _ (λ same. c.in_err-queue.ensures.failed (ap Err same)) (λ k. c.in_err-queue.ensures.cut k)))
+
+pub returns-in_err-refuse_other_count-clause-cut : goal.returns-in_err-refuse_other_count-clause-cut
+returns-in_err-refuse_other_count-clause-cut g c =
+    let p = err_from_is_err_and c.from_residual-in_err-refuse_other_count.result c.from_residual-in_err-refuse_other_count.ensures.1 in
+    rw (p.1, p.2) (told_of_whole g.P.Source _ c.in_err-refuse_other_count.field-0.0 (λ k. c.in_ok-queue.ensures.uncut k))
+
+pub returns-in_err-refuse_other_count-clause-explained : goal.returns-in_err-refuse_other_count-clause-explained
+returns-in_err-refuse_other_count-clause-explained g c =
+    let p = err_from_is_err_and c.from_residual-in_err-refuse_other_count.result c.from_residual-in_err-refuse_other_count.ensures.1 in
+    let told = c.in_err-refuse_other_count.ensures.unexpected in
+    let many : c.len.result ≡ length c.in_ok-queue.queue.items = search rules in
+    rw (p.1, p.2, told.1)
+    (λ k. (
+      c.in_ok-refuse_bad_limit.ensures.good,
+      record { queue = c.in_ok-queue.queue.items; read = c.in_ok-queue.ensures.ok k; holds = sym many },
+      told.2,
+    ))
+
+pub returns-in_err-front-clause-cut : goal.returns-in_err-front-clause-cut
+returns-in_err-front-clause-cut g c =
+    let p = err_from_is_err_and c.from_residual-in_err-front.result c.from_residual-in_err-front.ensures.1 in
+    rw (p.1, p.2) (told_of_whole g.P.Source _ (fault_of_front c.in_err-front.field-0.0) (λ k. c.in_ok-queue.ensures.uncut k))
+
+pub returns-in_err-front-clause-explained : goal.returns-in_err-front-clause-explained
+returns-in_err-front-clause-explained g c =
+    let p = err_from_is_err_and c.from_residual-in_err-front.result c.from_residual-in_err-front.ensures.1 in
+    let refused = c.in_err-front.field-0.0 in
+    let many : c.len.result ≡ length c.in_ok-queue.queue.items = search rules in
     rw (p.1, p.2)
-    (front_unwritten g.P.Source c.args.asked _ _ R (λ t. round_held c.args.asked.may_wait _ R c.if-asked.false (c.in_ok-round.ensures.ok t)) refused
-    (subst (λ (v : List Page). ExplainsFront c.args.asked.search v c.args.asked.batches refused)
-    (sym (round_firsts R c.keeps_rules.ensures.good)) c.in_err-longest_front.ensures.fault))
-
-pub returns-in_err-round-clause-cut : goal.returns-in_err-round-clause-cut
-returns-in_err-round-clause-cut g c =
-    let p = err_from_is_err_and c.from_residual-in_err-round.result c.from_residual-in_err-round.ensures.1 in
-    let e = c.in_err-round.field-0.0 in
-    rw (p.1, p.2) (told_of_round g.P.Source _ e (λ k. c.in_err-round.ensures.cut k))
-
-pub returns-in_err-longest_front-clause-cut : goal.returns-in_err-longest_front-clause-cut
-returns-in_err-longest_front-clause-cut g c =
-    let p = err_from_is_err_and c.from_residual-in_err-longest_front.result c.from_residual-in_err-longest_front.ensures.1 in
-    rw (p.1, p.2) (told_of_whole g.P.Source _ (fault_of_front c.in_err-longest_front.field-0.0) (λ k. c.in_ok-round.ensures.uncut k))
+    (front_unwritten g.P.Source c.args.asked _ _ c.in_ok-queue.queue.items (λ t. c.in_ok-queue.ensures.ok t)
+    (subst (IsExpected c.args.asked.expect) many c.in_ok-refuse_other_count.ensures.expected) refused
+    (subst (λ (v : List Page). ExplainsFront c.args.asked.search (firsts v) c.args.asked.batches refused) c.in-Ok.ensures.planned c.in_err-front.ensures.fault))

@@ -1,0 +1,18 @@
+use Rattle.std.proofs.Common.{subst, sym}
+use Rattle.pocsag_shell.proofs.Runs.{ran_streamed}
+use Rattle.pocsag_words.specs.Devices.{HasFailed}
+use Rattle.pocsag_centre.specs.FrontFiles.{sent_pages}
+use Rattle.pocsag_centre.proofs.Verified.{streamed}
+use Rattle.pocsag_centre.proofs.readback.run_verify_front.Goals as goal
+
+pub returns : goal.returns
+returns g c =
+    let read = c.read_sent-round.ensures in
+    record {
+      ran = ran_streamed _ c.verify.result
+          (streamed g.P.Source g.T.Source g.C.Source g.O.Sink (sent_pages c.args.sent) c.args.sent.asked.search c.args.files.now c.verify.new.files c.args.out.now c.verify.new.out
+          c.read_sent-round.result c.verify.result read.ok read.err read.uncut read.cut
+          (λ same. subst (λ p. HasFailed (g.P.Source.failures c.args.files.now.pages) (g.P.Source.failures p)) (sym c.verify.ensures.kept) (read.failed same))
+          c.verify.ensures.no_round c.verify.ensures.streams)
+          c.end.ensures.done c.end.ensures.fault;
+    }
