@@ -2,8 +2,9 @@
 
 use crate::same;
 use pocsag_centre::{
-    CentreFault, FrontAsked, FrontFiles, PlanFiles, ReportAsked, expected_file, first_file,
-    part_file, run_check, run_front, run_input, run_plan, run_report, run_verify, strict_file,
+    CentreFault, FrontAsked, FrontFiles, PlanFiles, ReportAsked, WrittenFront, expected_file,
+    run_check, run_front, run_input, run_plan, run_report, run_verify, run_verify_front,
+    strict_file,
 };
 use pocsag_pages::{FieldFault, QuoteFault, RecordFault, RoundFault};
 use pocsag_plan::{DEFAULT_LIMIT, OnLimit, Search};
@@ -554,6 +555,7 @@ fn front_files<P: Drop>(alloc: Global, pages: P) -> FrontFiles<P, GrowingSink> {
         tx: GrowingSink::new(alloc),
         cert: GrowingSink::new(alloc),
         rest: GrowingSink::new(alloc),
+        aside: GrowingSink::new(alloc),
         why: GrowingSink::new(alloc),
         count: 0,
     }
@@ -563,6 +565,8 @@ const fn front_of(batches: u32) -> FrontAsked {
     FrontAsked {
         batches,
         may_wait: false,
+        sets_aside: false,
+        expect: None,
         search: OPEN,
     }
 }
@@ -586,6 +590,7 @@ fn expect_front(rt: &impl Abort, alloc: Global, case: &FrontCase) -> Vec<u8> {
     let (mut out, mut err) = (MemorySink::<500>::new(1, 1000), errors());
     let done = run_front(alloc, front_of(batches), &mut files, &mut out, &mut err);
     same!(rt; done, 0);
+    same!(rt; files.aside.into_bytes().len(), 0);
     same!(rt; out.bytes(), lines.as_bytes());
     same!(rt; files.tx.into_bytes().len(), sent);
     same!(rt; files.why.into_bytes().is_empty(), is_all);
@@ -631,6 +636,7 @@ fn later_pages_wait(rt: HostRuntime) -> Result<(), Fail> {
     let mut files = front_files(alloc, queue);
     let asked = FrontAsked {
         may_wait: true,
+        expect: Some(3),
         ..front_of(9)
     };
     let (mut out, mut err) = (MemorySink::<500>::new(1, 1000), errors());
@@ -642,8 +648,35 @@ fn later_pages_wait(rt: HostRuntime) -> Result<(), Fail> {
     let again = CentreFault::Round(RoundFault::Record(2, RecordFault::DuplicateAddress));
     same!(rt; expected_file(alloc, true, QUEUE, 3), Ok(()));
     same!(rt; expected_file(alloc, false, QUEUE, 3), Err(again));
-    let first = first_file(alloc, true, QUEUE, 1).expect(&rt, "a first page");
-    same!(rt; first.as_slice(), LONE_TONE);
+    let (tx, cert) = (files.tx.into_bytes(), files.cert.into_bytes());
+    for (count, status) in [(2, 0), (1, 1), (0, 1), (3, 0)] {
+        let mut back = PlanFiles {
+            pages: SliceSource::new(QUEUE),
+            tx: SliceSource::new(tx.as_slice()),
+            cert: SliceSource::new(cert.as_slice()),
+        };
+        let sent = WrittenFront { asked, count };
+        let (mut out, mut err) = (MemorySink::<500>::new(1, 1000), errors());
+        let done = run_verify_front(alloc, sent, &mut back, &mut out, &mut err);
+        same!(rt; done, status, count);
+    }
+    Ok(())
+}
+
+// A front of another number of pages than is expected is refused before the first of them is judged.
+#[test]
+fn fronts_are_counted(rt: HostRuntime) -> Result<(), Fail> {
+    let alloc = rt.alloc();
+    let mut files = front_files(alloc, SliceSource::new(LOOPS_APART));
+    let asked = FrontAsked {
+        expect: Some(3),
+        ..front_of(0)
+    };
+    let (mut out, mut err) = (MemorySink::<500>::new(1, 1000), errors());
+    let done = run_front(alloc, asked, &mut files, &mut out, &mut err);
+    same!(rt; done, 1);
+    same!(rt; err.fault(), Some(CentreFault::Unexpected(2, 3)));
+    same!(rt; files.rest.into_bytes().len(), 0);
     Ok(())
 }
 
@@ -652,15 +685,25 @@ fn later_pages_wait(rt: HostRuntime) -> Result<(), Fail> {
 fn oversized_pages_are_set_aside(rt: HostRuntime) -> Result<(), Fail> {
     let alloc = rt.alloc();
     let file = b"address,kind,message\n15,numeric,1234567890\n8,tone0,\n".as_slice();
-    let parted = part_file(alloc, front_of(1), file).expect(&rt, "a page that fits");
-    same!(rt; parted.count, 1);
-    same!(rt; parted.planned.as_slice(), LONE_TONE);
     let aside = b"address,kind,message\n15,numeric,1234567890\n".as_slice();
-    same!(rt; parted.aside.as_slice(), aside);
-    for (batches, asked) in [(0, front_of(0)), (2, front_of(2))] {
-        let parted = part_file(alloc, asked, file).expect(&rt, "no page is set aside");
-        same!(rt; parted.count, 0, batches);
-        same!(rt; parted.planned.as_slice(), file);
+    let header = b"address,kind,message\n".as_slice();
+    let one = b"pages 1\nbatches 1\nleft 0\noversized 1\n".as_slice();
+    let all = b"pages 2\nbatches 2\nleft 0\noversized 0\n".as_slice();
+    for (batches, status, lines, due) in [
+        (1, 0, one, aside),
+        (2, 0, all, header),
+        (0, 1, b"".as_slice(), b"".as_slice()),
+    ] {
+        let mut files = front_files(alloc, SliceSource::new(file));
+        let asked = FrontAsked {
+            sets_aside: true,
+            ..front_of(batches)
+        };
+        let (mut out, mut err) = (MemorySink::<500>::new(1, 1000), errors());
+        let done = run_front(alloc, asked, &mut files, &mut out, &mut err);
+        same!(rt; done, status, batches);
+        same!(rt; out.bytes(), lines);
+        same!(rt; files.aside.into_bytes().as_slice(), due);
     }
     Ok(())
 }
