@@ -8,6 +8,7 @@ pub mod HeaderFronts
 pub mod Judgements
 pub mod Lengths
 pub mod MarkedRounds
+pub mod NoQuotes
 pub mod PageLists
 pub mod QueueParts
 pub mod QueueRows

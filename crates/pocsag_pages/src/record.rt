@@ -103,25 +103,15 @@ fn parse_kind(field: &[u8]) -> Option<PageKind>
     ensures value { result ≡ kind_of_field field.now }
     ensures known { IfSome result (λ kind. function_of kind < 4) }
 {
-    if is_word(field, b"tone0") {
-        return Some(PageKind::Tone(0));
+    match field {
+        b"tone0" => Some(PageKind::Tone(0)),
+        b"tone1" => Some(PageKind::Tone(1)),
+        b"tone2" => Some(PageKind::Tone(2)),
+        b"tone3" => Some(PageKind::Tone(3)),
+        b"numeric" => Some(PageKind::Numeric),
+        b"alpha" => Some(PageKind::Alpha),
+        _ => None,
     }
-    if is_word(field, b"tone1") {
-        return Some(PageKind::Tone(1));
-    }
-    if is_word(field, b"tone2") {
-        return Some(PageKind::Tone(2));
-    }
-    if is_word(field, b"tone3") {
-        return Some(PageKind::Tone(3));
-    }
-    if is_word(field, b"numeric") {
-        return Some(PageKind::Numeric);
-    }
-    if is_word(field, b"alpha") {
-        return Some(PageKind::Alpha);
-    }
-    None
 }
 
 impl PageKind {

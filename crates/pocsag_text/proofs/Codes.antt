@@ -1,5 +1,5 @@
 -- The codes of the numeric characters.
-use Rattle.std.proofs.Common.{◌≡◌, ◌≢◌, ℕ, ◌<◌, ◌≤◌, slice_index, Option, Some, None, unwrap_or, is_none, Bool, eqb, true, false, lit<, refl, ap, arith}
+use Rattle.std.proofs.Common.{◌≡◌, ◌≢◌, ℕ, ◌<◌, ◌≤◌, slice_index, Option, Some, None, unwrap_or, is_none, Bool, cond, eqb, ltb, not, ◌&&◌, ◌||◌, true, false, lit<, refl, ap, arith}
 use Rattle.std.proofs.lemmas.Bool.{eqb-true}
 use Rattle.std.proofs.lemmas.List.Quantifiers.{position-Some}
 use Rattle.pocsag_text.proofs.Below.{all_below, passes}
@@ -39,6 +39,23 @@ table_passes = refl
 
 pub in_table : (b : ℕ) → b < 256 → slice_index CODES b ≡ unwrap_or (code_of b) 16
 in_table b h = eqb-true _ _ (passes 256 (λ c. eqb (slice_index CODES c) (unwrap_or (code_of c) 16)) table_passes b h)
+
+-- which bytes are no numeric character, by comparisons
+abbrev is_no_digit : ℕ → Bool
+is_no_digit b = ((((((ltb b 48 || ltb 57 b) && not (eqb b 42)) && not (eqb b 85)) && not (eqb b 32)) && not (eqb b 45)) && not (eqb b 93)) && not (eqb b 91)
+
+same_by_test : (x y : Bool) → cond x y (not y) ≡ true → x ≡ y
+same_by_test true true h = refl
+same_by_test true false h = cc
+same_by_test false true h = cc
+same_by_test false false h = refl
+
+comparisons_pass : all_below 256 (λ b. cond (is_no_digit b) (is_bad_digit b) (not (is_bad_digit b))) ≡ true
+unfolding all_below numeric_characters
+comparisons_pass = refl
+
+pub no_digit_compared : (b : ℕ) → b < 256 → is_no_digit b ≡ is_bad_digit b
+no_digit_compared b h = same_by_test _ _ (passes 256 (λ d. cond (is_no_digit d) (is_bad_digit d) (not (is_bad_digit d))) comparisons_pass b h)
 
 there_by : (o : Option ℕ) (code : ℕ) → code ≡ unwrap_or o 16 → code < 16 → Some code ≡ o
 there_by None code e h = absurd (omega (arith, e))

@@ -1,11 +1,13 @@
 -- When a text has a payload, and which one.
-use Rattle.std.proofs.Common.{◌≡◌, ◌≢◌, ℕ, zero, suc, ◌+◌, ◌*◌, ◌/◌, ◌%◌, ◌<◌, ◌≤◌, Bool, true, false, cond, eqb, ltb, List, ◌∷◌, ◌++◌, length, map, replicate, position, Option, Some, None, Ok, Err, All, refl, sym, ap, ◌∙◌, arith}
-use Rattle.std.specs.List.{flat_map, position_or_len}
+use Rattle.std.proofs.Common.{◌≡◌, ◌≢◌, ℕ, zero, suc, ◌+◌, ◌*◌, ◌/◌, ◌%◌, ◌<◌, ◌≤◌, Bool, true, false, cond, eqb, ltb, List, ◌∷◌, ◌++◌, length, get_or, map, replicate, position, Option, Some, None, Ok, Err, All, refl, sym, ap, ◌∙◌, arith}
+use Rattle.std.specs.List.{flat_map, list_any, position_or_len}
+use Rattle.std.proofs.lemmas.Bool.{false_from_ne_true}
 use Rattle.std.proofs.lemmas.Bool.Decides.{nat_tests}
 use Rattle.std.proofs.lemmas.List.{length-append, length-map, length-replicate}
 use Rattle.std.proofs.lemmas.List.Concat.{flat_map-append}
 use Rattle.std.proofs.lemmas.List.Elements.{All-from_get_or, All-weaker}
-use Rattle.std.proofs.lemmas.List.Sums.{fails_before_first}
+use Rattle.std.proofs.lemmas.List.Folds.{list_any_at}
+use Rattle.std.proofs.lemmas.List.Sums.{fails_before_first, position_or_len_is}
 use Rattle.pocsag_text.specs.declared.fault.TextFault.{TextFault}
 use Rattle.pocsag_text.specs.declared.fault.TextFault.TheVariants as fault
 use Rattle.pocsag_text.specs.Bits.{low_first}
@@ -13,6 +15,15 @@ use Rattle.pocsag_text.specs.Characters.{code_or_space, is_bad_digit}
 use Rattle.pocsag_text.specs.Text.{fault_of, fault_of_place, text_fault, unless, short_of, twenties, is_bad_byte, numeric_bits, alpha_bits, numeric_payload, alpha_payload}
 use Rattle.pocsag_text.proofs.BitLists.{length-low_first}
 use Rattle.pocsag_text.proofs.Cuts.{length-cut, length-flat_map-wide}
+
+-- where no element passes, none is the first
+pub none_passes : (p : ℕ → Bool) (xs : List ℕ) → list_any p xs ≡ false → None ≡ position p xs
+none_passes p xs h =
+    let all : position_or_len p xs ≡ length xs =
+    position_or_len_is p xs (length xs) 0 (omega arith)
+    (λ k lt. false_from_ne_true (p (get_or xs k 0)) (λ t. cc (list_any_at p xs k 0 lt t, h))) (λ lt. absurd (omega arith)) in
+    let past : ltb (position_or_len p xs) (length xs) ≡ false = grind (arith, nat_tests) in
+    rw past refl
 
 pub none_from_cond : {X : Type 0} (b : Bool) (x : X) (o : Option X) → cond b (Some x) o ≡ None → (b ≡ false) × (o ≡ None)
 none_from_cond true x o h = cc

@@ -1,5 +1,5 @@
 ghost use Rattle.std.specs.Prelude.{◌≡◌, ℕ, ◌^◌, ◌<◌, ◌≤◌, ◌⊎◌, length, position, take, All, IfOk, IfErr, IsOk, OnOk};
-ghost use Rattle.std.specs.List.{flat_map};
+ghost use Rattle.std.specs.List.{flat_map, list_any};
 ghost use Rattle.pocsag_text.specs.Bits.{low_first, high_first, alpha_width, item_bits, AreItems};
 ghost use Rattle.pocsag_text.specs.Characters as numeric;
 ghost use Rattle.pocsag_text.specs.Text.{numeric_payload, alpha_payload, numeric_bits, alpha_bits, twenties, is_bad_byte, character_limit, item_limit, fault_of};
@@ -58,17 +58,54 @@ pub fn pack_alpha(alloc: Global, text: &[u8]) -> Result<Vec<u32>, TextFault>
 }
 
 /// The place of the first byte that is no numeric character.
+#[tactic(auto, using(crate::proofs::Payloads::none_passes))]
 fn first_bad_digit(text: &[u8]) -> Option<usize>
     ensures { result ≡ position numeric.is_bad_digit text.now }
 {
+    if !has_bad_digit(text) {
+        return None;
+    }
     text.iter().position(|byte| code_of(*byte).is_none())
 }
 
+// Whether a byte is no numeric character. The loop goes on behind one, so that LLVM makes vector instructions of it.
+fn has_bad_digit(text: &[u8]) -> bool
+    ensures { result ≡ list_any numeric.is_bad_digit text.now }
+{
+    let mut has_bad = false;
+    for byte in text {
+        has_bad |= ((*byte < b'0') | (*byte > b'9'))
+            & (*byte != b'*')
+            & (*byte != b'U')
+            & (*byte != b' ')
+            & (*byte != b'-')
+            & (*byte != b']')
+            & (*byte != b'[');
+    }
+    has_bad
+}
+
 /// The place of the first byte that is no alphanumeric character.
+#[tactic(auto, using(crate::proofs::Payloads::none_passes))]
 fn first_bad_byte(text: &[u8]) -> Option<usize>
     ensures { result ≡ position is_bad_byte text.now }
 {
+    if !has_bad_byte(text) {
+        return None;
+    }
     text.iter().position(|byte| *byte == 0 || *byte > 127)
+}
+
+// Whether a byte is no alphanumeric character, by such a loop too.
+#[tactic(auto, using(std::proofs::lemmas::List::Folds::list_any_more))]
+fn has_bad_byte(text: &[u8]) -> bool
+    ensures { result ≡ list_any is_bad_byte text.now }
+{
+    let mut has_bad = false;
+    for byte in text {
+        has_bad |= (*byte == 0) | (*byte > 127);
+    }
+    has_bad
 }
 
 /// The fault of a text, by the place of its first bad character and its length.

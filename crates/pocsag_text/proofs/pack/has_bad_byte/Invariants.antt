@@ -1,0 +1,7 @@
+use Rattle.std.proofs.Common.{◌≡◌, take}
+use Rattle.std.specs.List.{list_any}
+use Rattle.pocsag_text.specs.Text.{is_bad_byte}
+use Rattle.pocsag_text.proofs.pack.has_bad_byte.Given as goal
+
+abbrev pub invariant-loop-byte : goal.invariant-loop-byte
+invariant-loop-byte l = l.has_bad ≡ list_any is_bad_byte (take l.byte-index l.text)
