@@ -18,7 +18,7 @@ use clap::{ArgMatches, Error};
 use pocsag_findings::Format;
 use pocsag_shell::{
     CERT, Call, Context, Group, Names, PAGES, PAGES_READ, Role, STANDARD, STRICT, TX, Tables,
-    first_asked, load_both, load_file, path_of, print,
+    first_asked, load_both, load_file, path_of, put_whole,
 };
 use pocsag_words::Source;
 use std::alloc::AllocError;
@@ -106,7 +106,7 @@ fn plan_input(
     streams: &mut Streams,
 ) -> Result<u8, CentreFault> {
     if context.rt.stdin().is_terminal() {
-        let _ = print(&mut context.err(), AT_TERMINAL);
+        let _ = put_whole(&mut context.err(), AT_TERMINAL.as_bytes());
     }
     let asked = SearchArgs {
         expect: None,
@@ -206,7 +206,7 @@ fn report_slot(
 ) -> Result<u8, CentreFault> {
     let limit = slot.front.unwrap_or(FrontLimit::All);
     if slot.oversized.is_some() && matches!(limit, FrontLimit::All) {
-        let _ = print(&mut context.err(), BAD_SLOT);
+        let _ = put_whole(&mut context.err(), BAD_SLOT.as_bytes());
         return Ok(2);
     }
     let front = front_asked(slot, limit)?;

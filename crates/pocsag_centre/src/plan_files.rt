@@ -14,7 +14,7 @@ use pocsag_plan::{is_node_limit, most_batches};
 use pocsag_shell::{
     CERT_READ, Context, FileFault, Loaded, MemoryStreams, Output, Outputs, PAGES_READ, Role,
     STANDARD, StagedFile, first_asked, is_regular, is_regular_or_none, load, load_file,
-    open_output, open_outputs, open_source, path_of, print, put_staged, put_whole, refuse_equal,
+    open_output, open_outputs, open_source, path_of, put_staged, put_whole, refuse_equal,
     refuse_input, refuse_one_file, refuse_shared, write_over,
 };
 use pocsag_words::{GrowingSink, MemorySink, Sink, Source};
@@ -37,6 +37,9 @@ const BAD_KEEP: &str =
 const BAD_REST: &str = "--rest and --why name files, and go with --at-most or --airtime";
 
 const BAD_OVERSIZED: &str = "--oversized names a file, and goes with --at-most or --airtime";
+
+// What stands behind each of these.
+const MORE: &str = "\n\nFor more information, try 'pocsag plan --help'.\n";
 
 /// Refuses a page file that does not meet what is asked of it. What cannot be read is for the command to refuse. Returns the first
 /// misplaced quote, where `--verbose` asks for it; one that `--strict` let pass has none.
@@ -96,10 +99,9 @@ pub(crate) fn plan_command(
 {
     refuse_equal(args.pages, args.tx, args.cert)?;
     if let Some(text) = misuse(context, args) {
-        let _ = print(
-            &mut context.err(),
-            format_args!("error: {text}\n\nFor more information, try 'pocsag plan --help'.\n"),
-        );
+        for part in ["error: ", text, MORE] {
+            let _ = put_whole(&mut context.err(), part.as_bytes());
+        }
         return Ok(2);
     }
     if args.tx == STANDARD || args.cert == STANDARD {

@@ -88,9 +88,13 @@ fn rooms_asked(
     Ok(rooms)
 }
 
-// Prints a report, and the bound where it is below the batches.
+/// Prints a report, and the bound where it is below the batches.
 #[tactic(auto, using(crate::proofs::ReportLines::report_numbered))]
-fn print_report<O: Sink>(report: Report, bound: u32, out: &mut O) -> Result<(), FileFault>
+pub(crate) fn print_report<O: Sink>(
+    report: Report,
+    bound: u32,
+    out: &mut O,
+) -> Result<(), FileFault>
     ensures printed { O.is_known → OnOk result
         (O.taken out.new ≡ O.taken out.old ++ report_text report ++ below_text report.batches bound) }
     ensures lost { IfErr result (λ e. e ≡ FileFault.Write) }

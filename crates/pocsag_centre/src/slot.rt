@@ -7,9 +7,9 @@ ghost use Rattle.pocsag_centre.specs.Slots.{reports_slot};
 
 use crate::fault::CentreFault;
 use crate::front::{FrontAsked, FrontRead, print_aside, print_why, read_front};
-use crate::lines::print_below;
+use crate::report::print_report;
 use pocsag_plan::{Report, report};
-use pocsag_shell::{CommandAnswer, ErrorStream, FileFault, print, print_answer, print_numbers};
+use pocsag_shell::{CommandAnswer, ErrorStream, FileFault, print_answer, print_numbers};
 use pocsag_words::{GrowingSink, Sink, Source};
 use std::alloc::Global;
 
@@ -75,8 +75,7 @@ fn print_slot<O: Sink>(
         ++ aside_text asked.sets_aside (length read.now.aside.items)) }
 {
     let front = &read.front;
-    print(out, report)?;
-    print_below(report.batches, front.bounded.bound, out)?;
+    print_report(report, front.bounded.bound, out)?;
     print_numbers(out, &[("left ", front.rest.len() as u64)], "\n")?;
     print_why(&front.why, asked.batches, out)?;
     print_aside(asked, read.aside.len(), out)

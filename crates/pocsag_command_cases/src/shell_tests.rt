@@ -1,7 +1,7 @@
 //! What the commands share, over memory: what names a file, and how a line is reported.
 
 use crate::same;
-use pocsag_shell::{FileFault, NamedFile, Names, Role, equal_paths, print, print_fault};
+use pocsag_shell::{FileFault, NamedFile, Names, Role, equal_paths, print_fault};
 use pocsag_words::MemorySink;
 use std::test::Fail;
 
@@ -27,26 +27,6 @@ fn files_are_named(rt: HostRuntime) -> Result<(), Fail> {
         let place: NamedFile<'_> = names.place(role);
         let told = format!(in rt.alloc(); "{place}").expect(&rt, "memory");
         same!(rt; told.as_str(), due);
-    }
-    Ok(())
-}
-
-// A text of 200 bytes is written, and of a longer one nothing.
-#[test]
-fn long_texts_are_refused(rt: HostRuntime) -> Result<(), Fail> {
-    let cases = [
-        (0, Ok(()), 0),
-        (200, Ok(()), 200),
-        (201, Err(FileFault::Write), 0),
-    ];
-    for (len, done, taken) in cases {
-        let mut text = String::new(rt.alloc());
-        for _ in 0..len {
-            text.push('a')?;
-        }
-        let mut out = MemorySink::<300>::new(7, 1000);
-        same!(rt; print(&mut out, text.as_str()), done);
-        same!(rt; out.bytes().len(), taken);
     }
     Ok(())
 }

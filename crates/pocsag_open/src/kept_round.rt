@@ -8,7 +8,7 @@ use pocsag_pages::RoundFault;
 use pocsag_plan::Book;
 use pocsag_shell::{
     Context, FileFault, ReaderSource, Role, STANDARD, is_regular_or_none, open_source, path_of,
-    print, refuse_equal, refuse_one_file,
+    print_numbers, refuse_equal, refuse_one_file,
 };
 use std::cell::Cell;
 use std::fs;
@@ -66,10 +66,8 @@ const LONG: u64 = 4_000_000;
 fn announce(context: Context<'_>, length: u64) {
     let is_watched = context.diagnostics.is_asked() || context.rt.stderr().is_terminal();
     if length > LONG && is_watched {
-        let _ = print(
-            &mut context.err(),
-            format_args!("reading a journal of {length} bytes\n"),
-        );
+        let numbers = [("reading a journal of ", length)];
+        let _ = print_numbers(&mut context.err(), &numbers, " bytes\n");
     }
 }
 

@@ -17,7 +17,7 @@ use pocsag_decode::{DecodeFault, Repaired};
 use pocsag_pager::PagerFault;
 use pocsag_shell::{
     Call, Context, ErrorStream, FileFault, Group, Loaded, MemoryStreams, Names, PAGES_READ, Role,
-    Shape, TX, Tables, command, load_file, path_of, print,
+    Shape, TX, Tables, command, load_file, path_of, print_numbers,
 };
 use pocsag_words::{Sink, Source};
 use std::alloc::{AllocError, Global};
@@ -301,14 +301,19 @@ fn print_heard(context: Context<'_>, first: u64, heard: &[ReceptionStats]) {
             words_in_front,
         } = reception;
         let batches = batches.saturating_add(u64::from(words_in_front > 0));
-        let polarity = match polarity {
-            Polarity::Upright => "upright",
-            Polarity::Inverted => "inverted",
+        let batches_of = match polarity {
+            Polarity::Upright => ", upright, batches ",
+            Polarity::Inverted => ", inverted, batches ",
         };
-        let line = format_args!(
-            "pocsag: transmission {number}: bit {bit}, {polarity}, batches {batches}, corrected bits {corrected}, lost words {lost}, cut pages {cut}\n"
-        );
-        let _ = print(&mut context.err(), line);
+        let numbers = [
+            ("pocsag: transmission ", number),
+            (": bit ", bit),
+            (batches_of, batches),
+            (", corrected bits ", corrected),
+            (", lost words ", lost),
+            (", cut pages ", cut),
+        ];
+        let _ = print_numbers(&mut context.err(), &numbers, "\n");
         number = number.saturating_add(1);
     }
 }

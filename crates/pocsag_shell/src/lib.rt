@@ -41,7 +41,7 @@ pub use files::{
 };
 pub use folder::Folder;
 pub use group::{Both, Call, Group, Tables};
-pub use lines::{print, print_fault, print_numbers, put_whole};
+pub use lines::{print_fault, print_numbers, put_whole};
 pub use loaded::Loaded;
 pub use memory_streams::MemoryStreams;
 pub use page_note::{Excerpt, first_asked, note_record};

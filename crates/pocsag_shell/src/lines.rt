@@ -1,5 +1,5 @@
-ghost use Rattle.std.specs.Prelude.{◌≡◌, ◌⊎◌, ℕ, ◌≤◌, List, ◌++◌, length, map, IfErr, OnErr, OnOk, Some};
-ghost use Rattle.pocsag_words.specs.Devices.{CountsFailures, Delivers, HasFailed, TookPrefix};
+ghost use Rattle.std.specs.Prelude.{◌≡◌, ◌≤◌, ◌++◌, length, map, IfErr, OnErr, OnOk};
+ghost use Rattle.pocsag_words.specs.Devices.{CountsFailures, Delivers, TookPrefix};
 ghost use Rattle.pocsag_shell.specs.Faults.{IsFailure};
 ghost use Rattle.pocsag_shell.specs.Notes.{IsOneLine, TookLine, numbered_text};
 
@@ -7,7 +7,7 @@ use crate::fault::{Failure, FileFault};
 use arrayvec::ArrayString;
 use itoa::Buffer;
 use pocsag_words::{Sink, write_all};
-use std::fmt::{Display, Write};
+use std::fmt::Write;
 
 // The longest text in bytes.
 pub(crate) const LONGEST: usize = 200;
@@ -24,22 +24,6 @@ pub fn put_whole<S: Sink>(sink: &mut S, bytes: &[u8]) -> Result<(), FileFault>
     ensures failures { CountsFailures result (S.failures sink.old) (S.failures sink.new) }
 {
     write_all(sink, bytes).map_err(|_| FileFault::Write)
-}
-
-/// Writes a text of at most 200 bytes without allocating. A longer text is a fault, and nothing of it is written.
-pub fn print<S: Sink, D: Display + Drop>(sink: &mut S, text: D) -> Result<(), FileFault>
-    ensures printed { S.is_known → (printed : List ℕ) → D.output text ≡ Some printed →
-        OnOk result (S.taken sink.new ≡ S.taken sink.old ++ printed) }
-    ensures part { S.is_known → (printed : List ℕ) → D.output text ≡ Some printed →
-        OnErr result (TookPrefix (S.taken sink.old) (S.taken sink.new) printed) }
-    ensures lost { IfErr result (λ e. e ≡ FileFault.Write) }
-    ensures failed { OnErr result ((sink.new ≡ sink.old) ⊎ HasFailed (S.failures sink.old) (S.failures sink.new)) }
-{
-    let mut kept = ArrayString::<LONGEST>::new();
-    let Ok(()) = write!(kept, "{text}") else {
-        return Err(FileFault::Write);
-    };
-    put_whole(sink, kept.as_str().as_bytes())
 }
 
 // Keeps the text behind the one that is kept. Where it has no room there, both are written.

@@ -1,4 +1,4 @@
-ghost use Rattle.std.specs.Prelude.{◌≡◌, ◌⊎◌, ◌++◌, IfOk, OnErr, OnOk, map};
+ghost use Rattle.std.specs.Prelude.{◌≡◌, ◌⊎◌, ◌++◌, IfErr, OnErr, OnOk, map};
 ghost use Rattle.pocsag_words.specs.Devices.{HasFailed, TookPrefix};
 ghost use Rattle.pocsag_shell.specs.Notes.{note_text};
 
@@ -13,7 +13,8 @@ use std::alloc::Global;
 pub(crate) fn print_note<S: Sink>(alloc: Global, err: &mut S, text: &str) -> Result<(), FileFault>
     ensures printed { S.is_known → OnOk result (S.taken err.new ≡ S.taken err.old ++ note_text text.now) }
     ensures part { S.is_known → OnErr result (TookPrefix (S.taken err.old) (S.taken err.new) (note_text text.now)) }
-    ensures failed { OnErr result ((err.new ≡ err.old) ⊎ HasFailed (S.failures err.old) (S.failures err.new)) }
+    ensures cause { IfErr result (λ f. ((f ≡ FileFault.OutOfMemory) × (err.new ≡ err.old))
+        ⊎ ((f ≡ FileFault.Write) × HasFailed (S.failures err.old) (S.failures err.new))) }
 {
     let mut line = Vec::new(alloc);
     line.extend_from_slice(b"pocsag: ")?;
