@@ -17,7 +17,8 @@ use Rattle.pocsag_words.specs.declared.codeword.Kind.TheVariants.{Idle, Address,
 use Rattle.pocsag_pages.specs.Bytes.{body_bytes, sync_word, synced, unsynced}
 use Rattle.pocsag_pages.proofs.Lengths.{unsynced_codeword, unsynced_more, unsynced_sync}
 use Rattle.pocsag_pager.specs.Shown.{IsMended, said}
-use Rattle.pocsag_capture.specs.CapturedPages.{stays_open, without_orphans}
+use Rattle.pocsag_decode.specs.OpenPages.{stays_open}
+use Rattle.pocsag_capture.specs.CapturedPages.{without_orphans}
 use Rattle.pocsag_capture.specs.Extracted.{count_cut, cuts_from, far_words, near_errors, page_cuts, sum_at_synchronisations}
 use Rattle.pocsag_capture.specs.Lost.{lost_words, mended_errors, wrong_bits}
 use Rattle.pocsag_capture.specs.Receptions.{received_word}

@@ -15,14 +15,14 @@ use Rattle.pocsag_pages.specs.Plain.{items_of, pages_from}
 use Rattle.pocsag_pages.specs.Reading.{frame_at}
 use Rattle.pocsag_pages.proofs.Readings.{reads_plainly}
 use Rattle.pocsag_decode.proofs.Transmissions.{codewords_listable, pages_end}
-use Rattle.pocsag_decode.specs.OpenPages.{closed, resumed}
+use Rattle.pocsag_decode.specs.OpenPages.{closed, resumed, without_orphan}
 use Rattle.pocsag_decode.specs.Places.{is_idle, is_message}
 use Rattle.pocsag_decode.specs.declared.open_page.Growing.{Growing}
 use Rattle.pocsag_pager.specs.Shown.{IsMended, said}
 use Rattle.pocsag_pager.specs.Turns.{IsHeardAs}
 use Rattle.pocsag_pager.proofs.Mended.{all_mended_same}
 use Rattle.pocsag_capture.specs.Bits.{capture_bits}
-use Rattle.pocsag_capture.specs.CapturedPages.{AreCaptured, HasCaptured, without_orphan, without_orphans}
+use Rattle.pocsag_capture.specs.CapturedPages.{AreCaptured, HasCaptured, without_orphans}
 use Rattle.pocsag_capture.specs.Extracted.{count_cut, ends_cut, page_cuts}
 use Rattle.pocsag_capture.specs.PageEnds.{AreCutsOf, CapturedTransmission, HasTransmissions, IsCapturedTransmission, IsPageEnd, UncutStandWhole, pages_captured}
 use Rattle.pocsag_capture.specs.Receptions.{all_batches, received, received_word}

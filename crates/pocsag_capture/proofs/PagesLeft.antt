@@ -11,13 +11,14 @@ use Rattle.pocsag_pages.specs.declared.page.Page.{Page}
 use Rattle.pocsag_pages.specs.Bytes.{sync_word, unsynced}
 use Rattle.pocsag_pages.specs.Plain.{pages_from}
 use Rattle.pocsag_pages.proofs.Readings.{plain_reads}
+use Rattle.pocsag_decode.specs.OpenPages.{ends_open, stays_open, without_orphan}
 use Rattle.pocsag_decode.specs.PageReaders.{codewords_before}
 use Rattle.pocsag_pager.specs.Shown.{IsMended, said}
-use Rattle.pocsag_capture.specs.CapturedPages.{AreCaptured, stays_open, without_orphan, without_orphans}
+use Rattle.pocsag_capture.specs.CapturedPages.{AreCaptured, without_orphans}
 use Rattle.pocsag_capture.specs.Extracted.{AreExtracted, count_cut, cuts_from, far_words, lost_synchronisations, near_errors, synchronisation_errors}
 use Rattle.pocsag_capture.specs.Lost.{lost_words, mended_errors}
 use Rattle.pocsag_capture.specs.PageEnds.{AreCutsOf, CapturedTransmission, IsCapturedTransmission}
-use Rattle.pocsag_capture.specs.PagesLeft.{IsReceivedFrom, handed_cuts, ends_open, words_from}
+use Rattle.pocsag_capture.specs.PagesLeft.{IsReceivedFrom, handed_cuts, words_from}
 use Rattle.pocsag_capture.specs.Receptions.{all_batches, received, received_word}
 use Rattle.pocsag_capture.specs.Slips.{AreInStep}
 use Rattle.pocsag_capture.specs.TakenWords.{CountsSync, TakesWord, cut_by, end_by, is_lost}

@@ -28,11 +28,12 @@ use Rattle.pocsag_pages.specs.Reading.{EndsIdle, Reads}
 use Rattle.pocsag_pages.proofs.Lengths.{synced_count, unsynced_count, unsynced_more}
 use Rattle.pocsag_pages.proofs.Readings.{reads_plainly}
 use Rattle.pocsag_decode.specs.Faults.{ReadsAs}
+use Rattle.pocsag_decode.specs.OpenPages.{stays_open, without_orphan}
 use Rattle.pocsag_decode.proofs.SentBytes.{codewords_are}
 use Rattle.pocsag_pager.specs.Shown.{IsMended, said}
 use Rattle.pocsag_pager.proofs.Mended.{mended_back}
 use Rattle.pocsag_capture.specs.Bits.{as_sent, capture_bits, word_on}
-use Rattle.pocsag_capture.specs.CapturedPages.{AreCaptured, HasCaptured, stays_open, without_orphan, without_orphans}
+use Rattle.pocsag_capture.specs.CapturedPages.{AreCaptured, HasCaptured, without_orphans}
 use Rattle.pocsag_capture.specs.Lost.{lost_words}
 use Rattle.pocsag_capture.specs.Receptions.{AreFound, HasFewLost, IsLikeSynchronised, IsQuiet, IsReception, IsSyncRun, IsSynchronised, all_batches, batches_in_front, counted, held_end, run_end, last_sync, nothing, passed, received, received_word, sent_at}
 use Rattle.pocsag_capture.specs.Sent.{HoldsSent, NothingFollows, IsReceived, StandAmong}

@@ -1,26 +1,14 @@
 -- What a capture says: the pages of its receptions.
-use Rattle.std.specs.Prelude.{◌≡◌, ℕ, if◌then◌else◌, Bool, false, not, List, [], ◌∷◌, Option, Some, None}
+use Rattle.std.specs.Prelude.{◌≡◌, ℕ, Bool, false, List, [], ◌∷◌, Option}
 use Rattle.std.specs.List.{AllZip, flat_map}
 use Rattle.pocsag_words.specs.declared.codeword.Kind.{Kind}
-use Rattle.pocsag_words.specs.declared.codeword.Kind.TheVariants.{Idle, Message}
 use Rattle.pocsag_pages.specs.declared.page.Page.{Page}
 use Rattle.pocsag_pages.specs.Reading.{Reads}
-use Rattle.pocsag_decode.specs.Places.{is_idle}
+use Rattle.pocsag_decode.specs.OpenPages.{stays_open, without_orphan}
 use Rattle.pocsag_pager.specs.Shown.{HoldsOnceMended}
 use Rattle.pocsag_capture.specs.Bits.{capture_bits}
 use Rattle.pocsag_capture.specs.Receptions.{AreReceptions, received}
 use Rattle.pocsag_capture.specs.declared.reception.Reception.{Reception}
-
--- What a mended word says, where a page may be open before it: a word past repair counts as idle, and so does a message
--- codeword that continues no page.
-abbrev pub without_orphan : (is_open : Bool) → Option Kind → Kind
-without_orphan is_open None = Idle
-without_orphan is_open (Some (Message bits)) = if is_open then Message bits else Idle
-without_orphan is_open (Some k) = k
-
--- Whether a page is open after a word: one is, unless the word counts as idle.
-abbrev pub stays_open : (is_open : Bool) → Option Kind → Bool
-stays_open is_open m = not (is_idle (without_orphan is_open m))
 
 -- What mended words say, one after the other.
 abbrev pub without_orphans : (is_open : Bool) → List (Option Kind) → List Kind

@@ -4,7 +4,6 @@ use Rattle.std.specs.List.{AllZip, range_with_len}
 use Rattle.pocsag_words.specs.Frame.{batch_words, input_limit}
 use Rattle.pocsag_words.specs.Kinds.{kind_of}
 use Rattle.pocsag_words.specs.declared.codeword.Kind.{Kind}
-use Rattle.pocsag_words.specs.declared.codeword.Kind.TheVariants.{Message}
 use Rattle.pocsag_pages.specs.declared.page.Page.{Page}
 use Rattle.pocsag_pages.specs.Bytes.{unsynced}
 use Rattle.pocsag_pages.specs.Listable.{IsListable}
@@ -75,11 +74,6 @@ HandsOut before after (Ok page) =
     → AreLeft before (handed_pages page ++ ps) (handed_cuts page ++ cuts) heard
 HandsOut before after (Err e) =
     (ps : List Page) (cuts : List Bool) (heard : ReceptionStats) → AreLeft after ps cuts heard → AreLeft before ps cuts heard
-
--- Whether a page ends at a codeword of this kind, where one may be open.
-abbrev pub ends_open : (is_open : Bool) → Kind → Bool
-ends_open is_open (Message bits) = false
-ends_open is_open k = is_open
 
 -- What reading goes by: the capture is no larger than is read, the place is none behind the last word, the open page may be listed, and
 -- no count is larger than so many words can make it.

@@ -5,8 +5,8 @@ use Rattle.pocsag_words.specs.Kinds.{kind_of}
 use Rattle.pocsag_words.specs.declared.codeword.Kind.{Kind}
 use Rattle.pocsag_words.specs.declared.codeword.Kind.TheVariants.{Idle, Address, Message}
 use Rattle.pocsag_pages.specs.Bytes.{sync_word}
+use Rattle.pocsag_decode.specs.OpenPages.{stays_open, without_orphan}
 use Rattle.pocsag_pager.specs.Shown.{IsMended, said}
-use Rattle.pocsag_capture.specs.CapturedPages.{stays_open, without_orphan}
 use Rattle.pocsag_capture.specs.Extracted.{far_words, near_errors}
 use Rattle.pocsag_capture.specs.Lost.{wrong_bits}
 use Rattle.pocsag_capture.specs.declared.corrector.WordCorrector.{WordCorrector}

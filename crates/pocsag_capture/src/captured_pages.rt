@@ -1,24 +1,19 @@
 //! The pages of a reception, each with its state, one after the other as they end.
-ghost use Rattle.std.specs.Prelude.{◌≡◌, ℕ, ◌+◌, ◌*◌, ◌^◌, ◌<◌, ◌≤◌, ◌∷◌, ◌++◌, [], Bool, List, None, Some, All, length, is_some, option_to_list, IfNone, IfOk, IfSome, OnErr, OnOk};
+ghost use Rattle.std.specs.Prelude.{◌≡◌, ◌+◌, ◌*◌, ◌^◌, ◌<◌, ◌≤◌, ◌++◌, [], Bool, List, None, Some, All, length, is_some, option_to_list, IfNone, IfOk, IfSome, OnOk};
 ghost use Rattle.pocsag_words.specs.Frame.{input_limit};
-ghost use Rattle.pocsag_words.specs.Kinds.{IsInRange};
-ghost use Rattle.pocsag_words.specs.declared.codeword.Kind.{Kind};
 ghost use Rattle.pocsag_pages.specs.Listable.{IsListable};
-ghost use Rattle.pocsag_pages.specs.Reading.{frame_at};
 ghost use Rattle.pocsag_pages.specs.declared.page.Page.{Page};
-ghost use Rattle.pocsag_decode.specs.OpenPages.{closed, resumed};
 ghost use Rattle.pocsag_capture.specs.Bits.{capture_bits};
-ghost use Rattle.pocsag_capture.specs.CapturedPages.{stays_open};
-ghost use Rattle.pocsag_capture.specs.PagesLeft.{AreLeft, CanRead, EndsReceived, HandsOut, IsHandedOut, ReadsReception, handed_cuts, ends_open, most_left, handed_pages};
+ghost use Rattle.pocsag_capture.specs.PagesLeft.{AreLeft, CanRead, EndsReceived, HandsOut, IsHandedOut, ReadsReception, handed_cuts, handed_pages, most_left};
 ghost use Rattle.pocsag_capture.specs.Receptions.{all_batches, behind};
 ghost use Rattle.pocsag_capture.specs.declared.reception.ReceptionStats.{ReceptionStats};
 
 use crate::corrector::WordCorrector;
 use crate::reception::{BATCH, Reception, ReceptionStats};
 use crate::search::steady_batches;
-use pocsag_decode::OpenPage;
-use pocsag_pages::{Page, Payload};
-use pocsag_words::{Kind, kind_of_number};
+use pocsag_decode::{OpenPage, end_page, take_kind};
+use pocsag_pages::Page;
+use pocsag_words::kind_of_number;
 use std::alloc::{AllocError, Global};
 
 /// A page of a reception.
@@ -43,66 +38,6 @@ pub struct CapturedPages<'a> {
     corrector: WordCorrector,
     // The page that a message codeword would continue.
     current: Option<OpenPage>,
-}
-
-// Ends the open page.
-fn end_page(current: &mut Option<OpenPage>) -> Option<Page>
-    ensures page { option_to_list result ≡ closed current.old }
-    ensures none { current.new ≡ None }
-    ensures some { is_some result ≡ is_some current.old }
-{
-    let Some(page) = current.take() else {
-        return None;
-    };
-    let OpenPage {
-        address,
-        function,
-        items,
-    } = page;
-    Some(Page {
-        address,
-        function,
-        payload: Payload::from_vec(items),
-    })
-}
-
-// Takes a codeword, which stands in this frame: the page that ends at it.
-fn take_codeword(
-    alloc: Global,
-    current: &mut Option<OpenPage>,
-    frame: u32,
-    kind: Kind,
-) -> Result<Option<Page>, AllocError>
-    requires listable { All IsListable (closed current.old) }
-    requires ranges { IsInRange kind }
-    requires frame { frame < 8 }
-    ensures listable { All IsListable (closed current.new) }
-    ensures page { IfOk result (λ page. All IsListable (option_to_list page)) }
-    ensures some { IfOk result (λ page. is_some page ≡ ends_open (is_some current.old) kind) }
-    ensures reads { IfOk result (λ page. (i : ℕ) (ks : List Kind) → frame ≡ frame_at i →
-        resumed i current.old (kind ∷ ks) ≡ option_to_list page ++ resumed (i + 1) current.new ks) }
-    ensures stays { OnOk result (is_some current.new ≡ stays_open (is_some current.old) (Some kind)) }
-    ensures kept { OnErr result ((i : ℕ) (ks : List Kind) → resumed i current.new ks ≡ resumed i current.old ks) }
-    ensures same { OnErr result (is_some current.new ≡ is_some current.old) }
-{
-    match kind {
-        Kind::Idle => Ok(end_page(current)),
-        Kind::Address { high, function } => {
-            let page = end_page(current);
-            *current = Some(OpenPage {
-                address: 8 * high + frame,
-                function,
-                items: Vec::new(alloc),
-            });
-            Ok(page)
-        }
-        Kind::Message(bits) => {
-            if let Some(page) = current {
-                page.items.push(bits)?;
-            }
-            Ok(None)
-        }
-    }
 }
 
 // A page with its state, where there is one.
@@ -167,7 +102,7 @@ impl<'a> CapturedPages<'a> {
         };
         let frame = (place % BATCH - 1) as u32 / 2;
         let kind = kind_of_number(corrected_word.codeword);
-        let page = take_codeword(self.alloc, &mut self.current, frame, kind)?;
+        let page = take_kind(self.alloc, &mut self.current, frame, kind)?;
         self.corrector = corrector;
         self.place = place + 1;
         Ok(with_state(page, corrected_word.ended))

@@ -1,9 +1,10 @@
-ghost use Rattle.std.specs.Prelude.{◌≡◌, ℕ, ◌+◌, ◌^◌, ◌<◌, ◌++◌, ◌∷◌, [], None, Some, true, not, List, IsTrue, is_some, OnErr, OnOk, IfOk};
+ghost use Rattle.std.specs.Prelude.{◌≡◌, ℕ, ◌+◌, ◌^◌, ◌<◌, ◌++◌, ◌∷◌, [], None, Some, not, List, All, IsTrue, is_some, option_to_list, OnErr, OnOk, IfOk};
 ghost use Rattle.pocsag_words.specs.declared.codeword.Kind.{Kind};
 ghost use Rattle.pocsag_words.specs.Kinds.{IsInRange};
+ghost use Rattle.pocsag_pages.specs.Listable.{IsListable};
 ghost use Rattle.pocsag_pages.specs.Reading.{frame_at};
 ghost use Rattle.pocsag_decode.specs.Places.{is_message, is_idle};
-ghost use Rattle.pocsag_decode.specs.OpenPages.{resumed, closed};
+ghost use Rattle.pocsag_decode.specs.OpenPages.{closed, ends_open, resumed, stays_open};
 
 use pocsag_pages::{Page, Payload};
 use pocsag_words::Kind;
@@ -21,41 +22,61 @@ pub struct OpenPage {
     pub items: Vec<u32>,
 }
 
-impl OpenPage {
-    // The page, where no more of its message comes.
-    pub(crate) fn into_page(self) -> Page
-        ensures { closed (Some self) ≡ result ∷ [] }
-    {
-        Page {
-            address: self.address,
-            function: self.function,
-            payload: Payload::from_vec(self.items),
-        }
-    }
+/// Ends the open page, and gives it.
+pub fn end_page(current: &mut Option<OpenPage>) -> Option<Page>
+    ensures page { option_to_list result ≡ closed current.old }
+    ensures none { current.new ≡ None }
+    ensures some { is_some result ≡ is_some current.old }
+{
+    let Some(page) = current.take() else {
+        return None;
+    };
+    let OpenPage {
+        address,
+        function,
+        items,
+    } = page;
+    Some(Page {
+        address,
+        function,
+        payload: Payload::from_vec(items),
+    })
 }
 
-// Takes one codeword more, which stands in this frame, and gives the page that it ends. A message codeword where no page is open
-// is passed over.
-pub(crate) fn take_kind(
+/// Takes one codeword more, which stands in this frame, and gives the page that ends at it. A message codeword where no page is
+/// open is passed over.
+pub fn take_kind(
     alloc: Global,
     current: &mut Option<OpenPage>,
     frame: u32,
     kind: Kind,
-) -> Result<Option<OpenPage>, AllocError>
+) -> Result<Option<Page>, AllocError>
     requires ranges { IsInRange kind }
     requires frame { frame < 8 }
-    ensures reads { IfOk result (λ ended. (i : ℕ) (ks : List Kind) → frame ≡ frame_at i →
-        resumed i current.old (kind ∷ ks) ≡ closed ended ++ resumed (i + 1) current.new ks) }
+    ensures listable { All IsListable (closed current.old) → All IsListable (closed current.new) }
+    ensures page { All IsListable (closed current.old) → IfOk result (λ page. All IsListable (option_to_list page)) }
+    ensures some { IfOk result (λ page. is_some page ≡ ends_open (is_some current.old) kind) }
+    ensures reads { IfOk result (λ page. (i : ℕ) (ks : List Kind) → frame ≡ frame_at i →
+        resumed i current.old (kind ∷ ks) ≡ option_to_list page ++ resumed (i + 1) current.new ks) }
+    ensures stays { OnOk result (is_some current.new ≡ stays_open (is_some current.old) (Some kind)) }
+
+    // Where memory is refused, the open page is as it was.
+    ensures kept { OnErr result ((i : ℕ) (ks : List Kind) → resumed i current.new ks ≡ resumed i current.old ks) }
+    ensures same { OnErr result (is_some current.new ≡ is_some current.old) }
+
+    // Memory is wanted only where a page is open.
+    ensures memory { OnErr result (IsTrue (is_some current.old)) }
 {
     match kind {
-        Kind::Idle => Ok(current.take()),
+        Kind::Idle => Ok(end_page(current)),
         Kind::Address { high, function } => {
-            let opened = OpenPage {
+            let page = end_page(current);
+            *current = Some(OpenPage {
                 address: 8 * high + frame,
                 function,
                 items: Vec::new(alloc),
-            };
-            Ok(mem::replace(current, Some(opened)))
+            });
+            Ok(page)
         }
         Kind::Message(bits) => {
             if let Some(page) = current {
@@ -90,45 +111,9 @@ impl Growing {
         // Memory is wanted only where a page is open.
         ensures memory { OnErr result (IsTrue (is_some self.old.current)) }
     {
-        match kind {
-            Kind::Idle if self.current.is_none() => Ok(()),
-            Kind::Idle => self.close(),
-            Kind::Address { high, function } => {
-                self.close()?;
-                self.current = Some(OpenPage {
-                    address: 8 * high + frame,
-                    function,
-                    items: Vec::new(self.alloc),
-                });
-                Ok(())
-            }
-            Kind::Message(bits) => match &mut self.current {
-                Some(page) => Ok(page.items.push(bits)?),
-                None => unreachable!(),
-            },
+        if let Some(page) = take_kind(self.alloc, &mut self.current, frame, kind)? {
+            self.pages.push(page)?;
         }
-    }
-
-    // Finishes the open page.
-    fn close(&mut self) -> Result<(), AllocError>
-        ensures pages { OnOk result (self.new.pages.items ≡ self.old.pages.items ++ closed self.old.current) }
-        ensures current { OnOk result (self.new.current ≡ None) }
-        ensures memory { OnErr result (IsTrue (is_some self.old.current)) }
-    {
-        let Some(page) = self.current.take() else {
-            return Ok(());
-        };
-        let OpenPage {
-            address,
-            function,
-            items,
-        } = page;
-        let payload = Payload::from_vec(items);
-        self.pages.push(Page {
-            address,
-            function,
-            payload,
-        })?;
         Ok(())
     }
 
@@ -137,7 +122,9 @@ impl Growing {
         ensures same { IfOk result (λ v. v.items ≡ self.old.pages.items ++ closed self.old.current) }
         ensures memory { OnErr result (IsTrue (is_some self.old.current)) }
     {
-        self.close()?;
+        if let Some(page) = end_page(&mut self.current) {
+            self.pages.push(page)?;
+        }
         Ok(mem::replace(&mut self.pages, Vec::new(self.alloc)))
     }
 }

@@ -4,12 +4,12 @@ use Rattle.std.proofs.lemmas.Result.{err_from_is_err_and}
 use Rattle.pocsag_words.specs.declared.codeword.Kind.{Kind}
 use Rattle.pocsag_pages.specs.Bytes.{sync_word}
 use Rattle.pocsag_pages.specs.declared.page.Page.{Page}
-use Rattle.pocsag_decode.specs.OpenPages.{resumed}
+use Rattle.pocsag_decode.specs.OpenPages.{ends_open, resumed, stays_open}
 use Rattle.pocsag_decode.specs.PageReaders.{codewords_before}
 use Rattle.pocsag_pager.specs.Shown.{said}
 use Rattle.pocsag_capture.specs.Bits.{capture_bits}
-use Rattle.pocsag_capture.specs.CapturedPages.{stays_open, without_orphans}
-use Rattle.pocsag_capture.specs.PagesLeft.{IsReceivedFrom, ends_open}
+use Rattle.pocsag_capture.specs.CapturedPages.{without_orphans}
+use Rattle.pocsag_capture.specs.PagesLeft.{IsReceivedFrom}
 use Rattle.pocsag_capture.specs.Receptions.{received_word}
 use Rattle.pocsag_capture.proofs.CorrectedWords.{far_few, near_few}
 use Rattle.pocsag_capture.proofs.PagesLeft.{ends_same, few_bits_behind, few_cut_behind, few_lost_behind, received_codeword, received_sync, stays_same}
@@ -67,7 +67,7 @@ returns-in_err-page-clause-can c =
       within = can.within;
       in_step = can.in_step;
       open_page = c.in_err-page.ensures.same ∙ can.open_page;
-      listable = c.take_codeword.ensures.listable;
+      listable = c.take_kind.ensures.listable can.listable;
       few_bits = can.few_bits;
       few_lost = can.few_lost;
       few_cut = can.few_cut;
@@ -100,7 +100,7 @@ returns-clause-can c =
       open_page = c.in_ok-page.ensures.stays
           ∙ ap₂ (λ (b : Bool) (k : Kind). stays_open b (Some k)) can.open_page (c.kind_of_number-kind.ensures.kind ∙ takes.kind)
           ∙ stays_same s.is_open (said takes.mended) ∙ sym takes.open_after;
-      listable = c.take_codeword.ensures.listable;
+      listable = c.take_kind.ensures.listable can.listable;
       few_bits = few_bits_behind s _ _ _ word.codeword walk.place word.ended takes can.few_bits;
       few_lost = few_lost_behind s _ _ _ word.codeword walk.place word.ended takes can.few_lost;
       few_cut = omega (arith, few);
@@ -125,7 +125,7 @@ returns-clause-handed c = λ ps cuts heard f.
           (received_codeword (capture_bits walk.capture.now) walk.reception walk.place _ walk.steady s _ refl c.requires.some word.codeword _ word.ended inside refl
           takes f.mended f.codewords cuts heard f.received);
       pages = ap₂ (λ (l : List Page) (m : List Page). l ++ m) (sym c.with_state.ensures.pages)
-          (f.pages ∙ ap₂ (λ (n : ℕ) (b : Bool). resumed n c.take_codeword.new.current (without_orphans b (map said f.mended))) index takes.open_after)
+          (f.pages ∙ ap₂ (λ (n : ℕ) (b : Bool). resumed n c.take_kind.new.current (without_orphans b (map said f.mended))) index takes.open_after)
           ∙ sym (c.in_ok-page.ensures.reads (codewords_before walk.place) rest (omega (arith, inside)))
           ∙ ap (λ (k : Kind). resumed (codewords_before walk.place) walk.current (k ∷ rest)) (c.kind_of_number-kind.ensures.kind ∙ takes.kind);
     }
