@@ -1,23 +1,17 @@
 -- Where pages end: those that are cut, word by word, and those that are not, which stand whole.
-use Rattle.std.proofs.Common.{◌≡◌, ◌≢◌, ℕ, ◌+◌, ◌-◌, ◌*◌, ◌/◌, ◌%◌, ◌<◌, Bool, true, false, List, [], ◌∷◌, ◌++◌, length, filter, map, All, Option, Some, None, refl, sym, ap, subst, ◌∙◌, inl, inr, arith, append_assoc}
-use Rattle.std.specs.Prelude.{IsTrue, is_some, nat_le, not, option_to_list}
+use Rattle.std.proofs.Common.{◌≡◌, ℕ, ◌+◌, ◌*◌, ◌<◌, Bool, true, false, List, [], ◌∷◌, ◌++◌, length, filter, map, All, Option, Some, None, refl, sym, ap, subst, ◌∙◌, inl, inr, arith, append_assoc}
+use Rattle.std.specs.Prelude.{nat_le}
 use Rattle.std.specs.List.{AllZip}
 use Rattle.std.proofs.lemmas.Bool.{cases_lt, le-leb}
-use Rattle.std.proofs.lemmas.List.{append-nil, length-append, map-append}
+use Rattle.std.proofs.lemmas.List.{length-append}
 use Rattle.std.proofs.lemmas.List.Elements.{All-head, All-tail}
-use Rattle.pocsag_words.specs.Kinds.{kind_of}
 use Rattle.pocsag_words.specs.declared.codeword.Kind.{Kind}
 use Rattle.pocsag_words.specs.declared.codeword.Kind.TheVariants.{Idle, Address, Message}
 use Rattle.pocsag_pages.specs.declared.page.Page.{Page}
 use Rattle.pocsag_pages.specs.Bytes.{unsynced}
-use Rattle.pocsag_pages.specs.Listable.{IsListable}
 use Rattle.pocsag_pages.specs.Plain.{items_of, pages_from}
 use Rattle.pocsag_pages.specs.Reading.{frame_at}
 use Rattle.pocsag_pages.proofs.Readings.{reads_plainly}
-use Rattle.pocsag_decode.proofs.Transmissions.{codewords_listable, pages_end}
-use Rattle.pocsag_decode.specs.OpenPages.{closed, resumed, without_orphan}
-use Rattle.pocsag_decode.specs.Places.{is_idle, is_message}
-use Rattle.pocsag_decode.specs.declared.open_page.Growing.{Growing}
 use Rattle.pocsag_pager.specs.Shown.{IsMended, said}
 use Rattle.pocsag_pager.specs.Turns.{IsHeardAs}
 use Rattle.pocsag_pager.proofs.Mended.{all_mended_same}
@@ -25,14 +19,8 @@ use Rattle.pocsag_capture.specs.Bits.{capture_bits}
 use Rattle.pocsag_capture.specs.CapturedPages.{AreCaptured, HasCaptured, without_orphans}
 use Rattle.pocsag_capture.specs.Extracted.{count_cut, ends_cut, page_cuts}
 use Rattle.pocsag_capture.specs.PageEnds.{AreCutsOf, CapturedTransmission, HasTransmissions, IsCapturedTransmission, IsPageEnd, UncutStandWhole, pages_captured}
-use Rattle.pocsag_capture.specs.Receptions.{all_batches, received, received_word}
-use Rattle.pocsag_capture.specs.Slips.{AreInStep}
-use Rattle.pocsag_capture.specs.TakenWords.{TakesWord, cut_by}
-use Rattle.pocsag_capture.specs.declared.corrector.WordCorrector.{WordCorrector}
+use Rattle.pocsag_capture.specs.Receptions.{received}
 use Rattle.pocsag_capture.specs.declared.reception.Reception.{Reception}
-use Rattle.pocsag_capture.proofs.Joined.{one_captured}
-use Rattle.pocsag_capture.proofs.Extracts.{extract_of}
-use Rattle.pocsag_capture.proofs.CorrectedWords.{IsCorrecting, correcting_codeword, first_words, last_end}
 
 -- ---- pages that are not cut stand whole
 

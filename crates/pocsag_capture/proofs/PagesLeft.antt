@@ -1,10 +1,9 @@
 -- What is left of a reception, before and behind each word.
-use Rattle.std.proofs.Common.{◌≡◌, ◌≢◌, ℕ, suc, ◌+◌, ◌-◌, ◌*◌, ◌/◌, ◌%◌, ◌<◌, ◌≤◌, Bool, true, false, List, [], ◌∷◌, ◌++◌, length, map, Option, Some, None, bit_xor, count_ones, refl, sym, ap, ap₂, subst, ◌∙◌, arith, eq-eqb, if◌then◌else◌}
+use Rattle.std.proofs.Common.{◌≡◌, ◌≢◌, ℕ, suc, ◌+◌, ◌-◌, ◌*◌, ◌%◌, ◌<◌, ◌≤◌, Bool, true, false, List, [], ◌∷◌, ◌++◌, map, Option, Some, None, bit_xor, count_ones, refl, sym, ap, ap₂, subst, ◌∙◌, arith, eq-eqb, if◌then◌else◌}
 use Rattle.std.specs.Prelude.{IfNone, IfSome, IsTrue, is_some, nat_le, option_to_list}
 use Rattle.std.specs.List.{AllZip, range_with_len}
 use Rattle.std.proofs.lemmas.Bool.{ne_eqb}
 use Rattle.std.proofs.lemmas.List.{append-nil}
-use Rattle.pocsag_words.specs.Kinds.{kind_of}
 use Rattle.pocsag_words.specs.declared.codeword.Kind.{Kind}
 use Rattle.pocsag_words.specs.declared.codeword.Kind.TheVariants.{Idle, Address, Message}
 use Rattle.pocsag_pages.specs.declared.page.Page.{Page}
@@ -17,7 +16,7 @@ use Rattle.pocsag_pager.specs.Shown.{IsMended, said}
 use Rattle.pocsag_capture.specs.CapturedPages.{AreCaptured, without_orphans}
 use Rattle.pocsag_capture.specs.Extracted.{AreExtracted, count_cut, cuts_from, far_words, lost_synchronisations, near_errors, synchronisation_errors}
 use Rattle.pocsag_capture.specs.Lost.{lost_words, mended_errors}
-use Rattle.pocsag_capture.specs.PageEnds.{AreCutsOf, CapturedTransmission, IsCapturedTransmission}
+use Rattle.pocsag_capture.specs.PageEnds.{AreCutsOf, IsCapturedTransmission}
 use Rattle.pocsag_capture.specs.PagesLeft.{IsReceivedFrom, handed_cuts, words_from}
 use Rattle.pocsag_capture.specs.Receptions.{all_batches, received, received_word}
 use Rattle.pocsag_capture.specs.Slips.{AreInStep}

@@ -1,9 +1,8 @@
 -- What a reader of the pages of a reception still hands out: what the words say that are left (this project's own).
-use Rattle.std.specs.Prelude.{◌≡◌, ℕ, ◌+◌, ◌-◌, ◌*◌, ◌^◌, ◌<◌, ◌≤◌, if◌then◌else◌, Bool, true, false, List, [], ◌∷◌, ◌++◌, All, length, map, Option, Some, None, Result, Ok, Err, IsTrue, is_some}
+use Rattle.std.specs.Prelude.{◌≡◌, ℕ, ◌+◌, ◌-◌, ◌*◌, ◌^◌, ◌<◌, ◌≤◌, if◌then◌else◌, Bool, false, List, [], ◌∷◌, ◌++◌, All, length, map, Option, Some, None, Result, Ok, Err, IsTrue, is_some}
 use Rattle.std.specs.List.{AllZip, range_with_len}
 use Rattle.pocsag_words.specs.Frame.{batch_words, input_limit}
 use Rattle.pocsag_words.specs.Kinds.{kind_of}
-use Rattle.pocsag_words.specs.declared.codeword.Kind.{Kind}
 use Rattle.pocsag_pages.specs.declared.page.Page.{Page}
 use Rattle.pocsag_pages.specs.Bytes.{unsynced}
 use Rattle.pocsag_pages.specs.Listable.{IsListable}
@@ -14,7 +13,7 @@ use Rattle.pocsag_capture.specs.Bits.{capture_bits}
 use Rattle.pocsag_capture.specs.CapturedPages.{without_orphans}
 use Rattle.pocsag_capture.specs.Extracted.{count_cut, cuts_from, lost_synchronisations, synchronisation_errors}
 use Rattle.pocsag_capture.specs.Lost.{lost_words, mended_errors}
-use Rattle.pocsag_capture.specs.PageEnds.{CapturedTransmission, IsCapturedTransmission}
+use Rattle.pocsag_capture.specs.PageEnds.{IsCapturedTransmission}
 use Rattle.pocsag_capture.specs.Receptions.{all_batches, behind, received_word}
 use Rattle.pocsag_capture.specs.declared.captured_pages.CapturedPage.{CapturedPage}
 use Rattle.pocsag_capture.specs.declared.captured_pages.CapturedPages.{CapturedPages}

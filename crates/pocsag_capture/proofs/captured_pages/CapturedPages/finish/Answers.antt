@@ -1,4 +1,4 @@
-use Rattle.std.proofs.Common.{◌≡◌, ◌+◌, [], ℕ, Bool, Option, refl, sym, ap, ◌∙◌, arith}
+use Rattle.std.proofs.Common.{◌≡◌, ◌+◌, [], Bool, Option, refl, sym, ap, ◌∙◌, arith}
 use Rattle.pocsag_decode.specs.OpenPages.{resumed}
 use Rattle.pocsag_decode.specs.PageReaders.{codewords_before}
 use Rattle.pocsag_decode.specs.declared.open_page.OpenPage.{OpenPage}

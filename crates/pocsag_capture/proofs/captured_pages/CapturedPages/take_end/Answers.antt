@@ -1,4 +1,4 @@
-use Rattle.std.proofs.Common.{◌≡◌, ◌+◌, ◌-◌, ◌*◌, ◌++◌, [], Bool, false, List, ℕ, Option, map, refl, sym, ap, ap₂, subst, ◌∙◌, arith}
+use Rattle.std.proofs.Common.{◌≡◌, ◌+◌, ◌-◌, ◌*◌, ◌++◌, [], Bool, false, List, ℕ, Option, map, sym, ap, ap₂, subst, ◌∙◌, arith}
 use Rattle.std.specs.Prelude.{is_some, option_to_list}
 use Rattle.std.proofs.lemmas.List.{append-nil}
 use Rattle.std.proofs.lemmas.List.Elements.{All-nil}
@@ -15,7 +15,6 @@ use Rattle.pocsag_capture.specs.PagesLeft.{IsReceivedFrom}
 use Rattle.pocsag_capture.specs.Receptions.{all_batches}
 use Rattle.pocsag_capture.specs.TakenWords.{cut_by}
 use Rattle.pocsag_capture.specs.declared.corrector.WordCorrector.{WordCorrector}
-use Rattle.pocsag_capture.proofs.CorrectedWords.{last_end}
 use Rattle.pocsag_capture.proofs.PagesLeft.{closed_some, few_at_end, fewer_left, no_words, received_end}
 use Rattle.pocsag_capture.proofs.captured_pages.CapturedPages.take_end.Goals as goal
 

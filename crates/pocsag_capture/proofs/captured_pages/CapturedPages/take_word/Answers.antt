@@ -1,4 +1,4 @@
-use Rattle.std.proofs.Common.{◌≡◌, ◌≢◌, ◌+◌, ◌-◌, ◌*◌, ◌/◌, ◌%◌, ◌∷◌, ◌++◌, Bool, ℕ, List, Option, Some, bit_xor, count_ones, map, refl, sym, ap, ap₂, subst, ◌∙◌, arith}
+use Rattle.std.proofs.Common.{◌≡◌, ◌≢◌, ◌+◌, ◌%◌, ◌∷◌, ◌++◌, Bool, ℕ, List, Option, Some, bit_xor, count_ones, map, refl, sym, ap, ap₂, subst, ◌∙◌, arith}
 use Rattle.std.specs.Prelude.{is_some}
 use Rattle.std.proofs.lemmas.Result.{err_from_is_err_and}
 use Rattle.pocsag_words.specs.declared.codeword.Kind.{Kind}
