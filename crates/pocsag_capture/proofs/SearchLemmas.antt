@@ -5,8 +5,9 @@ use Rattle.std.proofs.lemmas.List.{append-nil}
 use Rattle.pocsag_words.specs.Codeword.{IsNear}
 use Rattle.pocsag_pages.specs.Bytes.{sync_word}
 use Rattle.pocsag_capture.specs.Bits.{as_sent, capture_bits, word_on}
-use Rattle.pocsag_capture.specs.Receptions.{AreFound, AreReceptions, HasInFront, IsOnAir, IsBridged, IsInStep, IsQuiet, IsReception, IsSyncRun, IsSynchronised, counted, held_end, last_sync, nothing, passed}
+use Rattle.pocsag_capture.specs.Receptions.{AreFound, AreReceptions, HasInFront, IsOnAir, IsBridged, IsInStep, IsQuiet, IsReception, IsSyncRun, IsSynchronised, behind, counted, held_end, last_sync, nothing, passed}
 use Rattle.pocsag_capture.specs.Runs.{BeginsRun, Steps}
+use Rattle.pocsag_capture.specs.Slips.{HasOtherSync, IsBeforeIdle}
 use Rattle.pocsag_capture.specs.declared.polarity.Polarity.{Polarity}
 use Rattle.pocsag_capture.specs.declared.reception.Reception.{Reception}
 use Rattle.pocsag_capture.specs.declared.reception.Run.{Run}
@@ -162,3 +163,30 @@ found_more bits first held found now u r before run counts is front pushed = λ 
 pub found_same : (bits : List ℕ) (first held : ℕ) (found : List Reception) (u : Run) → SoFar bits first held found → IsSyncRun bits first u
     → (¬ IsOnAir bits held u) → SoFar bits (last_sync u + 1) held found
 found_same bits first held found u before run not = λ rest more. before rest (passed u rest run not more)
+
+-- ---- another synchronisation codeword in the last batch
+
+-- from the first bit on, before the last, one begins only before an idle codeword in step
+abbrev pub IsAlone : (bits : List ℕ) → Reception → (first last : ℕ) → Type 0
+IsAlone bits r first last =
+    (bit : ℕ) → first ≤ bit → bit < last → (polarity : Polarity) → IsSynchronised bits bit polarity → IsBeforeIdle bits r bit
+
+pub alone_more : (bits : List ℕ) (r : Reception) (first next bit : ℕ) → IsAlone bits r first next → IsQuiet bits next bit →
+    IsBeforeIdle bits r bit → IsAlone bits r first (bit + 1)
+alone_more bits r first next bit before quiet idle = λ k low high polarity there.
+    elim (cases_lt k next) [
+      | inl less ↦ before k low less polarity there
+      | inr more ↦
+          elim (cases_lt k bit) [
+            | inl between ↦ absurd (quiet k more between polarity there)
+            | inr here ↦ subst (IsBeforeIdle bits r) (omega arith) idle
+          ]
+    ]
+
+pub alone_to : (bits : List ℕ) (r : Reception) (first next : ℕ) → IsAlone bits r first next → IsQuiet bits next (behind r + 32) →
+    first ≡ behind r - 543 → HasOtherSync bits r → ⊥
+alone_to bits r first next before quiet e other =
+    elim (cases_lt other.bit next) [
+      | inl less ↦ other.alone (before other.bit (omega (arith, e, other.first)) less other.polarity other.begins)
+      | inr more ↦ quiet other.bit more other.last other.polarity other.begins
+    ]

@@ -1,7 +1,9 @@
 -- Where a bit was lost or doubled in the last batch of a reception (this project's own).
-use Rattle.std.specs.Prelude.{◌≡◌, ◌⊎◌, ℕ, ◌+◌, ◌-◌, ◌*◌, ◌<◌, ◌≤◌, List}
+use Rattle.std.specs.Prelude.{◌≡◌, ◌⊎◌, ℕ, ◌+◌, ◌-◌, ◌*◌, ◌%◌, ◌<◌, ◌≤◌, List}
+use Rattle.pocsag_words.specs.Kinds.{idle_word}
 use Rattle.pocsag_words.specs.Frame.{batch_words}
-use Rattle.pocsag_capture.specs.Receptions.{IsBeside, IsQuiet, all_batches, behind}
+use Rattle.pocsag_capture.specs.Receptions.{IsBeside, IsSynchronised, all_batches, behind, sent_at}
+use Rattle.pocsag_capture.specs.declared.polarity.Polarity.{Polarity}
 use Rattle.pocsag_capture.specs.declared.reception.Reception.{Reception}
 
 -- From a place on four words, or those up to the end of the reception if they are fewer, are beside their places.
@@ -16,10 +18,24 @@ pub record HasSlipped (bits : List ℕ) (r : Reception) : Type 0 where
   pub two : first + 1 < batch_words * r.batches
   pub beside : IsSlip bits r 31 first ⊎ IsSlip bits r 33 first
 
--- The last batch of a reception may be out of step: another synchronisation codeword, in either polarity, begins inside it or at most
--- 31 bits behind it; or a bit was lost or doubled in it.
+-- Fourteen bits behind this bit an idle codeword begins in step. Its first eighteen bits are the last of the synchronisation codeword in
+-- the other polarity, so with the end of the word before it they may look like one.
+abbrev pub IsBeforeIdle : (bits : List ℕ) → Reception → (bit : ℕ) → Type 0
+IsBeforeIdle bits r bit = ((bit + 14 - r.bit) % 32 ≡ 0) × (sent_at bits r.polarity (bit + 14) ≡ idle_word)
+
+-- Another synchronisation codeword, in either polarity, begins inside the last batch of a reception or at most 31 bits behind it, and
+-- not because an idle codeword stands there.
+pub record HasOtherSync (bits : List ℕ) (r : Reception) : Type 0 where
+  pub bit : ℕ
+  pub polarity : Polarity
+  pub first : behind r - 543 ≤ bit
+  pub last : bit < behind r + 32
+  pub begins : IsSynchronised bits bit polarity
+  pub alone : ¬ IsBeforeIdle bits r bit
+
+-- The last batch of a reception may be out of step: another synchronisation codeword begins there, or a bit was lost or doubled in it.
 abbrev pub IsLastUnsteady : (bits : List ℕ) → Reception → Type 0
-IsLastUnsteady bits r = (¬ IsQuiet bits (behind r - 543) (behind r + 32)) ⊎ HasSlipped bits r
+IsLastUnsteady bits r = HasOtherSync bits r ⊎ HasSlipped bits r
 
 -- *In step*: so many batches of a reception are: all, or all but the last.
 abbrev pub AreInStep : (bits : List ℕ) → Reception → (batches : ℕ) → Type 0

@@ -7,23 +7,26 @@ ghost use Rattle.pocsag_pages.specs.Bytes.{sync_word};
 ghost use Rattle.pocsag_capture.specs.Bits.{as_sent, capture_bits};
 ghost use Rattle.pocsag_capture.specs.Receptions.{AreReceptions, IsOnAir, IsQuiet, IsSynchronised, behind, run_end};
 ghost use Rattle.pocsag_capture.specs.Runs.{BeginsRun, Steps};
-ghost use Rattle.pocsag_capture.specs.Slips.{AreInStep};
+ghost use Rattle.pocsag_capture.specs.Slips.{AreInStep, HasOtherSync, IsBeforeIdle};
 ghost use Rattle.pocsag_capture.specs.declared.polarity.Polarity.{Polarity};
 ghost use Rattle.pocsag_capture.specs.declared.reception.Run.{Run};
 
 use crate::bits::{window_on, word_in, word_on};
 use crate::in_front::read_in_front;
 use crate::polarity::{NEAR_BITS, Polarity, polarity_of};
-use crate::received_words::{has_few_lost, reception_of};
+use crate::received_words::{has_few_lost, reception_of, sent_at};
 use crate::reception::{BATCH, Reception, Run};
 use crate::slip::has_slipped;
 use crate::sync_table::may_begin;
-use pocsag_words::{BATCH_BITS, SYNC_WORD};
+use pocsag_words::{BATCH_BITS, IDLE_WORD, SYNC_WORD};
 use std::alloc::{AllocError, Global};
 
 // How many bits before the end of a batch the next transmission may begin, since bits are lost, or behind it, since bits are
 // doubled.
 const WORD_SLACK: u64 = 31;
+
+// How many bits of a synchronisation codeword stand before the eighteen with which an idle codeword in the other polarity begins.
+const BEFORE_IDLE: u64 = 14;
 
 // Where a synchronisation codeword begins.
 #[derive(Drop)]
@@ -135,21 +138,43 @@ fn counts(capture: &[u8], held: u64, run: Run) -> bool
     run.batches > 1 || (held <= run.bit + WORD_SLACK && has_few_lost(capture, run))
 }
 
+// Whether fourteen bits behind a bit an idle codeword begins in step.
+fn is_before_idle(capture: &[u8], reception: Reception, bit: u64) -> bool
+    requires few { length capture.now ≤ input_limit }
+    requires bit { bit < 2 ^ 60 }
+    ensures { IsTrue result ↔ IsBeforeIdle (capture_bits capture.now) reception bit }
+{
+    let idle = bit + BEFORE_IDLE;
+    idle.saturating_sub(reception.bit) % 32 == 0
+        && sent_at(capture, reception.polarity, idle) == IDLE_WORD
+}
+
+// Whether another synchronisation codeword begins inside the last batch of a reception, or at most 31 bits behind it.
+fn has_other_sync(capture: &[u8], reception: Reception) -> bool
+    requires few { length capture.now ≤ input_limit }
+    requires end { behind reception < 2 ^ 60 }
+    ensures { IsTrue result ↔ HasOtherSync (capture_bits capture.now) reception }
+{
+    let behind = reception.bit + BATCH_BITS * reception.batches;
+    let mut first = behind.saturating_sub(BATCH_BITS - 1);
+    while let Some(place) = find(capture, first, behind + WORD_SLACK + 1) {
+        if !is_before_idle(capture, reception, place.bit) {
+            return true;
+        }
+        first = place.bit + 1;
+    }
+    false
+}
+
 // How many of all batches of a reception are in step: all, or all but the last.
 pub(crate) fn steady_batches(capture: &[u8], reception: Reception) -> u64
     requires few { length capture.now ≤ input_limit }
     requires end { behind reception < 2 ^ 60 }
     ensures { AreInStep (capture_bits capture.now) reception result }
 {
-    let behind = reception.bit + BATCH_BITS * reception.batches;
-    let first = behind.saturating_sub(BATCH_BITS - 1);
     let all = reception.all_batches();
-    let shorter = all.saturating_sub(1);
-    if let Some(_other) = find(capture, first, behind + WORD_SLACK + 1) {
-        return shorter;
-    }
-    if has_slipped(capture, reception) {
-        return shorter;
+    if has_other_sync(capture, reception) || has_slipped(capture, reception) {
+        return all.saturating_sub(1);
     }
     all
 }
