@@ -200,8 +200,13 @@ def read_words(bits, start, polarity, batches, near, front):
     pages."""
     corrected = lost = cut = 0
     behind = start + 544 * batches
-    # the last batch is out of step
-    is_out = any(at in near for at in range(behind - 543, behind + 32)) or has_slipped(bits, start, polarity, batches)
+
+    def is_before_idle(at):
+        return (at + 14 - start) % 32 == 0 and word_at(bits, at + 14, polarity) == IDLE
+
+    # the last batch is out of step: another synchronisation codeword begins there, and not before an idle codeword in step
+    others = [at for at in range(behind - 543, behind + 32) if at in near and not is_before_idle(at)]
+    is_out = bool(others) or has_slipped(bits, start, polarity, batches)
     pages, page = [], None  # an open page counts as cut until a codeword ends it
     end = words_read(bits, start, polarity, batches)
     for place in range(-17 if front else 0, 17 * batches):
@@ -442,6 +447,16 @@ def try_by_hand(tally, folder):
     listed("and with a batch behind it", bits_of([*last, SYNC, *[IDLE] * 16]), [["15", "tone0", "", "whole"]], [(0, "upright", 2, 0, 0, 0)])
     gone = [SYNC, tone ^ 0b1011 << 7, more, more] + [IDLE] * 13
     listed("an address past repair opens none", bits_of(gone), [], [(0, "upright", 1, 0, 1, 0)])
+    seam = number_of(1 << 20 | 0x2CBC)  # with the first 18 bits of an idle codeword behind it, its last 14 are SYNC inverted
+    assert int(bits_of([seam, IDLE])[18:50], 2) == SYNC ^ ONES
+    seeming = [["8", "numeric", numeric([0x2CBC]), "whole"]]
+    for name, sent, due in (
+        ("an idle codeword that looks like another synchronisation codeword", [SYNC, tone, seam, *[IDLE] * 14], seeming),
+        ("the same with two wrong bits", [SYNC, tone, seam ^ 3, *[IDLE] * 14], seeming),
+        ("with a wrong bit in the idle codeword", [SYNC, tone, seam, IDLE ^ 1, *[IDLE] * 13], [[*seeming[0][:3], "cut"]]),
+    ):
+        listed(name, bits_of(sent), due)
+        listed(f"{name}, inverted", inverted(bits_of(sent)), due)
     orphan = [SYNC, more, tone, *[IDLE] * 14]
     listed("a message codeword without a page", bits_of(orphan), [["8", "tone0", "", "whole"]], [(0, "upright", 1, 0, 0, 0)])
     goes_on = [SYNC, *[IDLE] * 14, tone, more, SYNC ^ 3, more, *[IDLE] * 15]
