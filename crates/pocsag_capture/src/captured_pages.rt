@@ -11,7 +11,7 @@ ghost use Rattle.pocsag_capture.specs.declared.reception.ReceptionStats.{Recepti
 use crate::corrector::WordCorrector;
 use crate::reception::{BATCH, Reception, ReceptionStats};
 use crate::search::steady_batches;
-use pocsag_decode::{OpenPage, end_page, take_kind};
+use pocsag_decode::OpenPage;
 use pocsag_pages::Page;
 use pocsag_words::kind_of_number;
 use std::alloc::{AllocError, Global};
@@ -102,7 +102,7 @@ impl<'a> CapturedPages<'a> {
         };
         let frame = (place % BATCH - 1) as u32 / 2;
         let kind = kind_of_number(corrected_word.codeword);
-        let page = take_kind(self.alloc, &mut self.current, frame, kind)?;
+        let page = OpenPage::take_kind(self.alloc, &mut self.current, frame, kind)?;
         self.corrector = corrector;
         self.place = place + 1;
         Ok(with_state(page, corrected_word.ended))
@@ -121,7 +121,7 @@ impl<'a> CapturedPages<'a> {
         ensures over { IsHandedOut self.new }
     {
         let is_cut = self.corrector.close(true);
-        with_state(end_page(&mut self.current), is_cut)
+        with_state(OpenPage::end_page(&mut self.current), is_cut)
     }
 
     /// The next page, and none behind the last. Where memory is refused, the pages that are left are still left.

@@ -28,7 +28,7 @@ pub use listing::{
     begin_listing, kind_of_page, list, message_of, whole_message, write_many_records,
     write_page_file, write_records,
 };
-pub use open_page::{Growing, OpenPage, end_page, take_kind};
+pub use open_page::{Growing, OpenPage};
 pub use page_reader::{PageReader, PageSource};
 pub use repair::repair_all;
 pub use repaired::Repaired;

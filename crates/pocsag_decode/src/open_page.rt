@@ -22,67 +22,69 @@ pub struct OpenPage {
     pub items: Vec<u32>,
 }
 
-/// Ends the open page, and gives it.
-pub fn end_page(current: &mut Option<OpenPage>) -> Option<Page>
-    ensures page { option_to_list result ≡ closed current.old }
-    ensures none { current.new ≡ None }
-    ensures some { is_some result ≡ is_some current.old }
-{
-    let Some(page) = current.take() else {
-        return None;
-    };
-    let OpenPage {
-        address,
-        function,
-        items,
-    } = page;
-    Some(Page {
-        address,
-        function,
-        payload: Payload::from_vec(items),
-    })
-}
+impl OpenPage {
+    /// Ends the open page, and gives it.
+    pub fn end_page(current: &mut Option<OpenPage>) -> Option<Page>
+        ensures page { option_to_list result ≡ closed current.old }
+        ensures none { current.new ≡ None }
+        ensures some { is_some result ≡ is_some current.old }
+    {
+        let Some(page) = current.take() else {
+            return None;
+        };
+        let OpenPage {
+            address,
+            function,
+            items,
+        } = page;
+        Some(Page {
+            address,
+            function,
+            payload: Payload::from_vec(items),
+        })
+    }
 
-/// Takes one codeword more, which stands in this frame, and gives the page that ends at it. A message codeword where no page is
-/// open is passed over.
-pub fn take_kind(
-    alloc: Global,
-    current: &mut Option<OpenPage>,
-    frame: u32,
-    kind: Kind,
-) -> Result<Option<Page>, AllocError>
-    requires ranges { IsInRange kind }
-    requires frame { frame < 8 }
-    ensures listable { All IsListable (closed current.old) → All IsListable (closed current.new) }
-    ensures page { All IsListable (closed current.old) → IfOk result (λ page. All IsListable (option_to_list page)) }
-    ensures some { IfOk result (λ page. is_some page ≡ ends_open (is_some current.old) kind) }
-    ensures reads { IfOk result (λ page. (i : ℕ) (ks : List Kind) → frame ≡ frame_at i →
-        resumed i current.old (kind ∷ ks) ≡ option_to_list page ++ resumed (i + 1) current.new ks) }
-    ensures stays { OnOk result (is_some current.new ≡ stays_open (is_some current.old) (Some kind)) }
+    /// Takes one codeword more, which stands in this frame, and gives the page that ends at it. A message codeword where no page is
+    /// open is passed over.
+    pub fn take_kind(
+        alloc: Global,
+        current: &mut Option<OpenPage>,
+        frame: u32,
+        kind: Kind,
+    ) -> Result<Option<Page>, AllocError>
+        requires ranges { IsInRange kind }
+        requires frame { frame < 8 }
+        ensures listable { All IsListable (closed current.old) → All IsListable (closed current.new) }
+        ensures page { All IsListable (closed current.old) → IfOk result (λ page. All IsListable (option_to_list page)) }
+        ensures some { IfOk result (λ page. is_some page ≡ ends_open (is_some current.old) kind) }
+        ensures reads { IfOk result (λ page. (i : ℕ) (ks : List Kind) → frame ≡ frame_at i →
+            resumed i current.old (kind ∷ ks) ≡ option_to_list page ++ resumed (i + 1) current.new ks) }
+        ensures stays { OnOk result (is_some current.new ≡ stays_open (is_some current.old) (Some kind)) }
 
-    // Where memory is refused, the open page is as it was.
-    ensures kept { OnErr result ((i : ℕ) (ks : List Kind) → resumed i current.new ks ≡ resumed i current.old ks) }
-    ensures same { OnErr result (is_some current.new ≡ is_some current.old) }
+        // Where memory is refused, the open page is as it was.
+        ensures kept { OnErr result ((i : ℕ) (ks : List Kind) → resumed i current.new ks ≡ resumed i current.old ks) }
+        ensures same { OnErr result (is_some current.new ≡ is_some current.old) }
 
-    // Memory is wanted only where a page is open.
-    ensures memory { OnErr result (IsTrue (is_some current.old)) }
-{
-    match kind {
-        Kind::Idle => Ok(end_page(current)),
-        Kind::Address { high, function } => {
-            let page = end_page(current);
-            *current = Some(OpenPage {
-                address: 8 * high + frame,
-                function,
-                items: Vec::new(alloc),
-            });
-            Ok(page)
-        }
-        Kind::Message(bits) => {
-            if let Some(page) = current {
-                page.items.push(bits)?;
+        // Memory is wanted only where a page is open.
+        ensures memory { OnErr result (IsTrue (is_some current.old)) }
+    {
+        match kind {
+            Kind::Idle => Ok(OpenPage::end_page(current)),
+            Kind::Address { high, function } => {
+                let page = OpenPage::end_page(current);
+                *current = Some(OpenPage {
+                    address: 8 * high + frame,
+                    function,
+                    items: Vec::new(alloc),
+                });
+                Ok(page)
             }
-            Ok(None)
+            Kind::Message(bits) => {
+                if let Some(page) = current {
+                    page.items.push(bits)?;
+                }
+                Ok(None)
+            }
         }
     }
 }
@@ -111,7 +113,7 @@ impl Growing {
         // Memory is wanted only where a page is open.
         ensures memory { OnErr result (IsTrue (is_some self.old.current)) }
     {
-        if let Some(page) = take_kind(self.alloc, &mut self.current, frame, kind)? {
+        if let Some(page) = OpenPage::take_kind(self.alloc, &mut self.current, frame, kind)? {
             self.pages.push(page)?;
         }
         Ok(())
@@ -122,7 +124,7 @@ impl Growing {
         ensures same { IfOk result (λ v. v.items ≡ self.old.pages.items ++ closed self.old.current) }
         ensures memory { OnErr result (IsTrue (is_some self.old.current)) }
     {
-        if let Some(page) = end_page(&mut self.current) {
+        if let Some(page) = OpenPage::end_page(&mut self.current) {
             self.pages.push(page)?;
         }
         Ok(mem::replace(&mut self.pages, Vec::new(self.alloc)))

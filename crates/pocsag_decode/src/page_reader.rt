@@ -6,7 +6,7 @@ ghost use Rattle.pocsag_pages.specs.Listable.{IsListable};
 ghost use Rattle.pocsag_decode.specs.Faults.{ReadsAs};
 ghost use Rattle.pocsag_decode.specs.PageReaders.{pages_left};
 
-use crate::open_page::{OpenPage, end_page, take_kind};
+use crate::open_page::OpenPage;
 use pocsag_pages::{Page, preamble_len};
 use pocsag_words::{BATCH_WORDS, kind_of_number};
 use std::alloc::{AllocError, Global};
@@ -67,11 +67,11 @@ impl<'a> PageSource for PageReader<'a> {
             }
             let frame = (place % WORDS - 1) as u32 / 2;
             let kind = kind_of_number(u32::from_be_bytes(self.words[place]));
-            if let Some(page) = take_kind(self.alloc, &mut self.current, frame, kind)? {
+            if let Some(page) = OpenPage::take_kind(self.alloc, &mut self.current, frame, kind)? {
                 return Ok(Some(page));
             }
         }
-        Ok(end_page(&mut self.current))
+        Ok(OpenPage::end_page(&mut self.current))
     }
 }
 
