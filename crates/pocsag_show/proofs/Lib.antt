@@ -1,8 +1,11 @@
-pub mod AddressCounts
-pub mod Letters
-pub mod Pictures
-pub mod PlacedPages
+pub mod Emitted
+pub mod JudgedBytes
+pub mod KindsAhead
+pub mod LegendPages
+pub mod LettersBefore
+pub mod PlacedReaders
 pub mod Puts
 pub mod Ranges
-pub mod Steps
+pub mod Shown
+pub mod Tables
 pub mod Texts

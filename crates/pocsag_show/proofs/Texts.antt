@@ -1,113 +1,197 @@
--- The codewords that bytes are sent from, and the text of the bytes.
-use Rattle.std.proofs.Common.{◌≡◌, ℕ, ◌+◌, ◌-◌, ◌*◌, ◌/◌, ◌%◌, ◌≤◌, List, [], ◌∷◌, ◌++◌, length, map, Result, Ok, Err, All, ap, ap₂, inr, sym, subst, ◌∙◌, arith}
-use Rattle.std.proofs.lemmas.List.Elements.{All-cons, All-head, All-nil, All-tail}
-use Rattle.csv.specs.Writing.{row_text, default_writer}
-use Rattle.std.proofs.lemmas.List.{length-map}
-use Rattle.pocsag_words.specs.Codeword.{IsCodeword}
+-- The grid, the listing and the drawing of bytes that were judged, and how they begin.
+use Rattle.std.proofs.Common.{◌≡◌, ℕ, ◌+◌, ◌-◌, ◌*◌, ◌/◌, ◌<◌, ◌≤◌, List, [], ◌∷◌, ◌++◌, codes, length, map, slice_index, All, ap, ap₂, refl, sym, subst, ◌∙◌, append_assoc, arith, length-append}
+use Rattle.std.specs.List.{flat_map}
+use Rattle.std.proofs.lemmas.List.{append-nil}
+use Rattle.csv.specs.Writing.{default_writer, row_text}
+use Rattle.csv.specs.Writing.{fields_text, is_blank}
 use Rattle.pocsag_words.specs.Kinds.{kind_of}
+use Rattle.pocsag_words.specs.declared.codeword.Kind.{Kind}
+use Rattle.pocsag_words.specs.declared.device.Sink.{Ghosts as Writer}
 use Rattle.pocsag_pages.specs.declared.page.Page.{Page}
 use Rattle.pocsag_pages.specs.Bytes.{codewords_in}
+use Rattle.pocsag_pages.specs.Plain.{pages_from}
+use Rattle.pocsag_pages.proofs.Readings.{reads_plainly}
+use Rattle.pocsag_show.specs.Drawing.{behind_pages, drawing, drawing_text, frame_lines, heading, opening, page_drawn, row_drawn, rows_and_pages, text_before}
+use Rattle.pocsag_show.specs.Grid.{idles_in, letter_at}
+use Rattle.pocsag_show.specs.Judged.{IsJudged, kinds_read}
+use Rattle.pocsag_show.specs.Legend.{HasLegendOf, key, legend, legend_lines}
+use Rattle.pocsag_show.specs.Letters.{letters_with}
+use Rattle.pocsag_show.specs.Numbers.{numbers_in, pages_below}
+use Rattle.pocsag_show.specs.Picture.{batch_line, batch_lines, batches_in, counts_part, frame_cells, grid_text, head_line, number_column, picture, totals_line}
+use Rattle.pocsag_show.specs.Placed.{placed_in}
+use Rattle.pocsag_show.specs.Places.{place_header, place_listing, place_rows}
+use Rattle.pocsag_show.specs.Emission.{IsEmitting}
+use Rattle.pocsag_show.specs.Rows.{end_row, first_row, rows_between}
 use Rattle.pocsag_decode.specs.Faults.{ReadsAs}
-use Rattle.pocsag_decode.proofs.SentBytes.{codewords_are}
-use Rattle.std.specs.Result.{IsErr, IsErrAnd, MatchResult}
-use Rattle.pocsag_pages.specs.Listable.{IsListable}
+use Rattle.pocsag_show.specs.Tables.{NumbersPages}
+use Rattle.pocsag_show.specs.Views.{view_text}
 use Rattle.pocsag_show.specs.declared.judged.Judged.{Judged}
-use Rattle.pocsag_show.specs.Judged.{IsJudged}
-use Rattle.pocsag_show.specs.declared.fault.ShowFault.{ShowFault}
-use Rattle.pocsag_show.specs.declared.fault.ShowFault.TheVariants as fault
-use Rattle.pocsag_show.specs.declared.grid.Grid.{Grid}
 use Rattle.pocsag_show.specs.declared.placed.Placed.{Placed}
 use Rattle.pocsag_show.specs.declared.rows.Rows.{Rows}
-use Rattle.pocsag_show.specs.Drawing.{drawing, drawing_text}
-use Rattle.pocsag_show.specs.Grid.{idles_in}
-use Rattle.pocsag_show.specs.Numbers.{numbers_in}
-use Rattle.pocsag_show.specs.Placed.{placed}
-use Rattle.pocsag_show.specs.Places.{place_header, place_listing, place_rows}
-use Rattle.pocsag_show.specs.Rows.{end_row, first_row}
-use Rattle.pocsag_show.specs.Picture.{grid_text, picture}
-use Rattle.pocsag_show.specs.Shows.{Explains, ExplainsReading, IsTextOf}
-use Rattle.pocsag_show.specs.Cells.{IsGridOf}
+use Rattle.pocsag_show.specs.declared.view.View.{View}
+use Rattle.pocsag_show.specs.declared.view.View.TheVariants.{Grid, Places, Drawing}
+use Rattle.pocsag_show.proofs.JudgedBytes.{kinds_are, pages_are}
+use Rattle.pocsag_show.proofs.LettersBefore.{length-letters_with, letters_at}
+use Rattle.pocsag_show.proofs.Emitted.{begun}
+use Rattle.pocsag_show.proofs.Ranges.{flat_map_same}
+use Rattle.pocsag_show.proofs.Tables.{addresses_small, numbers_are}
 
-module _ (X : List ℕ) (ps : List Page) (r : ReadsAs X ps) where
-  same : codewords_in X ≡ r.codewords
-  same = codewords_are X r.codewords r.sent
+-- letters that are the same in so many batches
+module _ (f g : ℕ → ℕ) where
+  frame_same : (batch frame : ℕ) → frame < 8 → ((i : ℕ) → i < 16 * batch + 16 → f i ≡ g i)
+      → frame_cells f batch frame ≡ frame_cells g batch frame
+  unfolding frame_cells
+  frame_same batch frame small h =
+      ap₂ (λ (x y : ℕ). 32 ∷ x ∷ y ∷ []) (h (16 * batch + 2 * frame) (omega arith)) (h (16 * batch + 2 * frame + 1) (omega arith))
 
-  pub all_codewords : All IsCodeword (codewords_in X)
-  all_codewords = subst (All IsCodeword) (sym same) r.sent.codewords
+  line_same : (batch : ℕ) → ((i : ℕ) → i < 16 * batch + 16 → f i ≡ g i) → batch_line f batch ≡ batch_line g batch
+  unfolding batch_line
+  line_same batch h =
+      ap (λ (l : List ℕ). number_column (batch + 1) ++ (l ++ (10 ∷ [])))
+      (flat_map_same (frame_cells f batch) (frame_cells g batch) 0 8 (λ frame from small. frame_same batch frame (omega arith) h))
 
-  count : length (map kind_of (codewords_in X)) ≡ 16 * r.sent.batches
-  count = length-map (codewords_in X) kind_of ∙ (ap length same ∙ r.sent.whole.1)
+  pub lines_same : (low high : ℕ) → ((i : ℕ) → i < 16 * high → f i ≡ g i) → batch_lines f low high ≡ batch_lines g low high
+  unfolding batch_lines
+  lines_same low high h =
+      flat_map_same (batch_line f) (batch_line g) low (high - low) (λ batch from small. line_same batch (λ i below. h i (omega arith)))
 
-  pub are_whole : length (map kind_of (codewords_in X)) % 16 ≡ 0
-  are_whole = let n = count in omega arith
+module _ (X : List ℕ) (judged : Judged) (j : IsJudged X judged) where
+  abbrev kinds : List Kind
+  kinds = kinds_read j.reading
 
-  pub are_some : (numbers : List ℕ) (grid : Grid) → IsGridOf numbers (map kind_of (codewords_in X)) grid → 16 ≤ length grid.letters.items
-  are_some numbers grid g = let n = count in let m = g.count in let some = r.sent.whole.0 in omega arith
+  batches_are : batches_in kinds ≡ judged.counts.batches
+  batches_are = let b = j.batches in omega arith
 
--- pages that may be listed may be so with their places
-pub listable_placed : (i : ℕ) (starts numbers : List ℕ) (ps : List Page) → All IsListable ps
-    → All (λ pl. IsListable pl.page) (placed i starts numbers ps)
-listable_placed i starts numbers [] are = All-nil (λ (pl : Placed). IsListable pl.page)
-listable_placed i starts numbers (p ∷ ps) are =
-    All-cons (λ (pl : Placed). IsListable pl.page) _ (placed (i + 1) starts numbers ps) (All-head IsListable p ps are)
-    (listable_placed (i + 1) starts numbers ps (All-tail IsListable p ps are))
+  -- the letters of the codewords
+  module _ (letters : List ℕ)
+      (is : letters ≡ letters_with (slice_index judged.numbers.items) 0 0 (map kind_of (codewords_in judged.bytes.now))) where
+    letters_read : letters ≡ letters_with (slice_index judged.numbers.items) 0 0 kinds
+    letters_read =
+        is
+        ∙ ap (letters_with (slice_index judged.numbers.items) 0 0)
+        (ap (λ (Y : List ℕ). map kind_of (codewords_in Y)) j.bytes ∙ kinds_are X j.pages j.reading)
 
--- the bytes, their pages and their grid
-pub judged_is : (X : List ℕ) (ps : List Page) (judged : Judged) → ReadsAs X ps → All IsListable ps
-    → IsGridOf (numbers_in ps) (map kind_of (codewords_in X)) judged.grid
-    → judged.placed.items ≡ placed 0 judged.grid.starts.items (numbers_in ps) ps → IsJudged X judged
-judged_is X ps judged r listable grid places =
-    let g : IsGridOf (numbers_in ps) (map kind_of r.codewords) judged.grid =
-    subst (λ (T : List ℕ). IsGridOf (numbers_in ps) (map kind_of T) judged.grid) (same X ps r) grid in
-    record {
-      pages = ps;
-      reading = r;
-      placed = places ∙ ap (λ (starts : List ℕ). placed 0 starts (numbers_in ps) ps) g.starts;
-      listable =
-          subst (All (λ pl. IsListable pl.page)) (sym places) (listable_placed 0 judged.grid.starts.items (numbers_in ps) ps listable);
-      grid = g;
-      whole = let n = are_whole X ps r in let m = grid.count in omega arith;
-      some = are_some X ps r (numbers_in ps) judged.grid grid;
-    }
+    count : length letters ≡ length kinds
+    count = ap length letters_read ∙ length-letters_with (slice_index judged.numbers.items) (numbers_in j.pages) kinds 0 0
 
--- the text of the codewords, the listing of the pages and the drawing
-pub is_grid_text : (rows : Rows) (X shown : List ℕ) (judged : Judged) (j : IsJudged X judged)
-    → shown ≡ picture rows (numbers_in j.pages) (map kind_of j.reading.codewords) → IsTextOf (grid_text rows) X shown
-is_grid_text rows X shown judged j e = record { pages = j.pages; reading = j.reading; text = e }
+    each : (i : ℕ) → i < length kinds → slice_index letters i ≡ letter_at (numbers_in j.pages) kinds i
+    each i within =
+        let number_of = slice_index judged.numbers.items in
+        let plain = reads_plainly j.reading.reads in
+        ap (λ (l : List ℕ). slice_index l i) letters_read
+        ∙ letters_at number_of (numbers_in j.pages) kinds
+        (numbers_are number_of j.pages (pages_from 0 kinds) j.numbers (addresses_small j.reading.codewords 0)
+        ∙ ap (map (λ (p : Page). pages_below j.pages p.address)) (pages_are X j.pages j.reading))
+        plain.no_orphan i within
 
-pub is_place_text : (X shown : List ℕ) (judged : Judged) (j : IsJudged X judged)
-    → shown ≡ row_text default_writer place_header ++ place_rows judged.placed.items → IsTextOf place_listing X shown
+    grid_is : (rows : Rows) → grid_text rows kinds j.pages
+        ≡ totals_line judged.counts.batches judged.counts.codewords judged.counts.idles
+        ++ (head_line ++ batch_lines (slice_index letters) (first_row rows) (end_row rows (length letters / 16)))
+    unfolding picture
+    grid_is rows =
+        let n = count in
+        let same : batches_in kinds ≡ length letters / 16 = ap (λ (m : ℕ). m / 16) (sym n) in
+        ap₂ (λ (x y : List ℕ). x ++ (head_line ++ y))
+        (ap₂ (λ (b i : ℕ). totals_line b (length kinds - idles_in kinds) i) batches_are (sym j.idles)
+        ∙ ap (λ (w : ℕ). totals_line judged.counts.batches w judged.counts.idles) (sym j.codewords))
+        (ap (λ (b : ℕ). batch_lines (letter_at (numbers_in j.pages) kinds) (first_row rows) (end_row rows b)) same
+        ∙ sym (lines_same (slice_index letters) (letter_at (numbers_in j.pages) kinds) (first_row rows) (end_row rows (length letters / 16))
+        (λ i small. each i (omega arith))))
+
+    pub grid_begun : {S : Type 0} (Out : Writer S) (now : S) (rows : Rows) (first text : List ℕ) (low high : ℕ)
+        → first ≡ totals_line judged.counts.batches judged.counts.codewords judged.counts.idles → text ≡ first ++ head_line
+        → low ≡ first_row rows → high ≡ end_row rows (length letters / 16)
+        → IsEmitting Out now now (grid_text rows kinds j.pages) text (batch_lines (slice_index letters) low high ++ [])
+    grid_begun Out now rows first text low high f t l h =
+        begun Out now now (grid_text rows kinds j.pages) text (batch_lines (slice_index letters) low high ++ [])
+        (grid_is rows
+        ∙ (sym (append_assoc (totals_line judged.counts.batches judged.counts.codewords judged.counts.idles) head_line _)
+        ∙ ap₂ (λ (x y : List ℕ). x ++ y) (ap (λ (x : List ℕ). x ++ head_line) (sym f) ∙ sym t)
+        (ap₂ (λ (x y : ℕ). batch_lines (slice_index letters) x y) (sym l) (sym h)
+        ∙ sym (append-nil (batch_lines (slice_index letters) low high)))))
+        (omega (arith, ap length t, length-append first head_line))
+
+-- no text is empty
+totals_some : (b c i : ℕ) → 0 < length (totals_line b c i)
+unfolding totals_line counts_part
+totals_some b c i = omega arith
+
+header_some : 0 < length (row_text default_writer place_header)
+unfolding is_blank fields_text
+header_some = omega arith
+
+heading_some : (low high batches codewords idles lines : ℕ) → 0 < length (heading low high batches codewords idles lines)
+unfolding heading text_before opening
+heading_some low high batches codewords idles lines = omega arith
+
+first_some : (xs ys : List ℕ) → 0 < length xs → 0 < length (xs ++ ys)
+first_some xs ys some = omega (arith, length-append xs ys)
+
+pub view_some : (view : View) (ks : List Kind) (ps : List Page) → 0 < length (view_text view ks ps)
+unfolding picture place_listing drawing drawing_text
+view_some (Grid rows) ks ps = first_some _ _ (totals_some (batches_in ks) (length ks - idles_in ks) (idles_in ks))
+view_some Places ks ps = first_some (row_text default_writer place_header) (place_rows (placed_in ks ps)) header_some
+view_some (Drawing rows) ks ps =
+    first_some _ _
+    (heading_some (first_row rows) (end_row rows (batches_in ks)) (batches_in ks) (length ks - idles_in ks) (idles_in ks)
+    (legend_lines (first_row rows) (end_row rows (batches_in ks)) (placed_in ks ps)))
+
+-- the listing
+pub listing_begun : {S : Type 0} (Out : Writer S) (now : S) (ks : List Kind) (ps : List Page) (text : List ℕ) (left : List Placed)
+    → text ≡ row_text default_writer place_header → left ≡ placed_in ks ps
+    → IsEmitting Out now now (place_listing ks ps) text (place_rows left ++ [])
 unfolding place_listing
-is_place_text X shown judged j e = record {
-  pages = j.pages;
-  reading = j.reading;
-  text = e ∙ ap (λ (pls : List Placed). row_text default_writer place_header ++ place_rows pls) j.placed;
-}
+listing_begun Out now ks ps text left t are =
+    begun Out now now (place_listing ks ps) text (place_rows left ++ [])
+    (ap₂ (λ (x y : List ℕ). x ++ y) (sym t) (ap place_rows (sym are) ∙ sym (append-nil (place_rows left))))
+    (omega (arith, ap length t, header_some))
 
-pub is_drawing : (rows : Rows) (X shown : List ℕ) (judged : Judged) (j : IsJudged X judged)
-    → shown ≡ drawing_text (first_row rows) (end_row rows (length judged.grid.letters.items / 16)) (length judged.grid.letters.items / 16)
-    (length judged.grid.letters.items - judged.grid.idles) judged.grid.idles judged.placed.items
-    → IsTextOf (drawing rows) X shown
-unfolding drawing
-is_drawing rows X shown judged j e =
-    let draw = λ (count idles : ℕ) (pls : List Placed).
-    drawing_text (first_row rows) (end_row rows (count / 16)) (count / 16) (count - idles) idles pls in
-    let n = length judged.grid.letters.items in
-    record {
-      pages = j.pages;
-      reading = j.reading;
-      text =
-          e
-          ∙ (ap₂ (λ (count idles : ℕ). draw count idles judged.placed.items) j.grid.count j.grid.idles
-          ∙ ap (draw (length (map kind_of j.reading.codewords)) (idles_in (map kind_of j.reading.codewords))) j.placed);
-    }
+-- the drawing, whose legend has the first of these pages
+drawn_parts : (heading rows pages frames rest : List ℕ)
+    → heading ++ ((rows ++ (pages ++ frames)) ++ rest) ≡ heading ++ (rows ++ (pages ++ ((frames ++ rest) ++ [])))
+drawn_parts heading rows pages frames rest =
+    ap (λ (l : List ℕ). heading ++ l)
+    (append_assoc rows (pages ++ frames) rest
+    ∙ ap (λ (l : List ℕ). rows ++ l)
+    (append_assoc pages frames rest ∙ ap (λ (l : List ℕ). pages ++ l) (sym (append-nil (frames ++ rest)))))
 
-pub kinds_whole : (X : List ℕ) (judged : Judged) (j : IsJudged X judged) → length (map kind_of j.reading.codewords) % 16 ≡ 0
-kinds_whole X judged j = let n = j.grid.count in let m = j.whole in omega arith
+pub drawing_begun : {S : Type 0} (Out : Writer S) (now : S) (X : List ℕ) (judged : Judged) (j : IsJudged X judged) (rows : Rows)
+    (low high : ℕ) (text : List ℕ) (first pls again : List Placed) → low ≡ first_row rows → high ≡ end_row rows judged.counts.batches
+    → pls ≡ placed_in (kinds_read j.reading) j.pages → again ≡ placed_in (kinds_read j.reading) j.pages → HasLegendOf low high first pls
+    → text ≡ heading low high judged.counts.batches judged.counts.codewords judged.counts.idles (legend_lines low high first)
+    → IsEmitting Out now now (drawing rows (kinds_read j.reading) j.pages) text
+    (flat_map (row_drawn low) (rows_between low high) ++ (flat_map (page_drawn low high) again ++ (behind_pages low high first ++ [])))
+unfolding drawing drawing_text rows_and_pages behind_pages
+drawing_begun Out now X judged j rows low high text first pls again l h are same has t =
+    let ks = kinds_read j.reading in
+    let b = judged.counts.batches in
+    let w = judged.counts.codewords in
+    let i = judged.counts.idles in
+    let placed = placed_in ks j.pages in
+    let equal : again ≡ pls = same ∙ sym are in
+    let lines : legend_lines low high again ≡ legend_lines low high first = ap (legend_lines low high) equal ∙ sym has.lines in
+    let legends : legend low high again ≡ legend low high first = ap (legend low high) equal ∙ sym has.legend in
+    let end = codes "</svg>" ++ (10 ∷ []) in
+    let drawn_rows = flat_map (row_drawn low) (rows_between low high) in
+    let drawn_pages = flat_map (page_drawn low high) again in
+    let due : drawing rows ks j.pages ≡ drawing_text low high b w i again =
+    ap (λ (n : ℕ). drawing_text (first_row rows) (end_row rows n) n (length ks - idles_in ks) (idles_in ks) placed) (batches_are X judged j)
+    ∙ (ap₂ (λ (x y : ℕ). drawing_text (first_row rows) (end_row rows b) b x y placed) (sym j.codewords) (sym j.idles)
+    ∙ (ap₂ (λ (x y : ℕ). drawing_text x y b w i placed) (sym l) (sym h) ∙ ap (drawing_text low high b w i) (sym same))) in
+    begun Out now now (drawing rows ks j.pages) text
+    (drawn_rows ++ (drawn_pages ++ (behind_pages low high first ++ [])))
+    (due
+    ∙ (ap₂ (λ (n : ℕ) (x : List ℕ). heading low high b w i n ++ (rows_and_pages low high again ++ (key (high - low) ++ (x ++ end)))) lines legends
+    ∙ (drawn_parts (heading low high b w i (legend_lines low high first)) drawn_rows drawn_pages (frame_lines (high - low))
+    (key (high - low) ++ (legend low high first ++ end))
+    ∙ ap (λ (x : List ℕ). x ++ (drawn_rows ++ (drawn_pages ++ (behind_pages low high first ++ [])))) (sym t))))
+    (omega (arith, ap length t, heading_some low high b w i (legend_lines low high first)))
 
--- want of memory for bytes that read as pages
-pub wanting : {T : Type 0} (X : List ℕ) (r : Result T ShowFault) (Good : T → Type 0) (ps : List Page) → ReadsAs X ps → IsErr r
-    → IsErrAnd r (λ e. e ≡ fault.OutOfMemory)
-    → MatchResult r Good (ExplainsReading X)
-wanting X (Ok v) Good ps reading err is = absurd (cc)
-wanting X (Err e) Good ps reading err is = (λ w. cc, subst (Explains X) (sym is) (inr (ps, reading)))
+-- the pages that a reader hands out
+pub placed_again : (X : List ℕ) (judged : Judged) (j : IsJudged X judged) (table : List ℕ) (pls : List Placed) → table ≡ judged.numbers.items
+    → ((ps : List Page) (reading : ReadsAs judged.bytes.now ps) → NumbersPages ps table → pls ≡ placed_in (kinds_read reading) ps)
+    → pls ≡ placed_in (kinds_read j.reading) j.pages
+placed_again X judged j table pls same left =
+    let numbers : NumbersPages j.pages table = subst (NumbersPages j.pages) (sym same) j.numbers in
+    subst (λ (Y : List ℕ). (reading : ReadsAs Y j.pages) → pls ≡ placed_in (kinds_read reading) j.pages) j.bytes
+    (λ reading. left j.pages reading numbers) j.reading

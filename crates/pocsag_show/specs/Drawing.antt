@@ -130,6 +130,11 @@ drawing_text low high batches codewords idles pls =
     heading low high batches codewords idles (legend_lines low high pls)
     ++ (rows_and_pages low high pls ++ (key (high - low) ++ (legend low high pls ++ (codes "</svg>" ++ (10 ∷ [])))))
 
+-- What of it stands behind the pages.
+unfoldable pub behind_pages : (low high : ℕ) → List Placed → List ℕ
+behind_pages low high pls =
+    frame_lines (high - low) ++ (key (high - low) ++ (legend low high pls ++ (codes "</svg>" ++ (10 ∷ []))))
+
 -- The drawing of codewords that fill batches and of the pages that they read as: of the rows that are wanted.
 unfoldable pub drawing : Rows → List Kind → List Page → List ℕ
 drawing rows ks ps =

@@ -1,5 +1,5 @@
 -- The legend of a drawing: the pages that have codewords in its rows, where they are at most forty (this project's own).
-use Rattle.std.specs.Prelude.{ℕ, ◌+◌, ◌-◌, ◌*◌, ◌/◌, ◌%◌, ◌==◌, ◌&&◌, ◌||◌, min, max, nat_lt, nat_le, Bool, if◌then◌else◌, List, [], ◌∷◌, ◌++◌, codes}
+use Rattle.std.specs.Prelude.{◌≡◌, ℕ, ◌+◌, ◌-◌, ◌*◌, ◌/◌, ◌%◌, ◌==◌, ◌&&◌, ◌||◌, min, max, nat_lt, nat_le, Bool, if◌then◌else◌, List, [], ◌∷◌, ◌++◌, codes}
 use Rattle.std.specs.List.{count_by, flat_map}
 use Rattle.std.specs.Fmt.{decimal}
 use Rattle.pocsag_decode.specs.Listing.{kind_field}
@@ -68,3 +68,8 @@ left_out top =
 
 unfoldable pub legend : (low high : ℕ) → List Placed → List ℕ
 legend low high pls = if nat_le (drawn_in low high pls) 40 then flat_map (entry_of low high pls) pls else left_out (112 + 22 * (high - low))
+
+-- The first of these pages have the same legend.
+pub record HasLegendOf (low high : ℕ) (first pls : List Placed) : Type 0 where
+  pub lines : legend_lines low high first ≡ legend_lines low high pls
+  pub legend : legend low high first ≡ legend low high pls

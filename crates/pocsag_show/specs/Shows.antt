@@ -1,10 +1,12 @@
 -- What showing a transmission leaves of its writer, and when each fault comes.
-use Rattle.std.specs.Prelude.{◌≡◌, ◌≢◌, ◌⊎◌, ℕ, List, ◌++◌, map}
+use Rattle.std.specs.Prelude.{◌≡◌, ℕ, ◌+◌, ◌<◌, List, ◌++◌, length, map}
 use Rattle.pocsag_words.specs.Devices.{TookPrefix}
 use Rattle.pocsag_words.specs.declared.codeword.Kind.{Kind}
 use Rattle.pocsag_words.specs.Kinds.{kind_of}
 use Rattle.pocsag_pages.specs.declared.page.Page.{Page}
-use Rattle.pocsag_decode.specs.Faults.{HasFault, ReadsAs, WantsMemory}
+use Rattle.pocsag_decode.specs.Faults.{HasFault, ReadsAs}
+use Rattle.pocsag_decode.specs.declared.fault.ListFault.{ListFault}
+use Rattle.pocsag_decode.specs.declared.fault.ListFault.TheVariants as list
 use Rattle.pocsag_show.specs.declared.fault.ShowFault.{ShowFault}
 use Rattle.pocsag_show.specs.declared.fault.ShowFault.TheVariants as fault
 
@@ -27,13 +29,20 @@ pub record ShowsPart (text_of : List Kind → List Page → List ℕ) (X before 
   pub is_text : IsTextOf text_of X shown
   pub taken : TookPrefix before after shown
 
--- When each fault comes: the decoder's where the bytes have it, want of memory only where decoding wants it or
--- for bytes that read as pages, and the writer's for bytes that read as pages.
+-- The same, and it is not all of it.
+pub record ShowsLess (text_of : List Kind → List Page → List ℕ) (X before after : List ℕ) : Type 0 where
+  pub shown : List ℕ
+  pub is_text : IsTextOf text_of X shown
+  pub taken : TookPrefix before after shown
+  pub less : length after < length before + length shown
+
+-- When each fault comes: the decoder's where the bytes have it, and the others for bytes that read as pages.
 abbrev pub Explains : List ℕ → ShowFault → Type 0
 Explains X (fault.Transmission f) = HasFault X f
 Explains X fault.WriteFault = (pages : List Page) × ReadsAs X pages
-Explains X fault.OutOfMemory = WantsMemory X ⊎ ((pages : List Page) × ReadsAs X pages)
+Explains X fault.OutOfMemory = (pages : List Page) × ReadsAs X pages
 
--- The same of what comes before the first write.
-abbrev pub ExplainsReading : List ℕ → ShowFault → Type 0
-ExplainsReading X f = (f ≢ fault.WriteFault) × Explains X f
+-- The fault of a listing that is written.
+abbrev pub of_list : ListFault → ShowFault
+of_list list.WriteFault = fault.WriteFault
+of_list list.OutOfMemory = fault.OutOfMemory

@@ -1,39 +1,55 @@
-ghost use Rattle.std.specs.Prelude.{◌≡◌, ◌-◌, ◌/◌, ◌≤◌, ◌<◌, ◌^◌, ◌++◌, All, IfOk, OnOk, length};
+ghost use Rattle.std.specs.Prelude.{◌≡◌, ◌<◌, ◌^◌, ◌++◌, ℕ, List, All, OnOk};
 ghost use Rattle.std.specs.List.{flat_map};
 ghost use Rattle.pocsag_pages.specs.Listable.{IsListable};
-ghost use Rattle.pocsag_show.specs.Drawing.{drawing_text, frame_lines, row_drawn};
-ghost use Rattle.pocsag_show.specs.Rows.{end_row, first_row, rows_between};
+ghost use Rattle.pocsag_pages.specs.declared.page.Page.{Page};
+ghost use Rattle.pocsag_decode.specs.Faults.{ReadsAs};
+ghost use Rattle.pocsag_show.specs.Drawing.{behind_pages, drawing, frame_lines, heading, row_drawn};
+ghost use Rattle.pocsag_show.specs.Judged.{IsJudged, kinds_read};
+ghost use Rattle.pocsag_show.specs.Legend.{legend_lines};
+ghost use Rattle.pocsag_show.specs.Emission.{Emits, EmitsAll};
+ghost use Rattle.pocsag_show.specs.Rows.{rows_between};
 
 use crate::counts::Counts;
+use crate::emission::{emit, emit_rest};
+use crate::fault::ShowFault;
 use crate::heading::{put_seen_before, put_text_before};
 use crate::judged::Judged;
-use crate::legend::{legend_lines, put_key, put_legend};
-use crate::page_lines::put_pages;
+use crate::legend::{first_drawn, legend_lines, put_key, put_legend};
+use crate::page_lines::emit_pages;
 use crate::pieces::{put, put_printed};
 use crate::placed::Placed;
+use crate::placement::PlacedReader;
 use crate::places::row_top;
 use crate::rows::Rows;
 use crate::window::Window;
-use pocsag_words::{BATCH_CODEWORDS, FRAMES};
+use pocsag_words::{FRAMES, Sink};
 use std::alloc::{AllocError, Global};
 
-// Writes the rows that are drawn, each behind its pages.
-#[tactic(auto, using(crate::proofs::Ranges::put_all))]
-fn put_rows(text: &mut Vec<u8>, window: Window) -> Result<(), AllocError>
-    ensures { OnOk result (text.new.items ≡ text.old.items
-        ++ flat_map (row_drawn window.low) (rows_between window.low window.high)) }
+// Writes a row behind its pages.
+#[tactic(auto, unfolding(crate::specs::Drawing::row_drawn, crate::specs::Drawing::row_drawn_at))]
+fn put_row(text: &mut Vec<u8>, low: usize, row: usize) -> Result<(), AllocError>
+    ensures { OnOk result (text.new.items ≡ text.old.items ++ row_drawn low row) }
+{
+    let number = row as u128 + 1;
+    let y = row_top(low, row);
+    let (middle, base) = (y + 9, y + 13);
+    put_printed(
+        text,
+        format_args!(
+            "<text class='e' x='50' y='{base}'>{number}</text>\
+            <rect class='s' x='60' y='{y}' width='12' height='18'/><path class='h' d='M80 {middle}h448'/>\n"
+        ),
+    )
+}
+
+// Writes the rows that are drawn.
+fn emit_rows<S: Sink>(text: &mut Vec<u8>, sink: &mut S, window: Window) -> Result<(), ShowFault>
+    ensures { Emits S.Sink result sink.old sink.new text.old.items text.new.items
+        (flat_map (row_drawn window.low) (rows_between window.low window.high)) }
 {
     for row in window.low..window.high {
-        let number = row as u128 + 1;
-        let y = row_top(window.low, row);
-        let (middle, base) = (y + 9, y + 13);
-        put_printed(
-            text,
-            format_args!(
-                "<text class='e' x='50' y='{base}'>{number}</text>\
-                <rect class='s' x='60' y='{y}' width='12' height='18'/><path class='h' d='M80 {middle}h448'/>\n"
-            ),
-        )?;
+        put_row(text, window.low, row)?;
+        emit(text, sink)?;
     }
     Ok(())
 }
@@ -52,50 +68,57 @@ fn put_frame_lines(text: &mut Vec<u8>, count: usize) -> Result<(), AllocError>
     put(text, b"'/>\n")
 }
 
-// Writes the drawing of pages in a transmission with these counts.
-#[tactic(auto, unfolding(crate::specs::Drawing::drawing_text, crate::specs::Drawing::heading, crate::specs::Drawing::rows_and_pages))]
-fn put_drawing(
-    alloc: Global,
+// Writes what stands before the rows, where the pages in the legend are these.
+#[tactic(auto, unfolding(crate::specs::Drawing::heading))]
+fn put_heading(
     text: &mut Vec<u8>,
     window: Window,
     counts: Counts,
-    pages: &[Placed],
+    drawn: &[Placed],
 ) -> Result<(), AllocError>
-    requires some { 0 < counts.batches }
-    requires few { window.high < 2 ^ 59 }
-    requires listable { All (λ pl. IsListable pl.page) pages.now }
-    ensures { OnOk result (text.new.items ≡ text.old.items
-        ++ drawing_text window.low window.high counts.batches counts.codewords counts.idles pages.now) }
+    requires { 0 < counts.batches }
+    ensures { OnOk result (text.new.items ≡ text.old.items ++ heading window.low window.high
+        counts.batches counts.codewords counts.idles (legend_lines window.low window.high drawn.now)) }
 {
-    let lines = legend_lines(window, pages);
+    let lines = legend_lines(window, drawn);
     put_text_before(text, window, counts, lines)?;
-    put_seen_before(text, window, counts, lines)?;
-    put_rows(text, window)?;
-    put_pages(alloc, text, window, pages)?;
+    put_seen_before(text, window, counts, lines)
+}
+
+// Writes what stands behind the pages.
+fn put_end(text: &mut Vec<u8>, window: Window, drawn: &[Placed]) -> Result<(), AllocError>
+    requires { All (λ pl. IsListable pl.page) drawn.now }
+    ensures { OnOk result (text.new.items ≡ text.old.items
+        ++ behind_pages window.low window.high drawn.now) }
+{
     put_frame_lines(text, window.count())?;
     put_key(text, window.count())?;
-    put_legend(text, window, pages)?;
+    put_legend(text, window, drawn)?;
     put(text, b"</svg>\n")
 }
 
-/// The drawing of these rows of a transmission that was judged, as SVG 1.1.
-pub(crate) fn drawing_of(alloc: Global, rows: Rows, judged: &Judged) -> Result<Vec<u8>, AllocError>
-    requires listable { All (λ pl. IsListable pl.page) judged.now.placed.items }
-    requires some { 16 ≤ length judged.now.grid.letters.items }
-    ensures { IfOk result
-        (λ v. v.items ≡ drawing_text (first_row rows) (end_row rows (length judged.now.grid.letters.items / 16))
-        (length judged.now.grid.letters.items / 16) (length judged.now.grid.letters.items - judged.now.grid.idles)
-        judged.now.grid.idles judged.now.placed.items) }
+/// Writes the drawing of these rows of a transmission that was judged, as SVG 1.1.
+pub(crate) fn emit_drawing<S: Sink>(
+    alloc: Global,
+    rows: Rows,
+    judged: &Judged<'_>,
+    sink: &mut S,
+) -> Result<(), ShowFault>
+    requires some { 0 < judged.now.counts.batches }
+    requires few { judged.now.counts.batches < 2 ^ 59 }
+    requires reads { (ps : List Page) × ReadsAs judged.now.bytes.now ps }
+    ensures { (X : List ℕ) (j : IsJudged X judged.now) → EmitsAll S.Sink result sink.old sink.new
+        (drawing rows (kinds_read j.reading) j.pages) }
 {
-    let letters = judged.grid.letters.len();
-    let batches = letters / BATCH_CODEWORDS;
-    let counts = Counts {
-        batches: batches as u64,
-        codewords: letters as u64 - judged.grid.idles,
-        idles: judged.grid.idles,
-    };
-    let window = Window::new(rows, batches);
+    let window = Window::new(rows, judged.counts.batches as usize);
+    let numbers = judged.numbers.as_slice();
+    let mut pages = PlacedReader::new(alloc, judged.bytes, numbers);
+    let drawn = first_drawn(alloc, window, &mut pages)?;
     let mut text = Vec::new(alloc);
-    put_drawing(alloc, &mut text, window, counts, judged.placed.as_slice())?;
-    Ok(text)
+    put_heading(&mut text, window, judged.counts, drawn.as_slice())?;
+    emit_rows(&mut text, sink, window)?;
+    let mut pages = PlacedReader::new(alloc, judged.bytes, numbers);
+    emit_pages(alloc, &mut text, sink, window, &mut pages)?;
+    put_end(&mut text, window, drawn.as_slice())?;
+    emit_rest(text.as_slice(), sink)
 }

@@ -1,7 +1,9 @@
 ghost use Rattle.std.specs.Prelude.{◌≡◌};
+ghost use Rattle.pocsag_show.specs.Shows.{of_list};
 ghost use Rattle.pocsag_show.specs.declared.fault.ShowFault.TheVariants as fault;
 
-use pocsag_decode::DecodeFault;
+use pocsag_decode::{DecodeFault, ListFault};
+use pocsag_words::DeviceFault;
 use std::alloc::AllocError;
 use thiserror::Error;
 
@@ -14,7 +16,7 @@ pub enum ShowFault {
     /// The writer did not take the text whole; what it took is a prefix of it.
     #[error("cannot write")]
     WriteFault,
-    /// Nothing was written.
+    /// A growth was refused. What was written is a prefix of the text, and not all of it.
     #[error("out of memory")]
     OutOfMemory,
 }
@@ -24,5 +26,24 @@ impl From<AllocError> for ShowFault {
 
     fn from(_refused: AllocError) -> ShowFault {
         ShowFault::OutOfMemory
+    }
+}
+
+impl From<DeviceFault> for ShowFault {
+    ghost from_gives = { λ _ e. e ≡ fault.WriteFault };
+
+    fn from(_refused: DeviceFault) -> ShowFault {
+        ShowFault::WriteFault
+    }
+}
+
+impl From<ListFault> for ShowFault {
+    ghost from_gives = { λ f e. e ≡ of_list f };
+
+    fn from(refused: ListFault) -> ShowFault {
+        match refused {
+            ListFault::WriteFault => ShowFault::WriteFault,
+            ListFault::OutOfMemory => ShowFault::OutOfMemory,
+        }
     }
 }

@@ -1,26 +1,40 @@
-ghost use Rattle.std.specs.Prelude.{MatchResult};
-ghost use Rattle.pocsag_show.specs.Shows.{ExplainsReading};
+ghost use Rattle.std.specs.Prelude.{◌≢◌, IfErr, MatchResult};
+ghost use Rattle.pocsag_show.specs.Shows.{Explains};
 ghost use Rattle.pocsag_show.specs.Judged.{IsJudged};
+ghost use Rattle.pocsag_show.specs.declared.fault.ShowFault.TheVariants as fault;
 
+use crate::address_counts::{AddressCounts, counts_of, number_pages};
+use crate::counts::Counts;
 use crate::fault::ShowFault;
-use crate::grid_words::grid_of;
 use crate::judged::Judged;
-use crate::page_numbers::numbers_of;
-use crate::placement::placed_pages;
-use pocsag_decode::{DecodeFault, decode};
+use pocsag_decode::judge_bytes;
+use pocsag_words::BATCH_CODEWORDS;
 use std::alloc::Global;
 
-/// The pages of a transmission with their places and the grid of its codewords, or its first fault.
-pub(crate) fn judge(alloc: Global, bytes: &[u8]) -> Result<Judged, ShowFault>
-    ensures { MatchResult result (IsJudged bytes.now) (ExplainsReading bytes.now) }
+/// The numbers of the pages of a transmission and the counts of its codewords, or its first fault.
+pub(crate) fn judge(alloc: Global, bytes: &[u8]) -> Result<Judged<'_>, ShowFault>
+    ensures judged { MatchResult result (IsJudged bytes.now) (Explains bytes.now) }
+    ensures no_write { IfErr result (λ e. e ≢ fault.WriteFault) }
 {
-    let pages = match decode(alloc, bytes) {
-        Ok(pages) => pages,
-        Err(DecodeFault::OutOfMemory) => return Err(ShowFault::OutOfMemory),
+    match judge_bytes(bytes) {
+        Ok(()) => {}
         Err(fault) => return Err(ShowFault::Transmission(fault)),
+    }
+    let AddressCounts {
+        codewords,
+        idles,
+        counts,
+    } = counts_of(alloc, bytes)?;
+    let mut numbers = counts;
+    number_pages(numbers.as_mut_slice());
+    let counts = Counts {
+        batches: (codewords / BATCH_CODEWORDS) as u64,
+        codewords: (codewords - idles) as u64,
+        idles: idles as u64,
     };
-    let numbers = numbers_of(alloc, pages.as_slice())?;
-    let grid = grid_of(alloc, bytes, numbers.as_slice())?;
-    let placed = placed_pages(alloc, grid.starts.as_slice(), numbers.as_slice(), pages)?;
-    Ok(Judged { placed, grid })
+    Ok(Judged {
+        bytes,
+        numbers,
+        counts,
+    })
 }

@@ -1,11 +1,10 @@
-use crate::grid::Grid;
-use crate::placed::Placed;
+use crate::counts::Counts;
 
 /// What a transmission was found to be.
 #[derive(Drop)]
-pub(crate) struct Judged {
-    /// Its pages in order of transmission.
-    pub(crate) placed: Vec<Placed>,
-    /// The letters of its codewords.
-    pub(crate) grid: Grid,
+pub(crate) struct Judged<'a> {
+    pub(crate) bytes: &'a [u8],
+    /// How many of its pages have a smaller address, for each address.
+    pub(crate) numbers: Vec<usize>,
+    pub(crate) counts: Counts,
 }

@@ -1,16 +1,41 @@
-ghost use Rattle.std.specs.Prelude.{◌≡◌, ◌<◌, ◌≤◌, ◌^◌, ◌++◌, OnOk, All, length};
+ghost use Rattle.std.specs.Prelude.{◌≡◌, ◌<◌, ◌≤◌, ◌^◌, ◌++◌, IfOk, OnOk, All, length};
 ghost use Rattle.pocsag_pages.specs.Listable.{IsListable};
-ghost use Rattle.pocsag_show.specs.Legend.{drawn_in, entry, entry_of, key, legend, legend_lines, place_in, stands_before};
+ghost use Rattle.pocsag_show.specs.Legend.{HasLegendOf, drawn_in, entry, entry_of, key, legend, legend_lines, place_in, stands_before};
+ghost use Rattle.pocsag_show.specs.PlacedReaders.{placed_left};
 
 use crate::marks::{put_head, put_opened, put_rectangle};
 use crate::pieces::{put, put_printed};
 use crate::placed::Placed;
+use crate::placement::PlacedReader;
 use crate::window::Window;
 use pocsag_decode::kind_of_page;
-use std::alloc::AllocError;
+use std::alloc::{AllocError, Global};
 
 // A legend has at most so many pages.
 const MOST: usize = 40;
+
+/// Of the pages that are drawn the first ones: all of them, or one more than a legend has.
+pub(crate) fn first_drawn(
+    alloc: Global,
+    window: Window,
+    pages: &mut PlacedReader<'_>,
+) -> Result<Vec<Placed>, AllocError>
+    requires { All (λ pl. IsListable pl.page) (placed_left pages.old) }
+    ensures legend { IfOk result (λ v. HasLegendOf window.low window.high v.items (placed_left pages.old)) }
+    ensures listable { IfOk result (λ v. All (λ pl. IsListable pl.page) v.items) }
+{
+    let mut drawn = Vec::new(alloc);
+    while let Some(placed) = pages.next_placed()? {
+        if !placed.is_drawn(window) {
+            continue;
+        }
+        drawn.push(placed)?;
+        if drawn.len() > MOST {
+            return Ok(drawn);
+        }
+    }
+    Ok(drawn)
+}
 
 // How many of the pages are drawn.
 fn drawn_in(window: Window, pages: &[Placed]) -> usize

@@ -2,20 +2,20 @@
 //! What a transmission looks like: a text grid of its codewords with a letter for each page, a drawing,
 //! and a listing of where its pages stand.
 
+mod address_counts;
 mod counts;
 mod drawing;
+mod emission;
 mod fault;
-mod grid;
-mod grid_words;
 mod heading;
 mod judge;
 mod judged;
+mod kind_reader;
 mod legend;
-mod letter_cells;
+mod letters;
 mod listing;
 mod marks;
 mod page_lines;
-mod page_numbers;
 mod page_text;
 mod picture;
 mod pieces;

@@ -1,15 +1,22 @@
-ghost use Rattle.std.specs.Prelude.{◌≡◌, ◌++◌, All, IfOk, OnOk, map};
-ghost use Rattle.csv.specs.Writing.{row_text, default_writer};
+ghost use Rattle.std.specs.Prelude.{ℕ, List, All, map};
 ghost use Rattle.pocsag_pages.specs.Listable.{IsListable};
+ghost use Rattle.pocsag_pages.specs.declared.page.Page.{Page};
+ghost use Rattle.pocsag_decode.specs.Faults.{ReadsAs};
 ghost use Rattle.pocsag_decode.specs.Lines.{IsReady, PutsRow, text_in};
-ghost use Rattle.pocsag_show.specs.Places.{place_header, place_record, place_rows};
+ghost use Rattle.pocsag_show.specs.Judged.{IsJudged, kinds_read};
+ghost use Rattle.pocsag_show.specs.PlacedReaders.{placed_left};
+ghost use Rattle.pocsag_show.specs.Places.{place_header, place_listing, place_record, place_rows};
+ghost use Rattle.pocsag_show.specs.Emission.{Emits, EmitsAll};
 
+use crate::emission::emit_rest;
+use crate::fault::ShowFault;
 use crate::judged::Judged;
 use crate::placed::Placed;
+use crate::placement::PlacedReader;
 use csv::Writer;
 use itoa::Buffer;
-use pocsag_decode::{kind_of_page, message_of};
-use pocsag_words::BATCH_CODEWORDS;
+use pocsag_decode::{kind_of_page, message_of, write_many_records};
+use pocsag_words::{BATCH_CODEWORDS, Sink};
 use std::alloc::{AllocError, Global};
 
 // Writes one record.
@@ -18,6 +25,25 @@ fn put_record(writer: &mut Writer<Vec<u8>>, fields: &[&[u8]; 7]) -> Result<(), A
     ensures { PutsRow result writer.old writer.new (map (λ field. field.now) fields.now) }
 {
     writer.write_fields(fields).map_err(|_| AllocError)
+}
+
+// Writes the header.
+fn put_header(writer: &mut Writer<Vec<u8>>) -> Result<(), AllocError>
+    requires { IsReady writer.old }
+    ensures { PutsRow result writer.old writer.new place_header }
+{
+    put_record(
+        writer,
+        &[
+            b"batch",
+            b"frame",
+            b"slot",
+            b"codewords",
+            b"address",
+            b"kind",
+            b"message",
+        ],
+    )
 }
 
 // Writes the record of a page.
@@ -43,42 +69,41 @@ fn put_place(alloc: Global, writer: &mut Writer<Vec<u8>>, placed: &Placed) -> Re
     put_record(writer, &fields)
 }
 
-// Writes the header and the record of each page.
-fn put_places(
+// Writes the record of each page.
+fn emit_places<S: Sink>(
     alloc: Global,
     writer: &mut Writer<Vec<u8>>,
-    pages: &[Placed],
-) -> Result<(), AllocError>
+    sink: &mut S,
+    pages: &mut PlacedReader<'_>,
+) -> Result<(), ShowFault>
     requires ready { IsReady writer.old }
-    requires listable { All (λ pl. IsListable pl.page) pages.now }
-    ensures ready { OnOk result (IsReady writer.new) }
-    ensures text { OnOk result (text_in writer.new
-        ≡ text_in writer.old ++ (row_text default_writer place_header ++ place_rows pages.now)) }
+    requires listable { All (λ pl. IsListable pl.page) (placed_left pages.old) }
+    ensures { Emits S.Sink result sink.old sink.new (text_in writer.old) (text_in writer.new)
+        (place_rows (placed_left pages.old)) }
 {
-    put_record(
-        writer,
-        &[
-            b"batch",
-            b"frame",
-            b"slot",
-            b"codewords",
-            b"address",
-            b"kind",
-            b"message",
-        ],
-    )?;
-    for placed in pages {
-        put_place(alloc, writer, placed)?;
+    while let Some(placed) = pages.next_placed()? {
+        put_place(alloc, writer, &placed)?;
+        write_many_records(alloc, writer, sink)?;
     }
     Ok(())
 }
 
-/// The listing of a transmission that was judged.
-pub(crate) fn listing_of(alloc: Global, judged: &Judged) -> Result<Vec<u8>, AllocError>
-    requires { All (λ pl. IsListable pl.page) judged.now.placed.items }
-    ensures { IfOk result (λ v. v.items ≡ row_text default_writer place_header ++ place_rows judged.now.placed.items) }
+/// Writes the listing of a transmission that was judged.
+pub(crate) fn emit_listing<S: Sink>(
+    alloc: Global,
+    judged: &Judged<'_>,
+    sink: &mut S,
+) -> Result<(), ShowFault>
+    requires { (ps : List Page) × ReadsAs judged.now.bytes.now ps }
+    ensures { (X : List ℕ) (j : IsJudged X judged.now) → EmitsAll S.Sink result sink.old sink.new
+        (place_listing (kinds_read j.reading) j.pages) }
 {
     let mut writer = Writer::from_writer(Vec::new(alloc));
-    put_places(alloc, &mut writer, judged.placed.as_slice())?;
-    writer.into_inner().map_err(|_| AllocError)
+    put_header(&mut writer)?;
+    let mut pages = PlacedReader::new(alloc, judged.bytes, judged.numbers.as_slice());
+    emit_places(alloc, &mut writer, sink, &mut pages)?;
+    let Ok(text) = writer.into_inner() else {
+        return Err(ShowFault::OutOfMemory);
+    };
+    emit_rest(text.as_slice(), sink)
 }

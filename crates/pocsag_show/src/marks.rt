@@ -2,8 +2,7 @@ ghost use Rattle.std.specs.Prelude.{◌≡◌, ◌<◌, ◌^◌, ◌∷◌, ◌+
 ghost use Rattle.pocsag_show.specs.Marks.{head, opened, rectangle, tail};
 ghost use Rattle.pocsag_show.specs.Numbers.{turn};
 
-use crate::grid::LETTERS;
-use crate::letter_cells::letter_of;
+use crate::letters::{LETTERS, letter_of};
 use crate::pieces::{put, put_printed};
 use crate::style::HUES;
 use std::alloc::AllocError;

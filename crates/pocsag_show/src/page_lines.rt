@@ -3,15 +3,20 @@ ghost use Rattle.std.specs.List.{flat_map};
 ghost use Rattle.pocsag_pages.specs.Listable.{IsListable};
 ghost use Rattle.pocsag_show.specs.Drawing.{page_drawn, piece};
 ghost use Rattle.pocsag_show.specs.Legend.{end_row_of, first_row_of};
+ghost use Rattle.pocsag_show.specs.PlacedReaders.{placed_left};
+ghost use Rattle.pocsag_show.specs.Emission.{Emits};
 ghost use Rattle.pocsag_show.specs.Rows.{rows_between};
 
+use crate::emission::emit;
+use crate::fault::ShowFault;
 use crate::marks::{put_head, put_opened, put_rectangle, put_tail};
 use crate::page_text::put_told;
 use crate::pieces::put;
 use crate::placed::Placed;
+use crate::placement::PlacedReader;
 use crate::places::row_top;
 use crate::window::Window;
-use pocsag_words::BATCH_CODEWORDS;
+use pocsag_words::{BATCH_CODEWORDS, Sink};
 use std::alloc::{AllocError, Global};
 
 // Writes what is drawn of a page in a row.
@@ -72,18 +77,21 @@ fn put_page(
 }
 
 /// Writes the pages that have codewords in the rows that are drawn.
-pub(crate) fn put_pages(
+pub(crate) fn emit_pages<S: Sink>(
     alloc: Global,
     text: &mut Vec<u8>,
+    sink: &mut S,
     window: Window,
-    pages: &[Placed],
-) -> Result<(), AllocError>
+    pages: &mut PlacedReader<'_>,
+) -> Result<(), ShowFault>
     requires few { window.high < 2 ^ 59 }
-    requires listable { All (λ pl. IsListable pl.page) pages.now }
-    ensures { OnOk result (text.new.items ≡ text.old.items ++ flat_map (page_drawn window.low window.high) pages.now) }
+    requires listable { All (λ pl. IsListable pl.page) (placed_left pages.old) }
+    ensures { Emits S.Sink result sink.old sink.new text.old.items text.new.items
+        (flat_map (page_drawn window.low window.high) (placed_left pages.old)) }
 {
-    for placed in pages {
-        put_page(alloc, text, window, placed)?;
+    while let Some(placed) = pages.next_placed()? {
+        put_page(alloc, text, window, &placed)?;
+        emit(text, sink)?;
     }
     Ok(())
 }

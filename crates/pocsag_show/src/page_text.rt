@@ -3,7 +3,7 @@ ghost use Rattle.std.specs.List.{flat_map};
 ghost use Rattle.pocsag_pages.specs.Listable.{IsListable};
 ghost use Rattle.pocsag_show.specs.Escapes.{escaped, told};
 
-use crate::letter_cells::letter_of;
+use crate::letters::letter_of;
 use crate::marks::put_label;
 use crate::pieces::{put, put_printed};
 use crate::placed::Placed;

@@ -1,16 +1,19 @@
-ghost use Rattle.std.specs.Prelude.{◌≡◌, ℕ, ◌+◌, ◌*◌, ◌%◌, ◌<◌, ◌≤◌, ◌++◌, List, IfOk, OnOk, length, replicate, slice_index};
+ghost use Rattle.std.specs.Prelude.{◌≡◌, ℕ, ◌+◌, ◌*◌, ◌<◌, ◌≤◌, ◌++◌, List, OnOk, length, replicate, slice_index};
 ghost use Rattle.std.specs.List.{flat_map, range_with_len};
-ghost use Rattle.pocsag_words.specs.declared.codeword.Kind.{Kind};
-ghost use Rattle.pocsag_show.specs.Picture.{batch_lines, counts_part, frame_cells, number_column, picture, totals_line};
-ghost use Rattle.pocsag_show.specs.Cells.{IsGridOf};
+ghost use Rattle.pocsag_show.specs.Judged.{IsJudged, kinds_read};
+ghost use Rattle.pocsag_show.specs.Picture.{batch_line, batch_lines, counts_part, frame_cells, grid_text, number_column, totals_line};
+ghost use Rattle.pocsag_show.specs.Emission.{Emits, EmitsAll};
 
 use crate::counts::Counts;
-use crate::grid::Grid;
+use crate::emission::{emit, emit_rest};
+use crate::fault::ShowFault;
+use crate::judged::Judged;
+use crate::letters::letters_of;
 use crate::pieces::{put, put_printed};
 use crate::rows::Rows;
 use crate::window::Window;
 use itoa::Buffer;
-use pocsag_words::{BATCH_CODEWORDS, FRAMES, airtime, transmission_bits};
+use pocsag_words::{BATCH_CODEWORDS, FRAMES, Sink, airtime, transmission_bits};
 use std::alloc::{AllocError, Global};
 
 fn put_spaces(text: &mut Vec<u8>, count: usize) -> Result<(), AllocError>
@@ -85,42 +88,51 @@ fn put_frames(text: &mut Vec<u8>, letters: &[u8], batch: usize) -> Result<(), Al
     Ok(())
 }
 
-// Writes the lines of the batches from one up to before another.
-#[tactic(auto, using(crate::proofs::Ranges::put_all), unfolding(crate::specs::Picture::batch_lines))]
-fn put_batches(
-    text: &mut Vec<u8>,
-    letters: &[u8],
-    low: usize,
-    high: usize,
-) -> Result<(), AllocError>
-    requires { 16 * high ≤ length letters.now }
-    ensures { OnOk result (text.new.items ≡ text.old.items ++ batch_lines (slice_index letters.now) low high) }
+// Writes the line of a batch.
+#[tactic(auto, unfolding(crate::specs::Picture::batch_line))]
+fn put_batch(text: &mut Vec<u8>, letters: &[u8], batch: usize) -> Result<(), AllocError>
+    requires { 16 * batch + 16 ≤ length letters.now }
+    ensures { OnOk result (text.new.items ≡ text.old.items ++ batch_line (slice_index letters.now) batch) }
 {
-    for batch in low..high {
-        put_number(text, batch as u64 + 1)?;
-        put_frames(text, letters, batch)?;
-        put(text, b"\n")?;
+    put_number(text, batch as u64 + 1)?;
+    put_frames(text, letters, batch)?;
+    put(text, b"\n")
+}
+
+// Writes the lines of the batches that are wanted.
+fn emit_batches<S: Sink>(
+    text: &mut Vec<u8>,
+    sink: &mut S,
+    window: Window,
+    letters: &[u8],
+) -> Result<(), ShowFault>
+    requires { 16 * window.high ≤ length letters.now }
+    ensures { Emits S.Sink result sink.old sink.new text.old.items text.new.items
+        (batch_lines (slice_index letters.now) window.low window.high) }
+{
+    for batch in window.low..window.high {
+        put_batch(text, letters, batch)?;
+        emit(text, sink)?;
     }
     Ok(())
 }
 
-/// The text of these rows of the grid of whole batches, of which there is one at least.
-pub(crate) fn picture_of(alloc: Global, rows: Rows, grid: &Grid) -> Result<Vec<u8>, AllocError>
-    requires { 16 ≤ length grid.now.letters.items }
-    ensures { (numbers : List ℕ) (ks : List Kind) → IsGridOf numbers ks grid.now → length ks % 16 ≡ 0 →
-        IfOk result (λ v. v.items ≡ picture rows numbers ks) }
+/// Writes these rows of the grid of a transmission that was judged.
+pub(crate) fn emit_grid<S: Sink>(
+    alloc: Global,
+    rows: Rows,
+    judged: &Judged<'_>,
+    sink: &mut S,
+) -> Result<(), ShowFault>
+    requires { 0 < judged.now.counts.batches }
+    ensures { (X : List ℕ) (j : IsJudged X judged.now) → EmitsAll S.Sink result sink.old sink.new
+        (grid_text rows (kinds_read j.reading) j.pages) }
 {
-    let letters = grid.letters.as_slice();
-    let batches = letters.len() / BATCH_CODEWORDS;
-    let window = Window::new(rows, batches);
-    let counts = Counts {
-        batches: batches as u64,
-        codewords: letters.len() as u64 - grid.idles,
-        idles: grid.idles,
-    };
+    let letters = letters_of(alloc, judged.bytes, judged.numbers.as_slice())?;
+    let window = Window::new(rows, letters.len() / BATCH_CODEWORDS);
     let mut text = Vec::new(alloc);
-    put_totals(&mut text, counts)?;
+    put_totals(&mut text, judged.counts)?;
     put(&mut text, b"       0  1  2  3  4  5  6  7\n")?;
-    put_batches(&mut text, letters, window.low, window.high)?;
-    Ok(text)
+    emit_batches(&mut text, sink, window, letters.as_slice())?;
+    emit_rest(text.as_slice(), sink)
 }

@@ -1,36 +1,29 @@
-use Rattle.std.proofs.Common.{ℕ, List, map, ap, ap₂, ◌∙◌, subst}
-use Rattle.pocsag_words.specs.Kinds.{kind_of}
-use Rattle.pocsag_pages.specs.Bytes.{codewords_in}
-use Rattle.pocsag_show.specs.Numbers.{numbers_in}
-use Rattle.pocsag_show.specs.Placed.{placed}
-use Rattle.pocsag_show.specs.Cells.{IsGridOf}
-use Rattle.pocsag_show.proofs.Texts.{all_codewords, judged_is, wanting}
+use Rattle.std.proofs.Common.{◌≡◌, length, rules, refl, sym, subst}
+use Rattle.std.proofs.lemmas.List.{with_items_is}
+use Rattle.pocsag_show.specs.Tables.{CountsPages, NumbersPages}
+use Rattle.pocsag_show.proofs.JudgedBytes.{counts_pages, few_counted, judged_is}
 use Rattle.pocsag_show.proofs.judge.judge.Goals as goal
 
-pub grid_of-requires : goal.grid_of-requires
-grid_of-requires c = all_codewords c.args.bytes.now _ c.in-Ok.ensures.decoded
-
-pub returns-in_err-numbers : goal.returns-in_err-numbers
-returns-in_err-numbers c =
-    wanting c.args.bytes.now c.from_residual.result _ _ c.in-Ok.ensures.decoded
-    c.from_residual.ensures.0 c.from_residual.ensures.1
-
-pub returns-in_err-grid : goal.returns-in_err-grid
-returns-in_err-grid c =
-    wanting c.args.bytes.now c.from_residual-in_err-grid.result _ _ c.in-Ok.ensures.decoded
-    c.from_residual-in_err-grid.ensures.0 c.from_residual-in_err-grid.ensures.1
-
-pub returns-in_err-placed : goal.returns-in_err-placed
-returns-in_err-placed c =
-    wanting c.args.bytes.now c.from_residual-in_err-placed.result _ _ c.in-Ok.ensures.decoded
-    c.from_residual-in_err-placed.ensures.0 c.from_residual-in_err-placed.ensures.1
-
-pub returns : goal.returns
-returns c =
+pub number_pages-requires-clause-counted : goal.number_pages-requires-clause-counted
+number_pages-requires-clause-counted c =
     let X = c.args.bytes.now in
-    let ps = c.in-Ok.pages.items in
-    let numbers = c.in_ok-numbers.ensures ∙ ap numbers_in c.as_slice.ensures.value in
-    judged_is X ps _ c.in-Ok.ensures.decoded c.in-Ok.ensures.listable
-    (subst (λ (l : List ℕ). IsGridOf l (map kind_of (codewords_in X)) c.in_ok-grid.grid) (c.as_slice-2.ensures.value ∙ numbers) c.in_ok-grid.ensures)
-    (c.in_ok-placed.ensures
-    ∙ ap₂ (λ (starts l : List ℕ). placed 0 starts l ps) c.as_slice-3.ensures.value (c.as_slice-4.ensures.value ∙ numbers))
+    let reads = c.in-Ok.ensures.ok in
+    let counted = c.in_ok-codewords.field-0 in
+    let counted = c.in_ok-codewords.ensures.counted in (
+      reads.0,
+      subst (CountsPages reads.0) (sym c.as_mut_slice.ensures.value) (counts_pages X reads.0 reads.1 counted counted),
+      few_counted X reads.0 reads.1 counted counted c.in_ok-codewords.ensures.few,
+    )
+
+pub returns-clause-judged : goal.returns-clause-judged
+returns-clause-judged c =
+    let X = c.args.bytes.now in
+    let reads = c.in-Ok.ensures.ok in
+    let counted = c.in_ok-codewords.field-0 in
+    let counted = c.in_ok-codewords.ensures.counted in
+    let long : length c.number_pages.new.table ≡ counted.counts.len = search rules in
+    judged_is X reads.0 reads.1 counted counted _ c.in_ok-codewords.ensures.few refl
+    (subst (NumbersPages reads.0) (sym (with_items_is counted.counts c.number_pages.new.table long))
+    (c.number_pages.ensures reads.0
+    (subst (CountsPages reads.0) (sym c.as_mut_slice.ensures.value) (counts_pages X reads.0 reads.1 counted counted))))
+    refl refl refl
