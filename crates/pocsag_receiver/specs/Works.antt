@@ -33,17 +33,8 @@ writing due = record {
   ends = receiver_status;
 }
 
--- A command that prints one of these texts, or tells a fault that is explained, before it writes;
-abbrev pub whole : (Prints : (bytes text : List ℕ) → Type 0) → (Explains : (bytes : List ℕ) → ReceiverFault → Type 0) → Task ReceiverFault
-whole Prints Explains = record {
-  prints = Prints;
-  explains = Explains;
-  stops = λ f. ⊥;
-  as_fault = fault.File;
-  ends = receiver_status;
-}
-
--- and one that writes while it works, and stops behind a part of the text where memory is refused.
+-- A command that prints one of these texts, or tells a fault that is explained: it writes while it works, and stops behind a
+-- part of the text where memory is refused.
 abbrev pub streamed : (Prints : (bytes text : List ℕ) → Type 0) → (Explains : (bytes : List ℕ) → ReceiverFault → Type 0) → Task ReceiverFault
 streamed Prints Explains = record {
   prints = Prints;
@@ -79,13 +70,13 @@ lists_capture picking heard = streamed (IsCaptureListed picking heard) (Explains
 
 -- Shows a transmission,
 abbrev pub views : View → Task ReceiverFault
-views view = whole (IsViewed view) (ExplainsShowing view)
+views view = streamed (IsViewed view) (ExplainsShowing view)
 
 -- `show`: with repair as it is once each of its words is repaired,
 abbrev pub shows : View → (before after : Repairing) → Task ReceiverFault
-shows view before after = whole (PrintsRead before after (IsViewed view)) (ExplainsRead before (ExplainsShowing view))
+shows view before after = streamed (PrintsRead before after (IsViewed view)) (ExplainsRead before (ExplainsShowing view))
 
 -- and `show --capture`: one of those of a capture.
 abbrev pub shows_capture : View → (nth : ℕ) → (heard : List ReceptionStats) → Task ReceiverFault
 shows_capture view nth heard =
-    whole (λ capture text. IsSoOfOne capture nth heard (λ bytes. IsViewed view bytes text)) (ExplainsOne view nth)
+    streamed (λ capture text. IsSoOfOne capture nth heard (λ bytes. IsViewed view bytes text)) (ExplainsOne view nth)

@@ -4,7 +4,7 @@ use Rattle.pocsag_words.specs.Devices.{HasFailed}
 use Rattle.pocsag_words.specs.declared.device.Sink.{Ghosts as Writer}
 use Rattle.pocsag_shell.specs.Readers.{over_bytes}
 use Rattle.pocsag_shell.specs.Runs.{IsStreamOf}
-use Rattle.pocsag_show.specs.Shows.{Explains, ShowsPart}
+use Rattle.pocsag_show.specs.Shows.{Explains, ShowsLess, ShowsPart}
 use Rattle.pocsag_show.specs.Views.{view_text}
 use Rattle.pocsag_show.specs.declared.fault.ShowFault.{ShowFault}
 use Rattle.pocsag_show.specs.declared.fault.ShowFault.TheVariants as showing
@@ -15,12 +15,21 @@ use Rattle.pocsag_receiver.specs.Works.{views}
 use Rattle.pocsag_receiver.proofs.show.show_bytes.Goals as goal
 
 unshown : {O : Type 0} (Out : Writer O) (out out' : O) (view : View) (bytes : List ℕ) (e : ShowFault) → HasRows view bytes → Explains bytes e
-    → (e ≢ showing.WriteFault → out' ≡ out) → (e ≡ showing.WriteFault → HasFailed (Out.failures out) (Out.failures out'))
+    → (e ≢ showing.WriteFault → e ≢ showing.OutOfMemory → out' ≡ out) → (e ≡ showing.WriteFault → HasFailed (Out.failures out) (Out.failures out'))
     → (Out.is_known → e ≡ showing.WriteFault → ShowsPart (view_text view) bytes (Out.taken out) (Out.taken out'))
+    → (Out.is_known → e ≡ showing.OutOfMemory → ShowsLess (view_text view) bytes (Out.taken out) (Out.taken out'))
     → IsStreamOf (over_bytes (views view) Out bytes) Out out out' (Err (fault_of_show e))
-unshown Out out out' view bytes (showing.Transmission f) rows why same failed part = (λ _. tt, inl (why, same (λ e. cc (e))))
-unshown Out out out' view bytes showing.OutOfMemory rows why same failed part = (λ _. tt, inl (why, same (λ e. cc (e))))
-unshown Out out out' view bytes showing.WriteFault rows why same failed part = (
+unshown Out out out' view bytes (showing.Transmission f) rows why same failed part less =
+    (λ _. tt, inl (why, same (λ e. cc (e)) (λ e. cc (e))))
+unshown Out out out' view bytes showing.OutOfMemory rows why same failed part less = (
+  λ _. tt,
+  inr (inr (
+    refl,
+    λ known.
+        let p = less known refl in (0, p.shown, (refl, record { shown = p.is_text; rows = rows }), λ _. (p.taken, p.less)),
+  )),
+)
+unshown Out out out' view bytes showing.WriteFault rows why same failed part less = (
   λ _. tt,
   inr (inl (
     refl,
@@ -36,7 +45,8 @@ returns-in_err-show g c =
     let done = c.in_err-show.ensures in
     record {
       streams = rw (p.1, p.2) (unshown g.O.Sink _ _ c.args.view c.args.bytes.now c.in_err-show.field-0.0 c.in_ok-refuse_rows.ensures.rows done.fault
-          done.untouched (λ is. done.failures.1 (ap Err is)) (λ known is. done.part known (ap Err is)));
+          done.untouched (λ is. done.failures.1 (ap Err is)) (λ known is. done.part known (ap Err is))
+          (λ known is. done.stopped known (ap Err is)));
     }
 
 pub returns : goal.returns
