@@ -1,7 +1,6 @@
 -- The pages with each address, and those with a smaller one.
-use Rattle.std.proofs.Common.{◌≡◌, ◌≢◌, ℕ, suc, ◌+◌, ◌*◌, ◌/◌, ◌^◌, ◌<◌, ◌≤◌, ◌==◌, Bool, List, [], ◌∷◌, length, map, get_or, set, get_or-set_other, refl, ap, ap₂, sym, subst, inl, inr, ◌∙◌, arith, All}
+use Rattle.std.proofs.Common.{◌≡◌, ◌≢◌, ℕ, ◌+◌, ◌/◌, ◌^◌, ◌<◌, ◌≤◌, ◌==◌, List, [], ◌∷◌, length, map, get_or, set, get_or-set_other, refl, ap, ap₂, sym, subst, inl, inr, ◌∙◌, arith, All}
 use Rattle.std.specs.Prelude.{cond, nat_lt}
-use Rattle.std.specs.List.{count_by}
 use Rattle.std.proofs.lemmas.Bool.{cases_eq, cases_lt, eq-eqb, ne_eqb, lt-ltb, le-ltb}
 use Rattle.std.proofs.lemmas.List.Elements.{All-cons, All-head, All-nil, All-tail}
 use Rattle.std.proofs.lemmas.Grind.{get_or-set_at}
@@ -11,11 +10,10 @@ use Rattle.pocsag_words.specs.declared.codeword.Kind.{Kind}
 use Rattle.pocsag_words.specs.declared.codeword.Kind.TheVariants.{Idle, Address, Message}
 use Rattle.pocsag_pages.specs.declared.page.Page.{Page}
 use Rattle.pocsag_pages.specs.Plain.{pages_from}
-use Rattle.pocsag_pages.specs.Reading.{frame_at}
 use Rattle.pocsag_decode.specs.Places.{is_idle}
 use Rattle.pocsag_show.specs.Grid.{idles_in}
-use Rattle.pocsag_show.specs.Numbers.{numbers_in, pages_below}
-use Rattle.pocsag_show.specs.Tables.{IsCountingPages, NumbersPages, pages_at}
+use Rattle.pocsag_show.specs.Numbers.{pages_below}
+use Rattle.pocsag_show.specs.Tables.{IsCountingPages, pages_at}
 use Rattle.pocsag_show.specs.declared.address_counts.AddressCounts.{AddressCounts}
 
 pub pages_at-cons : (p : Page) (ps : List Page) (a : ℕ) → pages_at (p ∷ ps) a ≡ cond (p.address == a) 1 0 + pages_at ps a

@@ -1,5 +1,5 @@
 -- Texts that are written as they are made: a writer took a part, a part waits, and the rest is still to be made.
-use Rattle.std.specs.Prelude.{◌≡◌, ◌⊎◌, ℕ, ◌+◌, ◌<◌, ◌≤◌, List, [], ◌++◌, length, Result, MatchResult}
+use Rattle.std.specs.Prelude.{◌≡◌, ◌⊎◌, ℕ, ◌+◌, ◌<◌, ◌≤◌, List, ◌++◌, length, Result, MatchResult}
 use Rattle.pocsag_words.specs.Devices.{HasFailed, TookPrefix}
 use Rattle.pocsag_words.specs.declared.device.Sink.{Ghosts as Writer}
 use Rattle.pocsag_show.specs.declared.fault.ShowFault.{ShowFault}

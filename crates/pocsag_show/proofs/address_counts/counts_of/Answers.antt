@@ -1,7 +1,5 @@
-use Rattle.std.proofs.Common.{◌≡◌, ℕ, List, ◌∷◌, length, ap, refl, sym, subst, ◌∙◌, arith}
-use Rattle.pocsag_words.specs.declared.codeword.Kind.{Kind}
+use Rattle.std.proofs.Common.{refl, sym, arith}
 use Rattle.pocsag_show.specs.Kinds.{kinds_ahead}
-use Rattle.pocsag_show.specs.Tables.{IsCountingPages}
 use Rattle.pocsag_show.proofs.Tables.{counting_at, counting_begun}
 use Rattle.pocsag_show.proofs.address_counts.counts_of.Goals as goal
 

@@ -1,11 +1,10 @@
-use Rattle.std.proofs.Common.{◌≡◌, rules, ℕ, List, [], ◌++◌, All, ap, sym, subst, ◌∙◌}
+use Rattle.std.proofs.Common.{◌≡◌, rules, ℕ, List, [], ◌++◌, ap, subst, ◌∙◌}
 use Rattle.std.proofs.lemmas.Result.{err_from_is_err_and}
 use Rattle.csv.specs.Writing.{default_writer, row_text}
 use Rattle.pocsag_decode.specs.Lines.{text_in}
-use Rattle.pocsag_decode.specs.Faults.{ReadsAs}
-use Rattle.pocsag_show.specs.Judged.{IsJudged, kinds_read}
+use Rattle.pocsag_show.specs.Judged.{kinds_read}
 use Rattle.pocsag_show.specs.PlacedReaders.{placed_left}
-use Rattle.pocsag_show.specs.Places.{place_header, place_listing, place_rows}
+use Rattle.pocsag_show.specs.Places.{place_header, place_listing}
 use Rattle.pocsag_show.specs.Emission.{IsEmitting}
 use Rattle.pocsag_show.specs.declared.view.View.TheVariants.{Places}
 use Rattle.pocsag_show.proofs.Emitted.{refused, refused_first}

@@ -1,11 +1,11 @@
-use Rattle.std.proofs.Common.{◌≡◌, ℕ, ◌/◌, List, [], ◌++◌, length, map, slice_index, ap, sym, subst, ◌∙◌}
+use Rattle.std.proofs.Common.{ℕ, ◌/◌, List, [], ◌++◌, map, slice_index, ap, sym, subst, ◌∙◌}
 use Rattle.std.proofs.lemmas.Result.{err_from_is_err_and}
 use Rattle.pocsag_words.specs.Kinds.{kind_of}
 use Rattle.pocsag_pages.specs.Bytes.{codewords_in}
 use Rattle.pocsag_show.specs.Judged.{kinds_read}
 use Rattle.pocsag_show.specs.Letters.{letters_with}
 use Rattle.pocsag_show.specs.Picture.{grid_text, totals_line}
-use Rattle.pocsag_show.specs.Emission.{IsEmitting, EmitsAll}
+use Rattle.pocsag_show.specs.Emission.{IsEmitting}
 use Rattle.pocsag_show.specs.Rows.{end_row}
 use Rattle.pocsag_show.specs.declared.view.View.TheVariants.{Grid}
 use Rattle.pocsag_show.proofs.Emitted.{refused_first}

@@ -1,10 +1,10 @@
-use Rattle.std.proofs.Common.{◌≡◌, ℕ, ◌+◌, ◌*◌, ◌∷◌, ◌<◌, length, get_or, set, refl, sym, subst, ap, ◌∙◌, arith}
+use Rattle.std.proofs.Common.{◌≡◌, ℕ, ◌+◌, ◌*◌, ◌∷◌, ◌<◌, length, get_or, set, sym, subst, ap, ◌∙◌, arith}
 use Rattle.std.proofs.lemmas.List.{get_or_default}
 use Rattle.pocsag_words.specs.declared.codeword.Kind.{Kind}
 use Rattle.pocsag_pages.specs.Plain.{items_of, pages_from}
 use Rattle.pocsag_pages.specs.Reading.{frame_at}
 use Rattle.pocsag_show.specs.Tables.{IsCountingPages}
-use Rattle.pocsag_show.proofs.Tables.{counted, idles_in-cons}
+use Rattle.pocsag_show.proofs.Tables.{counted}
 use Rattle.pocsag_show.proofs.address_counts.AddressCounts.take.Goals as goal
 
 pub returns-in-Address-clause-counted : goal.returns-in-Address-clause-counted

@@ -1,6 +1,5 @@
 use Rattle.std.proofs.Common.{slice_index, sym, subst, All}
 use Rattle.pocsag_pages.specs.Listable.{IsListable}
-use Rattle.pocsag_pages.specs.declared.page.Page.{Page}
 use Rattle.pocsag_decode.specs.PageReaders.{pages_left}
 use Rattle.pocsag_show.specs.Kinds.{kinds_ahead, starts_ahead}
 use Rattle.pocsag_show.proofs.PlacedReaders.{all_placed, listable_placed}
