@@ -25,8 +25,8 @@ pub use laws::{
 };
 pub use lister::{list_owned, list_sent};
 pub use listing::{
-    begin_listing, kind_of_page, list, message_of, whole_message, write_many_records,
-    write_page_file, write_records,
+    kind_of_page, list, message_of, whole_message, write_many_records, write_page_file,
+    write_records,
 };
 pub use open_page::{Growing, OpenPage};
 pub use page_reader::{PageReader, PageSource};

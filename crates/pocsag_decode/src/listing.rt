@@ -191,8 +191,8 @@ pub(crate) fn put_spent(
     Ok(room)
 }
 
-/// A writer with the record of the names.
-pub fn begin_listing(alloc: Global) -> Result<Writer<Vec<u8>>, AllocError>
+// A writer with the record of the names.
+pub(crate) fn begin_listing(alloc: Global) -> Result<Writer<Vec<u8>>, AllocError>
     ensures ready { IfOk result IsReady }
     ensures text { IfOk result (λ w. text_in w ≡ row_text default_writer header) }
 {

@@ -55,7 +55,8 @@ impl OpenPage {
         requires ranges { IsInRange kind }
         requires frame { frame < 8 }
         ensures listable { All IsListable (closed current.old) → All IsListable (closed current.new) }
-        ensures page { All IsListable (closed current.old) → IfOk result (λ page. All IsListable (option_to_list page)) }
+        ensures page { All IsListable (closed current.old) →
+            IfOk result (λ page. All IsListable (option_to_list page)) }
         ensures some { IfOk result (λ page. is_some page ≡ ends_open (is_some current.old) kind) }
         ensures reads { IfOk result (λ page. (i : ℕ) (ks : List Kind) → frame ≡ frame_at i →
             resumed i current.old (kind ∷ ks) ≡ option_to_list page ++ resumed (i + 1) current.new ks) }

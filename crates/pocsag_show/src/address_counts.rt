@@ -36,7 +36,8 @@ impl AddressCounts {
         requires few { self.old.codewords < 2 ^ 62 }
         ensures bounds { IsInBounds self.new }
         ensures counted { (left : List Kind) (ps : List Page) (idles codewords : ℕ) →
-            IsCountingPages self.old (kind ∷ left) ps idles codewords → IsCountingPages self.new left ps idles codewords }
+            IsCountingPages self.old (kind ∷ left) ps idles codewords →
+            IsCountingPages self.new left ps idles codewords }
         ensures codewords { self.new.codewords ≡ self.old.codewords + 1 }
     {
         let index = self.codewords;
@@ -58,7 +59,7 @@ fn zeros(alloc: Global, len: usize) -> Result<Vec<usize>, AllocError>
 }
 
 /// Counts the codewords of a transmission.
-pub(crate) fn counts_of(alloc: Global, bytes: &[u8]) -> Result<AddressCounts, AllocError>
+pub(crate) fn codeword_counts(alloc: Global, bytes: &[u8]) -> Result<AddressCounts, AllocError>
     ensures counted { IfOk result (AreCountsOf (map kind_of (codewords_in bytes.now))) }
     ensures long { IfOk result (λ t. length t.counts.items ≡ 2 ^ 21) }
     ensures few { IfOk result (λ t. t.codewords < 2 ^ 62) }

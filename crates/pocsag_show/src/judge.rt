@@ -3,7 +3,7 @@ ghost use Rattle.pocsag_show.specs.Shows.{Explains};
 ghost use Rattle.pocsag_show.specs.Judged.{IsJudged};
 ghost use Rattle.pocsag_show.specs.declared.fault.ShowFault.TheVariants as fault;
 
-use crate::address_counts::{AddressCounts, counts_of, number_pages};
+use crate::address_counts::{AddressCounts, codeword_counts, number_pages};
 use crate::counts::Counts;
 use crate::fault::ShowFault;
 use crate::judged::Judged;
@@ -24,7 +24,7 @@ pub(crate) fn judge(alloc: Global, bytes: &[u8]) -> Result<Judged<'_>, ShowFault
         codewords,
         idles,
         counts,
-    } = counts_of(alloc, bytes)?;
+    } = codeword_counts(alloc, bytes)?;
     let mut numbers = counts;
     number_pages(numbers.as_mut_slice());
     let counts = Counts {

@@ -1,7 +1,7 @@
 use Rattle.std.proofs.Common.{refl, sym, arith}
 use Rattle.pocsag_show.specs.Kinds.{kinds_ahead}
 use Rattle.pocsag_show.proofs.Tables.{counting_at, counting_begun}
-use Rattle.pocsag_show.proofs.address_counts.counts_of.Goals as goal
+use Rattle.pocsag_show.proofs.address_counts.codeword_counts.Goals as goal
 
 pub loop-kind-init : goal.loop-kind-init
 loop-kind-init c = record {

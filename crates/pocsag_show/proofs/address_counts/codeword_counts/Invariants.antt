@@ -5,7 +5,7 @@ use Rattle.pocsag_pages.specs.Plain.{pages_from}
 use Rattle.pocsag_show.specs.Grid.{idles_in}
 use Rattle.pocsag_show.specs.Kinds.{kinds_ahead}
 use Rattle.pocsag_show.specs.Tables.{IsInBounds, IsCountingPages}
-use Rattle.pocsag_show.proofs.address_counts.counts_of.Given as goal
+use Rattle.pocsag_show.proofs.address_counts.codeword_counts.Given as goal
 
 abbrev pub invariant-loop-kind : goal.invariant-loop-kind
 invariant-loop-kind l =
