@@ -10,7 +10,6 @@ and from the letters of `show`. It takes the binary that the gate left in crates
 import json
 import pathlib
 import random
-import subprocess
 import sys
 import textwrap
 import xml.etree.ElementTree as ElementTree
@@ -20,7 +19,7 @@ sys.path[:0] = [str(pathlib.Path(__file__).resolve().parents[1] / it) for it in 
 from checker import CLOSE, CLOSED_END as CLOSED, CUT, IDLE_END as IDLE, OPEN_END as OPEN, SPLIT
 from drawings import SVG, check_form
 from rounds import page_file, small_pages
-from tally import ENDS, PROGRAM, TOP, run, run_parts
+from tally import BAD_LIMIT, BAD_RATE, CANNOT_OPEN, ENDS, NAMED_TWICE, TOP, fault, run, run_parts, said
 from trees import UNEXAMINED, certificate, overload as overload_of
 
 EXAMPLES = TOP / "examples"
@@ -76,36 +75,29 @@ MANY_TOLD = ", ".join(
 )
 LAST_TONE = LOOP + "7,tone0,\n"
 
+
+
+def idle_node(number, slot, before=""):
+    """The lines of a node of the worked case that an idle in a slot leads to, behind the limits of the nodes above."""
+    indent = "  " * number.count(".")
+    yield f"{indent}node {number}, with an idle in slot {slot}: slot {slot}: 2 codewords at the least, room for 1; {EACH_LOOP}"
+    yield f"{indent}  limits: {before}room for 1 in slot {slot}"
+
+
 # A page file, its certificate, more words, the status, and what is told.
 SHOWN = [
     ("the worked case", APART, certificate(OPEN, 3, CUT_APART), [], [
-        SUM_APART, ROOT_APART,
-        f"  node 1.1, with an idle in slot 0: slot 0: 2 codewords at the least, room for 1; {EACH_LOOP}",
-        "    limits: room for 1 in slot 0",
-        f"  node 1.2, with an idle in slot 15: slot 15: 2 codewords at the least, room for 1; {EACH_LOOP}",
-        "    limits: room for 1 in slot 15",
-        SO_APART,
+        SUM_APART, ROOT_APART, *idle_node("1.1", 0), *idle_node("1.2", 15), SO_APART,
     ]),
     ("the worked case from the other side", APART, certificate(OPEN, 3, CUT_AROUND), [], [
-        SUM_APART, ROOT_AROUND,
-        f"  node 1.1, with an idle in slot 5: slot 5: 2 codewords at the least, room for 1; {EACH_LOOP}",
-        "    limits: room for 1 in slot 5",
-        f"  node 1.2, with an idle in slot 7: slot 7: 2 codewords at the least, room for 1; {EACH_LOOP}",
-        "    limits: room for 1 in slot 7",
-        SO_APART,
+        SUM_APART, ROOT_AROUND, *idle_node("1.1", 5), *idle_node("1.2", 7), SO_APART,
     ]),
     ("a cut below a cut", APART, certificate(OPEN, 3, cut([0], 48, CUT_AROUND, overload(15))), [], [
         SUM_APART, ROOT_APART,
         f"  node 1.1, with an idle in slot 0: a page of address 3 (16 codewords) starts or ends at boundaries 6 and 7, "
         f"the smaller side of the cut; {TWO_WAYS}",
         "    limits: room for 1 in slot 0",
-        f"    node 1.1.1, with an idle in slot 5: slot 5: 2 codewords at the least, room for 1; {EACH_LOOP}",
-        "      limits: room for 1 in slot 0; room for 1 in slot 5",
-        f"    node 1.1.2, with an idle in slot 7: slot 7: 2 codewords at the least, room for 1; {EACH_LOOP}",
-        "      limits: room for 1 in slot 0; room for 1 in slot 7",
-        f"  node 1.2, with an idle in slot 15: slot 15: 2 codewords at the least, room for 1; {EACH_LOOP}",
-        "    limits: room for 1 in slot 15",
-        SO_APART,
+        *idle_node("1.1.1", 5, "room for 1 in slot 0; "), *idle_node("1.1.2", 7, "room for 1 in slot 0; "), *idle_node("1.2", 15), SO_APART,
     ]),
     ("whole turns", TURNS, certificate(OPEN, 6, overload(7)), [], [
         "at least 6 batches, open end: 4 pages, 40 codewords, room for 80 in 5 batches, yet",
@@ -222,12 +214,10 @@ def try_sentences(tally, folder):
             checked = run(["check", folder / "pages.csv", folder / "cert.bin"])
             tally.check(f"explain: {name}", done.returncode == checked.returncode, done)
             continue
-        wanted = "".join(f"{line}\n" for line in wrapped(lines)).encode()
-        tally.check(f"explain: {name}", (done.returncode, done.stdout, done.stderr) == (0, wanted, b""), done)
+        tally.check_done(f"explain: {name}", done, 0, "".join(f"{line}\n" for line in wrapped(lines)).encode())
     for name, pages, text, line in REFUSED:
-        done = explained(folder, pages, text)
         wanted = "".join(f"{line}\n" for line in ["not shown", *wrapped([line])]).encode()
-        tally.check(f"explain, refused: {name}", (done.returncode, done.stdout, done.stderr) == (1, wanted, b""), done)
+        tally.check_done(f"explain, refused: {name}", explained(folder, pages, text), 1, wanted)
         told = explained(folder, pages, text, "--depth", "1")
         tally.check(f"explain, refused at any depth: {name}", told.stdout == wanted, told)
 
@@ -388,24 +378,20 @@ def try_words(tally, folder):
     explained(folder, APART, certificate(OPEN, 3, CUT_APART))
     pages, cert = folder / "pages.csv", folder / "cert.bin"
     whole = run(["explain", pages, cert])
-    piped = run(["explain", "-", cert], stdin=pages.read_bytes())
-    tally.check("the page file by a pipe", piped.stdout == whole.stdout and piped.returncode == 0, piped)
-    piped = run(["explain", pages, "-"], stdin=cert.read_bytes())
-    tally.check("the certificate by a pipe", piped.stdout == whole.stdout and piped.returncode == 0, piped)
-    cases = [
-        (["explain", "-", "-"], 1, b"pocsag: the same file is named twice\n"),
-        (["explain", pages, pages], 1, b"pocsag: not a certificate\n"),
-        (["explain", folder / "none", cert], 3, b"pocsag: cannot read or open a file\n"),
-        (["explain", pages, folder / "none"], 3, b"pocsag: cannot read or open a file\n"),
-    ]
-    for words, status, err in cases:
-        done = run(words)
-        tally.check(f"{words}", (done.returncode, done.stdout, done.stderr) == (status, b"", err), done)
+    tally.check("explained", whole.returncode == 0, whole)
+    tally.check_done("the page file by a pipe", run(["explain", "-", cert], stdin=pages.read_bytes()), *said(whole))
+    tally.check_done("the certificate by a pipe", run(["explain", pages, "-"], stdin=cert.read_bytes()), *said(whole))
+    for words, status, err in (
+        (["explain", "-", "-"], 1, NAMED_TWICE),
+        (["explain", pages, pages], 1, fault("not a certificate")),
+        (["explain", folder / "none", cert], 3, CANNOT_OPEN),
+        (["explain", pages, folder / "none"], 3, CANNOT_OPEN),
+    ):
+        tally.check_done(f"{words}", run(words), status, b"", err)
     for words in (["explain", pages], ["explain", pages, cert, "--depth"], ["explain", pages, cert, "--depth", "x"], ["explain", pages, cert, "--rows", "1"]):
         done = run(words)
         tally.check(f"usage {words}", done.returncode == 2 and done.stdout == b"", done)
-    full = subprocess.run([str(PROGRAM), "explain", str(pages), str(cert)], stdout=open("/dev/full", "w"), stderr=subprocess.PIPE, timeout=60)
-    tally.check("a full device", (full.returncode, full.stderr) == (3, b"pocsag: cannot write\n"), full)
+    tally.check_full("a full device", ["explain", pages, cert])
     (folder / "cert.bin").write_bytes(certificate(OPEN, 4, overload(15)))
     done = run(["explain", pages, cert, "--verbose"])
     tally.check("no line of --verbose where it is not shown", (done.returncode, done.stderr) == (1, b""), done)
@@ -461,10 +447,8 @@ def try_frames(tally, folder):
     wanted = [f"frame {frame} pages {pages} codewords {words} room {room}" for frame, pages, words, room in rows]
     told = done.stdout.decode().splitlines()
     tally.check("the frames of the sample round", done.returncode == 0 and told[7:] == wanted, told)
-    bad = run(["report", EXAMPLES / "round.csv", "--rate", "7", "--frames"])
-    tally.check("frames at no rate", (bad.returncode, bad.stdout, bad.stderr) == (1, b"", b"pocsag: the rate must be 512, 1200 or 2400\n"), bad)
-    bad = run(["report", EXAMPLES / "round.csv", "--rate", "512", "--limit", "0", "--frames"])
-    tally.check("frames with no limit", (bad.returncode, bad.stdout, bad.stderr) == (1, b"", b"pocsag: the limit must be 1 to 1000000\n"), bad)
+    tally.check_done("frames at no rate", run(["report", EXAMPLES / "round.csv", "--rate", "7", "--frames"]), 1, b"", BAD_RATE)
+    tally.check_done("frames with no limit", run(["report", EXAMPLES / "round.csv", "--rate", "512", "--limit", "0", "--frames"]), 1, b"", BAD_LIMIT)
 
 
 if __name__ == "__main__":
