@@ -104,6 +104,10 @@ class Tally:
         """Whether a run ended with this status and printed this alone, and what else has to hold."""
         self.check(name, said(done) == (status, out, err) and also, (brief(done), also))
 
+    def check_usage(self, name, done, told=b"error: ", also=True):
+        """Whether words were refused as usage, by an error that begins so and by nothing else, and what else has to hold."""
+        self.check(name, (done.returncode, done.stdout) == (2, b"") and done.stderr.startswith(told) and also, (brief(done), also))
+
     def check_full(self, name, words, folder=None, stdin=b""):
         """Whether a run tells that its standard output is a full device."""
         with open("/dev/full", "wb") as full:

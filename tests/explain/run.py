@@ -370,8 +370,7 @@ def try_drawings(tally, folder):
             tally.check(f"drawing: {name}: boundaries of {number}", lines == due, lines)
     explained(folder, APART, certificate(OPEN, 3, CUT_APART))
     for words in (["--svg", "--json"], ["--svg", "--depth", "2"], ["--svg", "x"]):
-        done = run(["explain", folder / "pages.csv", folder / "cert.bin", *words])
-        tally.check(f"usage {words}", done.returncode == 2 and done.stdout == b"", done)
+        tally.check_usage(f"usage {words}", run(["explain", folder / "pages.csv", folder / "cert.bin", *words]))
 
 
 def try_words(tally, folder):
@@ -389,8 +388,7 @@ def try_words(tally, folder):
     ):
         tally.check_done(f"{words}", run(words), status, b"", err)
     for words in (["explain", pages], ["explain", pages, cert, "--depth"], ["explain", pages, cert, "--depth", "x"], ["explain", pages, cert, "--rows", "1"]):
-        done = run(words)
-        tally.check(f"usage {words}", done.returncode == 2 and done.stdout == b"", done)
+        tally.check_usage(f"usage {words}", run(words))
     tally.check_full("a full device", ["explain", pages, cert])
     (folder / "cert.bin").write_bytes(certificate(OPEN, 4, overload(15)))
     done = run(["explain", pages, cert, "--verbose"])

@@ -539,8 +539,7 @@ def try_read_only(tally, place):
         done = run(place, [], "--read-only", *more)
         tally.check_done(f"read only: no file {more}", done, 3, b"", told(CANNOT, notes), not os.listdir(place))
     for words in (["open", "--read-only"], *([*read_only, word] for word in ("pages.csv", "--always", "--keep"))):
-        done = shared.run(words, place)
-        tally.check(f"read only: {words}", (done.stdout, done.returncode) == (b"", 2) and not os.listdir(place), done)
+        tally.check_usage(f"read only: {words}", shared.run(words, place), also=not os.listdir(place))
     path.write_bytes(FIRST_LINE)
     tally.check_full("read only: a full output", read_only, place)
 

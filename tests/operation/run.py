@@ -61,9 +61,7 @@ def try_keep(tally, folder):
     os.mkfifo(room / "fifo")
     for place in ("link.bin", "fifo", "/dev/null", "-"):
         for words in (["pages.csv", place, "cert.bin"], ["pages.csv", "tx.bin", place]):
-            done = run(["plan", *words, "--keep"], room)
-            holds = done.returncode == 2 and done.stderr.startswith(b"error: --keep ") and done.stdout == b""
-            tally.check(f"--keep wants a regular file: {words}", holds and stand(room) == due, done)
+            tally.check_usage(f"--keep wants a regular file: {words}", run(["plan", *words, "--keep"], room), b"error: --keep ", stand(room) == due)
     for words in (["pages.csv", "pages.csv", "c"], ["pages.csv", "./pages.csv", "c"], ["pages.csv", "a", "./a"], ["pages.csv", "a", "a"]):
         done = run(["plan", *words, "--keep"], room)
         holds = (done.returncode, done.stderr) == (1, NAMED_TWICE) and (room / "pages.csv").read_bytes() == TONE
@@ -206,8 +204,7 @@ def try_expect(tally, folder):
         tally.check_done(f"expected: {words}", done, 0, plain.stdout, b"", plain.returncode == 0)
     done = run(["plan", "bad.csv", "tx.bin", "cert.bin", "--expect", "1"], room)
     tally.check("a fault before the count", done.stderr == b"pocsag: record 1: unknown kind\n" and stand(room) == (b"", b""), done)
-    done = run(["plan", "pages.csv", "tx.bin", "cert.bin", "--expect", "x"], room)
-    tally.check("no number", done.returncode == 2 and stand(room) == (b"", b""), done)
+    tally.check_usage("no number", run([*PLAN, "--expect", "x"], room), also=stand(room) == (b"", b""))
 
 
 def try_verify(tally, folder):
@@ -218,8 +215,7 @@ def try_verify(tally, folder):
                   ["/dev/stdin", "tx.bin", "cert.bin"], ["pages.csv", "/dev/stdout", "cert.bin"], ["pages.csv", "/dev/null", "c"],
                   ["-", "tx.bin", "cert.bin"], ["pages.csv", "-", "cert.bin"], ["pages.csv", "tx.bin", "-"]):
         done = run(["plan", *words, "--verify"], room, TONE)
-        holds = done.returncode == 2 and done.stdout == b"" and done.stderr.startswith(b"error: --verify ")
-        tally.check(f"--verify wants regular files: {words}", holds and stand(room) == OLD, done)
+        tally.check_usage(f"--verify wants regular files: {words}", done, b"error: --verify ", stand(room) == OLD)
     done = run(["plan", "none.csv", "tx.bin", "cert.bin", "--verify"], room)
     tally.check("--verify of no file", (done.returncode, done.stderr) == (3, CANNOT_OPEN), done)
 

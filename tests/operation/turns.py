@@ -3,7 +3,6 @@
 import contextlib
 import fcntl
 import os
-import pwd
 import resource
 import shutil
 import signal
@@ -13,6 +12,7 @@ import tempfile
 import time
 
 from codewords import HEADER
+from doors import another_user
 from tally import CANNOT_OPEN, CANNOT_WRITE, MEMORY, PROGRAM, fault, faulty, room_in, run
 
 PAIRS = 200
@@ -243,39 +243,30 @@ def try_others(tally, folder):
     """Another user: in a folder of theirs with locks of the superuser, and in one that they cannot write to."""
     if os.geteuid():
         return
-    nobody = pwd.getpwnam("nobody")
-    who = {"user": nobody.pw_uid, "group": nobody.pw_gid, "extra_groups": []}
-    folder.chmod(0o755)
-    shutil.copyfile(PROGRAM, folder / "program of turns")
-    (folder / "program of turns").chmod(0o755)
-    room, dues = fresh(folder, "others")
-
-    def run_as_nobody(words):
-        return subprocess.run(["../program of turns", *words], cwd=room, capture_output=True, timeout=60, **who)
-
+    (room, dues), (nobody, run_as) = fresh(folder, "others"), another_user(folder)
     for path in (room, *room.iterdir()):
-        os.chown(path, nobody.pw_uid, nobody.pw_gid)
+        os.chown(path, *nobody)
     for mode in (0o644, 0o444):
         for name in NAMES:
             (room / f"{name}.pocsag.lock").touch()
             (room / f"{name}.pocsag.lock").chmod(mode)
-        check_taken(tally, f"locks of the superuser, {mode:o}", run_as_nobody(plan(0)), room, dues[0])
+        check_taken(tally, f"locks of the superuser, {mode:o}", run_as(plan(0), room), room, dues[0])
     lock = room / "tx.bin.pocsag.lock"
     with lock.open("w") as held:
         lock.chmod(0o444)
         fcntl.flock(held, fcntl.LOCK_EX)
-        done = run_as_nobody(plan(0, "--always"))
+        done = run_as(plan(0, "--always"), room)
     tally.check_done("a lock that the superuser holds", done, 3, b"", CANNOT_WRITE, stand(room) == dues[0])
     lock.unlink()
-    try_killed_locks(tally, room, dues, run_as_nobody)
+    try_killed_locks(tally, room, dues, run_as)
     before = stand(room)
     room.chmod(0o555)
-    done = run_as_nobody(plan(0))
+    done = run_as(plan(0), room)
     room.chmod(0o755)
     tally.check_done("a folder that cannot be written to", done, 3, b"", CANNOT_OPEN, stand(room) == before and not left_in(room))
 
 
-def try_killed_locks(tally, room, dues, run_as_nobody):
+def try_killed_locks(tally, room, dues, run_as):
     """The superuser, whose mask leaves nothing to others, is killed at each call of the system that makes a lock; then another user
     plans."""
     if not shutil.which("strace"):
@@ -286,7 +277,7 @@ def try_killed_locks(tally, room, dues, run_as_nobody):
             if not run(plan(0), room, before=faulty(calls, f"signal=KILL:when={number}"), umask=0o077).returncode:
                 break
             ends += 1
-            left, modes, done = left_in(room), modes_of_locks(room), run_as_nobody(plan(1))
+            left, modes, done = left_in(room), modes_of_locks(room), run_as(plan(1), room)
             holds = modes <= {0o444} and done.returncode == 0 and stand(room) == dues[1]
             tally.check(f"another user, and locks of a run that was killed at {calls} {number}", holds, (left, modes, done, left_in(room)))
     tally.check("runs were killed while they made locks", ends > 12, ends)

@@ -16,7 +16,7 @@ HEADER = codewords.HEADER.decode()
 # The words for functions, in any order and number, and the functions that they name.
 TEXTS = {None: (), "0": (0,), "1": (1,), "2": (2,), "0,1": (0, 1), "2,0": (0, 2), "1,1,1": (1,), "2,1,0": (0, 1, 2)}
 REFUSED = ("", "3", "0,", ",1", "0,,1", "0 1", "0,4", "a", "+1", "00")
-BAD_TEXT = """\
+BAD_TEXT = b"""\
 error: invalid value for '--text LIST': the functions are 0, 1 and 2, with commas
 between them, as in 0,1,2 or 1
 
@@ -119,9 +119,7 @@ def try_words(tally, folder):
     for command in (["decode"], ["hear", "11"]):
         for word in REFUSED:
             for more in ([], ["--json"]):
-                done = run([*command, "tx.bin", "--text", word, *more], folder)
-                holds = (done.returncode, done.stdout) == (2, b"") and done.stderr.decode().startswith(BAD_TEXT)
-                tally.check(f"{command} --text '{word}'", holds, done)
+                tally.check_usage(f"{command} --text '{word}'", run([*command, "tx.bin", "--text", word, *more], folder), BAD_TEXT)
         for option in (["--json"], ["--text", "0"]):
             for more in ([], ["--repair"])[: 1 + (command == ["decode"])]:
                 words = [*command, "short.bin", *option, *more]
@@ -130,8 +128,7 @@ def try_words(tally, folder):
                     told = fault("the preamble is too short") + note
                     tally.check_done(f"{words} {verbose}", run([*words, *verbose], folder), 1, b"", told)
     for option in (["--json"], ["--text", "0"]):
-        done = run(["show", "tx.bin", *option], folder)
-        tally.check(f"show {option}", done.returncode == 2, done)
+        tally.check_usage(f"show {option}", run(["show", "tx.bin", *option], folder))
 
 
 PARTS = (try_codes, try_forms, try_long, try_words)

@@ -69,8 +69,7 @@ def try_refusals(tally, folder):
     room = fresh(folder, "refusals")
     for words in (["--rest", "r"], ["--why", "w"], ["--at-most", "2", "--airtime", "9", "--rate", "512"], ["--airtime", "9"], ["--rate", "512"],
                   ["--at-most", "2", "--rate", "512"], ["--at-most", "x"], ["--at-most", "2", "--rest", "-"], ["--at-most", "2", "--why", "-"]):
-        done = run([*PLAN, *words], room)
-        tally.check(f"wrong words {words}", done.returncode == 2 and done.stdout == b"" and os.listdir(room) == ["pages.csv"], done)
+        tally.check_usage(f"wrong words {words}", run([*PLAN, *words], room), also=os.listdir(room) == ["pages.csv"])
     (room / "link").symlink_to("pages.csv")
     for place in ("pages.csv", "./pages.csv", "link", "tx.bin", "./tx.bin", "cert.bin", "./cert.bin"):
         for option, keep in itertools.product(("--rest", "--why"), ([], ["--keep"])):
@@ -120,8 +119,7 @@ def try_later(tally, folder):
             else:
                 tally.check(f"no why of {words}", (room / "why.bin").read_bytes() == b"", words)
     for word in ("--later", "--later --at-most 2"):
-        done = run([*plan, *word.split()], room)
-        tally.check(f"{word} without --rest", done.returncode == 2 and done.stdout == b"", done)
+        tally.check_usage(f"{word} without --rest", run([*plan, *word.split()], room))
     done = run([*plan, "--later", *rest, "--expect", "3"], room)
     tally.check_done("each record is counted", done, 1, b"", fault("pages 5, where 3 were expected"))
     for record, told in (
@@ -166,9 +164,8 @@ def try_oversized(tally, folder):
     done = run([*PLAN, "--at-most", "0", *names], room)
     tally.check_done("no page fits", done, 1, b"", NEEDS_TWO, {(room / name).read_bytes() for name in ("rest.csv", "over.csv")} == {b"old"})
     for words in (["--oversized", "o"], ["--later", "--rest", "r", "--oversized", "o"], ["--at-most", "2", "--oversized", "-"]):
-        done = run(["plan", "pages.csv", "t", "c", *words], room)
         told = b"error: --oversized names a file, and goes with --at-most or --airtime\n"
-        tally.check(f"wrong words {words}", done.returncode == 2 and done.stdout == b"" and done.stderr.startswith(told), done)
+        tally.check_usage(f"wrong words {words}", run(["plan", "pages.csv", "t", "c", *words], room), told)
     for place in ("pages.csv", "tx.bin", "./cert.bin", "rest.csv", "./rest.csv"):
         done = run([*PLAN, "--at-most", "2", "--rest", "rest.csv", "--oversized", place], room)
         tally.check_done(f"--oversized {place}", done, 1, b"", NAMED_TWICE, (room / "pages.csv").read_bytes() == FILE)
@@ -277,8 +274,7 @@ def try_slots(tally, folder):
     for words in ("--at-most 2", "--later", "--airtime 9", "--rate 512 --at-most 2 --airtime 9", "--rate 512 --at-most x",
                   "--rate 512 --frames --at-most 2", "--rate 512 --frames --airtime 9", "--rate 512 --frames --later", "--rate 512 --oversized",
                   "--rate 512 --later --oversized", "--rate 512 --at-most 2 --oversized=f", "--rate 512 --at-most 2 --rest r"):  # fmt: skip
-        done = run(["report", "pages.csv", *words.split()], room)
-        tally.check(f"wrong words of a slot {words}", done.returncode == 2 and done.stdout == b"", done)
+        tally.check_usage(f"wrong words of a slot {words}", run(["report", "pages.csv", *words.split()], room))
     tally.check("no file is written", sorted(os.listdir(room)) == files, os.listdir(room))
 
 

@@ -436,8 +436,7 @@ def demands(tally, folder):
             tally.check_done(f"a round that meets what is asked {journal} {more}", done, 0, due, told)
             (room / "round.journal").unlink(missing_ok=True)
     for words in (["--strict"], ["--expect", "2"], ["--journal", "j", "--strict"], ["--journal", "j", "--read-only", "--expect", "2"]):
-        done = run(["open", *words], room)
-        tally.check(f"no PAGES {words}", done.returncode == 2 and done.stdout == b"" and os.listdir(room) == ["pages.csv"], done)
+        tally.check_usage(f"no PAGES {words}", run(["open", *words], room), also=os.listdir(room) == ["pages.csv"])
 
 
 PARTS = (

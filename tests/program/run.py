@@ -372,10 +372,10 @@ def try_receivers(tally, folder):
     tx.unlink()
 
 
-PARTS = (
-    try_rounds, try_reports, try_limits, try_always, try_refused, try_files, try_check, try_receivers,
-    *(part for module in (usage, doors, edges, forms, fronts, options, repair, verbose) for part in module.PARTS),
-)  # fmt: skip
+def main():
+    parts = (part for module in (usage, doors, edges, forms, fronts, options, repair, verbose) for part in module.PARTS)
+    return run_parts(try_rounds, try_reports, try_limits, try_always, try_refused, try_files, try_check, try_receivers, *parts)
+
 
 if __name__ == "__main__":
-    sys.exit(run_parts(*PARTS))
+    sys.exit(main())

@@ -136,8 +136,7 @@ def try_words(tally, folder):
         ["a", "--end", "open"], ["a", "-"],
     ]  # fmt: skip
     for words in usage:
-        done = run(words, folder)
-        tally.check(f"usage {words}", (done.returncode, done.stdout) == (2, b"") and done.stderr.startswith(b"error: "), done)
+        tally.check_usage(f"usage {words}", run(words, folder))
 
 
 def try_refused(tally, folder):
