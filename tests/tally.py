@@ -73,6 +73,11 @@ def room_in(folder, name, files=None):
     return room
 
 
+def files_of(folder):
+    """What the files of a folder and of those in it hold, by their paths."""
+    return {str(path.relative_to(folder)): path.read_bytes() for path in folder.rglob("*") if path.is_file()}
+
+
 def make_huge(path, front=b""):
     """A file of 300 MB that begins so, which is more than any file may have."""
     path.write_bytes(front)

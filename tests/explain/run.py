@@ -17,7 +17,7 @@ import xml.etree.ElementTree as ElementTree
 sys.dont_write_bytecode = True
 sys.path[:0] = [str(pathlib.Path(__file__).resolve().parents[1] / it) for it in (".", "certificates")]
 from checker import CLOSE, CLOSED_END as CLOSED, CUT, IDLE_END as IDLE, OPEN_END as OPEN, SPLIT
-from drawings import SVG, check_form
+from drawings import SVG, box, check_form
 from rounds import page_file, small_pages
 from tally import BAD_LIMIT, BAD_RATE, CANNOT_OPEN, ENDS, NAMED_TWICE, TOP, fault, run, run_parts, said
 from trees import UNEXAMINED, certificate, overload as overload_of
@@ -63,7 +63,8 @@ NONE_EARLY = f"limits: 0 of 3 pages of {THREE_TONES} start in slot 10"
 SOME_EARLY = f"limits: 1 to 3 of 3 pages of {THREE_TONES} start in slot 10"
 CUT_APART = cut([0], 48, overload(0), overload(15))
 # The same from the other side: the second loop stands between boundaries 6 and 7, and an idle of slot 5 or 7 leads there.
-CUT_AROUND = cut([at for at in range(16) if at not in (6, 7)], 48, overload(5), overload(7))
+AROUND = [at for at in range(16) if at not in (6, 7)]
+CUT_AROUND = cut(AROUND, 48, overload(5), overload(7))
 ROOT_AROUND = f"node 1: a page of address 3 (16 codewords) starts or ends at boundaries 6 and 7, the smaller side of the cut; {TWO_WAYS}"
 # Two pages of 2 codewords and two of 18 in one frame, each of which covers slot 7 once, and by a whole turn once more.
 TURNS = HEADER + "".join(f"{address},numeric,{'5' * digits}\n" for address, digits in ((3, 5), (11, 85), (19, 5), (27, 85)))
@@ -176,8 +177,7 @@ REFUSED = [
      "node 1: no page of address 0 (16 codewords) has to start or end outside boundary 0"),
     ("a class of no pages", APART, certificate(OPEN, 3, cut([0], 5, overload(0), overload(15))),
      "node 1: no page of frame 0 and length 5 modulo 16 has to start or end outside boundary 0"),
-    ("a node too many of the smaller side", APART,
-     certificate(OPEN, 3, cut([at for at in range(16) if at not in (6, 7)], 48, overload(5), overload(7), overload(8))),
+    ("a node too many of the smaller side", APART, certificate(OPEN, 3, cut(AROUND, 48, overload(5), overload(7), overload(8))),
      "node 1: 2 ways out of boundaries 6 and 7, the smaller side of the cut, and 3 nodes for them"),
     ("a split too high", TONES, certificate(OPEN, 2, split(81, 4, overload(11), overload(10))),
      f"node 1: 0 to 3 pages of {THREE_TONES} may start in slot 10: no split at 4"),
@@ -246,7 +246,7 @@ def try_json(tally, folder):
     tally.check("the worked case as JSON", done.returncode == 0 and json.loads(done.stdout) == wanted, done)
     tally.check("JSON is one line", done.stdout.count(b"\n") == 1 and done.stdout.endswith(b"}\n"), done)
     told = json.loads(explained(folder, APART, certificate(OPEN, 3, CUT_AROUND), "--json", "--depth", "1").stdout)
-    around = root | {"boundaries": [at for at in range(16) if at not in (6, 7)], "named": [6, 7]}
+    around = root | {"boundaries": AROUND, "named": [6, 7]}
     tally.check("a cut that is named by its smaller side, as JSON", told["listed"][0]["fact"] == around, told)
     text = certificate(OPEN, 3, cut([0], 48, overload(0), overload(0)))
     told = json.loads(explained(folder, APART, text, "--json", "--depth", "1").stdout)
@@ -333,10 +333,9 @@ def due_column(slot, least, room, is_marked, most):
 
 def found_column(group):
     rect = group.find(SVG + "rect")
-    box = tuple(int(rect.get(key)) for key in ("x", "y", "width", "height"))
     paths = [(path.get("class"), path.get("d")) for path in group.findall(SVG + "path")]
     numbers = [(int(text.get("x")), int(text.get("y")), text.text) for text in group.findall(SVG + "text")]
-    return group.findtext(SVG + "title"), (rect.get("class"), *box), paths, numbers
+    return group.findtext(SVG + "title"), (rect.get("class"), *box(rect)), paths, numbers
 
 
 def try_size(tally, name, root):

@@ -21,7 +21,7 @@ sys.path.insert(0, str(pathlib.Path(__file__).resolve().parents[1]))
 import sessions
 import tally as shared
 from codewords import HEADER
-from tally import CANNOT_OPEN, CANNOT_WRITE, IS_EMULATED, ONE_IN, PROGRAM, as_nobody, fault, faulty, room_in, run_parts, sampled
+from tally import CANNOT_OPEN, CANNOT_WRITE, IS_EMULATED, ONE_IN, PROGRAM, as_nobody, fault, faulty, files_of, room_in, run_parts, sampled
 
 FIRST_LINE = b"pocsag journal,1\n"
 EDITS, KILLS, TURNS = (500, 30, 2_000) if IS_EMULATED else (5_000, 300, 20_000)
@@ -366,10 +366,6 @@ HARMS = [
 ]
 
 
-def files_in(place):
-    return {path.name: path.read_bytes() for path in place.iterdir() if path.is_file()}
-
-
 def try_harms(tally, folder):
     """A journal that another program moves, deletes, cuts or writes to while it is held gives no `ok` any more, and what
     stands there stays as it was left. It is opened to append."""
@@ -379,11 +375,11 @@ def try_harms(tally, folder):
             session = start(place, *more)
             tally.check(f"harm {number}: before", session.ask(b"add,8,tone0,") == b"ok 1")
             harm(place / NAME)
-            left = files_in(place)
+            left = files_of(place)
             found = session.close(b"add,16,tone0,\nadd,24,tone0,\n")
             due = read_line(0, 0) + told(MOVED, [f"journal {NAME}"] if more else [])
             tally.check(f"harm {number} {more}", found == (3, b"", due), found)
-            tally.check(f"harm {number} {more}: the files", files_in(place) == left, left)
+            tally.check(f"harm {number} {more}: the files", files_of(place) == left, left)
     place = room_in(folder, "append")
     session = start(place)
     session.process.stderr.readline()
@@ -686,13 +682,13 @@ def try_verbose(tally, place):
     os.mkfifo(place / "fifo")
     (place / "pages.csv").write_bytes(HEADER + b"8,tone0,\n")
     (place / "feed.csv").write_bytes(HEADER + b'16,alpha,"two\nlines"\n')
-    stood = files_in(place)
+    stood = files_of(place)
     for words, status, text, note in REFUSED:
         for more, notes in with_notes(note):
             done = shared.run(["open", *words, *more], place, b"list\n")
             tally.check_done(f"told of {words} {more}", done, status, b"", told(text, notes))
             tally.check(f"told of {words} {more}: no new file", not (place / "new").exists())
-    tally.check("told of each: the files stay", files_in(place) == stood, stood.keys())
+    tally.check("told of each: the files stay", files_of(place) == stood, stood.keys())
 
 
 def try_verbose_later(tally, place):

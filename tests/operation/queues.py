@@ -26,7 +26,7 @@ import time
 sys.dont_write_bytecode = True
 sys.path.insert(0, str(pathlib.Path(__file__).resolve().parents[1]))
 from channel import HEADER, KILLS, Channel, calls_of, can_trace, pages_of
-from tally import MEMORY, TOP, as_nobody, run_parts
+from tally import MEMORY, TOP, as_nobody, files_of, run_parts
 
 IS_EACH = sys.argv[1:] == ["--all"]
 RUNS = sum(int(word) for word in sys.argv[1:] if word.isdigit())  # of next-slot, where nothing else is tried
@@ -298,10 +298,6 @@ REFUSED = [
     ("an octal number", {"outgoing/.number": "010\n"}, 3, "next-slot: outgoing/.number is not a number"),
     ("a number that is empty", {"outgoing/.number": ""}, 3, "next-slot: cannot read outgoing/.number"),
 ]
-
-
-def files_of(folder):
-    return {str(path.relative_to(folder)): path.read_bytes() for path in folder.rglob("*") if path.is_file()}
 
 
 def try_statuses(tally, folder):

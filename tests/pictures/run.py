@@ -18,7 +18,7 @@ import xml.etree.ElementTree as ElementTree
 sys.dont_write_bytecode = True
 sys.path.insert(0, str(pathlib.Path(__file__).resolve().parents[1]))
 from codewords import IDLE, ONES as MESSAGE, TONE, ZERO, address_word, codewords_of, pages_in, transmission
-from drawings import SVG, check_form
+from drawings import SVG, box, check_form
 from tally import PROGRAM, TOP, fault, module_at, run, run_parts
 
 sys.path.insert(0, str(TOP / "docs/pictures"))
@@ -145,10 +145,6 @@ def check_places(tally, folder, records):
 def shown_byte(byte):
     """A byte of a message as the drawing shows it: a control character by its picture."""
     return chr(0x2400 + byte) if byte < 32 else "\u2421" if byte == 127 else chr(byte)
-
-
-def box(node):
-    return tuple(int(node.get(key)) for key in ("x", "y", "width", "height"))
 
 
 def marks_of(x, y, number):

@@ -11,7 +11,7 @@ import sys
 import time
 
 from codewords import APART, HEADER
-from tally import CANNOT_OPEN, CANNOT_WRITE, PROGRAM, TOO_LARGE, TOP, as_nobody, fault, faulty
+from tally import CANNOT_OPEN, CANNOT_WRITE, PROGRAM, TOO_LARGE, TOP, as_nobody, fault, faulty, files_of
 
 sys.path.insert(0, str(TOP / "tests/release"))
 import arm64
@@ -76,10 +76,6 @@ class Node:
         return outcome([*before, str(self.path), *words], folder, stdin, **how)
 
 
-def held(folder):
-    return {str(path.relative_to(folder)): path.read_bytes() for path in folder.rglob("*") if path.is_file()}
-
-
 def fresh(room, name, files):
     folder = room / name
     for path, data in files.items():
@@ -95,7 +91,7 @@ def first_files(room):
     for name in ("round", "apart"):
         native(["plan", f"{name}.csv", f"{name}.bin", f"{name}.cert"], folder)
     native(["open", "--journal", "journal", "round.csv"], folder, b"add,32,tone0,\n")
-    return held(folder)
+    return files_of(folder)
 
 
 def in_memory(node, runs, files):
@@ -117,27 +113,27 @@ def try_beside(tally, room, node):
     found = list(in_memory(node, runs, files))
     for k, (words, stdin) in enumerate(runs):
         folders = [fresh(room, f"{name} {k}", files) for name in ("native", "node")]
-        due = native(words, folders[0], stdin), held(folders[0])
+        due = native(words, folders[0], stdin), files_of(folders[0])
         tally.check(f"in memory {words}", found[k : k + 1] == [due], (found[k : k + 1], due))
         if "--journal" not in words:
-            told = node.run(words, folders[1], stdin), held(folders[1])
+            told = node.run(words, folders[1], stdin), files_of(folders[1])
             tally.check(f"in Node {words}", told == due, (told, due))
 
 
 def try_locks(tally, room, node):
     """Node has no locks: a journal is refused, `--keep` goes on, and nothing is removed that a killed run may have left."""
     folder = fresh(room, "locks", {**OLD, "old": b"kept"})
-    before = held(folder)
+    before = files_of(folder)
     for journal in ("new", "old"):
         told = node.run(["open", "--journal", journal, "pages.csv", "--verbose"], folder)
         due = 3, b"", CANNOT_OPEN + fault(f"journal {journal}: Operation not supported (os error 95)")
-        tally.check(f"a journal is refused: {journal}", told == due and held(folder) == before, told)
+        tally.check(f"a journal is refused: {journal}", told == due and files_of(folder) == before, told)
     fresh(room, "locks", {"tx.bin.pocsag.4194305.new": b"left", os.fsdecode(b"a\xff"): b"", **{str(k): b"" for k in range(10_000)}})
-    before, start = held(folder), time.monotonic()
+    before, start = files_of(folder), time.monotonic()
     told = node.run([*PLAN, "--keep", "--verify"], folder)
     native(["plan", "pages.csv", "../tx", "../cert"], folder)
     due = before | {"tx.bin": (room / "tx").read_bytes(), "cert.bin": (room / "cert").read_bytes()}
-    holds = told == (0, b"pages 1\nbatches 1\nverified\n", b"") and held(folder) == due and time.monotonic() - start < 20
+    holds = told == (0, b"pages 1\nbatches 1\nverified\n", b"") and files_of(folder) == due and time.monotonic() - start < 20
     tally.check("--keep without a lock, beside 10,000 files and what a killed run left", holds, told)
 
 
@@ -147,8 +143,8 @@ def try_way_back(tally, room, node):
     for call, number in failing:
         folder = fresh(room, f"{call} {number}", OLD)
         told = node.run([*PLAN, "--keep", "--verbose"], folder, before=faulty(call, f"error=EIO:when={number}"))
-        holds = told[:2] == (3, b"") and told[2].endswith(b": Input/output error (os error 5)\n") and held(folder) == OLD
-        tally.check(f"the way back where {call} {number} fails", holds, (told, held(folder)))
+        holds = told[:2] == (3, b"") and told[2].endswith(b": Input/output error (os error 5)\n") and files_of(folder) == OLD
+        tally.check(f"the way back where {call} {number} fails", holds, (told, files_of(folder)))
     folder, user = fresh(room, "another user", {**OLD, "shut.csv": TONE}), as_nobody(room)
     folder.chmod(0o777)
     (folder / "shut.csv").chmod(0)
