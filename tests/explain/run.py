@@ -59,8 +59,13 @@ STARTS = "frame 5 (slots 10 and 11): 3 pages start there, 1 batch has room for 2
 TWO_WAYS = "the way there and back takes the idle or the page of one of the 2 nodes below"
 ROOT_APART = f"node 1: a page of address 3 (16 codewords) starts or ends outside boundary 0; {TWO_WAYS}"
 SO_APART, SO_TONES = "so 2 batches do not suffice", "so 1 batch does not suffice"
-NONE_EARLY = f"limits: 0 of 3 pages of {THREE_TONES} start in slot 10"
-SOME_EARLY = f"limits: 1 to 3 of 3 pages of {THREE_TONES} start in slot 10"
+CASES_OF_TONES = f"node 1: a page of {THREE_TONES} starts in slot 10 or in slot 11: "
+IN_EACH_CASE = [
+    f"node 1.1, in the first case: slot 11: 3 codewords at the least, room for 1; 3 from 3 pages of {THREE_TONES}",
+    f"    limits: 0 of 3 pages of {THREE_TONES} start in slot 10", f"  node 1.2, in the second case: {STARTS}",
+    f"    limits: 1 to 3 of 3 pages of {THREE_TONES} start in slot 10",
+]  # fmt: skip
+LAST_IDLE = [f"  node 1.1, with an idle in slot 15: slot 15: 1 codeword at the least, room for 0; {ONE_LOOP}", "    limits: room for 0 in slot 15"]
 CUT_APART = cut([0], 48, overload(0), overload(15))
 # The same from the other side: the second loop stands between boundaries 6 and 7, and an idle of slot 5 or 7 leads there.
 AROUND = [at for at in range(16) if at not in (6, 7)]
@@ -75,7 +80,6 @@ MANY_TOLD = ", ".join(
     for address, codewords in ((0, 16), (8, 17), (1, 16), (9, 17), (2, 16), (3, 16), (4, 16), (5, 16))
 )
 LAST_TONE = LOOP + "7,tone0,\n"
-
 
 
 def idle_node(number, slot, before=""):
@@ -119,19 +123,10 @@ SHOWN = [
     ]),
     ("a full frame", TONES, certificate(OPEN, 2, overload(10, 11)), [], [SUM_TONES, f"node 1: {STARTS}", SO_TONES]),
     ("two cases", TONES, certificate(OPEN, 2, split(81, 1, overload(11), overload(10, 11))), [], [
-        SUM_TONES,
-        f"node 1: a page of {THREE_TONES} starts in slot 10 or in slot 11: none starts in slot 10, or at least 1 does",
-        f"  node 1.1, in the first case: slot 11: 3 codewords at the least, room for 1; 3 from 3 pages of {THREE_TONES}",
-        f"    {NONE_EARLY}",
-        f"  node 1.2, in the second case: {STARTS}",
-        f"    {SOME_EARLY}",
-        SO_TONES,
+        SUM_TONES, f"{CASES_OF_TONES}none starts in slot 10, or at least 1 does", f"  {IN_EACH_CASE[0]}", *IN_EACH_CASE[1:], SO_TONES,
     ]),
     ("two cases at 2", TONES, certificate(OPEN, 2, split(81, 2, overload(11), overload(10))), ["--depth=1"], [
-        SUM_TONES,
-        f"node 1: a page of {THREE_TONES} starts in slot 10 or in slot 11: fewer than 2 start in slot 10, or at least 2 do",
-        ".. 2 nodes below",
-        SO_TONES,
+        SUM_TONES, f"{CASES_OF_TONES}fewer than 2 start in slot 10, or at least 2 do", ".. 2 nodes below", SO_TONES,
     ]),
     ("slots of more frames", TONES, certificate(OPEN, 2, overload(3, 10, 11)), [], None),
     ("one batch", TONES, certificate(OPEN, 1, overload(10, 11)), [], [
@@ -142,8 +137,7 @@ SHOWN = [
     ("a closed end that a page may make", LAST_TONE, certificate(CLOSED, 2, close(overload(15), overload(15))), [], [
         "at least 2 batches, closed end: 2 pages, 17 codewords, room for 16 in 1 batch",
         "node 1: the last codeword, in slot 15, is an idle or a page of address 7 (1 codeword); a node below for each",
-        f"  node 1.1, with an idle in slot 15: slot 15: 1 codeword at the least, room for 0; {ONE_LOOP}",
-        "    limits: room for 0 in slot 15",
+        *LAST_IDLE,
         "  node 1.2, with a page of address 7 (1 codeword) that starts in slot 15: slot 15: 2 codewords at the least, room for 1; "
         f"{ONE_LOOP}, 1 from 1 page of address 7 (1 codeword)",
         "    limits: 0 of 1 page of address 7 (1 codeword) start in slot 14",
@@ -154,10 +148,7 @@ for end, name, told in ((CLOSED, "a closed end", "closed end"), (IDLE, "an idle 
     SHOWN += [
         (name, LOOP, certificate(end, 2, close(overload(15))), [], [
             f"at least 2 batches, {told}: 1 page, 16 codewords, room for 16 in 1 batch, yet",
-            "node 1: the last codeword, in slot 15, is an idle",
-            f"  node 1.1, with an idle in slot 15: slot 15: 1 codeword at the least, room for 0; {ONE_LOOP}",
-            "    limits: room for 0 in slot 15",
-            f"{SO_TONES} with {name}",
+            "node 1: the last codeword, in slot 15, is an idle", *LAST_IDLE, f"{SO_TONES} with {name}",
         ]),
         (f"{name} with tones", TONES, certificate(end, 2, overload(10, 11)), [], [
             f"at least 2 batches, {told}: 3 pages, 3 codewords, room for 16 in 1 batch, yet", f"node 1: {STARTS}",
@@ -297,10 +288,9 @@ DRAWN_REFUSED = [
     ("a refused node below those that are drawn", TONES,
      certificate(OPEN, 2, split(81, 1, overload(11), split(81, 2, overload(9), overload(10)))),
      "node 1.2.1: slot 9: 0 codewords at the least, room for 1", [
-        (f"node 1: a page of {THREE_TONES} starts in slot 10 or in slot 11: none starts in slot 10, or at least 1 does", NO_TONE, ONE_PLACE, [], []),
-        ("node 1.1, in the first case: slot 11: 3 codewords at the least, room for 1; "
-         f"3 from 3 pages of {THREE_TONES}", TONES_LATE, ONE_PLACE, [11], []),
-        (f"node 1.2, in the second case: a page of {THREE_TONES} starts in slot 10 or in slot 11: fewer than 2 start in slot 10, or at least 2 do",
+        (f"{CASES_OF_TONES}none starts in slot 10, or at least 1 does", NO_TONE, ONE_PLACE, [], []),
+        (IN_EACH_CASE[0], TONES_LATE, ONE_PLACE, [11], []),
+        (f"node 1.2, in the second case: {CASES_OF_TONES[len('node 1: '):]}fewer than 2 start in slot 10, or at least 2 do",
          [0] * 10 + [1] + [0] * 5, ONE_PLACE, [], []),
     ]),
 ]
