@@ -32,41 +32,34 @@ def places(word, slots):
     return [transmission([*slot * [IDLE], word]) for slot in slots]
 
 
-# The rounds of the worked examples: the fewest batches with the open end and with the closed end, those of
+# The rounds of the worked examples: the fewest batches with the open end, with the closed end and with an idle last, those of
 # file order, and where they are known the transmissions with the open end that are possible.
 EXACT_SENT = [ZERO] + 5 * [MESSAGE] + [ZERO] + 9 * [MESSAGE]
 TIGHT_SENT = [ZERO] + 5 * [MESSAGE] + [TONE] + 15 * [MESSAGE] + [ZERO] + 9 * [MESSAGE]
 MIXED = of_ones((0, 65)) + b"7,tone0,\n" + of_ones((15, 80))
 ROUNDS = {
-    "lone-tone": (LONE_TONE, 1, 1, 1, places(TONE, (0, 1))),
-    "lone-address-7": (b"2007663,tone0,\n", 1, 1, 1, places(bytes.fromhex("7A89A470"), (14, 15))),
-    "five-digits": (b"0,numeric,12345\n", 1, 1, 1, None),
-    "three-tones-one-frame": (b"5,tone0,\n13,tone0,\n21,tone0,\n", 2, 2, 2, None),
-    "one-full-batch": (ONE_FULL, 1, 2, 1, [transmission([ZERO] + 15 * [MESSAGE])]),
-    "loop-apart": (LOOP_APART, 2, 2, 2, None),
-    "loops-apart": (ONE_FULL + LOOP_APART, 3, 3, 3, None),
-    "two-numeric-exact": (EXACT, 1, 2, 1, [transmission(EXACT_SENT)]),
-    "three-pages-tight": (TIGHT, 2, 3, 3, [transmission(TIGHT_SENT)]),
-    "two-in-last-frame": (b"7,numeric,12345\n15,numeric,12345\n", 2, None, 2, None),
-    "closed-mixed": (MIXED, 2, 2, 2, None),
-    "closed-both-ways": (BOTH_WAYS, 2, 3, 2, None),
-    "long-numeric": (of_ones((7, 241)), 4, 5, None, None),
-    "long-alpha": (LONG_ALPHA, 88, None, None, None),
-    "file-order-2000": (b"".join(b"%d,tone0,\n" % k for k in range(2000)), 125, 125, 250, None),
-    "round-size": (b"".join(b"%d,tone0,\n" % k for k in range(20000)), 1250, 1250, 2500, None),
-    "crlf": (b"8,tone0,\r\n", 1, 1, 1, places(TONE, (0, 1))),
-    "empty-lines": (b"\n\n8,tone0,\n\n", 1, 1, 1, places(TONE, (0, 1))),
-    "quoted-fields": (b'"8","tone0",""\n', 1, 1, 1, places(TONE, (0, 1))),
-    "leading-zeros": (b"0000008,tone0,\n", 1, 1, 1, places(TONE, (0, 1))),
-    "no-last-line-feed": (b"8,tone0,", 1, 1, 1, places(TONE, (0, 1))),
+    "lone-tone": (LONE_TONE, 1, 1, 1, 1, places(TONE, (0, 1))),
+    "lone-address-7": (b"2007663,tone0,\n", 1, 1, 1, 1, places(bytes.fromhex("7A89A470"), (14, 15))),
+    "five-digits": (b"0,numeric,12345\n", 1, 1, 1, 1, None),
+    "three-tones-one-frame": (b"5,tone0,\n13,tone0,\n21,tone0,\n", 2, 2, 2, 2, None),
+    "one-full-batch": (ONE_FULL, 1, 2, 2, 1, [transmission([ZERO] + 15 * [MESSAGE])]),
+    "loop-apart": (LOOP_APART, 2, 2, 2, 2, None),
+    "loops-apart": (ONE_FULL + LOOP_APART, 3, 3, 3, 3, None),
+    "two-numeric-exact": (EXACT, 1, 2, 2, 1, [transmission(EXACT_SENT)]),
+    "three-pages-tight": (TIGHT, 2, 3, 3, 3, [transmission(TIGHT_SENT)]),
+    "two-in-last-frame": (b"7,numeric,12345\n15,numeric,12345\n", 2, None, 3, 2, None),
+    "closed-mixed": (MIXED, 2, 2, 3, 2, None),
+    "closed-both-ways": (BOTH_WAYS, 2, 3, 3, 2, None),
+    "long-numeric": (of_ones((7, 241)), 4, 5, 5, None, None),
+    "long-alpha": (LONG_ALPHA, 88, None, 88, None, None),
+    "file-order-2000": (b"".join(b"%d,tone0,\n" % k for k in range(2000)), 125, 125, 126, 250, None),
+    "round-size": (b"".join(b"%d,tone0,\n" % k for k in range(20000)), 1250, 1250, 1251, 2500, None),
+    "crlf": (b"8,tone0,\r\n", 1, 1, None, 1, places(TONE, (0, 1))),
+    "empty-lines": (b"\n\n8,tone0,\n\n", 1, 1, None, 1, places(TONE, (0, 1))),
+    "quoted-fields": (b'"8","tone0",""\n', 1, 1, None, 1, places(TONE, (0, 1))),
+    "leading-zeros": (b"0000008,tone0,\n", 1, 1, None, 1, places(TONE, (0, 1))),
+    "no-last-line-feed": (b"8,tone0,", 1, 1, None, 1, places(TONE, (0, 1))),
 }
-
-# Their fewest batches with an idle last.
-IDLE_LAST = {
-    "lone-tone": 1, "lone-address-7": 1, "five-digits": 1, "three-tones-one-frame": 2, "one-full-batch": 2, "loop-apart": 2,
-    "loops-apart": 3, "two-numeric-exact": 2, "three-pages-tight": 3, "two-in-last-frame": 3, "closed-mixed": 3,
-    "closed-both-ways": 3, "long-numeric": 5, "long-alpha": 88, "file-order-2000": 126, "round-size": 1251,
-}  # fmt: skip
 
 # What a listing shows of the rounds whose records are spelled otherwise.
 SPELLED = {name: [b"8,tone0,"] for name in ("crlf", "empty-lines", "quoted-fields", "leading-zeros", "no-last-line-feed")}
@@ -115,8 +108,8 @@ def shown_of(batches, end):
 
 def try_round(tally, folder, name, end):
     """A round planned, checked, decoded and read back."""
-    records, open_batches, closed_batches, _, sent = ROUNDS[name]
-    batches = {"open": open_batches, "closed": closed_batches, "idle": IDLE_LAST.get(name)}[end]
+    records, *fewest, _, sent = ROUNDS[name]
+    batches = dict(zip(ENDS, fewest))[end]
     if batches is None:
         return
     pages, tx, cert = folder / "pages.csv", folder / "tx.bin", folder / "cert.bin"
@@ -138,7 +131,7 @@ def try_round(tally, folder, name, end):
 
 
 def try_rounds(tally, folder):
-    for name, (records, batches, _, in_order, _) in ROUNDS.items():
+    for name, (records, batches, _, _, in_order, _) in ROUNDS.items():
         for end in ENDS:
             try_round(tally, folder, name, end)
         tally.check_done(f"input {name}", run([], folder, HEADER + records), 0, told_of(len(lines_of(name)), batches))
@@ -230,7 +223,7 @@ def try_always(tally, folder):
         pages.write_bytes(text or b"")
         tally.check_done(f"--always refuses {name}", run(plan, folder), 1, b"", fault(why), are_empty(folder))
     # Every round of the examples, as without --always.
-    for name, (records, batches, _, _, _) in ROUNDS.items():
+    for name, (records, batches, *_) in ROUNDS.items():
         pages.write_bytes(HEADER + records)
         done = run([*plan, "--verify"], folder)
         tally.check_done(f"plan {name} --always", done, 0, told_of(len(lines_of(name)), batches, "verified"))

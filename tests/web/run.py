@@ -215,7 +215,7 @@ def try_large(tally, made):
 def try_node(tally, made):
     """The ES module, by what stands in module.mjs, with the files of the vectors and the worked examples."""
     program = made.program
-    rounds = {name: [(program.HEADER + row[0]).decode(), row[1], row[2], program.IDLE_LAST.get(name), row[3]] for name, row in program.ROUNDS.items()}
+    rounds = {name: [(HEADER + row[0]).decode(), *row[1:5]] for name, row in program.ROUNDS.items()}
     refused = {name: [(text or b"").decode("latin-1"), fault] for name, (text, fault) in program.REFUSED.items()}
     (made.room / "examples.json").write_text(json.dumps({"rounds": rounds, "refused": refused}))
     done = run(NODE, HERE / "module.mjs", made.folder, made.room / "examples.json", TOP / "vectors")
