@@ -51,6 +51,28 @@ def letters(text):
     return items_of(text.encode("latin-1") if isinstance(text, str) else text, 7, 0)
 
 
+def codes_of(items, width):
+    bits = [item >> 19 - k & 1 for item in items for k in range(20)]
+    return [sum(bits[k + j] << j for j in range(width)) for k in range(0, len(bits) - width + 1, width)]
+
+
+def characters(items):
+    return "".join(map(chr, codes_of(items, 7))).rstrip("\0")
+
+
+def kind_and_message(function, items, texts=()):
+    """What is told of a page, where the messages of these functions are text."""
+    if not items:
+        return f"tone{function}", ""
+    if function in texts:
+        return f"text{function}", characters(items)
+    if function == 0:
+        return "numeric", "".join(NUMERIC[code] for code in codes_of(items, 4)).rstrip(" ")
+    if function == 3:
+        return "alpha", characters(items)
+    return f"data{function}", "".join(f"{item:05X}" for item in items)
+
+
 def transmission(words):
     """The bytes of codewords, in batches, the last of which idles fill."""
     words = [*words, *[IDLE] * (-len(words) % 16)]

@@ -6,6 +6,11 @@ SVG = "{http://www.w3.org/2000/svg}"
 TAGS = {SVG + tag for tag in ("svg", "title", "desc", "style", "text", "rect", "path", "g")}
 
 
+def box(node):
+    """The place and the size of a rectangle."""
+    return tuple(int(node.get(key)) for key in ("x", "y", "width", "height"))
+
+
 def check_form(tally, name, root, text, outer):
     """Shapes and texts alone, with no id and no script; rules under one class, of light and of dark; texts for readers of screens."""
     tags = {node.tag for node in root.iter()}

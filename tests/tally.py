@@ -30,16 +30,58 @@ def module_at(name, path):
     return module
 
 
-def run(words, folder=None, stdin=b"", **more):
-    """A run of the program with these words in a folder, with bytes or a file as its input."""
-    if "input" not in more:
-        more["input" if isinstance(stdin, bytes) else "stdin"] = stdin
-    return subprocess.run([str(PROGRAM), *words], capture_output=True, cwd=folder, timeout=300, **more)
+def run(words, folder=None, stdin=b"", before=(), **more):
+    """A run of the program with these words in a folder, with bytes or a file as its input; behind other words, which start it."""
+    words = [*before, str(PROGRAM), *(str(it) if isinstance(it, int) else it for it in words)]
+    given = {"input" if isinstance(stdin, bytes) else "stdin": stdin}
+    how = {"stdout": subprocess.PIPE, "stderr": subprocess.PIPE, "cwd": folder, "timeout": 300}
+    return subprocess.run(words, **(given | how | more))
 
 
 def said(done):
     """What a run ended with and printed."""
     return done.returncode, done.stdout, done.stderr
+
+
+def brief(done):
+    """What is shown of a run that failed."""
+    return done.args, done.returncode, *((text or b"")[:2000] for text in (done.stdout, done.stderr))
+
+
+def fault(text):
+    """How the program tells a fault."""
+    return f"pocsag: {text}\n".encode()
+
+
+# Faults that each command may tell.
+CANNOT_OPEN, CANNOT_WRITE, NAMED_TWICE = map(fault, ("cannot read or open a file", "cannot write", "the same file is named twice"))
+BAD_LIMIT, BAD_RATE = map(fault, ("the limit must be 1 to 1000000", "the rate must be 512, 1200 or 2400"))
+TOO_LARGE = fault("the file is too large")
+
+
+def faulty(calls, what, trace="/dev/null"):
+    """The words that start a program of whose calls of the system some meet a fault, as `error=EIO:when=2`."""
+    return ["strace", "-f", "-qq", "-o", str(trace), "-e", f"trace={calls}", "-e", f"inject={calls}:{what}"]
+
+
+def room_in(folder, name, files=None):
+    """A new folder in this one, with these files."""
+    room = folder / name
+    room.mkdir()
+    for file, text in (files or {}).items():
+        (room / file).write_bytes(text)
+    return room
+
+
+def files_of(folder):
+    """What the files of a folder and of those in it hold, by their paths."""
+    return {str(path.relative_to(folder)): path.read_bytes() for path in folder.rglob("*") if path.is_file()}
+
+
+def make_huge(path, front=b""):
+    """A file of 300 MB that begins so, which is more than any file may have."""
+    path.write_bytes(front)
+    os.truncate(path, 300_000_000)
 
 
 def sampled(cases, one_in=ONE_IN):
@@ -63,6 +105,20 @@ class Tally:
             self.failed += 1
             print(f"FAILED {name}: {told}")
 
+    def check_done(self, name, done, status=0, out=b"", err=b"", also=True):
+        """Whether a run ended with this status and printed this alone, and what else has to hold."""
+        self.check(name, said(done) == (status, out, err) and also, (brief(done), also))
+
+    def check_usage(self, name, done, told=b"error: ", also=True):
+        """Whether words were refused as usage, by an error that begins so and by nothing else, and what else has to hold."""
+        self.check(name, (done.returncode, done.stdout) == (2, b"") and done.stderr.startswith(told) and also, (brief(done), also))
+
+    def check_full(self, name, words, folder=None, stdin=b""):
+        """Whether a run tells that its standard output is a full device."""
+        with open("/dev/full", "wb") as full:
+            done = run(words, folder, stdin, stdout=full)
+        self.check(name, (done.returncode, done.stderr) == (3, CANNOT_WRITE), done)
+
     def check_run(self, name, done, status, out, *said):
         """Whether a run, as (status, output, errors), ended with this status and output, and its errors say all of this."""
         self.check(name, done[:2] == (status, out) and all(it in done[2] for it in said), done)
@@ -81,12 +137,13 @@ def skipped(why):
     return tally.end()
 
 
-def run_parts(*parts):
-    """Runs each part with a tally and one empty folder for all of them; gives the exit status."""
+def run_parts(*parts, apart=False):
+    """Runs each part with a tally and one empty folder for all of them, or one for each; gives the exit status."""
     tally = Tally()
     with tempfile.TemporaryDirectory() as name:
+        folder = pathlib.Path(name).resolve()
         for part in parts:
-            part(tally, pathlib.Path(name).resolve())
+            part(tally, room_in(folder, part.__name__) if apart else folder)
     return tally.end()
 
 

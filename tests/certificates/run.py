@@ -20,8 +20,7 @@ from concurrent.futures import ProcessPoolExecutor, ThreadPoolExecutor
 
 sys.dont_write_bytecode = True
 HERE = pathlib.Path(__file__).resolve().parent
-sys.path.insert(0, str(HERE.parent))
-sys.path.insert(0, str(HERE))
+sys.path[:0] = [str(HERE), str(HERE.parent)]
 import checker
 import wrong
 from checker import CLOSE, CUT, SPLIT, TOLD
@@ -29,6 +28,7 @@ from pairs import pairs
 from rounds import HEADER, page_file, small_pages
 from tally import ENDS, Tally, run
 from trees import UNEXAMINED, certificate, overload
+from worked import CHECKS
 
 CHANGES = 3_000
 PLANNED = 60
@@ -43,42 +43,6 @@ NO_CERTIFICATE = re.compile(
     r"pocsag: (not a certificate|unknown certificate version|bytes after the certificate|the certificate ("
     r"is cut short|is malformed|is too deep|has too many nodes))\n"
 )
-
-
-def ones(count):
-    return b"1" * count
-
-
-LONE_TONE = b"8,tone0,\n"
-LOOP_APART = b"3,numeric," + ones(75) + b"\n"
-LOOPS_APART = b"0,numeric," + ones(75) + b"\n" + LOOP_APART
-TIGHT = b"0,numeric," + ones(25) + b"\n3,numeric," + ones(45) + b"\n11,numeric," + ones(75) + b"\n"
-BOTH_WAYS = b"0,numeric," + ones(65) + b"\n7,tone0,\n15,numeric," + ones(10) + b"\n1,numeric," + ones(65) + b"\n"
-FULL_OF_TONES = b"".join(b"%d,tone0,\n" % address for address in range(16))
-LONG_ALPHA = b"0,alpha," + b"A" * 4000 + b"\n"
-
-# Rounds and certificates (hexadecimal) that are worked by hand and stand in no vector, and what is to be printed.
-EXAMPLES = [
-    (LONE_TONE, "50434231 00000001 00 0003", "at least 1 batches"),
-    (LOOP_APART, "50434231 00000002 02 0001 30 0002 00 0001 00 8000", "at least 2 batches"),
-    (LONG_ALPHA, "50434232 00 00000058 00 FFFF", "at least 88 batches"),
-    (BOTH_WAYS, "50434234 00000003 04 01 00 FFFF", "at least 3 batches with an idle last"),
-    (FULL_OF_TONES, "50434232 01 00000002 04 02 00 FFFF 00 8000", "not shown"),
-    (FULL_OF_TONES, "50434232 00 00000002 00 FFFF", "not shown"),
-    (LOOPS_APART, "50434231 00000003 02 0001 30 0002 00 0001 00 4000", "not shown"),
-    (LOOPS_APART, "50434231 00000003 02 0002 30 0002 00 0001 00 0002", "not shown"),
-    (LOOPS_APART, "50434231 00000003 02 0001 00 0002 00 0001 00 8000", "not shown"),
-    (TIGHT, "50434231 00000003 02 0001 30 0002 00 0001 00 8000", "not shown"),
-    (LONE_TONE, "50434231 00000001" + 299 * "01 00 0001" + 300 * "03", "not shown"),
-    # Cuts of {0} inside both ways of a cut of {0}: one idle in slot 0, said twice, is one idle.
-    (LOOPS_APART, "50434231 00000004 02 0001 30 0002" + 2 * "02 0001 30 0002 00 0001 00 8000", "not shown"),
-    (LONE_TONE, "50434231 00000001" + 300 * "01 00 0001", "no certificate"),
-    (LOOPS_APART, "50434231 00000003 02 0001 30 0002 00 0001 00 8000 00", "no certificate"),
-    (LOOPS_APART, "50434231 00000003 02 0001 30 0002 00 0001 00 80", "no certificate"),
-    (LONE_TONE, "50434233 00", "no certificate"),
-    (LONE_TONE, "50434234 00000001 04 03 00 0001 00 0001 00 0001", "no certificate"),
-    (LONE_TONE, "50434231 00000001 07", "no certificate"),
-]
 
 
 class Product:
@@ -198,7 +162,8 @@ class Comparing:
         return theirs
 
     def examples_and_plans(self, source):
-        for records, text, due in EXAMPLES:
+        for _, records, text, told in CHECKS:
+            due = told if told.startswith(("at least", "not shown")) else "no certificate"
             self.compare("example", HEADER + records, bytes.fromhex(text), due)
         for _ in range(PLANNED):
             pages = page_file(source, small_pages(source))

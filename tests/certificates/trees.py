@@ -89,11 +89,7 @@ class Builder:
 
     def leaf(self, limits, above):
         """An overload that holds by one under the limits, and not under those above; none where there is none."""
-        found = [
-            loads[0]
-            for loads in self.sets
-            if self.excess(loads, limits) == 1 and (above is None or self.excess(loads, above) < 1)
-        ]
+        found = [loads[0] for loads in self.sets if self.excess(loads, limits) == 1 and (above is None or self.excess(loads, above) < 1)]
         return overload(self.source.choice(found)) if found else None
 
     def loose_leaf(self, limits):

@@ -6,6 +6,9 @@ import types
 
 SOURCE = (pathlib.Path(__file__).resolve().parent / "checker.py").read_text()
 
+MARK = r'3 if data.startswith(b"\xef\xbb\xbf") else 0'
+CHILDREN, EACH_CHILD = "for child, way in zip(node[4], below))", "for child, way in list(zip(node[4], below))[%s])"
+IDLE_WAYS, LEAST = "(CAP, i, min(cap[i], b - 1)) for i in idles]", "sum(min(lo[c] * gain, hi[c] * gain)"
 EARLY_WAYS = """if early and hi[c] >= 1:
             ways.append((LO, c, max(lo[c], 1)))"""
 APART = "if end == CLOSED_END and length == 1"
@@ -20,23 +23,11 @@ LATE_WAYS = """if late and lo[c] < count[c]:
             ways.append((HI, c, min(hi[c], count[c] - 1)))"""
 
 OF_FILES = [
-    ("a byte order mark is a part of the first field", r'3 if data.startswith(b"\xef\xbb\xbf") else 0', "0"),
-    (
-        "EF BB and any byte are a byte order mark",
-        r'3 if data.startswith(b"\xef\xbb\xbf") else 0',
-        r'3 if data.startswith(b"\xef\xbb") else 0',
-    ),
-    (
-        "EF BB alone is a byte order mark",
-        r'3 if data.startswith(b"\xef\xbb\xbf") else 0',
-        r'3 if data.startswith(b"\xef\xbb\xbf") else 2 if data.startswith(b"\xef\xbb") else 0',
-    ),
+    ("a byte order mark is a part of the first field", MARK, "0"),
+    ("EF BB and any byte are a byte order mark", MARK, r'3 if data.startswith(b"\xef\xbb") else 0'),
+    ("EF BB alone is a byte order mark", MARK, MARK.replace("0", r'2 if data.startswith(b"\xef\xbb") else 0')),
     ("an empty line is a record", r'if not fields and data[at:at + 1] in (b"\n", b"\r"):', "if False:"),
-    (
-        "an empty line of a carriage return is a record",
-        r'data[at:at + 1] in (b"\n", b"\r")',
-        r'data[at:at + 1] == b"\n"',
-    ),
+    ("an empty line of a carriage return is a record", r'data[at:at + 1] in (b"\n", b"\r")', r'data[at:at + 1] == b"\n"'),
     ("a carriage return alone ends no record", r'rb"([^,\r\n]*)(,|\r\n|\r|\n|\Z)"', r'rb"([^,\r\n]*)(,|\r\n|\n|\Z)"'),
     ("a line feed alone ends no record", r'rb"([^,\r\n]*)(,|\r\n|\r|\n|\Z)"', r'rb"([^,\r\n]*)(,|\r\n|\r|\Z)"'),
     ("spaces around a field are left out", "fields.append(field)", 'fields.append(field.strip(b" "))'),
@@ -44,31 +35,15 @@ OF_FILES = [
     ("a doubled quote closes", """data[at + 1:at + 2] != b'"'""", "True"),
     ("what follows the closing quote is left out", "quoted + rest[1]", "(quoted if quoted else rest[1])"),
     ("a quote never closed is refused", "else len(data)\n", "else need(False)\n"),
-    (
-        "a quote begins in the midst of a field",
-        """if data[at:at + 1] == b'"':""",
-        """if b'"' in UNQUOTED.match(data, at)[1]:""",
-    ),
-    (
-        "the header may be any three fields",
-        'need(next(rows, None) == [b"address", b"kind", b"message"])',
-        "need(len(next(rows, [])) == 3)",
-    ),
+    ("a quote begins in the midst of a field", """if data[at:at + 1] == b'"':""", """if b'"' in UNQUOTED.match(data, at)[1]:"""),
+    ("the header may be any three fields", 'need(next(rows, None) == [b"address", b"kind", b"message"])', "need(len(next(rows, [])) == 3)"),
     ("the header's case is any", "need(next(rows, None) ==", "need([x.lower() for x in next(rows, [])] =="),
     ("a fourth field is passed over", "need(len(fields) == 3 and", "need(len(fields) >= 3 and"),
     ("the header may have more fields", 'need(next(rows, None) == [', 'need(next(rows, [])[:3] == ['),
     ("a message may be left out", "need(len(fields) == 3 and", "fields += [b''] * (3 - len(fields)); need("),
-    (
-        "an address may be any number of Python's",
-        're.fullmatch(rb"[0-9]{1,7}", fields[0])',
-        "fields[0].strip().isdigit()",
-    ),
+    ("an address may be any number of Python's", 're.fullmatch(rb"[0-9]{1,7}", fields[0])', "fields[0].strip().isdigit()"),
     ("an address may come twice", "address not in lengths and", ""),
-    (
-        "an address may come again, but not at once",
-        "need(address not in lengths and",
-        "need(address != next(reversed(lengths), None) and",
-    ),
+    ("an address may come again, but not at once", "need(address not in lengths and", "need(address != next(reversed(lengths), None) and"),
     ("a round may be empty", "need(lengths)", "pass"),
     ("a numeric message may be empty", r"\]\[]{1,4000}", r"\]\[]{0,4000}"),
     ("a numeric message may hold u", "0-9*U", "0-9*Uu"),
@@ -160,29 +135,19 @@ OF_BYTES = [
 ]
 
 OF_VERDICTS = [
-    (
-        "a number of batches is refuted, and not one less",
-        "b, count, turns = batches - 1,",
-        "b, count, turns = batches,",
-    ),
+    ("a number of batches is refuted, and not one less", "b, count, turns = batches - 1,", "b, count, turns = batches,"),
     ("two batches less are refuted", "b, count, turns = batches - 1,", "b, count, turns = max(0, batches - 2),"),
     ("an overload may be even", "> room else None", ">= room else None"),
     ("an overload is by two", "> room else None", "> room + 1 else None"),
     ("the room is that of all slots", "sum(cap[i] for i in range(16) if members >> i & 1)", "sum(cap)"),
     ("the room is b for each slot", "sum(cap[i] for i in range(16) if members >> i & 1)", "b * size(members)"),
-    (
-        "the least load is that of the greatest caps",
-        "least_load(members, lo, hi, count, turns) > room",
-        "least_load(members, lo, hi, count, turns) > max(room, b * size(members))",
-    ),
-    ("of lo and hi the greater load", "sum(min(lo[c] * gain, hi[c] * gain)", "sum(max(lo[c] * gain, hi[c] * gain)"),
-    ("the load with lo", "sum(min(lo[c] * gain, hi[c] * gain)", "sum((lo[c] * gain)"),
-    ("the load with hi", "sum(min(lo[c] * gain, hi[c] * gain)", "sum((hi[c] * gain)"),
-    (
-        "the least of all classes together",
-        "sum(min(lo[c] * gain, hi[c] * gain) for c, gain in gains)",
-        "min(sum(lo[c] * gain for c, gain in gains), sum(hi[c] * gain for c, gain in gains))",
-    ),
+    ("the least load is that of the greatest caps", "least_load(members, lo, hi, count, turns) > room",
+     "least_load(members, lo, hi, count, turns) > max(room, b * size(members))"),
+    ("of lo and hi the greater load", LEAST, "sum(max(lo[c] * gain, hi[c] * gain)"),
+    ("the load with lo", LEAST, "sum((lo[c] * gain)"),
+    ("the load with hi", LEAST, "sum((hi[c] * gain)"),
+    ("the least of all classes together", "sum(min(lo[c] * gain, hi[c] * gain) for c, gain in gains)",
+     "min(sum(lo[c] * gain for c, gain in gains), sum(hi[c] * gain for c, gain in gains))"),
     ("late runs cover as early ones do", "count[c] * late\n", "count[c] * early\n"),
     ("whole turns load a set once", "turns[c] * size(members)", "turns[c]"),
     ("early runs add what they cover", "(c, early - late)", "(c, early)"),
@@ -193,36 +158,13 @@ OF_VERDICTS = [
     ("below a Split hi is m", "(HI, c, m - 1), (LO, c, m)", "(HI, c, m), (LO, c, m)"),
     ("from a Split on lo is m - 1", "(HI, c, m - 1), (LO, c, m)", "(HI, c, m - 1), (LO, c, m - 1)"),
     ("the children of a Split exchanged", "[(HI, c, m - 1), (LO, c, m)]", "[(LO, c, m), (HI, c, m - 1)]"),
-    (
-        "a Split's first child is not judged",
-        "for child, way in zip(node[4], below))",
-        "for child, way in list(zip(node[4], below))[node[0] == SPLIT:])",
-    ),
-    (
-        "a Split's second child is not judged",
-        "for child, way in zip(node[4], below))",
-        "for child, way in list(zip(node[4], below))[:1 if node[0] == SPLIT else None])",
-    ),
-    (
-        "a Cut's last child is not judged",
-        "for child, way in zip(node[4], below))",
-        "for child, way in list(zip(node[4], below))[:-1 if node[0] == CUT else None])",
-    ),
-    (
-        "a Cut's first child is not judged",
-        "for child, way in zip(node[4], below))",
-        "for child, way in list(zip(node[4], below))[node[0] == CUT:])",
-    ),
-    (
-        "a Close's last child is not judged",
-        "for child, way in zip(node[4], below))",
-        "for child, way in list(zip(node[4], below))[:-1 if node[0] == CLOSE and len(below) > 1 else None])",
-    ),
-    (
-        "an Open below a Cut is taken",
-        "if below is None or",
-        "if node[0] == OPEN and change and change[0] == CAP: continue\n        if below is None or",
-    ),
+    ("a Split's first child is not judged", CHILDREN, EACH_CHILD % "node[0] == SPLIT:"),
+    ("a Split's second child is not judged", CHILDREN, EACH_CHILD % ":1 if node[0] == SPLIT else None"),
+    ("a Cut's last child is not judged", CHILDREN, EACH_CHILD % ":-1 if node[0] == CUT else None"),
+    ("a Cut's first child is not judged", CHILDREN, EACH_CHILD % "node[0] == CUT:"),
+    ("a Close's last child is not judged", CHILDREN, EACH_CHILD % ":-1 if node[0] == CLOSE and len(below) > 1 else None"),
+    ("an Open below a Cut is taken", "if below is None or",
+     "if node[0] == OPEN and change and change[0] == CAP: continue\n        if below is None or"),
     ("a Cut with b of 0", "if tag == CUT and b >= 1 and", "if tag == CUT and"),
     ("a Cut's set without boundary 0", "and members & 1 and c <= 135", "and c <= 135"),
     ("a Cut's class need not be certain", "and certain(c, members, lo, hi, count):", "and count[c] >= 1:"),
@@ -236,33 +178,18 @@ OF_VERDICTS = [
     ("some pages early make late ones certain", "late and hi[c] < count[c])", "late and lo[c] < count[c])"),
     ("more children than ways", "len(below) != len(node[4])", "len(below) > len(node[4])"),
     ("fewer children than ways", "len(below) != len(node[4])", "len(below) < len(node[4])"),
-    (
-        "an idle where the cap is below b is no way",
-        "(CAP, i, min(cap[i], b - 1)) for i in idles]",
-        "(CAP, i, min(cap[i], b - 1)) for i in idles if cap[i] == b]",
-    ),
-    (
-        "an idle lowers the cap each time",
-        "(CAP, i, min(cap[i], b - 1)) for i in idles]",
-        "(CAP, i, cap[i] - 1) for i in idles]",
-    ),
-    ("an idle narrows nothing", "(CAP, i, min(cap[i], b - 1)) for i in idles]", "(CAP, i, cap[i]) for i in idles]"),
+    ("an idle where the cap is below b is no way", IDLE_WAYS, "(CAP, i, min(cap[i], b - 1)) for i in idles if cap[i] == b]"),
+    ("an idle lowers the cap each time", IDLE_WAYS, "(CAP, i, cap[i] - 1) for i in idles]"),
+    ("an idle narrows nothing", IDLE_WAYS, "(CAP, i, cap[i]) for i in idles]"),
     ("idles come after runs", "return ways\n", "return ways[len(idles):] + ways[:len(idles)]\n"),
-    (
-        "idles from 15 down to 0",
-        "for i in range(16) if crosses(members, IDLES[i])",
-        "for i in reversed(range(16)) if crosses(members, IDLES[i])",
-    ),
+    ("idles from 15 down to 0", "for i in range(16) if crosses(members, IDLES[i])",
+     "for i in reversed(range(16)) if crosses(members, IDLES[i])"),
     ("classes from 135 down to 0", "for c, early, late in runs:", "for c, early, late in reversed(runs):"),
     ("early where lo is not 0", "if early and hi[c] >= 1:", "if early and lo[c] >= 1:"),
     ("early where hi is 0 too", "if early and hi[c] >= 1:", "if early:"),
     ("late where hi is below the count", "if late and lo[c] < count[c]:", "if late and hi[c] < count[c]:"),
     ("late where lo is the count too", "if late and lo[c] < count[c]:", "if late:"),
-    (
-        "late before early",
-        f"{EARLY_WAYS}\n        {LATE_WAYS}",
-        f"{LATE_WAYS}\n        {EARLY_WAYS}",
-    ),
+    ("late before early", f"{EARLY_WAYS}\n        {LATE_WAYS}", f"{LATE_WAYS}\n        {EARLY_WAYS}"),
     ("early narrows to one page more", "(LO, c, max(lo[c], 1))", "(LO, c, lo[c] + 1)"),
     ("early narrows to one", "(LO, c, max(lo[c], 1))", "(LO, c, 1)"),
     ("early narrows nothing", "(LO, c, max(lo[c], 1))", "(LO, c, lo[c])"),
@@ -278,12 +205,8 @@ OF_VERDICTS = [
     ("the last idle narrows nothing", LAST_IDLE, "last = [(CAP, 15, cap[15])]"),
     ("a last idle alone", LAST_PAGE, "if False:"),
     ("the last page before the last idle", "last.append((HI, 135,", "last.insert(0, (HI, 135,"),
-    (
-        "the last page is of frame 0",
-        LAST_PAGE_WAY,
-        "if end == CLOSED_END and count[128] >= 1 and lo[128] < count[128]:\n"
-        "        last.append((HI, 128, min(hi[128], count[128] - 1)))",
-    ),
+    ("the last page is of frame 0", LAST_PAGE_WAY,
+     "if end == CLOSED_END and count[128] >= 1 and lo[128] < count[128]:\n        last.append((HI, 128, min(hi[128], count[128] - 1)))"),
     (
         "a last page with the idle end",
         LAST_PAGE_WAY,
@@ -296,19 +219,12 @@ OF_VERDICTS = [
     ("the last page narrows to one less", "min(hi[135], count[135] - 1)", "hi[135] - 1"),
     ("the last page narrows nothing", "min(hi[135], count[135] - 1)", "hi[135]"),
     ("no way narrows", "limits = changed(limits, change) if change else limits", "pass"),
-    (
-        "the last way alone narrows",
-        "waiting.extend((child, limits, way)",
-        "waiting.extend((child, ((0,) * 136, count, (b,) * 16), way)",
-    ),
+    ("the last way alone narrows", "waiting.extend((child, limits, way)", "waiting.extend((child, ((0,) * 136, count, (b,) * 16), way)"),
     ("the closed end is not told", '" with a closed end"', '""'),
     ("the idle end is not told", '" with an idle last"', '""'),
     ("the idle end is told as the closed one", '" with an idle last"', '" with a closed end"'),
-    (
-        "a page file is judged after the certificate",
-        'return "refused"',
-        'return "refused" if parse(bytes(certificate_bytes)) else "no certificate"',
-    ),
+    ("a page file is judged after the certificate", 'return "refused"',
+     'return "refused" if parse(bytes(certificate_bytes)) else "no certificate"'),
 ]
 
 WRONG = OF_FILES + OF_LIMITS + OF_RUNS + OF_BYTES + OF_VERDICTS

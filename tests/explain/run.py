@@ -10,7 +10,6 @@ and from the letters of `show`. It takes the binary that the gate left in crates
 import json
 import pathlib
 import random
-import subprocess
 import sys
 import textwrap
 import xml.etree.ElementTree as ElementTree
@@ -18,9 +17,9 @@ import xml.etree.ElementTree as ElementTree
 sys.dont_write_bytecode = True
 sys.path[:0] = [str(pathlib.Path(__file__).resolve().parents[1] / it) for it in (".", "certificates")]
 from checker import CLOSE, CLOSED_END as CLOSED, CUT, IDLE_END as IDLE, OPEN_END as OPEN, SPLIT
-from drawings import SVG, check_form
+from drawings import SVG, box, check_form
 from rounds import page_file, small_pages
-from tally import ENDS, PROGRAM, TOP, run, run_parts
+from tally import BAD_LIMIT, BAD_RATE, CANNOT_OPEN, ENDS, NAMED_TWICE, TOP, fault, run, run_parts, said
 from trees import UNEXAMINED, certificate, overload as overload_of
 
 EXAMPLES = TOP / "examples"
@@ -60,11 +59,17 @@ STARTS = "frame 5 (slots 10 and 11): 3 pages start there, 1 batch has room for 2
 TWO_WAYS = "the way there and back takes the idle or the page of one of the 2 nodes below"
 ROOT_APART = f"node 1: a page of address 3 (16 codewords) starts or ends outside boundary 0; {TWO_WAYS}"
 SO_APART, SO_TONES = "so 2 batches do not suffice", "so 1 batch does not suffice"
-NONE_EARLY = f"limits: 0 of 3 pages of {THREE_TONES} start in slot 10"
-SOME_EARLY = f"limits: 1 to 3 of 3 pages of {THREE_TONES} start in slot 10"
+CASES_OF_TONES = f"node 1: a page of {THREE_TONES} starts in slot 10 or in slot 11: "
+IN_EACH_CASE = [
+    f"node 1.1, in the first case: slot 11: 3 codewords at the least, room for 1; 3 from 3 pages of {THREE_TONES}",
+    f"    limits: 0 of 3 pages of {THREE_TONES} start in slot 10", f"  node 1.2, in the second case: {STARTS}",
+    f"    limits: 1 to 3 of 3 pages of {THREE_TONES} start in slot 10",
+]  # fmt: skip
+LAST_IDLE = [f"  node 1.1, with an idle in slot 15: slot 15: 1 codeword at the least, room for 0; {ONE_LOOP}", "    limits: room for 0 in slot 15"]
 CUT_APART = cut([0], 48, overload(0), overload(15))
 # The same from the other side: the second loop stands between boundaries 6 and 7, and an idle of slot 5 or 7 leads there.
-CUT_AROUND = cut([at for at in range(16) if at not in (6, 7)], 48, overload(5), overload(7))
+AROUND = [at for at in range(16) if at not in (6, 7)]
+CUT_AROUND = cut(AROUND, 48, overload(5), overload(7))
 ROOT_AROUND = f"node 1: a page of address 3 (16 codewords) starts or ends at boundaries 6 and 7, the smaller side of the cut; {TWO_WAYS}"
 # Two pages of 2 codewords and two of 18 in one frame, each of which covers slot 7 once, and by a whole turn once more.
 TURNS = HEADER + "".join(f"{address},numeric,{'5' * digits}\n" for address, digits in ((3, 5), (11, 85), (19, 5), (27, 85)))
@@ -76,36 +81,28 @@ MANY_TOLD = ", ".join(
 )
 LAST_TONE = LOOP + "7,tone0,\n"
 
+
+def idle_node(number, slot, before=""):
+    """The lines of a node of the worked case that an idle in a slot leads to, behind the limits of the nodes above."""
+    indent = "  " * number.count(".")
+    yield f"{indent}node {number}, with an idle in slot {slot}: slot {slot}: 2 codewords at the least, room for 1; {EACH_LOOP}"
+    yield f"{indent}  limits: {before}room for 1 in slot {slot}"
+
+
 # A page file, its certificate, more words, the status, and what is told.
 SHOWN = [
     ("the worked case", APART, certificate(OPEN, 3, CUT_APART), [], [
-        SUM_APART, ROOT_APART,
-        f"  node 1.1, with an idle in slot 0: slot 0: 2 codewords at the least, room for 1; {EACH_LOOP}",
-        "    limits: room for 1 in slot 0",
-        f"  node 1.2, with an idle in slot 15: slot 15: 2 codewords at the least, room for 1; {EACH_LOOP}",
-        "    limits: room for 1 in slot 15",
-        SO_APART,
+        SUM_APART, ROOT_APART, *idle_node("1.1", 0), *idle_node("1.2", 15), SO_APART,
     ]),
     ("the worked case from the other side", APART, certificate(OPEN, 3, CUT_AROUND), [], [
-        SUM_APART, ROOT_AROUND,
-        f"  node 1.1, with an idle in slot 5: slot 5: 2 codewords at the least, room for 1; {EACH_LOOP}",
-        "    limits: room for 1 in slot 5",
-        f"  node 1.2, with an idle in slot 7: slot 7: 2 codewords at the least, room for 1; {EACH_LOOP}",
-        "    limits: room for 1 in slot 7",
-        SO_APART,
+        SUM_APART, ROOT_AROUND, *idle_node("1.1", 5), *idle_node("1.2", 7), SO_APART,
     ]),
     ("a cut below a cut", APART, certificate(OPEN, 3, cut([0], 48, CUT_AROUND, overload(15))), [], [
         SUM_APART, ROOT_APART,
         f"  node 1.1, with an idle in slot 0: a page of address 3 (16 codewords) starts or ends at boundaries 6 and 7, "
         f"the smaller side of the cut; {TWO_WAYS}",
         "    limits: room for 1 in slot 0",
-        f"    node 1.1.1, with an idle in slot 5: slot 5: 2 codewords at the least, room for 1; {EACH_LOOP}",
-        "      limits: room for 1 in slot 0; room for 1 in slot 5",
-        f"    node 1.1.2, with an idle in slot 7: slot 7: 2 codewords at the least, room for 1; {EACH_LOOP}",
-        "      limits: room for 1 in slot 0; room for 1 in slot 7",
-        f"  node 1.2, with an idle in slot 15: slot 15: 2 codewords at the least, room for 1; {EACH_LOOP}",
-        "    limits: room for 1 in slot 15",
-        SO_APART,
+        *idle_node("1.1.1", 5, "room for 1 in slot 0; "), *idle_node("1.1.2", 7, "room for 1 in slot 0; "), *idle_node("1.2", 15), SO_APART,
     ]),
     ("whole turns", TURNS, certificate(OPEN, 6, overload(7)), [], [
         "at least 6 batches, open end: 4 pages, 40 codewords, room for 80 in 5 batches, yet",
@@ -126,19 +123,10 @@ SHOWN = [
     ]),
     ("a full frame", TONES, certificate(OPEN, 2, overload(10, 11)), [], [SUM_TONES, f"node 1: {STARTS}", SO_TONES]),
     ("two cases", TONES, certificate(OPEN, 2, split(81, 1, overload(11), overload(10, 11))), [], [
-        SUM_TONES,
-        f"node 1: a page of {THREE_TONES} starts in slot 10 or in slot 11: none starts in slot 10, or at least 1 does",
-        f"  node 1.1, in the first case: slot 11: 3 codewords at the least, room for 1; 3 from 3 pages of {THREE_TONES}",
-        f"    {NONE_EARLY}",
-        f"  node 1.2, in the second case: {STARTS}",
-        f"    {SOME_EARLY}",
-        SO_TONES,
+        SUM_TONES, f"{CASES_OF_TONES}none starts in slot 10, or at least 1 does", f"  {IN_EACH_CASE[0]}", *IN_EACH_CASE[1:], SO_TONES,
     ]),
     ("two cases at 2", TONES, certificate(OPEN, 2, split(81, 2, overload(11), overload(10))), ["--depth=1"], [
-        SUM_TONES,
-        f"node 1: a page of {THREE_TONES} starts in slot 10 or in slot 11: fewer than 2 start in slot 10, or at least 2 do",
-        ".. 2 nodes below",
-        SO_TONES,
+        SUM_TONES, f"{CASES_OF_TONES}fewer than 2 start in slot 10, or at least 2 do", ".. 2 nodes below", SO_TONES,
     ]),
     ("slots of more frames", TONES, certificate(OPEN, 2, overload(3, 10, 11)), [], None),
     ("one batch", TONES, certificate(OPEN, 1, overload(10, 11)), [], [
@@ -149,8 +137,7 @@ SHOWN = [
     ("a closed end that a page may make", LAST_TONE, certificate(CLOSED, 2, close(overload(15), overload(15))), [], [
         "at least 2 batches, closed end: 2 pages, 17 codewords, room for 16 in 1 batch",
         "node 1: the last codeword, in slot 15, is an idle or a page of address 7 (1 codeword); a node below for each",
-        f"  node 1.1, with an idle in slot 15: slot 15: 1 codeword at the least, room for 0; {ONE_LOOP}",
-        "    limits: room for 0 in slot 15",
+        *LAST_IDLE,
         "  node 1.2, with a page of address 7 (1 codeword) that starts in slot 15: slot 15: 2 codewords at the least, room for 1; "
         f"{ONE_LOOP}, 1 from 1 page of address 7 (1 codeword)",
         "    limits: 0 of 1 page of address 7 (1 codeword) start in slot 14",
@@ -161,10 +148,7 @@ for end, name, told in ((CLOSED, "a closed end", "closed end"), (IDLE, "an idle 
     SHOWN += [
         (name, LOOP, certificate(end, 2, close(overload(15))), [], [
             f"at least 2 batches, {told}: 1 page, 16 codewords, room for 16 in 1 batch, yet",
-            "node 1: the last codeword, in slot 15, is an idle",
-            f"  node 1.1, with an idle in slot 15: slot 15: 1 codeword at the least, room for 0; {ONE_LOOP}",
-            "    limits: room for 0 in slot 15",
-            f"{SO_TONES} with {name}",
+            "node 1: the last codeword, in slot 15, is an idle", *LAST_IDLE, f"{SO_TONES} with {name}",
         ]),
         (f"{name} with tones", TONES, certificate(end, 2, overload(10, 11)), [], [
             f"at least 2 batches, {told}: 3 pages, 3 codewords, room for 16 in 1 batch, yet", f"node 1: {STARTS}",
@@ -184,8 +168,7 @@ REFUSED = [
      "node 1: no page of address 0 (16 codewords) has to start or end outside boundary 0"),
     ("a class of no pages", APART, certificate(OPEN, 3, cut([0], 5, overload(0), overload(15))),
      "node 1: no page of frame 0 and length 5 modulo 16 has to start or end outside boundary 0"),
-    ("a node too many of the smaller side", APART,
-     certificate(OPEN, 3, cut([at for at in range(16) if at not in (6, 7)], 48, overload(5), overload(7), overload(8))),
+    ("a node too many of the smaller side", APART, certificate(OPEN, 3, cut(AROUND, 48, overload(5), overload(7), overload(8))),
      "node 1: 2 ways out of boundaries 6 and 7, the smaller side of the cut, and 3 nodes for them"),
     ("a split too high", TONES, certificate(OPEN, 2, split(81, 4, overload(11), overload(10))),
      f"node 1: 0 to 3 pages of {THREE_TONES} may start in slot 10: no split at 4"),
@@ -222,12 +205,10 @@ def try_sentences(tally, folder):
             checked = run(["check", folder / "pages.csv", folder / "cert.bin"])
             tally.check(f"explain: {name}", done.returncode == checked.returncode, done)
             continue
-        wanted = "".join(f"{line}\n" for line in wrapped(lines)).encode()
-        tally.check(f"explain: {name}", (done.returncode, done.stdout, done.stderr) == (0, wanted, b""), done)
+        tally.check_done(f"explain: {name}", done, 0, "".join(f"{line}\n" for line in wrapped(lines)).encode())
     for name, pages, text, line in REFUSED:
-        done = explained(folder, pages, text)
         wanted = "".join(f"{line}\n" for line in ["not shown", *wrapped([line])]).encode()
-        tally.check(f"explain, refused: {name}", (done.returncode, done.stdout, done.stderr) == (1, wanted, b""), done)
+        tally.check_done(f"explain, refused: {name}", explained(folder, pages, text), 1, wanted)
         told = explained(folder, pages, text, "--depth", "1")
         tally.check(f"explain, refused at any depth: {name}", told.stdout == wanted, told)
 
@@ -256,7 +237,7 @@ def try_json(tally, folder):
     tally.check("the worked case as JSON", done.returncode == 0 and json.loads(done.stdout) == wanted, done)
     tally.check("JSON is one line", done.stdout.count(b"\n") == 1 and done.stdout.endswith(b"}\n"), done)
     told = json.loads(explained(folder, APART, certificate(OPEN, 3, CUT_AROUND), "--json", "--depth", "1").stdout)
-    around = root | {"boundaries": [at for at in range(16) if at not in (6, 7)], "named": [6, 7]}
+    around = root | {"boundaries": AROUND, "named": [6, 7]}
     tally.check("a cut that is named by its smaller side, as JSON", told["listed"][0]["fact"] == around, told)
     text = certificate(OPEN, 3, cut([0], 48, overload(0), overload(0)))
     told = json.loads(explained(folder, APART, text, "--json", "--depth", "1").stdout)
@@ -307,10 +288,9 @@ DRAWN_REFUSED = [
     ("a refused node below those that are drawn", TONES,
      certificate(OPEN, 2, split(81, 1, overload(11), split(81, 2, overload(9), overload(10)))),
      "node 1.2.1: slot 9: 0 codewords at the least, room for 1", [
-        (f"node 1: a page of {THREE_TONES} starts in slot 10 or in slot 11: none starts in slot 10, or at least 1 does", NO_TONE, ONE_PLACE, [], []),
-        ("node 1.1, in the first case: slot 11: 3 codewords at the least, room for 1; "
-         f"3 from 3 pages of {THREE_TONES}", TONES_LATE, ONE_PLACE, [11], []),
-        (f"node 1.2, in the second case: a page of {THREE_TONES} starts in slot 10 or in slot 11: fewer than 2 start in slot 10, or at least 2 do",
+        (f"{CASES_OF_TONES}none starts in slot 10, or at least 1 does", NO_TONE, ONE_PLACE, [], []),
+        (IN_EACH_CASE[0], TONES_LATE, ONE_PLACE, [11], []),
+        (f"node 1.2, in the second case: {CASES_OF_TONES[len('node 1: '):]}fewer than 2 start in slot 10, or at least 2 do",
          [0] * 10 + [1] + [0] * 5, ONE_PLACE, [], []),
     ]),
 ]
@@ -343,10 +323,9 @@ def due_column(slot, least, room, is_marked, most):
 
 def found_column(group):
     rect = group.find(SVG + "rect")
-    box = tuple(int(rect.get(key)) for key in ("x", "y", "width", "height"))
     paths = [(path.get("class"), path.get("d")) for path in group.findall(SVG + "path")]
     numbers = [(int(text.get("x")), int(text.get("y")), text.text) for text in group.findall(SVG + "text")]
-    return group.findtext(SVG + "title"), (rect.get("class"), *box), paths, numbers
+    return group.findtext(SVG + "title"), (rect.get("class"), *box(rect)), paths, numbers
 
 
 def try_size(tally, name, root):
@@ -380,32 +359,26 @@ def try_drawings(tally, folder):
             tally.check(f"drawing: {name}: boundaries of {number}", lines == due, lines)
     explained(folder, APART, certificate(OPEN, 3, CUT_APART))
     for words in (["--svg", "--json"], ["--svg", "--depth", "2"], ["--svg", "x"]):
-        done = run(["explain", folder / "pages.csv", folder / "cert.bin", *words])
-        tally.check(f"usage {words}", done.returncode == 2 and done.stdout == b"", done)
+        tally.check_usage(f"usage {words}", run(["explain", folder / "pages.csv", folder / "cert.bin", *words]))
 
 
 def try_words(tally, folder):
     explained(folder, APART, certificate(OPEN, 3, CUT_APART))
     pages, cert = folder / "pages.csv", folder / "cert.bin"
     whole = run(["explain", pages, cert])
-    piped = run(["explain", "-", cert], stdin=pages.read_bytes())
-    tally.check("the page file by a pipe", piped.stdout == whole.stdout and piped.returncode == 0, piped)
-    piped = run(["explain", pages, "-"], stdin=cert.read_bytes())
-    tally.check("the certificate by a pipe", piped.stdout == whole.stdout and piped.returncode == 0, piped)
-    cases = [
-        (["explain", "-", "-"], 1, b"pocsag: the same file is named twice\n"),
-        (["explain", pages, pages], 1, b"pocsag: not a certificate\n"),
-        (["explain", folder / "none", cert], 3, b"pocsag: cannot read or open a file\n"),
-        (["explain", pages, folder / "none"], 3, b"pocsag: cannot read or open a file\n"),
-    ]
-    for words, status, err in cases:
-        done = run(words)
-        tally.check(f"{words}", (done.returncode, done.stdout, done.stderr) == (status, b"", err), done)
+    tally.check("explained", whole.returncode == 0, whole)
+    tally.check_done("the page file by a pipe", run(["explain", "-", cert], stdin=pages.read_bytes()), *said(whole))
+    tally.check_done("the certificate by a pipe", run(["explain", pages, "-"], stdin=cert.read_bytes()), *said(whole))
+    for words, status, err in (
+        (["explain", "-", "-"], 1, NAMED_TWICE),
+        (["explain", pages, pages], 1, fault("not a certificate")),
+        (["explain", folder / "none", cert], 3, CANNOT_OPEN),
+        (["explain", pages, folder / "none"], 3, CANNOT_OPEN),
+    ):
+        tally.check_done(f"{words}", run(words), status, b"", err)
     for words in (["explain", pages], ["explain", pages, cert, "--depth"], ["explain", pages, cert, "--depth", "x"], ["explain", pages, cert, "--rows", "1"]):
-        done = run(words)
-        tally.check(f"usage {words}", done.returncode == 2 and done.stdout == b"", done)
-    full = subprocess.run([str(PROGRAM), "explain", str(pages), str(cert)], stdout=open("/dev/full", "w"), stderr=subprocess.PIPE, timeout=60)
-    tally.check("a full device", (full.returncode, full.stderr) == (3, b"pocsag: cannot write\n"), full)
+        tally.check_usage(f"usage {words}", run(words))
+    tally.check_full("a full device", ["explain", pages, cert])
     (folder / "cert.bin").write_bytes(certificate(OPEN, 4, overload(15)))
     done = run(["explain", pages, cert, "--verbose"])
     tally.check("no line of --verbose where it is not shown", (done.returncode, done.stderr) == (1, b""), done)
@@ -461,10 +434,8 @@ def try_frames(tally, folder):
     wanted = [f"frame {frame} pages {pages} codewords {words} room {room}" for frame, pages, words, room in rows]
     told = done.stdout.decode().splitlines()
     tally.check("the frames of the sample round", done.returncode == 0 and told[7:] == wanted, told)
-    bad = run(["report", EXAMPLES / "round.csv", "--rate", "7", "--frames"])
-    tally.check("frames at no rate", (bad.returncode, bad.stdout, bad.stderr) == (1, b"", b"pocsag: the rate must be 512, 1200 or 2400\n"), bad)
-    bad = run(["report", EXAMPLES / "round.csv", "--rate", "512", "--limit", "0", "--frames"])
-    tally.check("frames with no limit", (bad.returncode, bad.stdout, bad.stderr) == (1, b"", b"pocsag: the limit must be 1 to 1000000\n"), bad)
+    tally.check_done("frames at no rate", run(["report", EXAMPLES / "round.csv", "--rate", "7", "--frames"]), 1, b"", BAD_RATE)
+    tally.check_done("frames with no limit", run(["report", EXAMPLES / "round.csv", "--rate", "512", "--limit", "0", "--frames"]), 1, b"", BAD_LIMIT)
 
 
 if __name__ == "__main__":

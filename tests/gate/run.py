@@ -211,16 +211,8 @@ def main():
     tally = Tally()
     for row in PARTS:
         try_part(tally, *row)
-    try_others(tally)
-    try_notes(tally)
-    try_beside(tally)
-    try_lanes(tally)
-    try_width(tally)
-    try_last(tally)
-    try_bill(tally)
-    try_spent(tally)
-    try_layout(tally)
-    try_unknown(tally)
+    for part in (try_others, try_notes, try_beside, try_lanes, try_width, try_last, try_bill, try_spent, try_layout, try_unknown):
+        part(tally)
     return tally.end()
 
 

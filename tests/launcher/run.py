@@ -80,14 +80,14 @@ class Clone:
             self.stand_in(stand_in)
 
     def stand_in(self, name):
-        rt = self.commands / "rt"
-        rt.write_text(
-            "#!/bin/bash\n"
-            f'echo "$(basename "$(pwd)") $*" >> {self.calls}\n'
-            f'echo "${{RT_BACKEND:-llvm}}" > {self.compiler}\n'
-            '[ "$1" = run ] || exit 0\n' + STAND_INS[name]
-        )
-        rt.chmod(0o755)
+        told = f'echo "$(basename "$(pwd)") $*" >> {self.calls}\necho "${{RT_BACKEND:-llvm}}" > {self.compiler}\n'
+        self.made = f'#!/bin/bash\n{told}[ "$1" = run ] || exit 0\n{STAND_INS[name]}'
+        self.change("", "")
+        (self.commands / "rt").chmod(0o755)
+
+    def change(self, old, new):
+        """Has the stand-in do this in place of what it did at first."""
+        (self.commands / "rt").write_text(self.made.replace(old, new, 1))
 
     def environment(self, **more):
         return {"PATH": str(self.commands), "TMPDIR": str(self.temporary), **more}
@@ -131,7 +131,7 @@ def try_success(tally, clone):
     due = f"pocsag_app: decode a b \nfolder: {clone.top}\ninput\n"
     tally.check_run("arguments, folder, input, status, and each crate as it begins and ends", done, 7, due, *begun, *ended)
     tally.check_run("what it takes is told", done, 7, due, "memory", "disk")
-    count, calls = clone.builds()
+    calls = clone.builds()[1]
     tally.check("each crate once, lowest first", calls == ["low lib", "middle lib", "pocsag_app run"], calls)
     tally.check("no log is left", list(clone.temporary.iterdir()) == [], list(clone.temporary.iterdir()))
     for words in ([], ["plan"], ["--help"]):
@@ -194,7 +194,7 @@ def try_forms(tally, clone):
         (clone.top / "crates.txt").write_text(form)
         clone.calls.unlink(missing_ok=True)
         status, _, err = clone.run()
-        count, calls = clone.builds()
+        calls = clone.builds()[1]
         tally.check(f"form {number} of the list", status == 7 and calls == ["low lib", "middle lib", "pocsag_app run"], (err, calls))
     (clone.top / "crates.txt").write_text("low: middle\nmiddle: low\npocsag_app: low\n")
     tally.check_run("a ring of crates", clone.run(), 3, "", "uses itself")
@@ -289,8 +289,7 @@ def try_two_at_once(tally, clone):
 def try_side_by_side(tally, clone):
     """Crates that do not wait for each other, each a second long."""
     (clone.top / "crates.txt").write_text("low:\nmiddle:\npocsag_beside:\npocsag_app: low middle pocsag_beside\n")
-    rt = clone.commands / "rt"
-    rt.write_text(rt.read_text().replace('[ "$1" = run ] || exit 0\n', '[ "$1" = run ] || { sleep 1; exit 0; }\n'))
+    clone.change("exit 0\n", "{ sleep 1; exit 0; }\n")
     for jobs in (3, 1):
         status, _, err = clone.run(RT_JOBS=str(jobs))
         begun = re.findall(r"\(\d of \d\)", err.partition(" proved in ")[0])  # before the first of them was proved
@@ -324,14 +323,13 @@ def try_multiples(tally, clone):
     (clone.top / "crates.txt").write_text("pocsag_words:\npocsag_app: pocsag_words\n")
     source = clone.top / "crates/pocsag_words/src/lib.rt"
     source.parent.mkdir(parents=True)
-    rt = clone.commands / "rt"
-    made, times = rt.read_text(), r"proved in 0:0\d"
+    times = r"proved in 0:0\d"
     for name, does, wanted in [
         ("from nothing", "true", times + r", \d+\.\d times pocsag_words"),
         ("over what another copy kept", "echo 'rt: pocsag_words: begins with what a check kept in x'; mkdir -p out/incremental", times),
         ("over what was kept", "true", times),
     ]:
-        rt.write_text(made.replace("exit 0\n", f"{{ {does}; exit 0; }}\n", 1))
+        clone.change("exit 0\n", f"{{ {does}; exit 0; }}\n")
         source.write_text(name)
         _, _, err = clone.run()
         tally.check(f"the multiples {name}", re.search(rf"^pocsag: {wanted}$", err, re.M), err)
@@ -342,13 +340,10 @@ def try_unit(tally, clone):
     (clone.top / "crates.txt").write_text("pocsag_words:\n")
     clone.source("pocsag_words").parent.mkdir(parents=True)
     clone.source("pocsag_words").write_text("first\n")
-    rt = clone.commands / "rt"
-    made = rt.read_text()
     for status in (0, 1):
-        rt.write_text(made.replace("exit 0\n", f"{{ cat src/lib.rt; touch src/proved; exit {status}; }}\n", 1))
-        ran = clone.build("unit", capture_output=True, text=True)
-        due = status, f"first\n{1 - status} passed, {status} failed\n", "pocsag: spent 0 s on pocsag_words\n"
-        tally.check(f"the lowest crate, status {status}", (ran.returncode, ran.stdout, ran.stderr) == due, ran)
+        clone.change("exit 0\n", f"{{ cat src/lib.rt; touch src/proved; exit {status}; }}\n")
+        ran, printed = clone.build("unit", capture_output=True, text=True), f"first\n{1 - status} passed, {status} failed\n"
+        tally.check_done(f"the lowest crate, status {status}", ran, status, printed, "pocsag: spent 0 s on pocsag_words\n")
     tally.check("it was proved in a copy", [it.name for it in clone.source("pocsag_words").parent.iterdir()] == ["lib.rt"])
     tally.check("no copy is left", list(clone.temporary.iterdir()) == [], list(clone.temporary.iterdir()))
 
@@ -375,14 +370,8 @@ def try_compilers(tally, clone):
 
 def try_gate(tally, clone):
     """The program that `rt ci` leaves is taken as it is, and only where it passed."""
-    rt = clone.commands / "rt"
-    made = rt.read_text()
     for status, calls in ((1, ["low lib", "middle lib", "pocsag_app run"]), (0, [])):
-        rt.write_text(made.replace('[ "$1" = run ]', f"""if [ "$1" = ci ]; then
-    cd crates/pocsag_app && {{ {MAKES} }}
-    exit {status}
-fi
-[ "$1" = run ]""", 1))
+        clone.change('[ "$1" = run ]', f"""[ "$1" = ci ] && {{ cd crates/pocsag_app; {MAKES} exit {status}; }}\n[ "$1" = run ]""")
         clone.source("low").write_text(f"before status {status}\n")
         ended = clone.build("ci").returncode
         tally.check(f"its status {status}", ended == status, ended)
@@ -391,31 +380,23 @@ fi
         tally.check(f"what is built after status {status}", clone.builds()[1][before:] == calls, clone.builds()[1][before:])
 
 
-TRIALS = [
-    ("makes", try_success),
-    ("makes", try_multiples),
-    ("makes", try_unit),
-    ("makes", try_compilers),
-    ("makes", try_gate),
-    ("makes", try_old_times),
-    ("makes", try_forms),
-    ("makes", try_options),
-    ("makes", try_unwritable),
-    ("fails", try_failure),
-    (None, try_missing),
-    ("leaves nothing", try_nothing_left),
-    ("edits meanwhile", try_edit_meanwhile),
-    ("is slow", try_two_at_once),
-    ("makes", try_side_by_side),
-    ("never ends", try_interrupt),
-]
+TRIALS = {
+    "makes": (try_success, try_multiples, try_unit, try_compilers, try_gate, try_old_times, try_forms, try_options, try_unwritable, try_side_by_side),
+    "fails": (try_failure,),
+    None: (try_missing,),
+    "leaves nothing": (try_nothing_left,),
+    "edits meanwhile": (try_edit_meanwhile,),
+    "is slow": (try_two_at_once,),
+    "never ends": (try_interrupt,),
+}
 
 
 def main():
     tally = Tally()
-    for stand_in, trial in TRIALS:
-        with tempfile.TemporaryDirectory() as name:
-            trial(tally, Clone(pathlib.Path(name).resolve(), stand_in))
+    for stand_in, trials in TRIALS.items():
+        for trial in trials:
+            with tempfile.TemporaryDirectory() as name:
+                trial(tally, Clone(pathlib.Path(name).resolve(), stand_in))
     return tally.end()
 
 

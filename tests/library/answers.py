@@ -1,9 +1,7 @@
 """What a call gives and what the program says of the same, and how both are run."""
 
 import subprocess
-import sys
 
-sys.dont_write_bytecode = True
 import pocsag
 from tally import ENDS, PROGRAM
 

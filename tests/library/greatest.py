@@ -6,7 +6,6 @@ import ctypes
 import pathlib
 import sys
 
-sys.dont_write_bytecode = True
 TESTS = pathlib.Path(__file__).resolve().parents[1]
 sys.path[:0] = [str(TESTS / it) for it in (".", "calls", "program")]
 import largest
@@ -88,7 +87,7 @@ def try_readings(tally, call):
     address, plain, repaired, captured = map(ctypes.c_uint32, (8, pocsag.PLAIN, pocsag.REPAIRED, pocsag.CAPTURED))
     for size in (4_000_000, LARGEST):
         tx, count = repeated(pages, size)
-        batches, given, line = len(tx) // 68 - 1, pocsag.bytes_in(tx), due_of(pages, "", False)[0].encode()[len(HEADER):]
+        batches, given, line = len(tx) // 68 - 1, pocsag.bytes_in(tx), due_of(pages, (), False)[0].encode()[len(HEADER):]
         listing = HEADER + count * line
         reading = captured if size == LARGEST else repaired
         for name, words in (("decode", []), ("decode_as", [reading]), ("hear", [address]), ("hear_as", [reading, address])):

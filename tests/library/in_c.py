@@ -2,9 +2,7 @@
 
 import pathlib
 import re
-import sys
 
-sys.dont_write_bytecode = True
 HERE = pathlib.Path(__file__).resolve().parent
 TOP = HERE.parents[1]
 import make

@@ -12,7 +12,6 @@ import shutil
 import subprocess
 import sys
 
-sys.dont_write_bytecode = True
 import pocsag
 from answers import check_fault
 

@@ -13,34 +13,11 @@ import sys
 
 sys.dont_write_bytecode = True
 sys.path.insert(0, str(pathlib.Path(__file__).resolve().parents[1]))
-from tally import PROGRAM, TOP, Tally
+from helped import commands, help_of, options_of
+from tally import TOP, Tally, run
 
 MANUAL = TOP / "docs/pocsag.1"
 EVERYWHERE = {"-h", "--help", "-V", "--version"}
-
-
-def help_of(*words):
-    return subprocess.run([str(PROGRAM), *words, "--help"], capture_output=True, text=True, timeout=60).stdout
-
-
-def part(text, heading):
-    """The lines under a heading of a help text."""
-    found = re.search(rf"^{heading}:\n((?:  .*\n)+)", text, re.M)
-    return found[1].splitlines() if found else []
-
-
-def commands(text):
-    return {line.split()[0] for line in part(text, "Commands")}
-
-
-def options(text):
-    """Each option of a help text, with the name of its value or none."""
-    found = {}
-    for line in part(text, "Options"):
-        spelled = re.split(r"  +", line.strip())[0]
-        for word, value in re.findall(r"(?<![\w<])(--?[\w-]+)(?: <([\w-]+)>)?", spelled):
-            found[word] = value
-    return found
 
 
 def plain(text):
@@ -71,8 +48,8 @@ def synopses(text):
 
 
 def compare(tally, text):
-    told = {tag for tag in terms(section(text, "COMMANDS"))}
-    tally.check("the manual's commands", told == commands(help_of()), (told, commands(help_of())))
+    told = {*terms(section(text, "COMMANDS"))}
+    tally.check("the manual's commands", told == {*commands()}, (told, commands()))
     lines = synopses(text)
     tally.check("a synopsis for each command", set(lines) == told - {"help"}, set(lines))
     tagged = {}
@@ -82,8 +59,7 @@ def compare(tally, text):
             tagged[name] = re.sub(r"(?<!\w)--?[\w-]+,?", "", tag).replace(",", "").strip()
     asked = dict.fromkeys(EVERYWHERE, "")
     for name in sorted(told - {"help"}):
-        helped = options(help_of(name))
-        own = {word: value for word, value in helped.items() if word not in EVERYWHERE}
+        own = {word: value for word, value in options_of(help_of(name)).items() if word not in EVERYWHERE}
         # A word may have a value in one command alone.
         asked.update({word: value or asked.get(word, "") for word, value in own.items()})
         written = {word for word in lines.get(name, []) if word.startswith("--")}
@@ -105,22 +81,15 @@ def main():
     compare(tally, text)
     statuses = terms(section(text, "EXIT STATUS"))
     tally.check("exit statuses", statuses == ["0", "1", "2", "3"], statuses)
-    version = help_version()
+    version = re.match(r"pocsag ([^,]+),", run(["--version"]).stdout.decode())[1]
     tally.check("the version", f'"pocsag {version}"' in text, version)
     if shutil.which("man"):
-        done = subprocess.run(
-            ["man", "--warnings", "-E", "UTF-8", "-l", "-Tutf8", "-Z", str(MANUAL)], capture_output=True, timeout=60
-        )
+        done = subprocess.run(["man", "--warnings", "-E", "UTF-8", "-l", "-Tutf8", "-Z", str(MANUAL)], capture_output=True, timeout=60)
         tally.check("man finds nothing", done.returncode == 0 and done.stderr == b"", done.stderr)
     if shutil.which("mandoc"):
         done = subprocess.run(["mandoc", "-T", "lint", str(MANUAL)], capture_output=True, timeout=60)
         tally.check("mandoc finds nothing", done.returncode == 0 and done.stdout + done.stderr == b"", done)
     return tally.end()
-
-
-def help_version():
-    said = subprocess.run([str(PROGRAM), "--version"], capture_output=True, text=True, timeout=60).stdout
-    return re.match(r"pocsag ([^,]+),", said)[1]
 
 
 if __name__ == "__main__":

@@ -15,7 +15,8 @@ import sys
 
 sys.dont_write_bytecode = True
 sys.path.insert(0, str(pathlib.Path(__file__).resolve().parents[1]))
-from tally import PROGRAM, TOP, run_parts
+import helped
+from tally import TOP, run_parts
 
 FILES = {shell: TOP / f"completions/pocsag.{shell}" for shell in ("bash", "zsh", "fish")}
 # What prints the words that a shell offers for the last word of a line; the files among them are those of the folder.
@@ -27,30 +28,17 @@ SCRIPTS = {
 }
 NO_CONFIGURATION = {"bash": ["--norc"], "zsh": ["-f"], "fish": ["--no-config"]}
 # What is offered for a value, by its name in the help; for any other value nothing.
-OFFERED = {"<END>": {"open", "closed", "idle"}, "<R>": {"512", "1200", "2400"}, **dict.fromkeys(("<REST>", "<FILE>", "<F>"), {"named.csv"})}
+OFFERED = {"END": {"open", "closed", "idle"}, "R": {"512", "1200", "2400"}, **dict.fromkeys(("REST", "FILE", "F"), {"named.csv"})}
 
 
-def helped(*words):
-    return subprocess.run([str(PROGRAM), *words, "--help"], capture_output=True, text=True, timeout=60).stdout
-
-
-def options_of(text):
-    """The options that a help lists, with their values as they are named there."""
-    part = re.search(r"^Options:\n((?:  .*\n)+)", text, re.M)[1]
-    spelled = [re.split(r"  +", line.strip())[0] for line in part.splitlines() if line.lstrip().startswith("-")]
-    return dict(re.findall(r"(?<![\w<])(--?[\w-]+)(?: (<[\w-]+>))?", " ".join(spelled)))
-
-
-@functools.cache
-def commands():
-    """The commands, in the order of the help."""
-    return [line.split()[0] for line in re.search(r"^Commands:\n((?:  .*\n)+)", helped(), re.M)[1].splitlines()]
+commands = functools.cache(helped.commands)
 
 
 @functools.cache
 def due():
     """The options of each command; those of the program itself as those of pocsag. The command help has none of its own."""
-    return {name: options_of(helped(*([] if name == "pocsag" else [name]))) for name in ("pocsag", *commands()) if name != "help"}
+    texts = {name: helped.help_of(*([] if name == "pocsag" else [name])) for name in ("pocsag", *commands()) if name != "help"}
+    return {name: helped.options_of(text) for name, text in texts.items()}
 
 
 def values():

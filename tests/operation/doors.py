@@ -7,26 +7,26 @@ import signal
 import stat
 import subprocess
 
-from codewords import HEADER
-from tally import PROGRAM, run
+from codewords import APART, HEADER
+from tally import CANNOT_OPEN, CANNOT_WRITE, NAMED_TWICE, PROGRAM, fault, faulty, room_in, run
 
 TONE = HEADER + b"8,tone0,\n"
+PLAN = ["plan", "pages.csv", "tx.bin", "cert.bin"]
 OLD = (b"an older transmission", b"an older certificate")
-NAMED_TWICE = b"pocsag: the same file is named twice\n"
-CANNOT_OPEN = b"pocsag: cannot read or open a file\n"
-CANNOT_WRITE = b"pocsag: cannot write\n"
-NO_OWNER = b"pocsag: the new file cannot be given the owner, group and mode of the old one\n"
-TOLD = b"pages 1\nbatches 1\n"
+NO_OWNER = fault("the new file cannot be given the owner, group and mode of the old one")
 IS_ROOT = os.geteuid() == 0
 
 
+def put_old(room):
+    """Has an older transmission and an older certificate stand there."""
+    for name, data in zip(PLAN[2:], OLD):
+        (room / name).write_bytes(data)
+
+
 def fresh(folder, name):
-    """An empty folder with a page file, an older transmission and an older certificate."""
-    room = folder / name
-    room.mkdir()
-    (room / "pages.csv").write_bytes(TONE)
-    (room / "tx.bin").write_bytes(OLD[0])
-    (room / "cert.bin").write_bytes(OLD[1])
+    """A new folder with page files, an older transmission and an older certificate."""
+    room = room_in(folder, name, {"pages.csv": TONE, "apart.csv": APART, "bad.csv": HEADER + b"8,tone9,\n"})
+    put_old(room)
     return room
 
 
@@ -86,54 +86,53 @@ def try_streams(tally, folder):
         done = shell(f"pocsag plan pages.csv t c2 {closed}", room)
         sent = (room / "t").read_bytes()
         told = b"" if "2>&-" in closed else CANNOT_WRITE
-        tally.check(f"closed: {closed}", (done.returncode, done.stderr) == (3, told) and sent[:72] == 72 * b"\xaa" and len(sent) == 140, (done, sent))
+        tally.check_done(f"closed: {closed}", done, 3, b"", told, sent[:72] == 72 * b"\xaa" and len(sent) == 140)
         (room / "t").unlink()
     for line in ("plan pages.csv /dev/null c > /dev/null 2>&1", "plan pages.csv - c > o.bin", "plan pages.csv t c > lines", "plan - t c < pages.csv"):
         done = shell(f"pocsag {line}", room)
         tally.check(f"taken: {line}", done.returncode == 0, done)
 
 
-def as_nobody(words, room):
-    """Runs the program, which stands beside the folder, as another user."""
+def another_user(folder):
+    """The numbers of another user and of their group, and what runs the program as that user in a folder of this one."""
     nobody = pwd.getpwnam("nobody")
     who = {"user": nobody.pw_uid, "group": nobody.pw_gid, "extra_groups": []}
-    return subprocess.run(["../pocsag", *words], cwd=room, capture_output=True, timeout=60, **who)
+    folder.chmod(0o755)
+    shutil.copyfile(PROGRAM, folder / "pocsag")
+    (folder / "pocsag").chmod(0o755)
+    run_as = lambda words, room: subprocess.run(["../pocsag", *words], cwd=room, capture_output=True, timeout=60, **who)
+    return (nobody.pw_uid, nobody.pw_gid), run_as
 
 
 def try_rights(tally, folder):
     """With `--keep` the new files have the owner, the group and the rights of the old ones, or the old ones stay."""
     if not IS_ROOT:
         return
-    nobody = pwd.getpwnam("nobody")
-    room = fresh(folder, "rights")
+    room, (nobody, run_as) = fresh(folder, "rights"), another_user(folder)
     for name in ("tx.bin", "cert.bin"):
-        os.chown(room / name, nobody.pw_uid, nobody.pw_gid)
+        os.chown(room / name, *nobody)
         (room / name).chmod(0o640)
-    done = run(["plan", "pages.csv", "tx.bin", "cert.bin", "--keep"], room)
+    done = run([*PLAN, "--keep"], room)
     found = [(it.st_uid, it.st_gid, stat.S_IMODE(it.st_mode)) for it in ((room / name).stat() for name in ("tx.bin", "cert.bin"))]
-    holds = done.returncode == 0 and stand(room) != OLD and found == 2 * [(nobody.pw_uid, nobody.pw_gid, 0o640)]
+    holds = done.returncode == 0 and stand(room) != OLD and found == 2 * [(*nobody, 0o640)]
     tally.check("the owner, the group and the rights stay", holds, (done, found))
-    folder.chmod(0o755)
-    shutil.copyfile(PROGRAM, folder / "pocsag")
-    (folder / "pocsag").chmod(0o755)
     for name in ("tx.bin", "cert.bin"):
         room = fresh(folder, f"another's {name}")
-        os.chown(room, nobody.pw_uid, nobody.pw_gid)
+        os.chown(room, *nobody)
         for own in {"tx.bin", "cert.bin"} - {name}:
-            os.chown(room / own, nobody.pw_uid, nobody.pw_gid)
+            os.chown(room / own, *nobody)
         before = names(room)
-        done = as_nobody(["plan", "pages.csv", "tx.bin", "cert.bin", "--keep", "--verbose"], room)
+        done = run_as([*PLAN, "--keep", "--verbose"], room)
         note = f"{name}: {os.strerror(1)} (os error 1)\n".encode()
         holds = (done.returncode, done.stdout) == (3, b"") and done.stderr.startswith(NO_OWNER) and done.stderr.endswith(note)
         tally.check(f"another's {name} stays", holds and stand(room) == OLD and names(room) == before, (done, names(room)))
     room = fresh(folder, "unread")
     for name in (".", "tx.bin", "cert.bin"):
-        os.chown(room / name, nobody.pw_uid, nobody.pw_gid)
+        os.chown(room / name, *nobody)
     room.chmod(0o300)
-    done = as_nobody(["plan", "pages.csv", "tx.bin", "cert.bin", "--keep", "--verify"], room)
+    done = run_as([*PLAN, "--keep", "--verify"], room)
     room.chmod(0o700)
-    holds = (done.returncode, done.stdout, done.stderr) == (3, b"", CANNOT_OPEN)
-    tally.check("a folder that cannot be read", holds and stand(room) == OLD and not list(room.glob("*.new")), (done, names(room)))
+    tally.check_done("a folder that cannot be read", done, 3, b"", CANNOT_OPEN, stand(room) == OLD and not list(room.glob("*.new")))
 
 
 def try_last_step(tally, folder):
@@ -142,9 +141,8 @@ def try_last_step(tally, folder):
     (room / "tx.bin").unlink()
     (room / "tx.bin").mkdir()
     before = names(room)
-    done = run(["plan", "pages.csv", "tx.bin", "cert.bin", "--keep", "--verify"], room)
-    holds = (done.returncode, done.stdout, done.stderr) == (3, b"", CANNOT_WRITE) and names(room) == before
-    tally.check("TX is a folder", holds and (room / "cert.bin").read_bytes() == OLD[1], (done, names(room)))
+    done = run([*PLAN, "--keep", "--verify"], room)
+    tally.check_done("TX is a folder", done, 3, b"", CANNOT_WRITE, names(room) == before and (room / "cert.bin").read_bytes() == OLD[1])
     if not shutil.which("strace"):
         return
     renames = "rename,renameat,renameat2"
@@ -154,12 +152,10 @@ def try_last_step(tally, folder):
             if not has_old:
                 (room / "cert.bin").unlink()
             before = names(room)
-            trace = ["strace", "-f", "-qq", "-o", str(folder / "trace"), "-e", f"trace={call}", "-e", f"inject={call}:error=EPERM:when={number}"]
-            words = [str(PROGRAM), "plan", "pages.csv", "tx.bin", "cert.bin", "--keep", "--verify"]
-            done = subprocess.run([*trace, *words], cwd=room, capture_output=True, timeout=60)
+            done = run([*PLAN, "--keep", "--verify"], room, before=faulty(call, f"error=EPERM:when={number}"))
             if call == renames:
-                holds = (done.returncode, done.stdout, done.stderr) == (3, b"", CANNOT_WRITE) and (room / "tx.bin").read_bytes() == OLD[0]
-                tally.check(f"{call} {number} {has_old}", holds and names(room) == before, (done, names(room)))
+                holds = (room / "tx.bin").read_bytes() == OLD[0] and names(room) == before
+                tally.check_done(f"{call} {number} {has_old}", done, 3, b"", CANNOT_WRITE, holds)
                 tally.check(f"{call} {number} {has_old}: CERT", not has_old or (room / "cert.bin").read_bytes() == OLD[1])
             else:
                 holds = done.returncode == 0 and names(room) == before | {"cert.bin"} and stand(room) != OLD
@@ -169,6 +165,7 @@ def try_last_step(tally, folder):
 def try_left_over(tally, folder):
     """A run removes what runs that were ended left beside the same places, and nothing else."""
     room = fresh(folder, "left over")
+    before = names(room)
     left = subprocess.Popen(["true"])
     left.wait()
     gone = {f"tx.bin.pocsag.{left.pid}.new", f"cert.bin.pocsag.{left.pid}.new", f"cert.bin.pocsag.{left.pid}.old"}
@@ -176,9 +173,8 @@ def try_left_over(tally, folder):
             "tx.bin.pocsag.x.new", f"tx.bin.pocsag.{left.pid}.newer", f"tx.bin.pocsag.{left.pid}", "tx.bin.pocsag.+7.new"}  # fmt: skip
     for name in gone | kept:
         (room / name).touch()
-    done = run(["plan", "pages.csv", "tx.bin", "cert.bin", "--keep"], room)
-    holds = done.returncode == 0 and names(room) == {"pages.csv", "tx.bin", "cert.bin"} | kept
-    tally.check("those of processes that are gone", holds, (done, names(room)))
+    done = run([*PLAN, "--keep"], room)
+    tally.check("those of processes that are gone", done.returncode == 0 and names(room) == before | kept, (done, names(room)))
     for name in kept:
         (room / name).unlink()
     for how in (signal.SIGTERM, signal.SIGINT, signal.SIGKILL):
@@ -186,44 +182,36 @@ def try_left_over(tally, folder):
                                    stdin=subprocess.DEVNULL, stdout=subprocess.DEVNULL, stderr=subprocess.DEVNULL)
         process.send_signal(how)
         process.wait(60)
-    done = run(["plan", "pages.csv", "tx.bin", "cert.bin", "--keep"], room)
-    tally.check("after signals", done.returncode == 0 and names(room) == {"pages.csv", "tx.bin", "cert.bin"}, names(room))
+    done = run([*PLAN, "--keep"], room)
+    tally.check("after signals", done.returncode == 0 and names(room) == before, names(room))
 
 
 def try_folders(tally, folder):
     """A folder in place of PAGES is refused as any file that cannot be read, and after the faults that come first."""
     room = fresh(folder, "folders")
     (room / "folder").mkdir()
-    (room / "bad.csv").write_bytes(HEADER + b"8,tone9,\n")
-    is_folder = CANNOT_OPEN + f"pocsag: page file folder: {os.strerror(21)} (os error 21)\n".encode()
+    is_folder = CANNOT_OPEN + fault(f"page file folder: {os.strerror(21)} (os error 21)")
     for pages, note in (("folder", is_folder), ("/proc/self/mem", None)):
-        for name, data in zip(("tx.bin", "cert.bin"), OLD):
-            (room / name).write_bytes(data)
+        put_old(room)
         done = run(["plan", pages, "tx.bin", "cert.bin", "--verbose"], room)
         holds = (done.returncode, done.stdout) == (3, b"") and done.stderr.startswith(CANNOT_OPEN) and note in (None, done.stderr)
         tally.check(f"plan {pages}", holds and stand(room) == (b"", b""), (done, stand(room)))
     for words in (["check", "folder", "cert.bin"], ["report", "folder", "--rate", "512"], ["open", "folder"], ["explain", "folder", "cert.bin"]):
-        done = run([*words, "--verbose"], room)
-        tally.check(f"{words}", (done.returncode, done.stdout, done.stderr) == (3, b"", is_folder), done)
-    done = run(["check", "bad.csv", "folder"], room)
-    tally.check("a fault of the page file comes first", (done.returncode, done.stderr) == (1, b"pocsag: record 1: unknown kind\n"), done)
+        tally.check_done(f"{words}", run([*words, "--verbose"], room), 3, b"", is_folder)
+    tally.check_done("a fault of the page file comes first", run(["check", "bad.csv", "folder"], room), 1, b"", fault("record 1: unknown kind"))
     for words in (["decode", "folder"], ["check", "pages.csv", "folder"], ["open", "--journal", "folder"], ["open", "--journal", "folder", "--read-only"]):
-        done = run(words, room)
-        tally.check(f"{words}", (done.returncode, done.stdout, done.stderr) == (3, b"", CANNOT_OPEN), done)
+        tally.check_done(f"{words}", run(words, room), 3, b"", CANNOT_OPEN)
 
 
 def try_closed_pipe(tally, folder):
     """Where nobody reads standard output any more, it ends with 3 and says so."""
-    room = folder / "closed pipe"
-    room.mkdir()
-    (room / "pages.csv").write_bytes(HEADER + b"".join(b"%d,numeric,12345\n" % k for k in range(20000)))
-    run(["plan", "pages.csv", "tx.bin", "cert.bin", "--always"], room)
+    room = room_in(folder, "closed pipe", {"pages.csv": HEADER + b"".join(b"%d,numeric,12345\n" % k for k in range(20000))})
+    run([*PLAN, "--always"], room)
     for words in ("decode tx.bin", "decode tx.bin --verbose", "show tx.bin", "show tx.bin --svg", "show tx.bin --list", "decode tx.bin --repair",
                   "hear 8 tx.bin", "check pages.csv cert.bin", "explain pages.csv cert.bin", "report pages.csv --rate 512", "--help", "open"):
         ours, theirs = os.pipe()
         os.close(ours)
-        done = subprocess.run([str(PROGRAM), *words.split()], cwd=room, stdin=subprocess.DEVNULL if words != "open" else (room / "pages.csv").open("rb"),
-                              stdout=theirs, stderr=subprocess.PIPE, timeout=60)
+        done = run(words.split(), room, (room / "pages.csv").read_bytes() if words == "open" else b"", stdout=theirs)
         os.close(theirs)
         tally.check(f"{words} and nobody reads", (done.returncode, done.stderr.split(b"\n")[0] + b"\n") == (3, CANNOT_WRITE), done)
     done = shell("pocsag plan pages.csv /dev/full cert.bin --always", room)
@@ -240,15 +228,15 @@ def try_file_size(tally, folder):
 
 # Page files with a misplaced quote, and how that is told.
 MISPLACED = [
-    (HEADER + b'8,alpha,"hello\n9,tone0,\n', b"record 1: the quote in line 2 is not closed"),
-    (HEADER + b'8,tone0,\n9,alpha,say "hi"\n', b"record 2: the quote in line 3 stands inside a field that begins without one"),
-    (HEADER + b'8,alpha,"hi" there\n', b"record 1: text follows the closing quote in line 2"),
-    (HEADER + b'8,alpha,"hello\n9,alpha,"world"\n', b"record 1: text follows the closing quote in line 3"),
-    (b'"' + TONE, b"record 0: the quote in line 1 is not closed"),
-    (HEADER + b'8,alpha,"a\nb"\n\n9,alpha,"c\n', b"record 2: the quote in line 5 is not closed"),
-    (HEADER.replace(b"\n", b"\r") + b'8,tone0,\r9,alpha,"x\r10,tone0,\r', b"record 2: the quote in line 1 is not closed"),
-    (HEADER.replace(b"\n", b"\r\n") + b'8,tone0,\r\n9,alpha,"x\r\n', b"record 2: the quote in line 3 is not closed"),
-    (HEADER + b'8,alpha,"a"""\n9,alpha,"b""\n', b"record 2: the quote in line 3 is not closed"),
+    (HEADER + b'8,alpha,"hello\n9,tone0,\n', "record 1: the quote in line 2 is not closed"),
+    (HEADER + b'8,tone0,\n9,alpha,say "hi"\n', "record 2: the quote in line 3 stands inside a field that begins without one"),
+    (HEADER + b'8,alpha,"hi" there\n', "record 1: text follows the closing quote in line 2"),
+    (HEADER + b'8,alpha,"hello\n9,alpha,"world"\n', "record 1: text follows the closing quote in line 3"),
+    (b'"' + TONE, "record 0: the quote in line 1 is not closed"),
+    (HEADER + b'8,alpha,"a\nb"\n\n9,alpha,"c\n', "record 2: the quote in line 5 is not closed"),
+    (HEADER.replace(b"\n", b"\r") + b'8,tone0,\r9,alpha,"x\r10,tone0,\r', "record 2: the quote in line 1 is not closed"),
+    (HEADER.replace(b"\n", b"\r\n") + b'8,tone0,\r\n9,alpha,"x\r\n', "record 2: the quote in line 3 is not closed"),
+    (HEADER + b'8,alpha,"a"""\n9,alpha,"b""\n', "record 2: the quote in line 3 is not closed"),
 ]
 WELL_QUOTED = [
     TONE,
@@ -263,26 +251,21 @@ def try_strict(tally, folder):
     room = fresh(folder, "strict")
     for file, why in MISPLACED:
         (room / "quotes.csv").write_bytes(file)
-        told = b"pocsag: " + why + b"\n"
-        for words in (["plan", "quotes.csv", "tx.bin", "cert.bin", "--strict"], ["plan", "quotes.csv", "tx.bin", "cert.bin", "--strict", "--keep", "--always", "--expect", "1"],
-                      ["report", "quotes.csv", "--rate", "512", "--strict"], ["--strict"]):
-            for name, data in zip(("tx.bin", "cert.bin"), OLD):
-                (room / name).write_bytes(data)
-            done = run(words, room, input=file)
-            left = (b"", b"") if words[0] == "plan" and "--keep" not in words else OLD
-            holds = (done.returncode, done.stdout, done.stderr) == (1, b"", told) and stand(room) == left
-            tally.check(f"{words}: {why}", holds and not list(room.glob("*.new")), done)
+        plan = ["plan", "quotes.csv", "tx.bin", "cert.bin", "--strict"]
+        for words in (plan, [*plan, "--keep", "--always", "--expect", "1"], ["report", "quotes.csv", "--rate", "512", "--strict"], ["--strict"]):
+            put_old(room)
+            done = run(words, room, file)
+            left = (b"", b"") if words == plan else OLD
+            tally.check_done(f"{words}: {why}", done, 1, b"", fault(why), stand(room) == left and not list(room.glob("*.new")))
         done = run(["plan", "quotes.csv", "t", "c", "--verbose"], room)
-        tally.check(f"--verbose names it: {why}", b": " + why + b"\n" in done.stderr or why.startswith(b"record 0"), done)
+        tally.check(f"--verbose names it: {why}", f": {why}\n".encode() in done.stderr or why.startswith("record 0"), done)
     for file in WELL_QUOTED:
         (room / "quotes.csv").write_bytes(file)
         for words in (["plan", "quotes.csv", "t", "c"], ["report", "quotes.csv", "--rate", "512"], []):
-            plain, done = run(words, room, input=file), run([*words, "--strict"], room, input=file)
-            holds = plain.returncode == 0 and (done.returncode, done.stdout, done.stderr) == (0, plain.stdout, b"")
-            tally.check(f"well quoted {words} {file[21:40]}", holds, done)
+            plain, done = run(words, room, file), run([*words, "--strict"], room, file)
+            tally.check_done(f"well quoted {words} {file[21:40]}", done, 0, plain.stdout, b"", plain.returncode == 0)
     for words in (["--strict", "plan", "pages.csv", "t", "c"], ["decode", "tx.bin", "--strict"], ["--strict", "decode", "tx.bin"]):
-        done = run(words, room)
-        tally.check(f"usage: {words}", done.returncode == 2 and done.stderr.startswith(b"error: "), done)
+        tally.check_usage(f"usage: {words}", run(words, room))
 
 
 PARTS = (try_streams, try_rights, try_last_step, try_left_over, try_folders, try_closed_pipe, try_file_size, try_strict)

@@ -26,12 +26,14 @@ import time
 sys.dont_write_bytecode = True
 sys.path.insert(0, str(pathlib.Path(__file__).resolve().parents[1]))
 from channel import HEADER, KILLS, Channel, calls_of, can_trace, pages_of
-from tally import MEMORY, TOP, as_nobody, run_parts
+from tally import MEMORY, TOP, as_nobody, files_of, run_parts
 
 IS_EACH = sys.argv[1:] == ["--all"]
 RUNS = sum(int(word) for word in sys.argv[1:] if word.isdigit())  # of next-slot, where nothing else is tried
 CHANNELS = min(4, os.cpu_count() or 1)  # that run at the same time
 PAGES = 150  # that are sent under random kills
+DONE = (0, "", "")  # what a script that went well ends with and prints
+SILENT = {"stdout": subprocess.DEVNULL, "stderr": subprocess.DEVNULL}
 
 
 @contextlib.contextmanager
@@ -55,12 +57,14 @@ def disk(folder, size="4m"):
 def after_fault(tally, channel, name):
     """What must hold once a run of next-slot met a fault: the transmitter takes what is there, a page is added, and the next
     run sends a slot."""
-    is_good = channel.take()
-    added = channel.add()
-    done = channel.send()
+    is_good, added, done = channel.take(), channel.add(), channel.send()
     is_good &= channel.take()
-    holds = is_good and added[0] == 0 and done == (0, "", "") and channel.is_balanced()
-    tally.check(name, holds, (is_good, added, done, channel.told()))
+    tally.check(name, is_good and added[0] == 0 and done == DONE and channel.is_balanced(), (is_good, added, done, channel.told()))
+
+
+def check_told(tally, name, done, status, first, also=True):
+    """Whether a script ended with a status and told a fault that begins so, and what else has to hold."""
+    tally.check(name, done[:2] == (status, "") and done[2].startswith(first) and also, done)
 
 
 def turns_of(channel):
@@ -70,28 +74,39 @@ def turns_of(channel):
     return channel.started()
 
 
+def kills(commands):
+    """Kills before and behind each command, of the command alone or of all: each by a name, with what a run needs for it."""
+    for turn, command in enumerate(commands, 1):
+        yield from ((f"{how} at {turn} {command}", {"at": turn, "fault": how}) for how in KILLS)
+
+
+def faults_at(calls):
+    """Ends of a script at its system calls, and each call that works on files refused once."""
+    for call in calls:
+        if IS_EACH or not call.is_idle:
+            yield f"signal=KILL at {call}", call.fault("signal=KILL")
+    yield from ((f"error=EIO at {call}", call.fault("error=EIO")) for call in calls if call.can_fail)
+
+
+def try_sending(tally, channel, faults):
+    """Runs of next-slot that meet these faults: one that is ended is told."""
+    for name, fault in faults:
+        channel.fill()
+        status = channel.send(**fault)[0]
+        tally.check(f"next-slot tells {name}", status != 0 or "EIO" in name, status)
+        after_fault(tally, channel, f"next-slot: {name}")
+
+
 def try_kills(tally, folder):
-    """Kills before and behind each command of next-slot, of the command alone or of all."""
+    """Kills before and behind each command of next-slot."""
     channel = Channel(folder / "kills")
     commands = turns_of(channel)
-    for turn, command in enumerate(commands, 1):
-        for how in KILLS:
-            channel.fill()
-            status = channel.send(at=turn, fault=how)[0]
-            tally.check(f"next-slot tells {how} at {turn} {command}", status != 0, status)
-            after_fault(tally, channel, f"{how} at {turn} {command}")
+    try_sending(tally, channel, kills(commands))
     tally.check("next-slot starts commands", len(commands) > 10, commands)
 
 
-def chosen(calls, what):
-    """The calls to try a fault at."""
-    if what == "signal=KILL":
-        return [it for it in calls if IS_EACH or not it.is_idle]
-    return [it for it in calls if it.can_fail]
-
-
 def try_calls(tally, folder):
-    """Ends next-slot at its system calls, and has each call that works on files refused once. `outgoing` is elsewhere."""
+    """Faults at the system calls of next-slot, where `outgoing` is elsewhere."""
     if not can_trace():
         return
     with disk(folder / "other disk") as other:
@@ -100,12 +115,7 @@ def try_calls(tally, folder):
         calls = calls_of(channel, "next-slot")
         channel.take()
         tally.check("next-slot makes calls", len(calls) > 500 and channel.is_balanced(), (len(calls), channel.told()))
-        for what in ("signal=KILL", "error=EIO"):
-            for call in chosen(calls, what):
-                channel.fill()
-                status = channel.send(**call.fault(what))[0]
-                tally.check(f"next-slot tells {what} at {call}", status != 0 or "KILL" not in what, status)
-                after_fault(tally, channel, f"next-slot: {what} at {call}")
+        try_sending(tally, channel, faults_at(calls))
 
 
 def planned(channel, commands):
@@ -114,11 +124,14 @@ def planned(channel, commands):
     channel.send(at=commands.index("mv") + 1, fault=KILLS[3])
 
 
-def after_addition(tally, channel, name):
-    """What must hold once `enqueue` met a fault while a planned slot waited: the slot is sent, and the page counts or not."""
-    done = channel.send()
-    is_good = channel.take()
-    tally.check(name, is_good and done == (0, "", "") and channel.is_balanced(), (done, channel.told()))
+def try_adding(tally, channel, commands, faults):
+    """Runs of enqueue that meet these faults while a planned slot waited: the slot is sent, and the page counts or not."""
+    for name, fault in faults:
+        planned(channel, commands)
+        status = channel.add(**fault)[0]
+        tally.check(f"enqueue tells {name}", status != 0 or "EIO" in name, status)
+        done = channel.send()
+        tally.check(f"enqueue: {name}", channel.take() and done == DONE and channel.is_balanced(), (done, channel.told()))
 
 
 def try_additions(tally, folder):
@@ -128,24 +141,13 @@ def try_additions(tally, folder):
     channel.take()
     planned(channel, commands)
     channel.add(at=0)
-    for turn, command in enumerate(channel.started(), 1):
-        for how in KILLS:
-            planned(channel, commands)
-            status = channel.add(at=turn, fault=how)[0]
-            tally.check(f"enqueue tells {how} at {turn} {command}", status != 0, status)
-            after_addition(tally, channel, f"enqueue: {how} at {turn} {command}")
-    if not can_trace():
-        return
-    planned(channel, commands)
-    page = channel.next_page()
-    calls = calls_of(channel, "enqueue", *page)
-    channel.added.append(page)
-    for what in ("signal=KILL", "error=EIO"):
-        for call in chosen(calls, what):
-            planned(channel, commands)
-            status = channel.add(**call.fault(what))[0]
-            tally.check(f"enqueue tells {what} at {call}", status != 0 or "KILL" not in what, status)
-            after_addition(tally, channel, f"enqueue: {what} at {call}")
+    try_adding(tally, channel, commands, kills(channel.started()))
+    if can_trace():
+        planned(channel, commands)
+        page = channel.next_page()
+        calls = calls_of(channel, "enqueue", *page)
+        channel.added.append(page)
+        try_adding(tally, channel, commands, faults_at(calls))
 
 
 def transmit(channel, ends, are_good):
@@ -154,18 +156,21 @@ def transmit(channel, ends, are_good):
         are_good.append(channel.take())
 
 
+def end_at_random(sending, chance, longest):
+    """Ends a run at a random moment, its shell alone or all of it; gives whether it was ended."""
+    time.sleep(chance.uniform(0, longest))
+    if sending.poll() is None:
+        chance.choice([os.kill, os.killpg])(sending.pid, signal.SIGKILL)
+    return sending.wait(60) < 0
+
+
 def kill_at_random(channel, chance):
-    """Runs next-slot and enqueue at the same time and ends next-slot at random moments, its shell alone or all of it; gives how
-    often it was ended."""
-    silent = {"stdout": subprocess.DEVNULL, "stderr": subprocess.DEVNULL}
+    """Runs next-slot and enqueue at the same time and ends next-slot at random moments; gives how often it was ended."""
     ended, longest = 0, 0.05
     for _ in range(PAGES):
-        sending, page = channel.start("next-slot", **silent), channel.next_page()
-        adding = channel.start("enqueue", *page, **silent)
-        time.sleep(chance.uniform(0, longest))
-        if sending.poll() is None:
-            chance.choice([os.kill, os.killpg])(sending.pid, signal.SIGKILL)
-        was_ended = sending.wait(60) < 0
+        sending, page = channel.start("next-slot", **SILENT), channel.next_page()
+        adding = channel.start("enqueue", *page, **SILENT)
+        was_ended = end_at_random(sending, chance, longest)
         ended += was_ended
         longest = min(longest * (1.1 if was_ended else 0.8), 1.0)
         if adding.wait(60) == 0:
@@ -189,14 +194,13 @@ def try_random(tally, folder):
         transmitter.join()
         tally.check("a polling transmitter meets whole slots", channel.take() and all(are_good), len(are_good))
         tally.check("each page is sent once, in order", channel.is_balanced() and not channel.waiting(), channel.told())
-        tally.check("the last runs say nothing", done == channel.send() == (0, "", ""), done)
+        tally.check("the last runs say nothing", done == channel.send() == DONE, done)
         tally.check("next-slot was ended at times", PAGES // 4 < ended < PAGES, ended)
 
 
 def run_often(channel, runs, chance):
-    """Runs next-slot so often, each time with pages that wait, and ends it at a random moment, its shell alone or all of it; gives
-    how often it was ended, and whether each slot was whole."""
-    silent = {"stdout": subprocess.DEVNULL, "stderr": subprocess.DEVNULL}
+    """Runs next-slot so often, each time with pages that wait, and ends it at a random moment; gives how often it was ended, and
+    whether each slot was whole."""
     ended, are_good, longest = 0, True, 0.05
     folder = os.open(channel.folder, os.O_RDONLY)
     for _ in range(runs):
@@ -205,11 +209,7 @@ def run_often(channel, runs, chance):
             channel.fill()
         are_good &= channel.take()
         fcntl.flock(folder, fcntl.LOCK_UN)
-        sending = channel.start("next-slot", **silent)
-        time.sleep(chance.uniform(0, longest))
-        if sending.poll() is None:
-            chance.choice([os.kill, os.killpg])(sending.pid, signal.SIGKILL)
-        was_ended = sending.wait(60) < 0
+        was_ended = end_at_random(channel.start("next-slot", **SILENT), chance, longest)
         ended += was_ended
         longest = min(longest * (1.05 if was_ended else 0.9), 1.0)
     fcntl.flock(folder, fcntl.LOCK_EX)
@@ -226,13 +226,12 @@ def try_runs(tally, folder):
     with concurrent.futures.ThreadPoolExecutor(CHANNELS) as pool:
         found = list(pool.map(run_often, channels, shares, map(random.Random, range(CHANNELS))))
     for number, (channel, share, (ended, are_good)) in enumerate(zip(channels, shares, found)):
-        is_done = (1, "", "")
         for _ in range(9):
             is_done = channel.send()
             are_good &= channel.take()
         # A process of now may have the number of one that was ended.
         left = [name for name in os.listdir(channel.folder) if ".pocsag" in name and not os.path.exists(f"/proc/{name.split('.')[-2]}")]
-        holds = channel.is_balanced() and not channel.waiting() and is_done == (0, "", "")
+        holds = channel.is_balanced() and not channel.waiting() and is_done == DONE
         tally.check(f"channel {number}: each page is sent once, in order", holds and are_good, (is_done, are_good, channel.told()))
         tally.check(f"channel {number}: no file is left", not left, left)
         tally.check(f"channel {number}: many runs were ended", share // 4 < ended <= share, (ended, share))
@@ -262,8 +261,7 @@ def try_full_disks(tally, folder):
                 channel.take()
                 channel.fill()
                 crowding = crowd(full)
-                done = channel.send()
-                tally.check("a full outgoing is told", done[0] == 3 and "next-slot: cannot " in done[2], done)
+                tally.check_run("a full outgoing is told", channel.send(), 3, "", "next-slot: cannot ")
                 crowding.unlink()
                 after_fault(tally, channel, f"a full outgoing {fault}")
     with disk(folder / "queue disk", "128k") as full:
@@ -302,14 +300,10 @@ REFUSED = [
 ]
 
 
-def files_of(folder):
-    return {str(path.relative_to(folder)): path.read_bytes() for path in folder.rglob("*") if path.is_file()}
-
-
 def try_statuses(tally, folder):
     """Each status of next-slot: what it says, and that nothing changes where it refuses."""
     channel = Channel(folder / "statuses")
-    tally.check("an empty queue", channel.send() == (0, "", ""))
+    tally.check("an empty queue", channel.send() == DONE)
     tally.check("stays empty", files_of(channel.folder)["queue.csv"] == HEADER.encode() and not channel.take() is False and not channel.slots)
     for number, (name, files, status, first) in enumerate(REFUSED):
         channel = Channel(folder / f"refused {number}")
@@ -318,9 +312,8 @@ def try_statuses(tally, folder):
             (channel.folder / path).unlink()
             if text is not None:
                 (channel.folder / path).write_text(text)
-        before = files_of(channel.folder)
-        done = channel.send()
-        tally.check(name, (done[0], done[1]) == (status, "") and done[2].startswith(first) and files_of(channel.folder) == before, (done, before))
+        before, done = files_of(channel.folder), channel.send()
+        check_told(tally, name, done, status, first, files_of(channel.folder) == before)
 
 
 def try_outgoing(tally, folder):
@@ -345,8 +338,7 @@ def try_outgoing(tally, folder):
     other = channel.outgoing / f"{number + 1:08}.bin"
     other.write_bytes(b"a slot of another")
     channel.fill()
-    done = channel.send()
-    tally.check("a name that is taken", done[0] == 3 and done[2].startswith(f"next-slot: outgoing/{other.name} exists"), done)
+    check_told(tally, "a name that is taken", channel.send(), 3, f"next-slot: outgoing/{other.name} exists")
     tally.check("and stays", other.read_bytes() == b"a slot of another")
     other.unlink()
     after_fault(tally, channel, "a name that is free again")
@@ -355,33 +347,21 @@ def try_outgoing(tally, folder):
         time.sleep(0.1)
         start = time.monotonic()
         done = channel.send(), channel.add(), holder.wait()
-        tally.check("both wait for the lock", done[0] == (0, "", "") and done[1][0] == 0 and time.monotonic() - start > 0.3, done)
+        tally.check("both wait for the lock", done[0] == DONE and done[1][0] == 0 and time.monotonic() - start > 0.3, done)
 
 
 MESSAGES = ['say "hi"', '"', '""', "a,b", "two\nlines\n", "back\\slash \\n $HOME `ls` '", " spaces", "\rreturn", "*", "-n", "%s"]
-USAGE = "usage: enqueue [--first] ADDRESS KIND MESSAGE"
 # What enqueue refuses, its status and the first line of the fault.
-NOT_ADDED = [
-    ((), 2, USAGE),
-    (("8", "tone0"), 2, USAGE),
-    (("--first", "8", "tone0"), 2, USAGE),
-    (("--last", "8", "tone0", ""), 2, USAGE),
-    (("8", "tone0", "", ""), 2, USAGE),
-    (("--first", "8", "tone0", "", ""), 2, USAGE),
-    (("--help", ""), 2, USAGE),
-    (("--first", "9", "tone9", ""), 1, "pocsag: record 1: unknown kind"),
-    (("9", "tone9", ""), 1, "pocsag: record 1: unknown kind"),
-    (("9", "numeric", "x"), 1, "pocsag: record 1: "),
-    (("2007664", "tone0", ""), 1, "pocsag: record 1: "),
-    (("9", "alpha", "\u00fc"), 1, "pocsag: record 1: "),
-    (("9", "alpha", 999 * "x"), 1, "pocsag: page 1 needs 23 batches"),
-    (("9", "alpha", 4001 * "x"), 1, "pocsag: record 1: "),
-    (("", "", ""), 1, "pocsag: record 1: "),
-    (("9,tone0,\n10", "tone0", ""), 1, "pocsag: pages 2, where 1 were expected"),
-    (("9,alpha,x\n10", "alpha", "y"), 1, "pocsag: pages 2, where 1 were expected"),
-    (('9,alpha,"', "x", "y"), 1, "pocsag: record 1: "),
-    (('"9', "alpha", "y"), 1, "pocsag: record 1: "),
-]
+NOT_ADDED = [(words, 2, "usage: enqueue [--first] ADDRESS KIND MESSAGE") for words in (
+    (), ("8", "tone0"), ("--first", "8", "tone0"), ("--last", "8", "tone0", ""), ("8", "tone0", "", ""), ("--first", "8", "tone0", "", ""), ("--help", ""),
+)]  # fmt: skip
+NOT_ADDED += [((address, kind, message), 1, f"pocsag: {fault}") for address, kind, message, fault in (
+    ("9", "tone9", "", "record 1: unknown kind"), ("9", "numeric", "x", "record 1: "), ("2007664", "tone0", "", "record 1: "),
+    ("9", "alpha", "\u00fc", "record 1: "), ("9", "alpha", 999 * "x", "page 1 needs 23 batches"), ("9", "alpha", 4001 * "x", "record 1: "),
+    ("", "", "", "record 1: "), ("9,tone0,\n10", "tone0", "", "pages 2, where 1 were expected"),
+    ("9,alpha,x\n10", "alpha", "y", "pages 2, where 1 were expected"), ('9,alpha,"', "x", "y", "record 1: "), ('"9', "alpha", "y", "record 1: "),
+)]  # fmt: skip
+NOT_ADDED += [(("--first", "9", "tone9", ""), 1, "pocsag: record 1: unknown kind")]
 
 
 def try_enqueue(tally, folder):
@@ -389,8 +369,8 @@ def try_enqueue(tally, folder):
     channel = Channel(folder / "enqueue", options="--at-most 9")
     for number, message in enumerate(MESSAGES):
         done = channel.run("enqueue", str(number), "alpha", message)
-        tally.check(f"enqueue {message!r}", done == (0, "", ""), done)
-    tally.check("they are sent", channel.send() == (0, "", "") and channel.take())
+        tally.check(f"enqueue {message!r}", done == DONE, done)
+    tally.check("they are sent", channel.send() == DONE and channel.take())
     sent = {number: message for number, _, message in channel.slots[0]}
     tally.check("as they were given", sent == {str(number): message for number, message in enumerate(MESSAGES)}, sent)
     queue = channel.folder / "queue.csv"
@@ -398,17 +378,17 @@ def try_enqueue(tally, folder):
     queue.chmod(0o640)
     for words, status, first in NOT_ADDED:
         done = channel.run("enqueue", *words)
-        holds = (done[0], done[1]) == (status, "") and done[2].startswith(first) and queue.read_text() == HEADER + "7,tone0,\n8,tone0,"
-        tally.check(f"enqueue {words} is refused", holds and not (channel.folder / "queue.new").exists(), (done, queue.read_text()))
+        holds = queue.read_text() == HEADER + "7,tone0,\n8,tone0," and not (channel.folder / "queue.new").exists()
+        check_told(tally, f"enqueue {words} is refused", done, status, first, holds)
     done = channel.run("enqueue", "9", "tone1", "")
-    holds = done == (0, "", "") and queue.read_text() == HEADER + '7,tone0,\n8,tone0,\n9,tone1,""\n' and queue.stat().st_mode & 0o777 == 0o640
+    holds = done == DONE and queue.read_text() == HEADER + '7,tone0,\n8,tone0,\n9,tone1,""\n' and queue.stat().st_mode & 0o777 == 0o640
     tally.check("behind a last line without its end", holds, (done, queue.read_text()))
-    queue.write_text(HEADER + "8,tone9,\n")
-    done = channel.run("enqueue", "9", "tone1", "")
-    tally.check("a queue with a wrong record", done[0] == 4 and done[2].startswith("pocsag: record 1: unknown kind"), done)
-    queue.write_text(HEADER + "".join(f"{8 * number},tone0,\n" for number in range(20000)))
-    done = channel.run("enqueue", "9", "tone1", "")
-    tally.check("20,000 pages wait", done[0] == 4 and done[2].startswith("pocsag: record 20001: too many pages"), done)
+    for name, rows, first in (
+        ("a queue with a wrong record", "8,tone9,\n", "pocsag: record 1: unknown kind"),
+        ("20,000 pages wait", "".join(f"{8 * number},tone0,\n" for number in range(20000)), "pocsag: record 20001: too many pages"),
+    ):
+        queue.write_text(HEADER + rows)
+        check_told(tally, name, channel.run("enqueue", "9", "tone1", ""), 4, first)
     queue.unlink()
     done = channel.run("enqueue", "9", "tone1", "")
     tally.check("there is no queue", done[0] == 3 and not queue.exists(), done)
@@ -436,13 +416,12 @@ def try_first(tally, folder):
         queue.chmod(0o640)
         done = channel.run("enqueue", "--first", "9", "alpha", 'a "b"\nc')
         head = before.partition("\n")[0] + "\n"
-        holds = done == (0, "", "") and queue.read_bytes() == (head + '9,alpha,"a ""b""\nc"\n' + after).encode()
+        holds = done == DONE and queue.read_bytes() == (head + '9,alpha,"a ""b""\nc"\n' + after).encode()
         tally.check(f"first in {before!r}", holds and queue.stat().st_mode & 0o777 == 0o640, (done, queue.read_bytes()))
     for before in ("", "\n" + HEADER, HEADER.replace("\n", "\r") + "7,tone0,\r", "7,tone0,\n"):
         queue.write_bytes(before.encode())
         done = channel.run("enqueue", "--first", "9", "tone1", "")
-        holds = done[:2] == (4, "") and done[2].startswith("enqueue: the first line of queue.csv") and queue.read_bytes() == before.encode()
-        tally.check(f"no first line in {before!r}", holds, (done, queue.read_bytes()))
+        check_told(tally, f"no first line in {before!r}", done, 4, "enqueue: the first line of queue.csv", queue.read_bytes() == before.encode())
     channel = Channel(folder / "urgent")
     channel.fill()
     queued = channel.added
@@ -450,7 +429,7 @@ def try_first(tally, folder):
     done = channel.run("enqueue", "--first", *urgent)
     channel.send()
     is_good = channel.take()
-    tally.check("an urgent page is sent first", done == (0, "", "") and is_good and urgent in channel.slots[0], channel.told())
+    tally.check("an urgent page is sent first", done == DONE and is_good and urgent in channel.slots[0], channel.told())
     channel.added = [*sorted([urgent, *queued][: len(channel.slots[0])], key=lambda it: int(it[0])), *[urgent, *queued][len(channel.slots[0]) :]]
     tally.check("and the others then", channel.is_balanced(), channel.told())
 
@@ -462,8 +441,7 @@ def try_quotes(tally, folder):
             channel = Channel(folder / f"quotes {number} {first}")
             (channel.folder / "queue.csv").write_text(HEADER + record)
             before = files_of(channel.folder)
-            done = channel.run("enqueue", *first, "9", "tone0", "")
-            tally.check(f"enqueue behind {record!r}", done[:2] == (4, "") and done[2].startswith("pocsag: record "), done)
+            check_told(tally, f"enqueue behind {record!r}", channel.run("enqueue", *first, "9", "tone0", ""), 4, "pocsag: record ")
             sent = channel.send()
             tally.check(f"next-slot at {record!r}", sent[0] == 1 and files_of(channel.folder) == before, sent)
 
@@ -481,8 +459,7 @@ def try_link(tally, folder):
             other.unlink()
         for script, words in (("next-slot", ()), ("enqueue", ("9", "tone0", "")), ("enqueue", ("--first", "9", "tone0", ""))):
             done = channel.run(script, *words)
-            holds = done[:2] == (3, "") and done[2].startswith(f"{script}: queue.csv is a link")
-            tally.check(f"{script} at a {name}", holds and queue.is_symlink() and other.exists() == is_there, done)
+            check_told(tally, f"{script} at a {name}", done, 3, f"{script}: queue.csv is a link", queue.is_symlink() and other.exists() == is_there)
         tally.check(f"a {name} leaves the queue", not is_there or other.read_bytes() == text, name)
 
 
@@ -495,7 +472,7 @@ def try_kept(tally, folder):
             channel.send(at=turn, fault=how)
             channel.take()
             last = channel.send()
-            holds = channel.take() and last == (0, "", "") and channel.is_balanced()
+            holds = channel.take() and last == DONE and channel.is_balanced()
             tally.check(f"what is kept after {how} at {turn}", holds, (last, channel.told()))
     for path in channel.folder.glob("sent.*.cert"):
         done = channel.run_program("check", path.with_suffix(".csv").name, path.name)
@@ -516,7 +493,7 @@ def try_kept(tally, folder):
             channel.take()
         kept = {name for name in os.listdir(channel.folder) if name.startswith("sent.") and name not in own}
         wanted = {f"sent.{number}.{ending}" for number in range(5 - due, 5) for ending in ("bin", "cert", "csv")}
-        tally.check(f"{limit} after {days} days", done == (0, "", "") and kept == wanted, (done, kept))
+        tally.check(f"{limit} after {days} days", done == DONE and kept == wanted, (done, kept))
         tally.check(f"{limit}: no other file goes", {*own} <= {*os.listdir(channel.folder)}, os.listdir(channel.folder))
 
 
@@ -557,7 +534,7 @@ def try_other_owner(tally, folder):
         is_good = channel.take()
         added = channel.add(trace=others)
         sent = [channel.send(trace=others) for _ in range(2)]
-        holds = is_good and channel.take() and added == (0, "", "") and sent == 2 * [(0, "", "")] and channel.is_balanced()
+        holds = is_good and channel.take() and added == DONE and sent == 2 * [DONE] and channel.is_balanced()
         tally.check(f"another user after the superuser's run, ended at {turn}", holds, (added, sent, channel.told()))
 
 
@@ -567,12 +544,12 @@ def try_again(tally, folder):
     pages = [("8", "alpha", "one"), ("16", "tone1", ""), ("8", "alpha", "two"), ("8", "tone2", ""), ("16", "numeric", "3")]
     for page in pages:
         done = channel.run("enqueue", *page)
-        tally.check(f"enqueue {page}", done == (0, "", ""), done)
+        tally.check(f"enqueue {page}", done == DONE, done)
     for due in ([pages[0], pages[1]], [pages[2], pages[4]], [pages[3]]):
         done = channel.send()
         is_good = channel.take()
-        tally.check(f"a slot of {due}", is_good and done == (0, "", "") and sorted(channel.slots[-1]) == sorted(due), (done, channel.slots[-1:]))
-    tally.check("the queue is empty", not channel.waiting() and channel.send() == (0, "", ""), channel.told())
+        tally.check(f"a slot of {due}", is_good and done == DONE and sorted(channel.slots[-1]) == sorted(due), (done, channel.slots[-1:]))
+    tally.check("the queue is empty", not channel.waiting() and channel.send() == DONE, channel.told())
 
 
 def try_oversized(tally, folder):
@@ -602,12 +579,12 @@ def try_oversized(tally, folder):
                 file.unlink()
 
 
-def main():
-    if RUNS:
-        tempfile.tempdir = MEMORY
-        return run_parts(try_runs)
-    return run_parts(try_statuses, try_outgoing, try_words, try_enqueue, try_first, try_quotes, try_link, try_kept, try_new_number, try_other_owner, try_again, try_oversized, try_kills, try_calls, try_additions, try_random, try_full_disks)
-
+PARTS = (
+    try_statuses, try_outgoing, try_words, try_enqueue, try_first, try_quotes, try_link, try_kept, try_new_number, try_other_owner, try_again,
+    try_oversized, try_kills, try_calls, try_additions, try_random, try_full_disks,
+)  # fmt: skip
 
 if __name__ == "__main__":
-    sys.exit(main())
+    if RUNS:
+        tempfile.tempdir = MEMORY
+    sys.exit(run_parts(*[try_runs] if RUNS else PARTS))

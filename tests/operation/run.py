@@ -20,66 +20,40 @@ import sys
 import time
 
 sys.dont_write_bytecode = True
-sys.path.insert(0, str(pathlib.Path(__file__).resolve().parents[1]))
-sys.path.insert(0, str(pathlib.Path(__file__).resolve().parent))
+sys.path[:0] = [str(pathlib.Path(__file__).resolve().parents[at]) for at in (0, 1)]
 import doors
 import slots
 import turns
 from codewords import APART, HEADER
-from tally import PROGRAM, TOP, run, run_parts
+from doors import OLD, PLAN, TONE, fresh, names, put_old, stand
+from tally import CANNOT_OPEN, NAMED_TWICE, PROGRAM, TOP, fault, faulty, room_in, run, run_parts
 
-TONE = HEADER + b"8,tone0,\n"
 KILLS = 200
-NAMED_TWICE = b"pocsag: the same file is named twice\n"
-CANNOT_OPEN = b"pocsag: cannot read or open a file\n"
-
-
-def fresh(folder, name):
-    """An empty folder with two page files, and an older transmission and certificate."""
-    room = folder / name
-    room.mkdir()
-    (room / "pages.csv").write_bytes(TONE)
-    (room / "apart.csv").write_bytes(APART)
-    (room / "bad.csv").write_bytes(HEADER + b"8,tone9,\n")
-    (room / "tx.bin").write_bytes(b"an older transmission")
-    (room / "cert.bin").write_bytes(b"an older certificate")
-    return room
-
-
-def stand(room):
-    return (room / "tx.bin").read_bytes(), (room / "cert.bin").read_bytes()
-
-
-OLD = (b"an older transmission", b"an older certificate")
 
 
 def planned(folder, file, name):
     """What `plan` writes of a page file, in two files of their own."""
-    room = folder / name
-    room.mkdir()
-    (room / "pages.csv").write_bytes(file)
-    assert run(["plan", "pages.csv", "tx.bin", "cert.bin"], room).returncode == 0
+    room = room_in(folder, name, {"pages.csv": file})
+    assert run(PLAN, room).returncode == 0
     return stand(room)
 
 
 def try_keep(tally, folder):
     """`--keep` where nothing fails, and where something is refused."""
-    room = fresh(folder, "keep")
-    due = planned(folder, TONE, "due")
+    room, due = fresh(folder, "keep"), planned(folder, TONE, "due")
     (room / "tx.bin").chmod(0o640)
-    names = set(os.listdir(room))
-    for words in (["plan", "bad.csv"], ["plan", "apart.csv", "--limit", "1"], ["plan", "none.csv"]):
-        done = run([words[0], words[1], "tx.bin", "cert.bin", "--keep", *words[2:]], room)
-        holds = done.returncode in (1, 3) and stand(room) == OLD and set(os.listdir(room)) == names
-        tally.check(f"--keep keeps the old files: {words}", holds, (done, os.listdir(room)))
+    before = names(room)
+    for file, *more in (["bad.csv"], ["apart.csv", "--limit", "1"], ["none.csv"]):
+        done = run(["plan", file, "tx.bin", "cert.bin", "--keep", *more], room)
+        holds = done.returncode in (1, 3) and stand(room) == OLD and names(room) == before
+        tally.check(f"--keep keeps the old files: {file} {more}", holds, (done, names(room)))
     done = run(["plan", "pages.csv", "tx.bin", "none/cert.bin", "--keep"], room)
-    holds = (done.returncode, done.stdout, done.stderr) == (3, b"", CANNOT_OPEN) and stand(room) == OLD
-    tally.check("--keep with a certificate in no folder", holds and set(os.listdir(room)) == names, done)
-    done = run(["plan", "pages.csv", "tx.bin", "cert.bin", "--keep", "--verify"], room)
-    holds = (done.returncode, done.stdout, done.stderr) == (0, b"pages 1\nbatches 1\nverified\n", b"")
-    tally.check("--keep puts both in place", holds and stand(room) == due and set(os.listdir(room)) == names, done)
-    rights = [stat.S_IMODE((room / file).stat().st_mode) for file in ("tx.bin", "cert.bin")]
-    tally.check("--keep keeps the rights", rights[0] == 0o640, rights)
+    tally.check_done("--keep with a certificate in no folder", done, 3, b"", CANNOT_OPEN, stand(room) == OLD and names(room) == before)
+    done = run([*PLAN, "--keep", "--verify"], room)
+    holds = stand(room) == due and names(room) == before
+    tally.check_done("--keep puts both in place", done, 0, b"pages 1\nbatches 1\nverified\n", b"", holds)
+    rights = stat.S_IMODE((room / "tx.bin").stat().st_mode)
+    tally.check("--keep keeps the rights", rights == 0o640, rights)
     done = run(["plan", "pages.csv", "new.bin", "new.cert", "--keep"], room)
     made = (room / "new.bin").read_bytes(), (room / "new.cert").read_bytes()
     tally.check("--keep makes new files", done.returncode == 0 and made == due, done)
@@ -87,43 +61,37 @@ def try_keep(tally, folder):
     os.mkfifo(room / "fifo")
     for place in ("link.bin", "fifo", "/dev/null", "-"):
         for words in (["pages.csv", place, "cert.bin"], ["pages.csv", "tx.bin", place]):
-            done = run(["plan", *words, "--keep"], room)
-            holds = done.returncode == 2 and done.stderr.startswith(b"error: --keep ") and done.stdout == b""
-            tally.check(f"--keep wants a regular file: {words}", holds and stand(room) == due, done)
+            tally.check_usage(f"--keep wants a regular file: {words}", run(["plan", *words, "--keep"], room), b"error: --keep ", stand(room) == due)
     for words in (["pages.csv", "pages.csv", "c"], ["pages.csv", "./pages.csv", "c"], ["pages.csv", "a", "./a"], ["pages.csv", "a", "a"]):
         done = run(["plan", *words, "--keep"], room)
         holds = (done.returncode, done.stderr) == (1, NAMED_TWICE) and (room / "pages.csv").read_bytes() == TONE
-        tally.check(f"--keep and one file twice: {words}", holds and not list(room.glob("*.new")), (done, os.listdir(room)))
+        tally.check(f"--keep and one file twice: {words}", holds and not list(room.glob("*.new")), (done, names(room)))
 
 
 def try_keep_open(tally, folder):
     """`open --keep`: a plan line that is refused leaves the old files, one that is answered replaces both."""
-    room = fresh(folder, "keep open")
-    names = set(os.listdir(room))
-    due = planned(folder, TONE, "due open")
-    refused = b"refused: there are no pages\n"
+    room, due = fresh(folder, "keep open"), planned(folder, TONE, "due open")
+    before = names(room)
+    cannot, twice = b"refused: cannot read or open a file\n", b"refused: the same file is named twice\n"
     done = run(["open", "--keep"], room, b"plan,tx.bin,cert.bin\n")
-    tally.check("open --keep, refused", done.stdout == refused and stand(room) == OLD and set(os.listdir(room)) == names, done)
+    holds = stand(room) == OLD and names(room) == before
+    tally.check_done("open --keep, refused", done, 0, b"refused: there are no pages\n", b"", holds)
     done = run(["open", "--keep"], room, b"add,8,tone0,\nplan,tx.bin,none/cert.bin\nplan,none/tx.bin,cert.bin\n")
-    cannot = b"refused: cannot read or open a file\n"
-    holds = done.stdout == b"ok 1\n" + 2 * cannot and stand(room) == OLD and set(os.listdir(room)) == names
-    tally.check("open --keep in no folder", holds, (done, os.listdir(room)))
+    holds = stand(room) == OLD and names(room) == before
+    tally.check_done("open --keep in no folder", done, 0, b"ok 1\n" + 2 * cannot, b"", holds)
     (room / "link.bin").symlink_to("tx.bin")
     os.mkfifo(room / "fifo")
     lines = b"add,8,tone0,\nplan,link.bin,cert.bin\nplan,tx.bin,fifo\nplan,tx.bin,tx.bin\nplan,a,./a\nplan,-,cert.bin\n"
-    twice = b"refused: the same file is named twice\n"
     done = run(["open", "--keep"], room, lines)
-    tally.check("open --keep at links and pipes", done.stdout == b"ok 1\n" + 2 * cannot + 3 * twice and stand(room) == OLD, done)
-    done = run(["open", "--keep", "pages.csv"], room, b"plan,tx.bin,cert.bin\nplan,tx.bin,cert.bin\n")
-    holds = done.stdout == 2 * b"batches 1\n" and stand(room) == due and not list(room.glob("*.new"))
-    tally.check("open --keep puts both in place", holds, (done, os.listdir(room)))
-    if shutil.which("strace"):
-        for number in (1, 2):
-            room = fresh(folder, f"keep open {number}")
-            trace = ["strace", "-qq", "-o", "trace", "-e", "trace=rename", "-e", f"inject=rename:error=EIO:when={number}"]
-            done = subprocess.run([*trace, str(PROGRAM), "open", "--keep", "pages.csv"], cwd=room, input=b"plan,tx.bin,cert.bin\n", capture_output=True)
-            holds = done.stdout == b"refused: cannot write\n" and is_one_of(stand(room), OLD, due) and not list(room.glob("*.new"))
-            tally.check(f"open --keep where renaming {number} fails", holds, (done, stand(room)))
+    tally.check_done("open --keep at links and pipes", done, 0, b"ok 1\n" + 2 * cannot + 3 * twice, b"", stand(room) == OLD)
+    done = run(["open", "--keep", "pages.csv"], room, 2 * b"plan,tx.bin,cert.bin\n")
+    holds = stand(room) == due and not list(room.glob("*.new"))
+    tally.check_done("open --keep puts both in place", done, 0, 2 * b"batches 1\n", b"", holds)
+    for number in (1, 2) if shutil.which("strace") else ():
+        room = fresh(folder, f"keep open {number}")
+        done = run(["open", "--keep", "pages.csv"], room, b"plan,tx.bin,cert.bin\n", faulty("rename", f"error=EIO:when={number}"))
+        holds = done.stdout == b"refused: cannot write\n" and is_one_of(stand(room), OLD, due) and not list(room.glob("*.new"))
+        tally.check(f"open --keep where renaming {number} fails", holds, (done, stand(room)))
 
 
 def is_one_of(now, before, due):
@@ -135,10 +103,8 @@ def is_one_of(now, before, due):
 def try_kills(tally, folder):
     """The program is ended at random moments, while it puts now one plan and now another in place; the same of the plan
     lines of an open round."""
-    keep = [str(PROGRAM), "plan", "pages.csv", "tx.bin", "cert.bin", "--keep"]
-    kill_often(tally, folder / "kills", keep, b"", KILLS)
-    keep_open = [str(PROGRAM), "open", "pages.csv", "--keep"]
-    kill_often(tally, folder / "kills of open", keep_open, b"plan,tx.bin,cert.bin\n", KILLS // 4)
+    kill_often(tally, folder / "kills", [str(PROGRAM), *PLAN, "--keep"], b"", KILLS)
+    kill_often(tally, folder / "kills of open", [str(PROGRAM), "open", "pages.csv", "--keep"], b"plan,tx.bin,cert.bin\n", KILLS // 4)
 
 
 def heed_interrupts():
@@ -181,17 +147,16 @@ def try_single_calls(tally, folder):
         return
     due = planned(folder, APART, "due apart")
     for call in ("openat", "fchmod", "fsync", "rename,renameat,renameat2", "write", "unlink,unlinkat"):
-        for fault in ("signal=KILL", "error=EIO"):
+        for what in ("signal=KILL", "error=EIO"):
             for number in range(1, 30):
-                room = fresh(folder, f"{call[:6]} {fault} {number}")
-                trace = ["strace", "-f", "-qq", "-o", "trace", "-e", f"trace={call}", "-e", f"inject={call}:{fault}:when={number}"]
-                words = [str(PROGRAM), "plan", "apart.csv", "tx.bin", "cert.bin", "--keep"]
-                done = subprocess.run([*trace, *words], cwd=room, capture_output=True, timeout=60)
+                room = fresh(folder, f"{call[:6]} {what} {number}")
+                words = ["plan", "apart.csv", "tx.bin", "cert.bin", "--keep"]
+                done = run(words, room, before=faulty(call, f"{what}:when={number}", "trace"))
                 reached = "INJECTED" in (room / "trace").read_text() or done.returncode < 0 or done.returncode == 137
                 now = stand(room)
-                tally.check(f"{fault} at {call} {number}", is_one_of(now, OLD, due), (done, now))
+                tally.check(f"{what} at {call} {number}", is_one_of(now, OLD, due), (done, now))
                 is_done = done.returncode == 0
-                tally.check(f"its status at {fault}, {call} {number}", not is_done or now == due, done)
+                tally.check(f"its status at {what}, {call} {number}", not is_done or now == due, done)
                 shutil.rmtree(room)
                 if not reached:
                     break
@@ -209,8 +174,8 @@ def try_order(tally, folder):
             if has_old:
                 (room / place).write_bytes(b"older")
         trace = ["strace", "-y", "-qq", "-o", "trace", "-e", "trace=rename,renameat,renameat2,fsync"]
-        words = [str(PROGRAM), "plan", "apart.csv", places[3], places[2], "--at-most", "2", "--rest", places[0], "--why", places[1], "--keep"]
-        done = subprocess.run([*trace, *words], cwd=room, capture_output=True, timeout=60)
+        words = ["plan", "apart.csv", places[3], places[2], "--at-most", "2", "--rest", places[0], "--why", places[1], "--keep"]
+        done = run(words, room, before=trace)
         steps = []
         for line in (room / "trace").read_text().splitlines():
             if line.startswith("rename"):
@@ -228,22 +193,18 @@ def try_expect(tally, folder):
     room = fresh(folder, "expect")
     swallowed = HEADER + b'8,tone0,\n9,alpha,"Pump 4\n16,tone0,\n24,tone0,\n'
     (room / "quote.csv").write_bytes(swallowed)
-    fault = b"pocsag: pages 2, where 4 were expected\n"
-    for words in (["plan", "quote.csv", "tx.bin", "cert.bin"], ["plan", "quote.csv", "tx.bin", "cert.bin", "--keep"],
-                  ["plan", "-", "-", "cert.bin"], ["report", "quote.csv", "--rate", "512"], ["plan", "quote.csv", "tx.bin", "cert.bin", "--always"]):
-        for name, data in zip(("tx.bin", "cert.bin"), OLD):
-            (room / name).write_bytes(data)
+    plan = ["plan", "quote.csv", "tx.bin", "cert.bin"]
+    for words in (plan, [*plan, "--keep"], ["plan", "-", "-", "cert.bin"], ["report", "quote.csv", "--rate", "512"], [*plan, "--always"]):
+        put_old(room)
         done = run([*words, "--expect", "4"], room, swallowed)
-        left = tuple(b"" if words[0] == "plan" and "--keep" not in words and name in words else data for name, data in zip(("tx.bin", "cert.bin"), OLD))
-        tally.check(f"unexpected: {words}", (done.returncode, done.stdout, done.stderr) == (1, b"", fault) and stand(room) == left, done)
+        left = tuple(b"" if words[0] == "plan" and "--keep" not in words and name in words else data for name, data in zip(PLAN[2:], OLD))
+        tally.check_done(f"unexpected: {words}", done, 1, b"", fault("pages 2, where 4 were expected"), stand(room) == left)
     for words in (["plan", "quote.csv", "t", "c"], ["plan", "quote.csv", "t", "c", "--keep", "--verify", "--always"], ["report", "quote.csv", "--rate", "512"]):
         plain, done = run(words, room), run([*words, "--expect", "2"], room)
-        holds = plain.returncode == 0 and (done.returncode, done.stdout, done.stderr) == (0, plain.stdout, b"")
-        tally.check(f"expected: {words}", holds, done)
+        tally.check_done(f"expected: {words}", done, 0, plain.stdout, b"", plain.returncode == 0)
     done = run(["plan", "bad.csv", "tx.bin", "cert.bin", "--expect", "1"], room)
     tally.check("a fault before the count", done.stderr == b"pocsag: record 1: unknown kind\n" and stand(room) == (b"", b""), done)
-    done = run(["plan", "pages.csv", "tx.bin", "cert.bin", "--expect", "x"], room)
-    tally.check("no number", done.returncode == 2 and stand(room) == (b"", b""), done)
+    tally.check_usage("no number", run([*PLAN, "--expect", "x"], room), also=stand(room) == (b"", b""))
 
 
 def try_verify(tally, folder):
@@ -254,8 +215,7 @@ def try_verify(tally, folder):
                   ["/dev/stdin", "tx.bin", "cert.bin"], ["pages.csv", "/dev/stdout", "cert.bin"], ["pages.csv", "/dev/null", "c"],
                   ["-", "tx.bin", "cert.bin"], ["pages.csv", "-", "cert.bin"], ["pages.csv", "tx.bin", "-"]):
         done = run(["plan", *words, "--verify"], room, TONE)
-        holds = done.returncode == 2 and done.stdout == b"" and done.stderr.startswith(b"error: --verify ")
-        tally.check(f"--verify wants regular files: {words}", holds and stand(room) == OLD, done)
+        tally.check_usage(f"--verify wants regular files: {words}", done, b"error: --verify ", stand(room) == OLD)
     done = run(["plan", "none.csv", "tx.bin", "cert.bin", "--verify"], room)
     tally.check("--verify of no file", (done.returncode, done.stderr) == (3, CANNOT_OPEN), done)
 
@@ -271,23 +231,21 @@ def try_pipes(tally, folder):
         (["plan", "-", "t.bin", "-"], APART, 0, due_cert, counts),
         (["plan", "-", "t.bin", "c.bin"], APART, 0, counts, b""),
         (["plan", "-", "-", "c.bin", "--always"], APART, 0, due, counts),
-        (["plan", "-", "-", "none.bin"], HEADER, 1, b"", b"pocsag: there are no pages\n"),
+        (["plan", "-", "-", "none.bin"], HEADER, 1, b"", fault("there are no pages")),
         (["plan", "apart.csv", "-", "-"], b"", 1, b"", NAMED_TWICE),
         (["check", "-", "c.bin"], APART, 0, b"at least 3 batches\n", b""),
         (["check", "apart.csv", "-"], due_cert, 0, b"at least 3 batches\n", b""),
         (["check", "-", "-"], APART, 1, b"", NAMED_TWICE),
         (["open", "-"], APART, 1, b"", NAMED_TWICE),
     ]
-    for words, given, status, out, err in cases:
-        done = run(words, room, given)
-        tally.check(f"pipes {words}", (done.returncode, done.stdout, done.stderr) == (status, out, err), done)
+    for words, given, *told in cases:
+        tally.check_done(f"pipes {words}", run(words, room, given), *told)
     tally.check("nothing is called -", not (room / "-").exists() and (room / "c.bin").read_bytes() == due_cert)
     (room / "tx.bin").write_bytes(due)
     for words, given in ((["decode"], due), (["hear", "3"], due), (["show"], due), (["show", "--list"], due), (["wav"], due), (["report", "--rate", "512"], APART)):
         file = "apart.csv" if words[0] == "report" else "tx.bin"
         wanted, done = run([*words, file], room), run([*words, "-"], room, given)
-        holds = wanted.returncode == 0 and (done.returncode, done.stdout, done.stderr) == (0, wanted.stdout, b"")
-        tally.check(f"{words} -", holds, done)
+        tally.check_done(f"{words} -", done, 0, wanted.stdout, b"", wanted.returncode == 0)
     ours, theirs = socket.socketpair()
     process = subprocess.Popen([str(PROGRAM), "plan", "-", "-", "s.bin"], cwd=room, stdin=theirs, stdout=theirs, stderr=subprocess.PIPE)
     theirs.close()
@@ -413,9 +371,10 @@ def try_recipe(tally, folder):
     tally.check("and plans the others", holds, made)
 
 
-def main():
-    return run_parts(try_keep, try_keep_open, try_kills, try_single_calls, try_order, try_expect, try_verify, try_pipes, try_terminal, try_page, try_recipe, *doors.PARTS, *slots.PARTS, *turns.PARTS)
-
+PARTS = (
+    try_keep, try_keep_open, try_kills, try_single_calls, try_order, try_expect, try_verify, try_pipes, try_terminal, try_page, try_recipe,
+    *doors.PARTS, *slots.PARTS, *turns.PARTS,
+)  # fmt: skip
 
 if __name__ == "__main__":
-    sys.exit(main())
+    sys.exit(run_parts(*PARTS))

@@ -12,15 +12,14 @@ import math
 import pathlib
 import random
 import re
-import subprocess
 import sys
 import xml.etree.ElementTree as ElementTree
 
 sys.dont_write_bytecode = True
 sys.path.insert(0, str(pathlib.Path(__file__).resolve().parents[1]))
 from codewords import IDLE, ONES as MESSAGE, TONE, ZERO, address_word, codewords_of, pages_in, transmission
-from drawings import SVG, check_form
-from tally import PROGRAM, TOP, module_at, run, run_parts
+from drawings import SVG, box, check_form
+from tally import PROGRAM, TOP, fault, module_at, run, run_parts
 
 sys.path.insert(0, str(TOP / "docs/pictures"))
 import make
@@ -146,10 +145,6 @@ def check_places(tally, folder, records):
 def shown_byte(byte):
     """A byte of a message as the drawing shows it: a control character by its picture."""
     return chr(0x2400 + byte) if byte < 32 else "\u2421" if byte == 127 else chr(byte)
-
-
-def box(node):
-    return tuple(int(node.get(key)) for key in ("x", "y", "width", "height"))
 
 
 def marks_of(x, y, number):
@@ -290,19 +285,15 @@ def check_rows_wanted(tally, folder):
         check_drawing(tally, f"rows {word}", done.stdout, words, path, first, last)
     for word in ("0", "0-3", "7-3", "x", "3-x", "-", "3--5", "", "1-2-3", "+3", "18446744073709551616", "1.5"):
         done = run(["show", path, f"--rows={word}"])
-        said = done.returncode == 2 and done.stdout == b"" and b"--rows" in done.stderr
-        tally.check(f"rows {word!r} are none", said, done)
+        tally.check_usage(f"rows {word!r} are none", done, also=b"--rows" in done.stderr)
     for word in ("41-50", "41-", "41", "18446744073709551615"):
         for more in ([], ["--svg"]):
             done = run(["show", path, "--rows", word, *more])
-            due = f"pocsag: rows {word}: the transmission has 40 batches\n".encode()
-            tally.check(f"rows {word} are behind the last", (done.returncode, done.stdout, done.stderr) == (1, b"", due), done)
+            tally.check_done(f"rows {word} are behind the last", done, 1, b"", fault(f"rows {word}: the transmission has 40 batches"))
     cut = folder / "cut"
     cut.write_bytes(path.read_bytes()[:-1])
-    done = run(["show", cut, "--rows", "41"])
-    tally.check("a cut transmission before its rows", (done.returncode, done.stderr) == (1, b"pocsag: the transmission is cut short\n"), done)
-    done = run(["show", path, "--rows", "2", "--list"])
-    tally.check("rows and list", done.returncode == 2 and done.stdout == b"", done)
+    tally.check_done("a cut transmission before its rows", run(["show", cut, "--rows", "41"]), 1, b"", fault("the transmission is cut short"))
+    tally.check_usage("rows and list", run(["show", path, "--rows", "2", "--list"]))
 
 
 def check_same_letters(tally, folder):
@@ -400,33 +391,23 @@ def luminance(colour):
 def check_faults(tally, folder):
     path = folder / "tx"
     good = transmission([TONE] + [IDLE] * 15)
-    for name, sent, said in (
-        ("cut", good[:139], b"pocsag: the transmission is cut short\n"),
-        ("short preamble", good[2:], b"pocsag: the preamble is too short\n"),
-        ("no batch", good[:72], b"pocsag: the transmission has no batch\n"),
-        ("wrong bit", good[:83] + bytes([good[83] ^ 1]) + good[84:], b"pocsag: codeword 1: not a codeword\n"),
-        ("orphan", transmission([MESSAGE] + [IDLE] * 15), b"pocsag: codeword 0: a message without an address\n"),
-        ("no synchronisation", good[:75] + b"\xd9" + good[76:], b"pocsag: batch 0: no synchronisation codeword\n"),
+    for name, sent, told in (
+        ("cut", good[:139], "the transmission is cut short"),
+        ("short preamble", good[2:], "the preamble is too short"),
+        ("no batch", good[:72], "the transmission has no batch"),
+        ("wrong bit", good[:83] + bytes([good[83] ^ 1]) + good[84:], "codeword 1: not a codeword"),
+        ("orphan", transmission([MESSAGE] + [IDLE] * 15), "codeword 0: a message without an address"),
+        ("no synchronisation", good[:75] + b"\xd9" + good[76:], "batch 0: no synchronisation codeword"),
     ):
         path.write_bytes(sent)
         for words in ([], ["--svg"], ["--list"]):
-            done = run(["show", path, *words])
-            tally.check(f"{name} {words}", (done.returncode, done.stdout, done.stderr) == (1, b"", said), done)
-    for words, status in (
-        ([folder / "none"], 3),
-        ([folder], 3),
-        ([], 2),
-        ([path, path], 2),
-        ([path, "--svg", "--list"], 2),
-        ([path, "--png"], 2),
-    ):
-        done = run(["show", *words])
-        tally.check(f"status of {words}", done.returncode == status and done.stdout == b"" and done.stderr != b"", done)
+            tally.check_done(f"{name} {words}", run(["show", path, *words]), 1, b"", fault(told))
     path.write_bytes(good)
+    for words in ([folder / "none"], [folder], [], [path, path], [path, "--svg", "--list"], [path, "--png"]):
+        done, status = run(["show", *words]), 3 if words in ([folder / "none"], [folder]) else 2
+        tally.check(f"status of {words}", done.returncode == status and done.stdout == b"" and done.stderr != b"", done)
     for words in ([], ["--svg"], ["--list"]):
-        with open("/dev/full", "wb") as full:
-            done = subprocess.run([str(PROGRAM), "show", str(path), *words], stdout=full, stderr=subprocess.PIPE, timeout=60)
-        tally.check(f"full device {words}", (done.returncode, done.stderr) == (3, b"pocsag: cannot write\n"), done)
+        tally.check_full(f"full device {words}", ["show", path, *words])
 
 
 def check_large_writes(tally, folder, faults, library):
@@ -462,12 +443,9 @@ def check_pictures(tally, _folder):
         tally.check(f"picture {name}", kept.is_file() and kept.read_bytes() == text, "run docs/pictures/make.py")
 
 
-def main():
-    return run_parts(
-        check_text, check_list, check_svg, check_rows_wanted, check_same_letters, check_hues, check_faults, check_refusals,
-        check_pictures,
-    )
-
+PARTS = (
+    check_text, check_list, check_svg, check_rows_wanted, check_same_letters, check_hues, check_faults, check_refusals, check_pictures,
+)  # fmt: skip
 
 if __name__ == "__main__":
-    sys.exit(main())
+    sys.exit(run_parts(*PARTS))

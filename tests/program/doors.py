@@ -5,7 +5,8 @@ import os
 import subprocess
 
 from codewords import APART, HEADER
-from tally import IS_EMULATED, PROGRAM, run, said, sampled
+from tally import BAD_LIMIT, BAD_RATE, CANNOT_OPEN, CANNOT_WRITE, IS_EMULATED, NAMED_TWICE, PROGRAM, TOO_LARGE
+from tally import fault, make_huge, room_in, run, sampled
 
 TONE = HEADER + b"8,tone0,\n"
 BAD = HEADER + b"8,tone0,\n9,tone9,\n"
@@ -17,23 +18,14 @@ Usage: pocsag [OPTIONS] [COMMAND]
 
 For more information, try '--help'.
 """
-CANNOT_OPEN = b"pocsag: cannot read or open a file\n"
-CANNOT_WRITE = b"pocsag: cannot write\n"
-BAD_RECORD = b"pocsag: record 2: unknown kind\n"
-BAD_LIMIT = b"pocsag: the limit must be 1 to 1000000\n"
-BAD_RATE = b"pocsag: the rate must be 512, 1200 or 2400\n"
-STOPPED = b"pocsag: search limit reached: at least 2 batches, 3 would do\n"
-NAMED_TWICE = b"pocsag: the same file is named twice\n"
+BAD_RECORD, STOPPED = map(fault, ("record 2: unknown kind", "search limit reached: at least 2 batches, 3 would do"))
 TOLD = b"pages 1\nbatches 1\n"
 PLAN = ["plan", "pages.csv", "tx.bin", "cert.bin"]
 
 
 def fresh(folder, name):
     """A folder with a page file, a bad one, and what `plan` writes of the first; gives these two as well."""
-    room = folder / f"doors, {name}"
-    room.mkdir()
-    for file, text in (("pages.csv", TONE), ("apart.csv", APART), ("bad.csv", BAD), ("quote.csv", QUOTE)):
-        (room / file).write_bytes(text)
+    room = room_in(folder, f"doors, {name}", {"pages.csv": TONE, "apart.csv": APART, "bad.csv": BAD, "quote.csv": QUOTE})
     run(PLAN, room)
     return room, stand(room)
 
@@ -43,9 +35,9 @@ def stand(room):
     return [path.read_bytes() if path.exists() else None for path in (room / "tx.bin", room / "cert.bin")]
 
 
-def put(room, content):
-    """Has TX and CERT hold this; without content they are not there."""
-    for name in ("tx.bin", "cert.bin"):
+def put(room, content, names=("tx.bin", "cert.bin")):
+    """Has TX and CERT, or other files, hold this; without content they are not there."""
+    for name in names:
         (room / name).unlink(missing_ok=True)
         if content is not None:
             (room / name).write_bytes(content)
@@ -63,9 +55,7 @@ def try_words_of_bytes(tally, folder):
         [b"show", b"tx.bin", b"--rows", wrong], [b"wav", wrong], [b"open", wrong], [b"explain", b"pages.csv", wrong], [b"--help", wrong],
     ]  # fmt: skip
     for words in cases:
-        done = run(words, room)
-        holds = said(done) == (2, b"", NOT_TEXT) and stand(room) == made and sorted(os.listdir(room)) == before
-        tally.check(f"no text {words}", holds, done)
+        tally.check_done(f"no text {words}", run(words, room), 2, b"", NOT_TEXT, stand(room) == made and sorted(os.listdir(room)) == before)
 
 
 # Calls of each command that print, and what standard input holds where it is read.
@@ -82,14 +72,11 @@ STDIN = {"": TONE, "open": b"add,9,tone0,\n", "open pages.csv": b"list\n"}
 
 def unheard(words, room, stdin, output):
     """Runs the program with a standard output that takes nothing: closed, a pipe that nobody reads, or a full device."""
-    words = [str(PROGRAM), *words]
-    if output == "closed":
-        words = ["sh", "-c", 'exec "$@" >&-', "sh", *words]
+    before = ["sh", "-c", 'exec "$@" >&-', "sh"] if output == "closed" else []
     ours, theirs = os.pipe()
     os.close(ours)
     with open("/dev/full", "wb") as full:
-        taker = full.fileno() if output == "full" else theirs
-        done = subprocess.run(words, cwd=room, input=stdin, stdout=taker, stderr=subprocess.PIPE, timeout=60)
+        done = run(words, room, stdin, before, stdout=full if output == "full" else theirs)
     os.close(theirs)
     return done
 
@@ -136,7 +123,7 @@ def try_closed(tally, folder):
     for words, closed, status, out, err, left in [] if IS_EMULATED else CLOSED:
         put(room, OLD)
         done = subprocess.run(["sh", "-c", f'"$0" {words} {closed}', str(PROGRAM)], cwd=room, input=b"", capture_output=True, timeout=60)
-        tally.check(f"{words} {closed}", said(done) == (status, out, err) and stand(room) == found[left], (done, stand(room)))
+        tally.check_done(f"{words} {closed}", done, status, out, err, stand(room) == found[left])
 
 
 def try_limits(tally, folder):
@@ -157,12 +144,11 @@ def try_limits(tally, folder):
         for limit in ("0", "1000001", "4294967295"):
             for always in ([], ["--always"]):
                 put(room, OLD)
-                done = run(["plan", *files, "--limit", limit, *always], room, input=stdin)
-                holds = said(done) == (status, b"", told) and stand(room) == [left, left] and (room / "pages.csv").read_bytes() == TONE
-                tally.check(f"plan {files} --limit {limit} {always}", holds, (done, stand(room)))
+                done = run(["plan", *files, "--limit", limit, *always], room, stdin)
+                holds = stand(room) == [left, left] and (room / "pages.csv").read_bytes() == TONE
+                tally.check_done(f"plan {files} --limit {limit} {always}", done, status, b"", told, holds)
     put(room, None)
-    done = run([*PLAN, "--limit", "0"], room)
-    tally.check("TX and CERT are there and empty", said(done) == (1, b"", BAD_LIMIT) and stand(room) == [b"", b""], (done, stand(room)))
+    tally.check_done("TX and CERT are there and empty", run([*PLAN, "--limit", "0"], room), 1, b"", BAD_LIMIT, stand(room) == [b"", b""])
 
 
 def try_reports(tally, folder):
@@ -181,54 +167,47 @@ def try_reports(tally, folder):
     for pages, rate, limit, status, told in cases:
         for more in ([], ["--frames"], ["--end", "closed"]):
             done = run(["report", pages, "--rate", rate, "--limit", limit, *more], room)
-            tally.check(f"report {pages} at {rate} to {limit} {more}", said(done) == (status, b"", told), done)
+            tally.check_done(f"report {pages} at {rate} to {limit} {more}", done, status, b"", told)
 
 
 def try_refused(tally, folder):
     """Whatever refuses the round, TX and CERT are there and empty behind it."""
     room, _ = fresh(folder, "refused")
-    with open(room / "large.csv", "wb") as large:
-        large.write(TONE)
-        large.truncate(300_000_000)
+    make_huge(room / "large.csv", TONE)
     cases = [
         (["bad.csv"], 1, BAD_RECORD),
-        (["/dev/null"], 1, b"pocsag: the header must be address,kind,message\n"),
-        (["large.csv"], 1, b"pocsag: the file is too large\n"),
+        (["/dev/null"], 1, fault("the header must be address,kind,message")),
+        (["large.csv"], 1, TOO_LARGE),
         (["/proc/self/mem"], 3, CANNOT_OPEN),
         (["apart.csv", "--limit", "2"], 1, STOPPED),
-        (["pages.csv", "--expect", "2"], 1, b"pocsag: pages 1, where 2 were expected\n"),
-        (["quote.csv", "--strict"], 1, b"pocsag: record 1: the quote in line 2 is not closed\n"),
+        (["pages.csv", "--expect", "2"], 1, fault("pages 1, where 2 were expected")),
+        (["quote.csv", "--strict"], 1, fault("record 1: the quote in line 2 is not closed")),
     ]
     for (pages, *more), status, told in cases:
         for content in (OLD, None):
             for verify in ([], ["--verify"]) if pages[0] != "/" else ([],):
                 put(room, content)
                 done = run(["plan", pages, "tx.bin", "cert.bin", *more, *verify], room)
-                holds = said(done) == (status, b"", told) and stand(room) == [b"", b""]
-                tally.check(f"refused {pages} {more} {verify} over {content}", holds, (done, stand(room)))
+                tally.check_done(f"refused {pages} {more} {verify} over {content}", done, status, b"", told, stand(room) == [b"", b""])
     (room / "large.csv").unlink()
 
 
 def try_fronts(tally, folder):
-    """Where a file of a front cannot be opened, REST and WHY stay as they were."""
+    """Where a file of a front cannot be opened, REST and WHY stay as they were: all files are opened before one is changed."""
     room, _ = fresh(folder, "fronts")
-    others = room / "rest.csv", room / "why.bin"
-    for files in (["none.csv", "tx.bin", "cert.bin"], ["apart.csv", "none/tx.bin", "cert.bin"], ["apart.csv", "tx.bin", "none/cert.bin"]):
-        put(room, OLD)
-        for path in others:
-            path.write_bytes(OLD)
-        done = run(["plan", *files, "--at-most", "2", "--rest", "rest.csv", "--why", "why.bin"], room)
-        holds = said(done) == (3, b"", CANNOT_OPEN) and [*stand(room), *(path.read_bytes() for path in others)] == 4 * [OLD]
-        tally.check(f"a front with {files}", holds, (done, stand(room)))
-    # All files are opened before one is changed.
-    files = ["apart.csv", "tx.bin", "cert.bin", "--at-most", "2"]
-    for names in (["--rest", "none/rest.csv", "--why", "why.bin"], ["--rest", "rest.csv", "--why", "none/why.bin"]):
-        put(room, OLD)
-        for path in others:
-            path.write_bytes(OLD)
-        done = run(["plan", *files, *names], room)
-        holds = said(done) == (3, b"", CANNOT_OPEN) and [*stand(room), *(path.read_bytes() for path in others)] == 4 * [OLD]
-        tally.check(f"a front with {names}", holds, (done, stand(room)))
+    both = ["--rest", "rest.csv", "--why", "why.bin"]
+    names = ("tx.bin", "cert.bin", "rest.csv", "why.bin")
+    for files, others in (
+        (["none.csv", "tx.bin", "cert.bin"], both),
+        (["apart.csv", "none/tx.bin", "cert.bin"], both),
+        (["apart.csv", "tx.bin", "none/cert.bin"], both),
+        (["apart.csv", "tx.bin", "cert.bin"], ["--rest", "none/rest.csv", "--why", "why.bin"]),
+        (["apart.csv", "tx.bin", "cert.bin"], ["--rest", "rest.csv", "--why", "none/why.bin"]),
+    ):
+        put(room, OLD, names)
+        done = run(["plan", *files, "--at-most", "2", *others], room)
+        left = [(room / name).read_bytes() for name in names]
+        tally.check_done(f"a front with {files} {others}", done, 3, b"", CANNOT_OPEN, left == 4 * [OLD])
 
 
 def try_input(tally, folder):
@@ -245,22 +224,20 @@ def try_input(tally, folder):
         for keep in ([], ["--keep"]):
             put(room, OLD)
             with open(room / "apart.csv", "rb") as stdin:
-                done = subprocess.run([str(PROGRAM), *call, *keep], stdin=stdin, capture_output=True, cwd=room, timeout=60)
-            holds = said(done) == (1, b"", NAMED_TWICE) and (room / "apart.csv").read_bytes() == queue and stand(room) == [OLD, OLD]
-            tally.check(f"the file behind standard input: {call} {keep}", holds, (done, stand(room)))
+                done = run([*call, *keep], room, stdin)
+            holds = (room / "apart.csv").read_bytes() == queue and stand(room) == [OLD, OLD]
+            tally.check_done(f"the file behind standard input: {call} {keep}", done, 1, b"", NAMED_TWICE, holds)
 
 
 def try_certificates(tally, folder):
     """`check` and `explain` open both files, judge PAGES first, and read no more of CERT than a certificate can have."""
     room, made = fresh(folder, "certificates")
-    with open(room / "long.bin", "wb") as long:
-        long.write(made[1])
-        long.truncate(300_000_000)
+    make_huge(room / "long.bin", made[1])
     cases = [
-        ("pages.csv", "/dev/zero", 1, b"pocsag: not a certificate\n"),
-        ("pages.csv", "pages.csv", 1, b"pocsag: not a certificate\n"),
-        ("pages.csv", "/dev/null", 1, b"pocsag: the certificate is cut short\n"),
-        ("pages.csv", "long.bin", 1, b"pocsag: bytes after the certificate\n"),
+        ("pages.csv", "/dev/zero", 1, fault("not a certificate")),
+        ("pages.csv", "pages.csv", 1, fault("not a certificate")),
+        ("pages.csv", "/dev/null", 1, fault("the certificate is cut short")),
+        ("pages.csv", "long.bin", 1, fault("bytes after the certificate")),
         ("pages.csv", "/proc/self/mem", 3, CANNOT_OPEN),
         ("bad.csv", "/dev/zero", 1, BAD_RECORD),
         ("bad.csv", "pages.csv", 1, BAD_RECORD),
@@ -269,8 +246,7 @@ def try_certificates(tally, folder):
     ]
     for pages, cert, status, told in cases:
         for command in (["check"], ["explain"], ["explain", "--json"]):
-            done = run([*command, pages, cert], room)
-            tally.check(f"{command} {pages} {cert}", said(done) == (status, b"", told), done)
+            tally.check_done(f"{command} {pages} {cert}", run([*command, pages, cert], room), status, b"", told)
     (room / "long.bin").unlink()
 
 

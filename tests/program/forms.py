@@ -6,45 +6,21 @@ import json
 import random
 import shutil
 import subprocess
-import sys
 
-sys.dont_write_bytecode = True
 import codewords
 import repair
-from codewords import IDLE, NUMERIC, SYNC, codeword, items_of, sent
-from tally import PROGRAM, run, sampled
+from codewords import IDLE, SYNC, characters, codeword, items_of, kind_and_message, sent
+from tally import fault, run, sampled
 
 HEADER = codewords.HEADER.decode()
 # The words for functions, in any order and number, and the functions that they name.
-TEXTS = {None: "", "0": "0", "1": "1", "2": "2", "0,1": "01", "2,0": "02", "1,1,1": "1", "2,1,0": "012"}
+TEXTS = {None: (), "0": (0,), "1": (1,), "2": (2,), "0,1": (0, 1), "2,0": (0, 2), "1,1,1": (1,), "2,1,0": (0, 1, 2)}
 REFUSED = ("", "3", "0,", ",1", "0,,1", "0 1", "0,4", "a", "+1", "00")
-BAD_TEXT = """\
+BAD_TEXT = b"""\
 error: invalid value for '--text LIST': the functions are 0, 1 and 2, with commas
 between them, as in 0,1,2 or 1
 
 """
-
-
-def codes_of(items, width):
-    bits = [item >> 19 - k & 1 for item in items for k in range(20)]
-    return [sum(bits[k + j] << j for j in range(width)) for k in range(0, len(bits) - width + 1, width)]
-
-
-def characters(items):
-    return "".join(map(chr, codes_of(items, 7))).rstrip("\0")
-
-
-def kind_and_message(function, items, texts):
-    """What is told of a page, where the messages of these functions are text."""
-    if not items:
-        return f"tone{function}", ""
-    if str(function) in texts:
-        return f"text{function}", characters(items)
-    if function == 0:
-        return "numeric", "".join(NUMERIC[code] for code in codes_of(items, 4)).rstrip(" ")
-    if function == 3:
-        return "alpha", characters(items)
-    return f"data{function}", "".join(f"{item:05X}" for item in items)
 
 
 def random_pages(source):
@@ -100,7 +76,7 @@ def try_pages(tally, folder, source, pages, reads):
             (["decode", "tx.bin", "--verbose", *asked], b"", ""),
         ):
             done = run(call, folder, stdin)
-            tally.check(f"{call} of {len(pages)} pages", (done.returncode, done.stdout.decode(), done.stderr.decode()) == (0, due, told), (done, due))
+            tally.check_done(f"{call} of {len(pages)} pages", done, 0, due.encode(), told.encode())
         if is_json:
             tally.check(f"json reads {asked}", [json.loads(line) for line in done.stdout.decode().splitlines()] == objects)
             if reads:
@@ -108,8 +84,7 @@ def try_pages(tally, folder, source, pages, reads):
                 tally.check(f"jq reads {asked}", [json.loads(line) for line in read.stdout.splitlines()] == [[*it.values()] for it in objects], read)
         due, _ = due_of(heard, texts, is_json)
         for name, more in (("tx.bin", []), ("rx.bin", []), ("rx.bin", ["--verbose"])):
-            done = run(["hear", "11", name, *asked, *more], folder)
-            tally.check(f"hear {asked} {more}", (done.returncode, done.stdout.decode(), done.stderr) == (0, due, b""), (done, due))
+            tally.check_done(f"hear {asked} {more}", run(["hear", "11", name, *asked, *more], folder), 0, due.encode())
 
 
 def try_forms(tally, folder):
@@ -134,9 +109,7 @@ def try_long(tally, folder):
         once, done = (run(["decode", name, *words], folder) for name in ("once.bin", "long.bin"))
         head = b"" if "--json" in words else HEADER.encode()
         tally.check(f"decode {words} of a long one", done.stdout == head + times * once.stdout[len(head) :] and done.returncode == 0, done.stderr)
-        with open("/dev/full", "wb") as full:
-            done = subprocess.run([str(PROGRAM), "decode", "long.bin", *words], stdout=full, stderr=subprocess.PIPE, cwd=folder, timeout=110)
-        tally.check(f"decode {words} on a full disk", (done.returncode, done.stderr) == (3, b"pocsag: cannot write\n"), done)
+        tally.check_full(f"decode {words} on a full disk", ["decode", "long.bin", *words], folder)
 
 
 def try_words(tally, folder):
@@ -146,21 +119,16 @@ def try_words(tally, folder):
     for command in (["decode"], ["hear", "11"]):
         for word in REFUSED:
             for more in ([], ["--json"]):
-                done = run([*command, "tx.bin", "--text", word, *more], folder)
-                holds = (done.returncode, done.stdout) == (2, b"") and done.stderr.decode().startswith(BAD_TEXT)
-                tally.check(f"{command} --text '{word}'", holds, done)
+                tally.check_usage(f"{command} --text '{word}'", run([*command, "tx.bin", "--text", word, *more], folder), BAD_TEXT)
         for option in (["--json"], ["--text", "0"]):
             for more in ([], ["--repair"])[: 1 + (command == ["decode"])]:
                 words = [*command, "short.bin", *option, *more]
-                note = b"pocsag: transmission short.bin"
-                note += b": for bits off the air that begin anywhere, give --capture\n" if more or command != ["decode"] else b"\n"
-                for verbose in ([], ["--verbose"]):
-                    told = b"pocsag: the preamble is too short\n" + (note if verbose else b"")
-                    done = run([*words, *verbose], folder)
-                    tally.check(f"{words} {verbose}", (done.returncode, done.stdout, done.stderr) == (1, b"", told), (done, told))
+                hint = ": for bits off the air that begin anywhere, give --capture" if more or command != ["decode"] else ""
+                for verbose, note in (([], b""), (["--verbose"], fault(f"transmission short.bin{hint}"))):
+                    told = fault("the preamble is too short") + note
+                    tally.check_done(f"{words} {verbose}", run([*words, *verbose], folder), 1, b"", told)
     for option in (["--json"], ["--text", "0"]):
-        done = run(["show", "tx.bin", *option], folder)
-        tally.check(f"show {option}", done.returncode == 2, done)
+        tally.check_usage(f"show {option}", run(["show", "tx.bin", *option], folder))
 
 
 PARTS = (try_codes, try_forms, try_long, try_words)

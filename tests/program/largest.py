@@ -14,19 +14,16 @@ sys.path[:0] = [str(HERE), *(str(HERE.parent / it) for it in (".", "calls", "cer
 import checker
 import sizes
 import trees
+import worked
 from codewords import HEADER, IDLE, LARGEST, PREAMBLE, SYNC, address_word, codeword, items_of, letters, sent
 from forms import due_of
-from tally import MEMORY, PROGRAM, run, run_parts, said
+from tally import MEMORY, brief, fault, run, run_parts
 
 PAGES = 20_000
+READ_ONLY = ["open", "--journal", "journal", "--read-only"]
 # The pages of a round, the letters of each, and the codewords that these take with their address. Each fills batches to the last slot,
 # since each frame has an even number of them, as many as the others; and so does each half.
 ROUNDS = [(3_200, 400, 141), (PAGES, 4_000, 1_401)]
-
-
-def brief(done):
-    """What is shown of a run that failed."""
-    return done.returncode, done.stdout[:300], done.stderr[:300]
 
 
 def tones(first, last):
@@ -51,8 +48,8 @@ def try_fronts(tally, folder):
         (folder / "pages.csv").write_bytes(HEADER + records(0, pages))
         plan = ["plan", "pages.csv", "tx.bin", "cert.bin", "--at-most", str(batches)]
         done = run([*plan, "--rest", "rest.csv", "--why", "why.bin", "--verify"], folder)
-        due = (0, b"pages %d\nbatches %d\nleft %d\nverified\n" % (first, batches, pages - first), b"")
-        tally.check(f"a front of {first} of {pages} {kind}", said(done) == due, brief(done))
+        due = b"pages %d\nbatches %d\nleft %d\nverified\n" % (first, batches, pages - first)
+        tally.check_done(f"a front of {first} of {pages} {kind}", done, 0, due)
         told = run(["report", "pages.csv", "--rate", "2400", "--at-most", str(batches)], folder)
         airtime = -(-(576 + 544 * batches) * 1_000 // 2_400)
         lines = told.stdout.splitlines()
@@ -65,7 +62,7 @@ def try_fronts(tally, folder):
         (folder / "more.csv").write_bytes(HEADER + records(0, first + 1))
         for name, cert, least in (("front.csv", "cert.bin", batches), ("more.csv", "why.bin", more)):
             done = run(["check", name, cert, "--verbose"], folder)
-            tally.check(f"check of {name}, {pages} {kind}", said(done) == (0, b"at least %d batches\n" % least, b""), brief(done))
+            tally.check_done(f"check of {name}, {pages} {kind}", done, 0, b"at least %d batches\n" % least)
 
 
 def try_queues(tally, folder):
@@ -84,8 +81,8 @@ def try_queues(tally, folder):
         words += ["--verify", "--strict", "--keep", "--always", "--verbose", "--expect", str(pages)]
         done = run(["plan", "pages.csv", "tx.bin", "cert.bin", *words], folder)
         left = 2 * len(fitting) - 1
-        due = (0, b"pages 1\nbatches %d\nleft %d\noversized %d\nverified\n" % (batches, left, 2 * len(aside)), b"")
-        tally.check(f"a queue of {pages} pages", said(done) == due and len(fitting) > pages // 10, (brief(done), due))
+        due = b"pages 1\nbatches %d\nleft %d\noversized %d\nverified\n" % (batches, left, 2 * len(aside))
+        tally.check_done(f"a queue of {pages} pages", done, 0, due, b"", len(fitting) > pages // 10)
         slot = [*words[:5], "--oversized", "--strict", "--always", "--verbose", "--expect", str(pages)]
         done = run(["report", "pages.csv", *slot], folder)
         lines = [b"airtime_ms %d" % airtime, b"left %d" % left, b"oversized %d" % (2 * len(aside))]
@@ -105,8 +102,7 @@ def try_plans(tally, folder):
         options = ["--strict", "--limit", "1000000", "--verbose", "--expect", str(pages)]
         for words, batches in ((["--idle-last", "--always"], full + 1), (["--end", "open"], full)):
             done = run([*plan, *options, *words, "--verify", *["--keep"] * (batches > full)], folder)
-            due = (0, b"pages %d\nbatches %d\nverified\n" % (pages, batches), b"")
-            tally.check(f"plan {words[0]} of {pages} pages", said(done) == due, brief(done))
+            tally.check_done(f"plan {words[0]} of {pages} pages", done, 0, b"pages %d\nbatches %d\nverified\n" % (pages, batches))
             done = run(["report", "pages.csv", "--rate", "2400", "--frames", *options, *words], folder)
             counts = [f"pages {pages}", f"codewords {pages * codewords}", f"batches {batches}", f"idles {16 * (batches - full)}"]
             frames = [f"frame {it} pages {pages // 8} codewords {pages // 8 * codewords} room {2 * (batches - full)}" for it in range(8)]
@@ -118,7 +114,7 @@ def try_plans(tally, folder):
             tally.check(f"{pages} pages where one fewer is expected", done.returncode == 1 and not done.stdout, brief(done))
         with open(folder / "pages.csv", "rb") as file:
             done = run([], folder, stdin=file)
-        tally.check(f"no words, {pages} pages", said(done) == (0, b"pages %d\nbatches %d\n" % (pages, full), b""), brief(done))
+        tally.check_done(f"no words, {pages} pages", done, 0, b"pages %d\nbatches %d\n" % (pages, full))
 
 
 def try_faults(tally, folder):
@@ -134,16 +130,14 @@ def try_faults(tally, folder):
 
 # Pages for which the tree of the search has more than a million nodes, and pages for which that of the free search has 319: of each its
 # frame and its codewords.
-HARD = [(0, 21), (0, 29), (2, 31), (3, 24), (6, 15), (1, 31), (5, 15), (4, 14)]
+HARD = worked.HARD[1][1]
 FREE = [(1, 13), (6, 21), (5, 5), (2, 30), (1, 1), (7, 30), (0, 11), (3, 31), (7, 9), (6, 21), (4, 14), (0, 29), (5, 32), (5, 16), (3, 3), (7, 2)]
 
 
-def shaped(shapes, pages):
+def filled(shapes, pages):
     """A page file of pages of these shapes. The others fill a batch each, and start where the transmission does, so that they make
     nothing easier."""
-    shapes = [*shapes, *[(0, 16)] * (pages - len(shapes))]
-    rows = ((8 * place + frame, b"numeric," + b"1" * (5 * length - 5) if length > 1 else b"tone0,") for place, (frame, length) in enumerate(shapes))
-    return HEADER + b"".join(b"%d,%s\n" % row for row in rows)
+    return HEADER + b"".join(worked.shaped([*shapes, *[(0, 16)] * (pages - len(shapes))]))
 
 
 def try_hard(tally, folder):
@@ -151,19 +145,16 @@ def try_hard(tally, folder):
     that the sixteen need 18."""
     for pages in (2_000, PAGES):
         least = pages - len(HARD) + 12
-        (folder / "pages.csv").write_bytes(shaped(HARD, pages))
+        (folder / "pages.csv").write_bytes(filled(HARD, pages))
         plan = ["plan", "pages.csv", "tx.bin", "cert.bin", "--limit"]
-        done = run([*plan, "1000000"], folder)
-        due = (1, b"", b"pocsag: search limit reached: at least %d batches, %d would do\n" % (least, least + 1))
-        tally.check(f"a search of {pages} pages to 1,000,000 nodes", said(done) == due, brief(done))
-        done = run([*plan, "10", "--always"], folder)
-        due = (0, b"pages %d\nbatches %d\nat least %d batches\n" % (pages, least + 1, least), b"")
-        tally.check(f"a plan of {pages} pages that is one batch above its bound", said(done) == due, brief(done))
-        (folder / "pages.csv").write_bytes(shaped(FREE, pages))
+        stopped = fault(f"search limit reached: at least {least} batches, {least + 1} would do")
+        tally.check_done(f"a search of {pages} pages to 1,000,000 nodes", run([*plan, "1000000"], folder), 1, b"", stopped)
+        due = b"pages %d\nbatches %d\nat least %d batches\n" % (pages, least + 1, least)
+        tally.check_done(f"a plan of {pages} pages that is one batch above its bound", run([*plan, "10", "--always"], folder), 0, due)
+        (folder / "pages.csv").write_bytes(filled(FREE, pages))
         done = run([*plan, "1000000", "--always"], folder)
-        due = (0, b"pages %d\nbatches %d\n" % (pages, pages - len(FREE) + 18), b"")
-        length = (folder / "cert.bin").stat().st_size
-        tally.check(f"a free search of {pages} pages", said(done) == due and length > 3 * 319, (brief(done), length))
+        due, length = b"pages %d\nbatches %d\n" % (pages, pages - len(FREE) + 18), (folder / "cert.bin").stat().st_size
+        tally.check_done(f"a free search of {pages} pages", done, 0, due, b"", length > 3 * 319)
 
 
 def halved(number, first, last, leaf):
@@ -191,7 +182,7 @@ def try_certificates(tally, folder):
         (folder / "pages.csv").write_bytes(pages)
         (folder / "cert.bin").write_bytes(certificate)
         done = run(["check", "pages.csv", "cert.bin", "--verbose"], folder)
-        tally.check(f"check of {count} nodes", said(done) == (0, b"at least 5000 batches with an idle last\n", b""), brief(done))
+        tally.check_done(f"check of {count} nodes", done, 0, b"at least 5000 batches with an idle last\n")
         for words, start, end in (
             ([], b"at least 5000 batches", b"\nso 4999 batches do not suffice with an idle last\n"),
             (["--depth", "300"], b"at least 5000 batches", b"\nso 4999 batches do not suffice with an idle last\n"),
@@ -217,10 +208,10 @@ def try_readings(tally, folder):
     items = letters(b"a" * 4_000)
     pages = [(8, 3, items), (8, 0, items)]
     forms = [
-        (["decode", "tx.bin", "--repair", "--verbose"], "", False, b"pocsag: transmission tx.bin: corrected bits 0, words 0\n"),
-        (["decode", "tx.bin", "--json"], "", True, b""),
-        (["decode", "tx.bin", "--text", "0,1,2"], "012", False, b""),
-        (["hear", "8", "tx.bin", "--json", "--text", "0,1,2"], "012", True, b""),
+        (["decode", "tx.bin", "--repair", "--verbose"], (), False, b"pocsag: transmission tx.bin: corrected bits 0, words 0\n"),
+        (["decode", "tx.bin", "--json"], (), True, b""),
+        (["decode", "tx.bin", "--text", "0,1,2"], (0, 1, 2), False, b""),
+        (["hear", "8", "tx.bin", "--json", "--text", "0,1,2"], (0, 1, 2), True, b""),
     ]
     for size in (4_000_000, LARGEST):
         tx, count = repeated(pages, size)
@@ -228,7 +219,7 @@ def try_readings(tally, folder):
         for words, as_text, is_json, noted in forms:
             head, text = (b"" if is_json else HEADER), due_of(pages, as_text, is_json)[0].encode()
             done, option = run(words, folder), next(it for it in words if it.startswith("--"))
-            tally.check(f"{words[0]} {option} of {size} bytes", said(done) == (0, head + count * text[len(head):], noted), brief(done))
+            tally.check_done(f"{words[0]} {option} of {size} bytes", done, 0, head + count * text[len(head):], noted)
 
 
 def long_message(function, codes, width, batches):
@@ -253,8 +244,7 @@ def try_long_message(tally, folder):
             (folder / "tx.bin").write_bytes(tx)
             due = HEADER + b"8,%s," % kind.encode() + count * (b"1" if width == 4 else b"a") + b"\n"
             for words in calls:
-                done = run([*words, "tx.bin", "--verbose"], folder)
-                tally.check(f"{words[0]}, {kind}, a message of {size} bytes", said(done) == (0, due, b""), brief(done))
+                tally.check_done(f"{words[0]}, {kind}, a message of {size} bytes", run([*words, "tx.bin", "--verbose"], folder), 0, due)
 
 
 def try_shows(tally, folder):
@@ -295,8 +285,8 @@ def try_captures(tally, folder):
         told = ["--verbose"] * (size < LARGEST)  # a line for each transmission
         for words in (["decode"], ["hear", "8"]):
             done = run([*words, "--capture", "capture", *told], folder)
-            holds = (done.returncode, done.stdout) == (0, b"address,kind,message,state\n" + count * b"8,tone0,,whole\n") and done.stderr.count(b"\n") == count * len(told)
-            tally.check(f"{words[0]} --capture of {count} calls", holds, brief(done))
+            holds = (done.returncode, done.stdout) == (0, b"address,kind,message,state\n" + count * b"8,tone0,,whole\n")
+            tally.check(f"{words[0]} --capture of {count} calls", holds and done.stderr.count(b"\n") == count * len(told), brief(done))
         done = run(["show", "--list", "--capture", "--nth", str(count), "capture", "--verbose"], folder)
         shown = b"batch,frame,slot,codewords,address,kind,message\n1,0,0,1,8,tone0,\n"
         tally.check(f"show --nth of {count} calls", (done.returncode, done.stdout) == (0, shown), brief(done))
@@ -311,14 +301,12 @@ def try_sounds(tally, folder):
     done, due = run(words, folder), 44 + 2 * (584 + 544 * 20_000 + 612)
     tally.check("wav of 20000 batches", (done.returncode, len(done.stdout), done.stderr) == (0, due, b""), (brief(done), due))
     (folder / "tx.bin").write_bytes(PREAMBLE + 3_947_578 * tone_batch(8))
-    with open("/dev/null", "wb") as nowhere:
-        done = subprocess.run([str(PROGRAM), *words], cwd=folder, stdout=nowhere, stderr=subprocess.PIPE, timeout=300)
-    tally.check("wav of 3947578 batches", (done.returncode, done.stderr) == (0, b""), done)
+    tally.check_done("wav of 3947578 batches", run(words, folder, stdout=subprocess.DEVNULL), 0, None)
 
 
 def read_again(edits, pages):
     """What is said of a journal."""
-    return b"pocsag: %d edits read, %d pages\n" % (edits, pages)
+    return fault(f"{edits} edits read, {pages} pages")
 
 
 def try_open(tally, folder):
@@ -334,13 +322,12 @@ def try_open(tally, folder):
         kept, count, again = b"".join([HEADER, *records[half + 5:]]), b"ok %d\n" % (half - 5), read_again(pages + 4, half - 5)
         checked = ["--strict", "--expect", str(pages)]
         for words, name, noted in ((journal, "with", read_again(0, pages)), (checked, "without", b"")):
-            done = run(["open", *words, "pages.csv"], folder, input=lines)
-            tally.check(f"an open round of {pages} pages {name} a journal", said(done) == (0, told + count + kept + count, noted), brief(done))
-        done = run(["open", "--journal", "journal", "--read-only"], folder)
-        tally.check(f"the journal of {pages} pages, read only", said(done) == (0, kept, again), brief(done))
+            done = run(["open", *words, "pages.csv"], folder, lines)
+            tally.check_done(f"an open round of {pages} pages {name} a journal", done, 0, told + count + kept + count, noted)
+        tally.check_done(f"the journal of {pages} pages, read only", run(READ_ONLY, folder), 0, kept, again)
         size = (folder / "journal").stat().st_size
-        done, announced = run(["open", *journal], folder, input=b"list\nclear\n"), b"reading a journal of %d bytes\n" % size * (size > 4_000_000)
-        tally.check(f"the journal of {pages} pages", said(done) == (0, kept + count + b"ok 0\n", announced + again), brief(done))
+        done, announced = run(["open", *journal], folder, b"list\nclear\n"), b"reading a journal of %d bytes\n" % size * (size > 4_000_000)
+        tally.check_done(f"the journal of {pages} pages", done, 0, kept + count + b"ok 0\n", announced + again)
 
 
 def try_edits(tally, folder):
@@ -353,15 +340,12 @@ def try_edits(tally, folder):
         due = b"".join(b"ok %d\n" % (count + 1) for count in range(pages))
         due += b"batches %d, sent %d\nok %d\n" % (pages // 32, first, pages - first - then)
         for words, name, noted in ((["--journal", "journal"], "with", read_again(0, 0)), ([], "without", b"")):
-            done = run(["open", *words], folder, input=lines)
-            tally.check(f"{pages} edits {name} a journal", said(done) == (0, due, noted), (brief(done), done.stdout[-100:]))
-        done = run(["open", "--journal", "journal", "--read-only"], folder)
-        kept = HEADER + tones(first + then, pages)
-        tally.check(f"the journal of {pages} edits", said(done) == (0, kept, read_again(pages + 2, pages - first - then)), brief(done))
+            tally.check_done(f"{pages} edits {name} a journal", run(["open", *words], folder, lines), 0, due, noted)
+        told = read_again(pages + 2, pages - first - then)
+        tally.check_done(f"the journal of {pages} edits", run(READ_ONLY, folder), 0, HEADER + tones(first + then, pages), told)
     for message, due in ((b'"' + b'""' * 4_000 + b'"', b"ok 1\n"), (b"a" * (65_536 - len(b"add,8,alpha,")), b"refused: the message is too long\n")):
         line = b"add,8,alpha," + message
-        done = run(["open"], folder, input=line + b"\n")
-        tally.check(f"a line of {len(line)} bytes", said(done) == (0, due, b""), brief(done))
+        tally.check_done(f"a line of {len(line)} bytes", run(["open"], folder, line + b"\n"), 0, due)
 
 
 def try_edits_in_memory(tally, folder):
@@ -383,10 +367,8 @@ def try_journals(tally, folder):
             for _ in range((count - 1) // 1_000):
                 file.write(1_000 * edits)
             file.write((count - 1) % 1_000 * edits + others + last)
-        done = run(["open", "--journal", "journal", "--read-only"], folder)
-        is_size = (folder / "journal").stat().st_size == size
-        told = b"pocsag: %d edits read, 1 page\n" % (2 * count + 3)
-        tally.check(f"a journal of {size} bytes", is_size and said(done) == (0, HEADER + b"8,tone0,\n", told), (is_size, brief(done)))
+        is_size, told = (folder / "journal").stat().st_size == size, fault(f"{2 * count + 3} edits read, 1 page")
+        tally.check_done(f"a journal of {size} bytes", run(READ_ONLY, folder), 0, HEADER + b"8,tone0,\n", told, is_size)
     (folder / "journal").unlink()
 
 

@@ -9,63 +9,40 @@ import os
 import pathlib
 import random
 import re
-import select
-import subprocess
 import sys
 
 sys.dont_write_bytecode = True
 sys.path.insert(0, str(pathlib.Path(__file__).resolve().parents[1]))
-from tally import PROGRAM, TOP, run_parts
+from codewords import HEADER, IDLE, NUMERIC, TONE, transmission
+from sessions import Session
+from tally import CANNOT_OPEN, TOP, fault, room_in, run, run_parts
+from worked import HARD, shaped
 
-HEADER = b"address,kind,message\n"
-PREAMBLE = b"\xaa" * 72
 PAGE = TOP / "docs/OPEN_ROUND.md"
 EDITS = 5000
 LISTED = 250  # a list is compared after so many edits
 SEED = 20261122
+UNKNOWN, TWICE, NO_PAGES = b"refused: unknown edit", b"refused: the same file is named twice", b"refused: there are no pages"
+NO_FILE, NO_WRITE, NO_PAGE = b"refused: cannot read or open a file", b"refused: cannot write", b"refused: no such page"
 
 
-class OpenRound:
-    """The program with its two pipes."""
+def ask_all(tally, session, rows):
+    """Whether each line is answered as it is due."""
+    for line, due in rows:
+        found = session.ask(line)
+        tally.check(f"{line[:40]!r} is answered {due!r}", found == due, found)
 
-    def __init__(self, folder, *words):
-        self.process = subprocess.Popen(
-            [str(PROGRAM), "open", *words],
-            stdin=subprocess.PIPE,
-            stdout=subprocess.PIPE,
-            stderr=subprocess.PIPE,
-            cwd=folder,
-        )
-        self.kept = b""
 
-    def line(self):
-        """The next line of its output, without its line feed; nothing where none comes in time."""
-        while b"\n" not in self.kept:
-            ready, _, _ = select.select([self.process.stdout], [], [], 60)
-            piece = os.read(self.process.stdout.fileno(), 65536) if ready else b""
-            if not piece:
-                return None
-            self.kept += piece
-        line, self.kept = self.kept.split(b"\n", 1)
-        return line
+def check_list(tally, name, session, *records):
+    """Whether a list has these records."""
+    found = session.lines(b"list")
+    tally.check(name, found == [HEADER.strip(), *records, b"ok %d" % len(records)], found)
 
-    def ask(self, line):
-        """Sends one line, and waits for the line that answers it."""
-        self.process.stdin.write(line + b"\n")
-        self.process.stdin.flush()
-        return self.line()
 
-    def lines(self, line):
-        """Sends one line, and waits for all lines up to the one that begins with `ok`."""
-        answers = [self.ask(line)]
-        while answers[-1] is not None and not answers[-1].startswith(b"ok "):
-            answers.append(self.line())
-        return answers
-
-    def close(self):
-        """Ends its input, and returns its status and what it wrote to standard error."""
-        rest, err = self.process.communicate(timeout=60)
-        return self.process.returncode, self.kept + rest, err
+def check_end(tally, name, session, status=0, err=b""):
+    """Whether the session, whose input ends, ends so, and says no more."""
+    found = session.close()
+    tally.check(name, found == (status, b"", err), found)
 
 
 def ok(pages):
@@ -104,8 +81,8 @@ class Kept:
         if not kind.startswith(b"tone") and not message:
             return b"refused: the message is empty"
         if kind == b"numeric":
-            for place, byte in enumerate(message):
-                if byte not in b"0123456789*U -][":
+            for place, character in enumerate(message.decode()):
+                if character not in NUMERIC:
                     return b"refused: bad character at %d" % place
         if self.there(address):
             return b"refused: the address is already there"
@@ -114,7 +91,7 @@ class Kept:
 
     def cancel(self, address):
         if not self.there(address):
-            return b"refused: no such page"
+            return NO_PAGE
         self.pages = [page for page in self.pages if page[0] != address]
         return ok(self.pages)
 
@@ -144,46 +121,49 @@ def edits_of(chance, count):
 
 
 def many_edits(tally, folder):
-    chance = random.Random(SEED)
-    kept = Kept()
-    program = OpenRound(folder)
+    kept, session = Kept(), Session(folder)
     wrong, lists, words = [], [], {}
-    for number, (word, address, kind, message) in enumerate(edits_of(chance, EDITS), 1):
+    for number, (word, address, kind, message) in enumerate(edits_of(random.Random(SEED), EDITS), 1):
         if word == "add":
-            due = kept.add(address, kind, message)
-            found = program.ask(b"add,%d,%s,%s" % (address, kind, field(message)))
+            due, line = kept.add(address, kind, message), b"add,%d,%s,%s" % (address, kind, field(message))
         elif word == "cancel":
-            due = kept.cancel(address)
-            found = program.ask(b"cancel,%d" % address)
+            due, line = kept.cancel(address), b"cancel,%d" % address
         else:
-            due = kept.clear()
-            found = program.ask(b"clear")
+            due, line = kept.clear(), b"clear"
+        found = session.ask(line)
         words[word, due[:2]] = words.get((word, due[:2]), 0) + 1
         if found != due:
-            wrong.append((number, word, address, kind, message, due, found))
+            wrong.append((number, line, due, found))
         if number % LISTED == 0:
-            lists.append(program.lines(b"list") == kept.lines())
+            lists.append(session.lines(b"list") == kept.lines())
     tally.check(f"{EDITS} edits are answered as a list answers them", not wrong, wrong[:3])
     tally.check("each kind of edit was taken, and each but `clear` refused", len(words) == 5 and min(words.values()) > 3, words)
     tally.check(f"the {len(lists)} lists in between are that list, in its order", all(lists) and len(lists) >= 10, lists)
-    listed = program.lines(b"list")
+    listed = session.lines(b"list")
     tally.check("so is the list after them", listed == kept.lines(), (listed[:4], kept.lines()[:4]))
-    plans_of_the_list(tally, folder, program, kept)
-    status, rest, err = program.close()
-    tally.check("the end of the input ends it with status 0", (status, rest, err) == (0, b"", b""), (status, rest, err))
+    plans_of_the_list(tally, folder, session, kept)
+    check_end(tally, "the end of the input ends it with status 0", session)
 
 
-def plans_of_the_list(tally, folder, program, kept):
+def sent_by(folder, name):
+    """The records of the pages of a transmission, in the order of their bytes."""
+    return sorted(run(["decode", name], folder).stdout.splitlines()[1:])
+
+
+def shown_by(folder, name, records):
+    """What `check` prints of a certificate for the page file of these records."""
+    (folder / "shown.csv").write_bytes(HEADER + b"".join(record + b"\n" for record in records))
+    return run(["check", "shown.csv", name], folder).stdout
+
+
+def plans_of_the_list(tally, folder, session, kept):
     """What is planned holds the pages of the list, and the certificate shows its batches for them."""
+    records = kept.lines()[1:-1]
     for end, told in ((b"open", b""), (b"closed", b" with a closed end"), (b"idle", b" with an idle last")):
-        answer = program.ask(b"plan,many.bin,many.cert," + end)
-        sent = subprocess.run([str(PROGRAM), "decode", "many.bin"], capture_output=True, cwd=folder, timeout=60)
-        found = sorted(sent.stdout.strip(b"\n").split(b"\n")[1:])
-        tally.check(f"a plan with the {end.decode()} end sends the pages of the list", found == sorted(kept.lines()[1:-1]), found[:3])
-        (folder / "many.csv").write_bytes(b"\n".join(kept.lines()[:-1]) + b"\n")
-        shown = subprocess.run([str(PROGRAM), "check", "many.csv", "many.cert"], capture_output=True, cwd=folder, timeout=60)
-        due = b"at least " + answer[len("batches ") :] + b" batches" + told + b"\n"
-        tally.check("its certificate shows its batches for the list", shown.stdout == due, (answer, shown))
+        answer, found = session.ask(b"plan,many.bin,many.cert," + end), sent_by(folder, "many.bin")
+        tally.check(f"a plan with the {end.decode()} end sends the pages of the list", found == sorted(records), found[:3])
+        shown, due = shown_by(folder, "many.cert", records), b"at least " + answer[len("batches ") :] + b" batches" + told + b"\n"
+        tally.check("its certificate shows its batches for the list", shown == due, (answer, shown))
 
 
 # Lines as long as may be, and one byte longer: the end of the first tells what is answered.
@@ -196,18 +176,18 @@ WORDS = [
     (b"add,16,tone0,", b"ok 2"),
     (b"add,8,tone0,", b"refused: the address is already there"),
     (b"cancel,8", b"ok 1"),
-    (b"cancel,8", b"refused: no such page"),
-    (b"cancel,+16", b"refused: no such page"),
+    (b"cancel,8", NO_PAGE),
+    (b"cancel,+16", NO_PAGE),
     (b"plan,tx.bin,cert.bin", b"batches 1"),
     (b"plan,tx.bin,cert.bin,closed", b"batches 1"),
     (b"plan,tx.bin,cert.bin,idle", b"batches 1"),
-    (b"plan,tx.bin,cert.bin,Idle", b"refused: unknown edit"),
+    (b"plan,tx.bin,cert.bin,Idle", UNKNOWN),
     (b"plan,tx.bin,cert.bin,open", b"batches 1"),
-    (b"plan,tx.bin,cert.bin,soon", b"refused: unknown edit"),
-    (b"plan,tx.bin,tx.bin", b"refused: the same file is named twice"),
-    (b"plan,no/such/tx.bin,cert.bin", b"refused: cannot read or open a file"),
+    (b"plan,tx.bin,cert.bin,soon", UNKNOWN),
+    (b"plan,tx.bin,tx.bin", TWICE),
+    (b"plan,no/such/tx.bin,cert.bin", NO_FILE),
     (b"cancel,16", b"ok 0"),
-    (b"plan,tx.bin,cert.bin", b"refused: there are no pages"),
+    (b"plan,tx.bin,cert.bin", NO_PAGES),
     (b"add,2097152,tone0,", b"refused: bad address"),
     (b"add,2007664,tone0,", b"refused: reserved address"),
     (b"add,8,fax,", b"refused: unknown kind"),
@@ -216,29 +196,29 @@ WORDS = [
     (b"add,8,numeric,12a", b"refused: bad character at 2"),
     (b"add,8,numeric," + b"1" * 4001, b"refused: the message is too long"),
     (b'add,8,alpha,"Ward 3, bed 2"', b"ok 1"),
-    (b"", b"refused: unknown edit"),
-    (b"add,8,tone0", b"refused: unknown edit"),
-    (b"add,8,tone0,,", b"refused: unknown edit"),
-    (b"List", b"refused: unknown edit"),
-    (b"list,", b"refused: unknown edit"),
+    (b"", UNKNOWN),
+    (b"add,8,tone0", UNKNOWN),
+    (b"add,8,tone0,,", UNKNOWN),
+    (b"List", UNKNOWN),
+    (b"list,", UNKNOWN),
     (b"cancel,8\r", b"ok 0"),
-    (b"list\rlist", b"refused: unknown edit"),
-    (b"x" * 65536, b"refused: unknown edit"),
-    (b"x" * 65537, b"refused: unknown edit"),
-    (b"list," + b"x" * 1000000, b"refused: unknown edit"),
+    (b"list\rlist", UNKNOWN),
+    (b"x" * 65536, UNKNOWN),
+    (b"x" * 65537, UNKNOWN),
+    (b"list," + b"x" * 1000000, UNKNOWN),
     (LONGEST, BAD_AT_ITS_END),
-    (LONGEST + b"1", b"refused: unknown edit"),
-    (LONGEST + b"\r", b"refused: unknown edit"),
-    (b"1" + LONGEST[:-1], b"refused: unknown edit"),
-    (b"x" * 65536 + b"clear", b"refused: unknown edit"),
-    (b"x" * 65537 + b"add,9,tone0,", b"refused: unknown edit"),
-    (b"x" * 131072 + b"add,9,tone0,", b"refused: unknown edit"),
-    (b"add,8,tone0," + b" " * 65536, b"refused: unknown edit"),
+    (LONGEST + b"1", UNKNOWN),
+    (LONGEST + b"\r", UNKNOWN),
+    (b"1" + LONGEST[:-1], UNKNOWN),
+    (b"x" * 65536 + b"clear", UNKNOWN),
+    (b"x" * 65537 + b"add,9,tone0,", UNKNOWN),
+    (b"x" * 131072 + b"add,9,tone0,", UNKNOWN),
+    (b"add,8,tone0," + b" " * 65536, UNKNOWN),
     (b"clear\r", b"ok 0"),
-    (b"clear" + b"\r" * 65531, b"refused: unknown edit"),
-    (b"clear" + b"\r" * 65532, b"refused: unknown edit"),
+    (b"clear" + b"\r" * 65531, UNKNOWN),
+    (b"clear" + b"\r" * 65532, UNKNOWN),
     (b"add,7,tone3,", b"ok 1"),
-    *((word, b"refused: unknown edit") for word in (
+    *((word, UNKNOWN) for word in (
         b"c,7", b"can,7", b"cancels,7", b"Cancel,7", b"cancel", b"cancel,7,", b" cancel,7", b"cl", b"c", b"clears", b"Clear",
         b"clear,", b"a,9,tone0,", b"ad,9,tone0,", b"adds,9,tone0,", b"Add,9,tone0,", b"add,9,tone0", b"add", b"l", b"lists",
         b"p,tx.bin,cert.bin", b"plans,tx.bin,cert.bin", b"Plan,tx.bin,cert.bin", b"plan,tx.bin", b"plan",
@@ -251,123 +231,93 @@ WORDS = [
     (b'"cancel', b"refused: the line ends inside quotes"),
     (b'add,8,alpha,5" pipe', b"refused: a quote is out of place"),
     (b'add,8,alpha,"Ward" 3', b"refused: a quote is out of place"),
-    (b"cancel,8", b"refused: no such page"),
+    (b"cancel,8", NO_PAGE),
     (b"add,15,tone3,", b"ok 2"),
     (b"clear", b"ok 0"),
 ]
 
 
 def words_of_answers(tally, folder):
-    program = OpenRound(folder)
-    for line, due in WORDS:
-        found = program.ask(line)
-        tally.check(f"{line[:40]!r} is answered {due!r}", found == due, found)
-    status, rest, err = program.close()
-    tally.check("refusals end nothing", (status, rest, err) == (0, b"", b""), (status, rest, err))
+    session = Session(folder)
+    ask_all(tally, session, WORDS)
+    check_end(tally, "refusals end nothing", session)
 
 
 # Devices that lose what they take, that take nothing, and paths at which nothing can be made.
 DEVICES = [
-    (b"plan,/dev/null,/dev/zero", b"refused: there are no pages"),
+    (b"plan,/dev/null,/dev/zero", NO_PAGES),
     (b"add,5,tone0,", b"ok 1"),
     (b"plan,/dev/null,/dev/zero", b"batches 1"),
     (b"plan,/dev/null,/dev/zero,open", b"batches 1"),
     (b"add,13,tone0,", b"ok 2"),
     (b"add,21,tone0,", b"ok 3"),
     (b"plan,/dev/null,/dev/zero,closed", b"batches 2"),
-    (b"plan,/dev/null,/dev/null", b"refused: the same file is named twice"),
-    (b"plan,/dev/null,/dev/../dev/null", b"refused: the same file is named twice"),
-    (b"plan,/dev/null/tx.bin,/dev/zero", b"refused: cannot read or open a file"),
-    (b"plan,/dev/null,/dev", b"refused: cannot read or open a file"),
-    (b"plan,/dev/full,/dev/zero", b"refused: cannot write"),
-    (b"plan,/dev/null,/dev/full", b"refused: cannot write"),
+    (b"plan,/dev/null,/dev/null", TWICE),
+    (b"plan,/dev/null,/dev/../dev/null", TWICE),
+    (b"plan,/dev/null/tx.bin,/dev/zero", NO_FILE),
+    (b"plan,/dev/null,/dev", NO_FILE),
+    (b"plan,/dev/full,/dev/zero", NO_WRITE),
+    (b"plan,/dev/null,/dev/full", NO_WRITE),
     # An empty path names no file, and no page file was named.
-    (b"plan,,/dev/null", b"refused: cannot read or open a file"),
-    (b"plan,/dev/null,", b"refused: cannot read or open a file"),
-    (b"plan,,", b"refused: the same file is named twice"),
+    (b"plan,,/dev/null", NO_FILE),
+    (b"plan,/dev/null,", NO_FILE),
+    (b"plan,,", TWICE),
 ]
 
 
 def devices_of_a_plan(tally, folder):
-    program = OpenRound(folder)
-    for line, due in DEVICES:
-        found = program.ask(line)
-        tally.check(f"{line!r} is answered {due!r}", found == due, found)
-    due = [HEADER.strip(), b"5,tone0,", b"13,tone0,", b"21,tone0,", b"ok 3"]
-    tally.check("no plan changes the round", program.lines(b"list") == due, "")
-    status, rest, err = program.close()
-    tally.check("no device ends it", (status, rest, err) == (0, b"", b""), (status, rest, err))
+    session = Session(folder)
+    ask_all(tally, session, DEVICES)
+    check_list(tally, "no plan changes the round", session, b"5,tone0,", b"13,tone0,", b"21,tone0,")
+    check_end(tally, "no device ends it", session)
 
 
 def many_pages(tally, folder):
     """Pages and batches by the hundred: each count is told whole."""
-    program = OpenRound(folder)
-    found = [program.ask(b"add,%d,tone0," % (8 * place + 5)) for place in range(700)]
+    session, records = Session(folder), [b"%d,tone0," % (8 * place + 5) for place in range(700)]
+    found = [session.ask(b"add," + record) for record in records]
     tally.check("each of 700 pages is counted", found == [b"ok %d" % count for count in range(1, 701)], found[250:260])
     for end in (b"open", b"closed"):
-        tally.check(f"they take 350 batches, {end.decode()}", program.ask(b"plan,m.bin,m.cert," + end) == b"batches 350", "")
-    listed = program.lines(b"list")
-    tally.check("they are listed", listed[1:-1] == [b"%d,tone0," % (8 * place + 5) for place in range(700)], listed[-3:])
-    tally.check("and counted behind the list", listed[-1] == b"ok 700", listed[-1])
-    tally.check("one less is counted", program.ask(b"cancel,5") == b"ok 699", "")
-    program.close()
+        tally.check(f"they take 350 batches, {end.decode()}", session.ask(b"plan,m.bin,m.cert," + end) == b"batches 350")
+    check_list(tally, "they are listed, and counted behind the list", session, *records)
+    tally.check("one less is counted", session.ask(b"cancel,5") == b"ok 699")
+    session.close()
 
 
 def files_of_a_plan(tally, folder):
-    program = OpenRound(folder)
-    program.ask(b"add,8,tone0,")
-    tally.check("a lone tone takes one batch", program.ask(b"plan,a.bin,a.cert") == b"batches 1", "")
-    words = ["7CD215D8", "000026EC"] + 15 * ["7A89C197"]
-    due = PREAMBLE + bytes.fromhex("".join(words))
-    # The two codewords of its frame are the only places of the page.
-    late = ["7CD215D8", "7A89C197", "000026EC"] + 14 * ["7A89C197"]
+    session = Session(folder)
+    session.ask(b"add,8,tone0,")
+    tally.check("a lone tone takes one batch", session.ask(b"plan,a.bin,a.cert") == b"batches 1")
     found = (folder / "a.bin").read_bytes()
-    tally.check("its transmission is written", found in (due, PREAMBLE + bytes.fromhex("".join(late))), found.hex())
-    (folder / "a.csv").write_bytes(HEADER + b"8,tone0,\n")
-    shown = subprocess.run([str(PROGRAM), "check", "a.csv", "a.cert"], capture_output=True, cwd=folder, timeout=60)
-    tally.check("its certificate is accepted", (shown.returncode, shown.stdout) == (0, b"at least 1 batches\n"), shown)
+    # The two codewords of its frame are the only places of the page.
+    tally.check("its transmission is written", found in (transmission([TONE]), transmission([IDLE, TONE])), found.hex())
+    shown = shown_by(folder, "a.cert", [b"8,tone0,"])
+    tally.check("its certificate is accepted", shown == b"at least 1 batches\n", shown)
     for address in (13, 21, 29):
-        program.ask(b"add,%d,tone0," % address)
-    tally.check("the round stays open", program.ask(b"plan,b.bin,b.cert") == b"batches 2", "")
-    told = subprocess.run([str(PROGRAM), "decode", "b.bin"], capture_output=True, cwd=folder, timeout=60)
-    pages = sorted(told.stdout.splitlines()[1:])
-    tally.check("a later plan sends all pages", pages == [b"13,tone0,", b"21,tone0,", b"29,tone0,", b"8,tone0,"], told)
-    program.close()
+        session.ask(b"add,%d,tone0," % address)
+    tally.check("the round stays open", session.ask(b"plan,b.bin,b.cert") == b"batches 2")
+    pages = sent_by(folder, "b.bin")
+    tally.check("a later plan sends all pages", pages == [b"13,tone0,", b"21,tone0,", b"29,tone0,", b"8,tone0,"], pages)
+    session.close()
 
 
-# The frame and the codewords of eight pages at which the search reaches its limit; nine batches are the fewest.
-HARD = [(5, 5), (0, 9), (4, 9), (1, 3), (7, 31), (6, 15), (2, 31), (1, 15)]
+HARD_PAGES = [record.strip() for record in shaped(HARD[0][1])]  # nine batches are the fewest
+STOPPED = b"refused: search limit reached: at least 8 batches, 9 would do"
 
 
 def hard_plans(tally, folder):
     """A round that the search gives up at is planned with `--always`, whether its pages come by lines or from PAGES."""
-    pages = [b"%d,numeric,%s" % (8 * place + frame, 5 * (length - 1) * b"1") for place, (frame, length) in enumerate(HARD)]
-    (folder / "hard.csv").write_bytes(HEADER + b"\n".join(pages) + b"\n")
+    (folder / "hard.csv").write_bytes(HEADER + b"\n".join(HARD_PAGES) + b"\n")
     for words in ((), ("--always",), ("hard.csv",), ("hard.csv", "--always"), ("--always", "hard.csv")):
-        program = OpenRound(folder, *words)
+        session = Session(folder, *words)
         if "hard.csv" not in words:
-            tally.check("its pages are added", [program.ask(b"add," + page) for page in pages][-1] == b"ok 8", "")
-        for end in (b"open", b"closed"):
-            found = program.ask(b"plan,hard.bin,hard.cert," + end)
-            is_always = "--always" in words
-            due = b"batches 9" if is_always else b"refused: search limit reached: at least 8 batches, 9 would do"
-            holds = found == due
-            tally.check(f"a hard round with {words}, {end.decode()}", holds, found)
-        tally.check("it is open as before", program.ask(b"cancel,0") == b"refused: no such page", "")
-        tally.check("its pages are there", program.lines(b"list")[-1] == b"ok 8", "")
-        program.close()
-
-
-def hard_pages(tally, folder):
-    """The same where the round is that of PAGES."""
-    records = [b"%d,numeric,%s\n" % (8 * place + frame, 5 * (length - 1) * b"1") for place, (frame, length) in enumerate(HARD)]
-    (folder / "hard.csv").write_bytes(HEADER + b"".join(records))
-    for words in (("hard.csv",), ("hard.csv", "--always")):
-        program = OpenRound(folder, *words)
-        found = program.ask(b"plan,hard.bin,hard.cert")
-        holds = found == b"batches 9" if "--always" in words else found.startswith(b"refused: search limit reached: at least 8 batches")
-        tally.check(f"a hard round of {words}", holds, found)
-        program.close()
+            tally.check("its pages are added", [session.ask(b"add," + page) for page in HARD_PAGES][-1] == b"ok 8")
+        for end in (b"", b",open", b",closed"):
+            found = session.ask(b"plan,hard.bin,hard.cert" + end)
+            tally.check(f"a hard round with {words}{end.decode()}", found == (b"batches 9" if "--always" in words else STOPPED), found)
+        tally.check("it is open as before", session.ask(b"cancel,0") == NO_PAGE)
+        tally.check("its pages are there", session.lines(b"list")[-1] == b"ok 8")
+        session.close()
 
 
 # Three pages: the first alone and the first two take two batches, and the last alone takes one.
@@ -380,100 +330,67 @@ NO_BATCHES = [b"0", b"", b"02", b"+2", b"-2", b"2.", b"2x", b" 2", b"4294967296"
 
 def slots_of_a_day(tally, folder):
     """A front is sent, and its pages are taken out; a refused one takes nothing out."""
-    program = OpenRound(folder)
+    session = Session(folder)
     for page in SLOTS:
-        program.ask(b"add," + page)
-    whole = [HEADER.strip(), *SLOTS, b"ok 3"]
-    for batches in NO_BATCHES:
-        found = program.ask(b"plan,f.bin,f.cert,open," + batches)
-        tally.check(f"no front for {batches!r} batches", found == b"refused: unknown edit", found)
-    for line, due in (
-        (b"plan,f.bin,f.cert,open,1", b"refused: page 1 needs 2 batches"),
-        (b"plan,f.bin,f.cert,soon,2", b"refused: unknown edit"),
-        (b"plan,f.bin,f.cert,,2", b"refused: unknown edit"),
-        (b"plan,f.bin,f.bin,open,2", b"refused: the same file is named twice"),
-        (b"plan,no/such/f.bin,f.cert,open,2", b"refused: cannot read or open a file"),
-        (b"plan,/dev/full,/dev/zero,open,2", b"refused: cannot write"),
-        (b"plan,/dev/null,/dev/full,open,2", b"refused: cannot write"),
-        (b"sent,4", b"refused: no such page"),
-        (b"sent,0", b"refused: no such page"),
-        (b"sent,01", b"refused: no such page"),
-        (b"sent,-1", b"refused: no such page"),
-        (b"sent,4294967296", b"refused: no such page"),
-        (b"sent", b"refused: unknown edit"),
-        (b"sent,1,", b"refused: unknown edit"),
-        (b"Sent,1", b"refused: unknown edit"),
-    ):
-        found = program.ask(line)
-        tally.check(f"{line!r} is answered {due!r}", found == due, found)
-    tally.check("what is refused takes nothing out", program.lines(b"list") == whole, "")
-    tally.check("two batches carry two pages", program.ask(b"plan,f.bin,f.cert,open,2") == b"batches 2, sent 2", "")
-    sent = subprocess.run([str(PROGRAM), "decode", "f.bin"], capture_output=True, cwd=folder, timeout=60)
-    tally.check("they are sent", sorted(sent.stdout.splitlines()[1:]) == sorted(SLOTS[:2]), sent)
-    (folder / "f.csv").write_bytes(HEADER + b"\n".join(SLOTS[:2]) + b"\n")
-    shown = subprocess.run([str(PROGRAM), "check", "f.csv", "f.cert"], capture_output=True, cwd=folder, timeout=60)
-    tally.check("the certificate is for them", shown.stdout == b"at least 2 batches\n", shown)
-    tally.check("they are out of the round", program.lines(b"list") == [HEADER.strip(), SLOTS[2], b"ok 1"], "")
-    tally.check("a page comes behind the others", program.ask(b"add,16,tone0,") == b"ok 2", "")
-    tally.check("the first page is told as sent", program.ask(b"sent,1") == b"ok 1", "")
-    tally.check("the other stays", program.lines(b"list") == [HEADER.strip(), b"16,tone0,", b"ok 1"], "")
-    found = program.ask(b"plan,f.bin,f.cert,idle,4294967295")
+        session.ask(b"add," + page)
+    ask_all(tally, session, ((b"plan,f.bin,f.cert,open," + batches, UNKNOWN) for batches in NO_BATCHES))
+    ask_all(tally, session, [
+        (b"plan,f.bin,f.cert,open,1", b"refused: page 1 needs 2 batches"), (b"plan,f.bin,f.cert,soon,2", UNKNOWN),
+        (b"plan,f.bin,f.cert,,2", UNKNOWN), (b"plan,f.bin,f.bin,open,2", TWICE), (b"plan,no/such/f.bin,f.cert,open,2", NO_FILE),
+        (b"plan,/dev/full,/dev/zero,open,2", NO_WRITE), (b"plan,/dev/null,/dev/full,open,2", NO_WRITE), (b"sent,4", NO_PAGE),
+        (b"sent,0", NO_PAGE), (b"sent,01", NO_PAGE), (b"sent,-1", NO_PAGE), (b"sent,4294967296", NO_PAGE), (b"sent", UNKNOWN),
+        (b"sent,1,", UNKNOWN), (b"Sent,1", UNKNOWN),
+    ])  # fmt: skip
+    check_list(tally, "what is refused takes nothing out", session, *SLOTS)
+    tally.check("two batches carry two pages", session.ask(b"plan,f.bin,f.cert,open,2") == b"batches 2, sent 2")
+    sent, shown = sent_by(folder, "f.bin"), shown_by(folder, "f.cert", SLOTS[:2])
+    tally.check("they are sent", sent == sorted(SLOTS[:2]), sent)
+    tally.check("the certificate is for them", shown == b"at least 2 batches\n", shown)
+    check_list(tally, "they are out of the round", session, SLOTS[2])
+    tally.check("a page comes behind the others", session.ask(b"add,16,tone0,") == b"ok 2")
+    tally.check("the first page is told as sent", session.ask(b"sent,1") == b"ok 1")
+    check_list(tally, "the other stays", session, b"16,tone0,")
+    found = session.ask(b"plan,f.bin,f.cert,idle,4294967295")
     tally.check("all pages are sent", found == b"batches 1, sent 1", found)
-    found = program.ask(b"plan,f.bin,f.cert,open,1")
-    tally.check("no page is left", found == b"refused: there are no pages", found)
-    status, rest, err = program.close()
-    tally.check("slots end nothing", (status, rest, err) == (0, b"", b""), (status, rest, err))
+    found = session.ask(b"plan,f.bin,f.cert,open,1")
+    tally.check("no page is left", found == NO_PAGES, found)
+    check_end(tally, "slots end nothing", session)
 
 
 def hard_slots(tally, folder):
     """Where the search gives up, a front is refused, and sent with `--always`."""
-    pages = [b"%d,numeric,%s" % (8 * place + frame, 5 * (length - 1) * b"1") for place, (frame, length) in enumerate(HARD)]
     for words in ((), ("--always",)):
-        program = OpenRound(folder, *words)
-        for page in pages:
-            program.ask(b"add," + page)
-        found = program.ask(b"plan,h.bin,h.cert,open,8")
-        if words:
-            tally.check("seven hard pages are sent", found == b"batches 8, sent 7", found)
-            tally.check("the last one stays", program.lines(b"list") == [HEADER.strip(), pages[-1], b"ok 1"], "")
-        else:
-            due = b"refused: search limit reached: at least 8 batches, 9 would do"
-            tally.check("a hard front is refused", found == due, found)
-            tally.check("its pages stay", program.lines(b"list") == [HEADER.strip(), *pages, b"ok 8"], "")
-        program.close()
+        session = Session(folder, *words)
+        for page in HARD_PAGES:
+            session.ask(b"add," + page)
+        found = session.ask(b"plan,h.bin,h.cert,open,8")
+        tally.check(f"a hard front {words}", found == (b"batches 8, sent 7" if words else STOPPED), found)
+        check_list(tally, f"the pages that stay {words}", session, *(HARD_PAGES[-1:] if words else HARD_PAGES))
+        session.close()
 
 
 def begins_with_pages(tally, folder):
     path = folder / "pages.csv"
     path.write_bytes(HEADER + b"8,tone0,\n16,numeric,12\n")
-    program = OpenRound(folder, "pages.csv")
-    tally.check("the pages of PAGES are open", program.ask(b"cancel,16") == b"ok 1", "")
+    session = Session(folder, "pages.csv")
+    tally.check("the pages of PAGES are open", session.ask(b"cancel,16") == b"ok 1")
     for spelling in (b"pages.csv", b"./pages.csv"):
         for line in (b"plan,%s,cert.bin", b"plan,tx.bin,%s"):
-            found = program.ask(line % spelling)
-            tally.check("PAGES is never emptied", found == b"refused: the same file is named twice", found)
-    program.close()
-    tally.check("PAGES is as it was", path.read_bytes() == HEADER + b"8,tone0,\n16,numeric,12\n", "")
+            found = session.ask(line % spelling)
+            tally.check("PAGES is never emptied", found == TWICE, found)
+    session.close()
+    tally.check("PAGES is as it was", path.read_bytes() == HEADER + b"8,tone0,\n16,numeric,12\n")
     path.write_bytes(HEADER + b"8,tone0,\n8,tone0,\n")
-    status, out, err = OpenRound(folder, "pages.csv").close()
-    due = (1, b"", b"pocsag: record 2: the address is already there\n")
-    tally.check("a refused page file opens no round", (status, out, err) == due, (status, out, err))
-    status, out, err = OpenRound(folder, "none.csv").close()
-    due = (3, b"", b"pocsag: cannot read or open a file\n")
-    tally.check("a missing page file is a device's fault", (status, out, err) == due, (status, out, err))
+    check_end(tally, "a refused page file opens no round", Session(folder, "pages.csv"), 1, fault("record 2: the address is already there"))
+    check_end(tally, "a missing page file is a device's fault", Session(folder, "none.csv"), 3, CANNOT_OPEN)
 
 
 def last_line(tally, folder):
-    done = subprocess.run([str(PROGRAM), "open"], input=b"add,8,tone0,\nlist", capture_output=True, cwd=folder, timeout=60)
-    due = (0, b"ok 1\n" + HEADER + b"8,tone0,\nok 1\n", b"")
-    tally.check("a last line without its line feed is an edit", (done.returncode, done.stdout, done.stderr) == due, done)
-    for line, due in ((LONGEST, BAD_AT_ITS_END), (LONGEST + b"1", b"refused: unknown edit")):
-        done = subprocess.run([str(PROGRAM), "open"], input=line, capture_output=True, cwd=folder, timeout=60)
-        holds = (done.returncode, done.stdout, done.stderr) == (0, due + b"\n", b"")
-        tally.check(f"so is one of {len(line)} bytes, answered {due!r}", holds, done)
-    with open("/dev/full", "wb") as full:
-        done = subprocess.run([str(PROGRAM), "open"], input=b"clear\n", stdout=full, stderr=subprocess.PIPE, cwd=folder, timeout=60)
-    tally.check("a full device ends it with status 3", (done.returncode, done.stderr) == (3, b"pocsag: cannot write\n"), done)
+    done = run(["open"], folder, b"add,8,tone0,\nlist")
+    tally.check_done("a last line without its line feed is an edit", done, 0, b"ok 1\n" + HEADER + b"8,tone0,\nok 1\n")
+    for line, due in ((LONGEST, BAD_AT_ITS_END), (LONGEST + b"1", UNKNOWN)):
+        tally.check_done(f"so is one of {len(line)} bytes, answered {due!r}", run(["open"], folder, line), 0, due + b"\n")
+    tally.check_full("a full device ends it with status 3", ["open"], folder, b"clear\n")
 
 
 def worked_session(tally, folder):
@@ -481,12 +398,11 @@ def worked_session(tally, folder):
     text = PAGE.read_text().split("## A day at a small centre")[1]
     rows = [re.match(r"\| (?:`([^`]*)`)? ?\| `([^`]*)` \|", line) for line in text.split("\n")]
     rows = [(found[1], found[2].encode()) for found in rows if found]
-    program = OpenRound(folder)
-    found = [program.ask(line.encode()) if line else program.line() for line, _ in rows]
-    status, rest, err = program.close()
+    session = Session(folder)
+    found = [session.ask(line.encode()) if line else session.line() for line, _ in rows]
     tally.check("the page shows a session", len(rows) > 10, rows)
     tally.check("its lines are answered as it says", found == [due for _, due in rows], (found, rows))
-    tally.check("it has no more lines", (status, rest, err) == (0, b"", b""), (status, rest, err))
+    check_end(tally, "it has no more lines", session)
 
 
 # Page files, options, the fault and the line behind it.
@@ -504,46 +420,29 @@ DEMANDS = [
 
 def demands(tally, folder):
     """`--strict` and `--expect` judge PAGES before a line is read, with and without a journal, and change no round that meets them."""
-    room = folder / "demands"
-    room.mkdir()
+    room = room_in(folder, "demands")
     for journal in ([], ["--journal", "round.journal"]):
-        for text, words, fault, note in DEMANDS:
+        for text, words, why, note in DEMANDS:
             (room / "pages.csv").write_bytes(HEADER + text)
             for more in ([], ["--verbose"]):
-                done = subprocess.run([str(PROGRAM), "open", "pages.csv", *words, *journal, *more], input=b"list\n", capture_output=True, cwd=room, timeout=60)
-                told = "".join(f"pocsag: {line}\n" for line in ([fault, note] if more else [fault]))
-                holds = (done.returncode, done.stdout, done.stderr.decode()) == (1, b"", told) and os.listdir(room) == ["pages.csv"]
-                tally.check(f"{words} {journal} {more} {text}", holds, (done, os.listdir(room)))
+                done = run(["open", "pages.csv", *words, *journal, *more], room, b"list\n")
+                told = fault(why) + (fault(note) if more else b"")
+                tally.check_done(f"{words} {journal} {more} {text}", done, 1, b"", told, os.listdir(room) == ["pages.csv"])
         (room / "pages.csv").write_bytes(HEADER + b'8,tone0,\n9,alpha,"Ward 3, bed 2"\n')
         for more in ([], ["--verbose"]):
-            words = ["open", "pages.csv", "--strict", "--expect", "2", *journal, *more]
-            done = subprocess.run([str(PROGRAM), *words], input=b"list\ncancel,8\n", capture_output=True, cwd=room, timeout=60)
+            done = run(["open", "pages.csv", "--strict", "--expect", "2", *journal, *more], room, b"list\ncancel,8\n")
+            told = fault("0 edits read, 2 pages") if journal else b""
             due = (room / "pages.csv").read_bytes() + b"ok 2\nok 1\n"
-            told = b"pocsag: 0 edits read, 2 pages\n" if journal else b""
-            tally.check(f"a round that meets what is asked {journal} {more}", (done.returncode, done.stdout, done.stderr) == (0, due, told), done)
+            tally.check_done(f"a round that meets what is asked {journal} {more}", done, 0, due, told)
             (room / "round.journal").unlink(missing_ok=True)
     for words in (["--strict"], ["--expect", "2"], ["--journal", "j", "--strict"], ["--journal", "j", "--read-only", "--expect", "2"]):
-        done = subprocess.run([str(PROGRAM), "open", *words], input=b"", capture_output=True, cwd=room, timeout=60)
-        tally.check(f"no PAGES {words}", done.returncode == 2 and done.stdout == b"" and os.listdir(room) == ["pages.csv"], done)
+        tally.check_usage(f"no PAGES {words}", run(["open", *words], room), also=os.listdir(room) == ["pages.csv"])
 
 
-def main():
-    return run_parts(
-        words_of_answers,
-        devices_of_a_plan,
-        many_edits,
-        many_pages,
-        files_of_a_plan,
-        hard_plans,
-        hard_pages,
-        slots_of_a_day,
-        hard_slots,
-        begins_with_pages,
-        demands,
-        last_line,
-        worked_session,
-    )
-
+PARTS = (
+    words_of_answers, devices_of_a_plan, many_edits, many_pages, files_of_a_plan, hard_plans, slots_of_a_day, hard_slots, begins_with_pages,
+    demands, last_line, worked_session,
+)  # fmt: skip
 
 if __name__ == "__main__":
-    sys.exit(main())
+    sys.exit(run_parts(*PARTS))

@@ -3,12 +3,10 @@ told and written has to be what a brute force of tests/fewest and the other comm
 
 import itertools
 import random
-import subprocess
-import sys
 
-sys.dont_write_bytecode = True
+import tally as shared
 from codewords import HEADER, in_order
-from tally import PROGRAM, module_at, sampled
+from tally import BAD_LIMIT, BAD_RATE, fault, module_at, sampled
 
 ENDS = ([], ["--end", "open"], ["--end", "closed"], ["--end=closed"], ["--idle-last"], ["--end", "idle"])
 LIMITS = ([], ["--limit", "100000"], ["--limit=1000000"], ["--limit", "1"])
@@ -18,7 +16,7 @@ VERBOSE = ([], ["--verbose"])
 
 def run(words, folder, stdin=b""):
     """With `--verbose`, what is told without it: behind the first line stand notes alone, and with status 0 none here."""
-    done = subprocess.run([str(PROGRAM), *words], input=stdin, capture_output=True, cwd=folder, timeout=110)
+    done = shared.run(words, folder, stdin)
     lines = done.stderr.splitlines(True)
     if "--verbose" in words and all(line.startswith(b"pocsag: ") for line in lines):
         done.stderr = b"".join(lines[:1])
@@ -94,10 +92,9 @@ def judged(due, done, limit, is_always):
         is_fewest = batches == bound == due.fewest
         is_near = is_always and "1" in limit and bound + 1 == batches and bound <= due.fewest <= batches
         return (batches, bound) if is_fewest or is_near else False
-    stopped = b"pocsag: search limit reached: at least %d batches, %d would do\n"
-    least = due.fewest - 1 if (done.stderr == stopped % (due.fewest - 1, due.fewest)) else due.fewest
+    stopped = [fault(f"search limit reached: at least {it} batches, {it + 1} would do") for it in (due.fewest - 1, due.fewest)]
     holds = "1" in limit and not is_always and (done.returncode, done.stdout) == (1, b"")
-    return None if holds and done.stderr == stopped % (least, least + 1) else False
+    return None if holds and done.stderr in stopped else False
 
 
 def combinations(*lists):
@@ -156,7 +153,7 @@ def try_open_options(tally, folder):
             done = run(["open", *words], folder, b"\n".join(lines) + b"\n")
             told = b"\n".join([*counted, b"batches %d" % due.fewest]) + b"\n"
             name = f"open {' '.join(words)}: plan{end.decode()}"
-            tally.check(name, (done.returncode, done.stdout, done.stderr) == (0, told, b""), (text, told, done))
+            tally.check_done(name, done, 0, told)
             tally.check(f"{name}: files", due.are_written(folder, due.fewest, due.fewest), text)
 
 
@@ -165,25 +162,21 @@ def try_input_options(tally, folder):
     for pages, verbose in combinations(ROUNDS, VERBOSE):
         due = Due(pages, "open")
         told = b"pages %d\nbatches %d\n" % (len(pages), due.fewest)
-        done = run(verbose, folder, due.text)
-        tally.check(f"no words {verbose}", (done.returncode, done.stdout, done.stderr) == (0, told, b""), (due.text, done))
+        tally.check_done(f"no words {verbose}", run(verbose, folder, due.text), 0, told)
 
 
 def try_bad_numbers(tally, folder):
     """Rates and limits that are none, beside each other option: status 1, and nothing told."""
     (folder / "pages.csv").write_bytes(Due(ROUNDS[0], "open").text)
-    no_rate, no_limit = b"pocsag: the rate must be 512, 1200 or 2400\n", b"pocsag: the limit must be 1 to 1000000\n"
     for end, always, verbose in combinations(ENDS, ([], ["--always"]), VERBOSE):
         always = always + verbose
         for rate in ("0", "511", "1201", "4294967295"):
             done = run(["report", "pages.csv", "--rate", rate, *end, *always], folder)
-            holds = (done.returncode, done.stdout, done.stderr) == (1, b"", no_rate)
-            tally.check(f"rate {rate} {end} {always}", holds, done)
+            tally.check_done(f"rate {rate} {end} {always}", done, 1, b"", BAD_RATE)
         for limit in ("0", "1000001", "4294967295"):
             for words in (["report", "pages.csv", "--rate", "512"], ["plan", "pages.csv", "tx.bin", "cert.bin"]):
                 done = run([*words, "--limit", limit, *end, *always], folder)
-                holds = (done.returncode, done.stdout, done.stderr) == (1, b"", no_limit)
-                tally.check(f"{words[0]} with limit {limit} {end} {always}", holds, done)
+                tally.check_done(f"{words[0]} with limit {limit} {end} {always}", done, 1, b"", BAD_LIMIT)
 
 
 PARTS = (try_plan_options, try_report_options, try_open_options, try_input_options, try_bad_numbers)

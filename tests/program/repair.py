@@ -2,25 +2,12 @@
 wrong bits in each word all is told that is told of the transmission itself, and a word with three stays a fault."""
 
 import random
-import sys
 
-sys.dont_write_bytecode = True
-from codewords import HEADER
-from tally import run, sampled
+from codewords import random_file
+from tally import fault, run, said, sampled
 
 FRONT, WORD = 72, 4
 VIEWS = ([], ["--rows", "1"], ["--rows", "2-"], ["--svg"], ["--svg", "--rows", "1-2"], ["--list"])
-
-
-def random_file(source):
-    """A page file with pages of all kinds."""
-    addresses = source.sample(range(2000000), source.randint(1, 30))
-    records = []
-    for address in addresses:
-        kind = source.choice(["tone0", "tone1", "tone2", "tone3", "numeric", "alpha"])
-        text = "" if kind.startswith("tone") else "".join(source.choice("0123456789") for _ in range(source.randint(1, 60)))
-        records.append(f"{address},{kind},{text}\n".encode())
-    return HEADER + b"".join(records)
 
 
 def flipped(word, bits):
@@ -41,7 +28,7 @@ def damaged(sent, source):
 
 
 def try_transmission(tally, folder, source):
-    (folder / "p.csv").write_bytes(random_file(source))
+    (folder / "p.csv").write_bytes(random_file(source, 30))
     run(["plan", "p.csv", "tx.bin", "cert.bin", "--always"], folder)
     sent = (folder / "tx.bin").read_bytes()
     received, words, bits = damaged(sent, source)
@@ -51,8 +38,7 @@ def try_transmission(tally, folder, source):
         for view in views:
             due = run([command, "tx.bin", *view], folder)
             plain = run([command, "tx.bin", *view, "--repair"], folder)
-            same = (plain.returncode, plain.stdout, plain.stderr) == (due.returncode, due.stdout, due.stderr)
-            tally.check(f"{command} {view} of what was sent", same, plain)
+            tally.check_done(f"{command} {view} of what was sent", plain, *said(due))
             for more in ([], ["--verbose"]):
                 done = run([command, "rx.bin", *view, "--repair", *more], folder)
                 told = count if more and due.returncode == 0 else None
@@ -70,10 +56,9 @@ def try_beyond(tally, folder, source, sent):
     wrong = flipped(sent[at : at + WORD], source.sample(range(32), 3))
     (folder / "rx.bin").write_bytes(sent[:at] + wrong + sent[at + WORD :])
     batch, word = divmod(place, 17)
-    fault = f"batch {batch}: no synchronisation codeword" if word == 0 else f"codeword {16 * batch + word - 1}: not a codeword"
+    why = f"batch {batch}: no synchronisation codeword" if word == 0 else f"codeword {16 * batch + word - 1}: not a codeword"
     for command in ("decode", "show"):
-        done = run([command, "rx.bin", "--repair"], folder)
-        tally.check(f"{command} of three wrong bits", (done.returncode, done.stdout, done.stderr) == (1, b"", f"pocsag: {fault}\n".encode()), done)
+        tally.check_done(f"{command} of three wrong bits", run([command, "rx.bin", "--repair"], folder), 1, b"", fault(why))
 
 
 def try_repair(tally, folder):

@@ -11,7 +11,8 @@ import shlex
 import shutil
 import subprocess
 
-from tally import PROGRAM, TOP, sampled
+import helped
+from tally import TOP, room_in, run, sampled
 
 TEXTS = pathlib.Path(__file__).resolve().parent / "texts"
 VERSION = (TOP / "VERSION").read_text().split()[0]
@@ -34,11 +35,10 @@ def due_of(text, told):
 
 
 def try_texts(tally, folder):
-    room = folder / "usage"
-    room.mkdir()
+    room = room_in(folder, "usage")
     for path in sorted(TEXTS.glob("*.txt")):
         for words, text in sampled(shown(path)):
-            done = subprocess.run([str(PROGRAM), *words], stdin=subprocess.DEVNULL, capture_output=True, cwd=room, timeout=60)
+            done = run(words, room)
             told = done.returncode, done.stdout.decode(), done.stderr.decode()
             due = due_of(text, told[1])
             tally.check(f"text of {words}", told == due and not os.listdir(room), (told, due))
@@ -46,9 +46,7 @@ def try_texts(tally, folder):
 
 def try_commands(tally, _folder):
     """Each command has its texts: its help first, and then a fault."""
-    done = subprocess.run([str(PROGRAM), "--help"], capture_output=True, text=True, timeout=60)
-    listed = done.stdout.partition("\nCommands:\n")[2].partition("\n\n")[0]
-    commands = {line.split()[0] for line in listed.splitlines()} - {"help"}
+    commands = {*helped.commands()} - {"help"}
     files = {path.stem: list(shown(path)) for path in TEXTS.glob("*.txt")}
     tally.check("a file of texts for each command", files.keys() == commands | {"pocsag"}, (commands, files.keys()))
     for name in commands & files.keys():
@@ -61,7 +59,7 @@ def try_logic(tally, _folder):
     if not shutil.which("rt"):
         return
     toolchain = subprocess.run(["rt", "version"], capture_output=True, text=True, timeout=60).stdout
-    told = subprocess.run([str(PROGRAM), "--version"], capture_output=True, text=True, timeout=60).stdout
+    told = run(["--version"]).stdout.decode()
     _, logic, number = toolchain.partition(" logic ")
     tally.check("the version names the logic", number.strip() and told.endswith(logic + number), (told, toolchain))
 

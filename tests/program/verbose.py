@@ -2,13 +2,12 @@
 system refused it, or the line and the text of the record that is refused."""
 
 import os
-import sys
 
-sys.dont_write_bytecode = True
 from codewords import APART, HEADER, IDLE, PREAMBLE
-from tally import run, sampled
+from tally import fault as told_of, run, sampled
+from worked import LOOP_APART
 
-LATE = HEADER + b"3,numeric," + b"1" * 75 + b"\n"
+LATE = HEADER + LOOP_APART
 PLAN = ["plan", "p.csv", "tx.bin", "cert.bin"]
 
 NO_HEADER = "the header must be address,kind,message"
@@ -161,13 +160,12 @@ def fresh(folder):
 def try_case(tally, folder, case):
     """The same status, output and first line with `--verbose` as without it, and behind that line the notes."""
     file, words, stdin, status, out, fault, notes = case
-    first = f"pocsag: {fault}\n" if fault else ""
-    for more, told in (([], first), (["--verbose"], first + "".join(f"pocsag: {note}\n" for note in notes))):
+    first = told_of(fault) if fault else b""
+    for more, told in (([], first), (["--verbose"], first + b"".join(map(told_of, notes)))):
         fresh(folder)
         (folder / "p.csv").write_bytes(file)
         done = run([*words, *more], folder, stdin)
-        holds = (done.returncode, done.stdout.decode(), done.stderr.decode()) == (status, out, told)
-        tally.check(f"verbose {words} {file[21:50]} {more}", holds, (done, told))
+        tally.check_done(f"verbose {words} {file[21:50]} {more}", done, status, out.encode(), told)
 
 
 def try_verbose(tally, folder):

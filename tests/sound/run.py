@@ -18,8 +18,9 @@ import wave
 
 sys.dont_write_bytecode = True
 sys.path.insert(0, str(pathlib.Path(__file__).resolve().parents[1]))
+import tally as shared
 from codewords import HEADER, IDLE, ONES, SYNC, TONE, transmission
-from tally import ENDS, PROGRAM, run_parts, sampled
+from tally import BAD_RATE, CANNOT_OPEN, CANNOT_WRITE, ENDS, PROGRAM, TOO_LARGE, fault, make_huge, run_parts, sampled
 
 RATES = (512, 1200, 2400)
 SAMPLES = (2_400, 8_000, 22_050, 44_100, 48_000, 96_000, 192_000)
@@ -31,18 +32,14 @@ ROUNDS = {
     "mixed": b"".join(b"%d,%s\n" % (5 * k, row) for k, row in enumerate((b"tone1,", b"numeric,]-[ U*", b"alpha,\x01~\x7f") * 4)),
 }
 # What the program says of words that it refuses.
-BAD_RATE, BAD_SAMPLES, BAD_PREAMBLE, TOO_LONG = (
-    "the rate must be 512, 1200 or 2400", "the samples a second must be from the rate to 192000",
-    "the preamble must have 576 bits or more, a multiple of 8", "the sound is too long for a WAV file",
-)  # fmt: skip
+BAD_SAMPLES, BAD_PREAMBLE, TOO_LONG = map(fault, (
+    "the samples a second must be from the rate to 192000", "the preamble must have 576 bits or more, a multiple of 8",
+    "the sound is too long for a WAV file",
+))  # fmt: skip
 
 
 def run(words, folder, stdin=b"", **more):
-    return subprocess.run([str(PROGRAM), "wav", *map(str, words)], input=stdin, capture_output=True, cwd=folder, timeout=110, **more)
-
-
-def fails(done, status, fault):
-    return (done.returncode, done.stdout, done.stderr) == (status, b"", b"pocsag: %s\n" % fault.encode())
+    return shared.run(["wav", *words], folder, stdin, **more)
 
 
 def samples_of(sent, rate, a_second, inverted=False, preamble=None, tail=None):
@@ -66,7 +63,7 @@ def is_sound(out, samples, a_second):
 
 def planned(folder, records, end):
     (folder / "pages.csv").write_bytes(HEADER + records)
-    subprocess.run([str(PROGRAM), "plan", "pages.csv", "tx.bin", "cert.bin", *ENDS[end]], cwd=folder, check=True, stdout=subprocess.DEVNULL)
+    shared.run(["plan", "pages.csv", "tx.bin", "cert.bin", *ENDS[end]], folder).check_returncode()
     return (folder / "tx.bin").read_bytes()
 
 
@@ -131,16 +128,15 @@ def try_words(tally, folder):
     refused += [(BAD_SAMPLES, ["--rate", rate, "--samples", rate - 1]) for rate in RATES]
     refused += [(BAD_PREAMBLE, ["--preamble", bits]) for bits in (0, 8, 568, 575, 577, 4_294_967_295)]
     refused += [(BAD_RATE, ["--rate", 9, "--samples", 0, "--preamble", 0]), (BAD_SAMPLES, ["--samples", 0, "--preamble", 0])]
-    for fault, words in refused:
-        tally.check(f"refused {words}", fails(run(["none.bin", *words], folder), 1, fault), run(["none.bin", *words], folder))
+    for told, words in refused:
+        tally.check_done(f"refused {words}", run(["none.bin", *words], folder), 1, b"", told)
     usage = [
         [], ["a", "b"], ["a", "--rate"], ["a", "--rate", "fast"], ["a", "--rate", "-1"], ["a", "--samples", "4294967296"],
         ["a", "--preamble", "x"], ["a", "--preamble"], ["a", "--tail", "1.5"], ["a", "--tail"], ["a", "--invert=yes"], ["a", "--repair"], ["a", "--rate", "512", "--rate", "512"],
         ["a", "--end", "open"], ["a", "-"],
     ]  # fmt: skip
     for words in usage:
-        done = run(words, folder)
-        tally.check(f"usage {words}", (done.returncode, done.stdout) == (2, b"") and done.stderr.startswith(b"error: "), done)
+        tally.check_usage(f"usage {words}", run(words, folder))
 
 
 def try_refused(tally, folder):
@@ -151,16 +147,13 @@ def try_refused(tally, folder):
         first + SYNC + ONES + rest[8:],
     ]  # fmt: skip
     for bytes_ in none:
-        decoded = subprocess.run([str(PROGRAM), "decode", "-"], input=bytes_, capture_output=True, timeout=60)
+        decoded = shared.run(["decode", "-"], folder, bytes_)
         done = run(["-"], folder, bytes_)
-        holds = (done.returncode, done.stdout, done.stderr) == (1, b"", decoded.stderr) and decoded.returncode == 1
-        tally.check(f"no transmission: {bytes_[68:].hex()[:40]}", holds, (done, decoded))
+        tally.check_done(f"no transmission: {bytes_[68:].hex()[:40]}", done, 1, b"", decoded.stderr, decoded.returncode == 1)
     for name in ("none.bin", "."):
-        done = run([name], folder)
-        tally.check(f"no file: {name}", fails(done, 3, "cannot read or open a file"), done)
-    with open(folder / "huge.bin", "wb") as huge:
-        huge.truncate(300_000_000)
-    tally.check("a file of 300 MB", fails(run(["huge.bin"], folder), 1, "the file is too large"))
+        tally.check_done(f"no file: {name}", run([name], folder), 3, b"", CANNOT_OPEN)
+    make_huge(folder / "huge.bin")
+    tally.check_done("a file of 300 MB", run(["huge.bin"], folder), 1, b"", TOO_LARGE)
     (folder / "huge.bin").unlink()
 
 
@@ -177,13 +170,13 @@ def try_lengths(tally, folder):
     count = 375 * (longest + 2 * 544)
     lengths = (int.from_bytes(front[4:8], "little"), int.from_bytes(front[40:44], "little"))
     tally.check("the longest sound", lengths == (36 + 2 * count, 2 * count) and 2**32 - 6_000 < 36 + 2 * count < 2**32, lengths)
-    tally.check("its reader goes", (process.returncode, told) == (3, b"pocsag: cannot write\n"), (process.returncode, told))
+    tally.check("its reader goes", (process.returncode, told) == (3, CANNOT_WRITE), (process.returncode, told))
     for bits in (longest + 8, 4_294_967_288):
-        tally.check(f"{bits} bits of preamble", fails(run([*words, bits], folder), 1, TOO_LONG))
+        tally.check_done(f"{bits} bits of preamble", run([*words, bits], folder), 1, b"", TOO_LONG)
     # 2,147,483,629 - 1,120 bits are 894,784,378.75 milliseconds
     for tail in (894_784_379, 4_294_967_295):
         done = run(["tx.bin", "--rate", 2400, "--samples", 2400, "--tail", tail], folder)
-        tally.check(f"a silence of {tail} ms", fails(done, 1, TOO_LONG), (done.returncode, len(done.stdout)))
+        tally.check_done(f"a silence of {tail} ms", done, 1, b"", TOO_LONG)
 
 
 def try_pipes(tally, folder):
@@ -199,9 +192,7 @@ def try_failing_writes(tally, folder):
     """What was written before a write failed is a front of the sound."""
     (folder / "tx.bin").write_bytes(SENT)
     whole = run(["tx.bin"], folder).stdout
-    with open("/dev/full", "wb") as full:
-        done = subprocess.run([str(PROGRAM), "wav", "tx.bin"], stdout=full, stderr=subprocess.PIPE, cwd=folder, timeout=60)
-    tally.check("a full device", (done.returncode, done.stderr) == (3, b"pocsag: cannot write\n"), done)
+    tally.check_full("a full device", ["wav", "tx.bin"], folder)
     for size in (0, 1, 43, 44, 45, 8_192, 100_001, len(whole) - 1, len(whole)):
 
         def limit(size=size):
@@ -209,12 +200,12 @@ def try_failing_writes(tally, folder):
             resource.setrlimit(resource.RLIMIT_FSIZE, (size, size))
 
         with open(folder / "out.wav", "wb") as out:
-            done = subprocess.run([str(PROGRAM), "wav", "tx.bin"], stdout=out, stderr=subprocess.PIPE, cwd=folder, preexec_fn=limit, timeout=60)
-        due = (0, b"") if size == len(whole) else (3, b"pocsag: cannot write\n")
-        wrote = (folder / "out.wav").read_bytes()
-        tally.check(f"a disk of {size} bytes", (done.returncode, done.stderr) == due and wrote == whole[:size], (done, len(wrote)))
+            done = run(["tx.bin"], folder, stdout=out, preexec_fn=limit)
+        due = (0, None) if size == len(whole) else (3, None, CANNOT_WRITE)
+        tally.check_done(f"a disk of {size} bytes", done, *due, also=(folder / "out.wav").read_bytes() == whole[:size])
 
+
+PARTS = (try_by_hand, try_rounds, try_odd_numbers, try_options, try_words, try_refused, try_lengths, try_pipes, try_failing_writes)
 
 if __name__ == "__main__":
-    parts = (try_by_hand, try_rounds, try_odd_numbers, try_options, try_words, try_refused, try_lengths, try_pipes, try_failing_writes)
-    sys.exit(run_parts(*parts))
+    sys.exit(run_parts(*PARTS))

@@ -10,18 +10,16 @@ import subprocess
 import sys
 import time
 
-from tally import PROGRAM, TOP, as_nobody
+from codewords import APART, HEADER
+from tally import CANNOT_OPEN, CANNOT_WRITE, PROGRAM, TOO_LARGE, TOP, as_nobody, fault, faulty, files_of
 
 sys.path.insert(0, str(TOP / "tests/release"))
 import arm64
 
-HEADER = b"address,kind,message\n"
 TONE = HEADER + b"8,tone0,\n"
-APART = HEADER + b"0,numeric," + b"1" * 75 + b"\n3,numeric," + b"1" * 75 + b"\n"
 OLD = {"pages.csv": TONE, "tx.bin": b"older", "cert.bin": b"older too"}
 PLAN = ["plan", "pages.csv", "tx.bin", "cert.bin"]
-CANNOT_OPEN = b"pocsag: cannot read or open a file\n"
-NOT_OWNER = b"pocsag: the new file cannot be given the owner, group and mode of the old one\n"
+NOT_OWNER = fault("the new file cannot be given the owner, group and mode of the old one")
 # Scripts of the program that run over Node, with one of so many of their cases.
 SCRIPTS = {"tests/program/run.py": 41, "tests/capture/run.py": 41}
 # Words; what stands behind `<` is standard input: a file, or lines. Node refuses a journal.
@@ -78,10 +76,6 @@ class Node:
         return outcome([*before, str(self.path), *words], folder, stdin, **how)
 
 
-def held(folder):
-    return {str(path.relative_to(folder)): path.read_bytes() for path in folder.rglob("*") if path.is_file()}
-
-
 def fresh(room, name, files):
     folder = room / name
     for path, data in files.items():
@@ -97,7 +91,7 @@ def first_files(room):
     for name in ("round", "apart"):
         native(["plan", f"{name}.csv", f"{name}.bin", f"{name}.cert"], folder)
     native(["open", "--journal", "journal", "round.csv"], folder, b"add,32,tone0,\n")
-    return held(folder)
+    return files_of(folder)
 
 
 def in_memory(node, runs, files):
@@ -119,27 +113,27 @@ def try_beside(tally, room, node):
     found = list(in_memory(node, runs, files))
     for k, (words, stdin) in enumerate(runs):
         folders = [fresh(room, f"{name} {k}", files) for name in ("native", "node")]
-        due = native(words, folders[0], stdin), held(folders[0])
+        due = native(words, folders[0], stdin), files_of(folders[0])
         tally.check(f"in memory {words}", found[k : k + 1] == [due], (found[k : k + 1], due))
         if "--journal" not in words:
-            told = node.run(words, folders[1], stdin), held(folders[1])
+            told = node.run(words, folders[1], stdin), files_of(folders[1])
             tally.check(f"in Node {words}", told == due, (told, due))
 
 
 def try_locks(tally, room, node):
     """Node has no locks: a journal is refused, `--keep` goes on, and nothing is removed that a killed run may have left."""
     folder = fresh(room, "locks", {**OLD, "old": b"kept"})
-    before = held(folder)
+    before = files_of(folder)
     for journal in ("new", "old"):
         told = node.run(["open", "--journal", journal, "pages.csv", "--verbose"], folder)
-        due = 3, b"", CANNOT_OPEN + f"pocsag: journal {journal}: Operation not supported (os error 95)\n".encode()
-        tally.check(f"a journal is refused: {journal}", told == due and held(folder) == before, told)
+        due = 3, b"", CANNOT_OPEN + fault(f"journal {journal}: Operation not supported (os error 95)")
+        tally.check(f"a journal is refused: {journal}", told == due and files_of(folder) == before, told)
     fresh(room, "locks", {"tx.bin.pocsag.4194305.new": b"left", os.fsdecode(b"a\xff"): b"", **{str(k): b"" for k in range(10_000)}})
-    before, start = held(folder), time.monotonic()
+    before, start = files_of(folder), time.monotonic()
     told = node.run([*PLAN, "--keep", "--verify"], folder)
     native(["plan", "pages.csv", "../tx", "../cert"], folder)
     due = before | {"tx.bin": (room / "tx").read_bytes(), "cert.bin": (room / "cert").read_bytes()}
-    holds = told == (0, b"pages 1\nbatches 1\nverified\n", b"") and held(folder) == due and time.monotonic() - start < 20
+    holds = told == (0, b"pages 1\nbatches 1\nverified\n", b"") and files_of(folder) == due and time.monotonic() - start < 20
     tally.check("--keep without a lock, beside 10,000 files and what a killed run left", holds, told)
 
 
@@ -148,19 +142,18 @@ def try_way_back(tally, room, node):
     failing = [("rename", 1), ("rename", 2), ("fsync", 1), ("fchmod", 1)] if shutil.which("strace") else []
     for call, number in failing:
         folder = fresh(room, f"{call} {number}", OLD)
-        trace = ["strace", "-f", "-qq", "-o", "/dev/null", "-e", f"trace={call}", "-e", f"inject={call}:error=EIO:when={number}"]
-        told = node.run([*PLAN, "--keep", "--verbose"], folder, before=trace)
-        holds = told[:2] == (3, b"") and told[2].endswith(b": Input/output error (os error 5)\n") and held(folder) == OLD
-        tally.check(f"the way back where {call} {number} fails", holds, (told, held(folder)))
+        told = node.run([*PLAN, "--keep", "--verbose"], folder, before=faulty(call, f"error=EIO:when={number}"))
+        holds = told[:2] == (3, b"") and told[2].endswith(b": Input/output error (os error 5)\n") and files_of(folder) == OLD
+        tally.check(f"the way back where {call} {number} fails", holds, (told, files_of(folder)))
     folder, user = fresh(room, "another user", {**OLD, "shut.csv": TONE}), as_nobody(room)
     folder.chmod(0o777)
     (folder / "shut.csv").chmod(0)
-    for words, fault in (
-        (["plan", "shut.csv", "a", "b"], CANNOT_OPEN + b"pocsag: page file shut.csv: Permission denied (os error 13)\n"),
-        ([*PLAN, "--keep"], NOT_OWNER + b"pocsag: certificate cert.bin: Operation not permitted (os error 1)\n"),
+    for words, why in (
+        (["plan", "shut.csv", "a", "b"], CANNOT_OPEN + fault("page file shut.csv: Permission denied (os error 13)")),
+        ([*PLAN, "--keep"], NOT_OWNER + fault("certificate cert.bin: Operation not permitted (os error 1)")),
     ):
-        told = node.run([*words, "--verbose"], folder, before=user) if user else (3, b"", fault)
-        tally.check(f"another user: {words}", told == (3, b"", fault), told)
+        told = node.run([*words, "--verbose"], folder, before=user) if user else (3, b"", why)
+        tally.check(f"another user: {words}", told == (3, b"", why), told)
 
 
 def unready(node, words, folder, stdin):
@@ -200,12 +193,12 @@ def try_streams(tally, room, node):
     except OSError as why:
         print(f"skipped: no words at a terminal, since there is no pseudo terminal: {why}")
     for words, closed, due in (
-        ("", "<&-", (1, b"", b"pocsag: the header must be address,kind,message\n")),
+        ("", "<&-", (1, b"", fault("the header must be address,kind,message"))),
         ("check pages.csv cert.bin", ">&-", (0, b"", b"")),
         ("check none.csv cert.bin", "2>&-", (3, b"", b"")),
         ("plan pages.csv a b", "<&- >&- 2>&-", (0, b"", b"")),
-        ("decode tx.bin", ">/dev/full", (3, b"", b"pocsag: cannot write\n")),
-        ("plan pages.csv /dev/full b", "", (3, b"", b"pocsag: cannot write\n")),
+        ("decode tx.bin", ">/dev/full", (3, b"", CANNOT_WRITE)),
+        ("plan pages.csv /dev/full b", "", (3, b"", CANNOT_WRITE)),
     ):
         told = outcome(["sh", "-c", f'"$0" {words} {closed}', str(node.path)], folder)
         tally.check(f"{words} {closed}", told == due, told)
@@ -223,10 +216,10 @@ def try_limits(tally, room, node):
         other = fresh(room, "other", {**module, **{it: (node.made / it).read_bytes() for it in ("cli.mjs", "system.mjs")}})
         told = Node(other, other, node.node).run(["--version"], folder)
         tally.check(f"no module {module.values()}"[:60], told[:2] == (3, b"") and re.fullmatch(rb"pocsag: [^\n]+\n", told[2]), told)
-    for pages, due in ((150, (3, b"", b"pocsag: out of memory\n")), (2_000, (0, b"pages 20000\nbatches 1250\n", b""))):
+    for pages, due in ((150, (3, b"", fault("out of memory"))), (2_000, (0, b"pages 20000\nbatches 1250\n", b""))):
         told = node.run(["plan", "tones.csv", "a", "b"], folder, env={**os.environ, "FLAGS_OF_NODE": f"--wasm-max-mem-pages={pages}"})
         tally.check(f"{pages} pages of memory", told == due, told)
-    for size, due in ((2**28, (0, b"pages 1\nbatches 1\nverified\n", b"")), (2**28 + 1, (1, b"", b"pocsag: the file is too large\n"))):
+    for size, due in ((2**28, (0, b"pages 1\nbatches 1\nverified\n", b"")), (2**28 + 1, (1, b"", TOO_LARGE))):
         (folder / "large.csv").write_bytes(HEADER + b"\n" * (size - len(TONE)) + b"8,tone0,\n")
         told = node.run(["plan", "large.csv", "a", "b", "--verify"], folder)
         tally.check(f"a page file of {size} bytes", told == due, told)

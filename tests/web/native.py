@@ -42,4 +42,4 @@ def answers_of_module(node, script, module, calls):
     ran = subprocess.run([node, script, module], input=lines.encode(), capture_output=True, timeout=1200)
     if ran.returncode:
         raise SystemExit(f"calls.mjs: {ran.stderr.decode()[-2000:]}")
-    return [json.loads(line) for line in ran.stdout.splitlines()], ran.stderr.decode().strip()
+    return [json.loads(line) for line in ran.stdout.splitlines()]

@@ -7,7 +7,6 @@ import shutil
 import subprocess
 import sys
 
-sys.dont_write_bytecode = True
 TOP = pathlib.Path(__file__).resolve().parents[2]
 sys.path[:0] = [str(TOP / it) for it in ("release", "tools")]
 import contents

@@ -25,6 +25,7 @@ sys.path[:0] = [str(HERE), str(HERE.parent)]
 import host
 import native
 import package
+from codewords import HEADER, changed, random_file
 from tally import LIBRARY, PROGRAM, module_at, run_parts
 
 
@@ -127,11 +128,11 @@ class Made:
 
     def compare(self, tally, name, calls):
         """Whether the module answers as the native library does; the statuses that were seen."""
-        answers, told = native.answers_of_module(NODE, HERE / "calls.mjs", self.folder / "pocsag.wasm", calls)
+        answers = native.answers_of_module(NODE, HERE / "calls.mjs", self.folder / "pocsag.wasm", calls)
         wanted = [self.native.call(*it) for it in calls]
         wrong = [(call[0], want, got) for call, want, got in zip(calls, wanted, answers) if want != got]
         tally.check(f"{name}: {len(calls)} calls", not wrong and len(answers) == len(calls), (len(wrong), str(wrong[:2])[:1000]))
-        return {answer[0] for answer in answers}, told
+        return {answer[0] for answer in answers}
 
 
 def try_made(tally, made):
@@ -165,9 +166,9 @@ def try_rounds(tally, made):
     for _ in range(ROUNDS // PER_BATCH):
         calls = []
         for _ in range(PER_BATCH):
-            pages = made.library.random_file(source)
+            pages = random_file(source)
             if source.randrange(4) == 0:
-                pages = made.library.changed(source, pages)
+                pages = changed(source, pages)
             calls += planning_calls(source, pages) + small_calls(source)
             try:
                 plan = made.python.plan(pages, limit=2_000, end=source.randrange(3), always=True)
@@ -175,11 +176,11 @@ def try_rounds(tally, made):
                 continue
             files = [pages, plan.transmission, plan.certificate]
             for which in (None, source.randrange(3), source.randrange(3)):
-                now = [made.library.changed(source, it) if k == which else it for k, it in enumerate(files)]
+                now = [changed(source, it) if k == which else it for k, it in enumerate(files)]
                 address = int(pages.split(b"\n")[1].split(b",")[0][-7:] or b"0") if source.randrange(5) else source.randrange(2_100_000)
                 calls += reading_calls(source, *now, address)
         count += len(calls)
-        statuses |= made.compare(tally, "random rounds", calls)[0]
+        statuses |= made.compare(tally, "random rounds", calls)
     tally.check("more than 20,000 calls", count > 20_000, count)
     tally.check("most statuses were seen", len(statuses) >= 22, sorted(statuses))
 
@@ -187,12 +188,9 @@ def try_rounds(tally, made):
 def try_large(tally, made):
     """Many pages, pages of every character, deep certificates, and files of 268 MB."""
     source, calls = random.Random(7), []
-    tones = b"address,kind,message\n" + b"".join(b"%d,tone0,\n" % k for k in range(20_000))
-    mixed = b"address,kind,message\n" + b"".join(
-        b"%d,alpha,%s\n" % (11 * k, b"abcdefghij " * source.randrange(1, 30)) for k in range(3_000)
-    )
-    every = bytes(range(1, 128)).replace(b'"', b'""')
-    whole = b'address,kind,message\n8,alpha,"%s"\n' % every
+    tones = HEADER + b"".join(b"%d,tone0,\n" % k for k in range(20_000))
+    mixed = HEADER + b"".join(b"%d,alpha,%s\n" % (11 * k, b"abcdefghij " * source.randrange(1, 30)) for k in range(3_000))
+    whole = HEADER + b'8,alpha,"%s"\n' % bytes(range(1, 128)).replace(b'"', b'""')
     for pages in (tones, mixed, whole):
         calls.append(["pocsag_plan", hexed(pages), ["room", 2**22], ["room", 2**16], number(100_000), number(2), number(1), info("plan")])
         plan = made.python.plan(pages, end=2, always=True)
@@ -204,22 +202,21 @@ def try_large(tally, made):
         calls += [["pocsag_explain", hexed(pages), hexed(certificate), number(form), number(300), ["room", 2**23], info("check")] for form in (0, 1)]
     made.compare(tally, "large rounds and deep certificates", calls)
     # The greatest page file, and one byte more, in empty lines before the first page.
-    head, tail = b"address,kind,message\n", b"8,tone0,\n"
-    rows = []
+    tail, rows = b"8,tone0,\n", []
     for size in (2**28, 2**28 + 1):
         path = made.room / f"{size}.csv"
-        path.write_bytes(head + b"\n" * (size - len(head) - len(tail)) + tail)
+        path.write_bytes(HEADER + b"\n" * (size - len(HEADER) - len(tail)) + tail)
         rows.append(["pocsag_plan", ["file", str(path)], ["room", 4_096], ["room", 4_096], number(100), number(0), number(1), info("plan")])
         rows.append(["pocsag_decode", ["file", str(path)], ["room", 4_096], info("place")])
-    statuses, told = made.compare(tally, "268 MB of input", rows)
+    statuses = made.compare(tally, "268 MB of input", rows)
     tally.check("one of them is too large, and one is planned", {0, 17} <= statuses, statuses)
 
 
 def try_node(tally, made):
     """The ES module, by what stands in module.mjs, with the files of the vectors and the worked examples."""
     program = made.program
-    rounds = {name: [(program.HEADER + row[0]).decode(), row[1], row[2], program.IDLE_LAST.get(name), row[3]] for name, row in program.ROUNDS.items()}
-    refused = {name: [(text or b"").decode("latin-1"), fault.decode()] for name, (text, fault) in program.REFUSED.items()}
+    rounds = {name: [(HEADER + row[0]).decode(), *row[1:5]] for name, row in program.ROUNDS.items()}
+    refused = {name: [(text or b"").decode("latin-1"), fault] for name, (text, fault) in program.REFUSED.items()}
     (made.room / "examples.json").write_text(json.dumps({"rounds": rounds, "refused": refused}))
     done = run(NODE, HERE / "module.mjs", made.folder, made.room / "examples.json", TOP / "vectors")
     print(done.stdout.decode(), end="")

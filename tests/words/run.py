@@ -163,13 +163,8 @@ def wanted_words():
 
 def main():
     tally = Tally()
-    check_meanings(tally)
-    check_items(tally)
-    check_lengths(tally)
-    check_faults(tally)
-    check_texts(tally)
-    check_libraries(tally)
-    check_reader(tally)
+    for part in (check_meanings, check_items, check_lengths, check_faults, check_texts, check_libraries, check_reader):
+        part(tally)
     wanted, told = wanted_words(), set(definitions.told())
     for word, cited in sorted(wanted.items()):
         tally.check(".specs.".join(word[:2]) + f".{word[2]}", definitions.given_at(word) in told, f"cited by {cited}: its definition has no comment")
