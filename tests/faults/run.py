@@ -512,6 +512,9 @@ def main():
         for form in ([], ["--json"], ["--text", "0"], ["--capture"], ["--capture", "--json"]):
             words = ["decode", "tx.bin", *form]
             try_printing(tally, library, f"{' '.join(words)}, long", words, {"tx.bin": LONG}, folder, in_pieces=True)
+        for form in ([], ["--list"], ["--svg"]):
+            words = ["show", "tx.bin", *form]
+            try_printing(tally, library, f"{' '.join(words)}, long", words, {"tx.bin": LONG}, folder, in_pieces=True)
         try_printing(tally, library, "wav", ["wav", "tx.bin", "--samples", "8000"], files, folder)
         for words in (["decode", "tx.bin"], ["hear", "7", "tx.bin"], ["show", "tx.bin"]):
             try_printing(tally, library, f"{words[0]} --capture", [*words, "--capture"], files, folder)
