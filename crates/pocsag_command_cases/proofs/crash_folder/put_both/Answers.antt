@@ -1,4 +1,4 @@
-use Rattle.std.proofs.Common.{◌≡◌, ℕ, inl, inr, ⊎_elim, slice_index_or, List, ◌∷◌, [], ap, subst, sym, ◌∙◌}
+use Rattle.std.proofs.Common.{◌≡◌, ℕ, inl, inr, ⊎_elim, slice_index_or, List, ◌∷◌, [], ap, subst, ◌∙◌}
 use Rattle.pocsag_words.specs.Devices.{HasFailed}
 use Rattle.pocsag_shell.specs.Folders.{FailsTwice, staged_at}
 use Rattle.pocsag_shell.specs.declared.staged_file.StagedFile.{StagedFile}
