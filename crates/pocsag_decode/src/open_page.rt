@@ -46,6 +46,7 @@ impl OpenPage {
 
     /// Takes one codeword more, which stands in this frame, and gives the page that ends at it. A message codeword where no page is
     /// open is passed over.
+    #[inline(always)]
     pub fn take_kind(
         alloc: Global,
         current: &mut Option<OpenPage>,
