@@ -1,8 +1,9 @@
+pub mod Adding
 pub mod Beginnings
+pub mod Children
 pub mod Leasts
+pub mod Levels
 pub mod Narrows
-pub mod Nodes
 pub mod Prelude
 pub mod Shares
 pub mod SlotColumns
-pub mod Unjudged

@@ -1,5 +1,9 @@
+pub mod Ahead
 pub mod Beginnings
+pub mod Descents
 pub mod Findings
 pub mod Rules
 pub mod Sides
 pub mod Views
+pub mod Walks
+pub mod Writing

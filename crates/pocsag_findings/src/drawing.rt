@@ -6,8 +6,9 @@ use crate::columns::{most_of, push_columns};
 use crate::finding::Finding;
 use crate::lines::{Margins, push_lines};
 use crate::node_number::Numbering;
-use crate::outline::{conclusion, first_refused, first_words, write_node_line};
+use crate::outline::{Conclusion, first_words, refused_node_words, write_node_line};
 use crate::refuted::Explanation;
+use pocsag_words::OutOfMemory;
 use std::alloc::{AllocError, Global};
 
 // How many characters stand in a line at the most, where its words are no longer.
@@ -69,13 +70,14 @@ impl Sheet {
         &mut self,
         alloc: Global,
         explanation: &Explanation<'_>,
-    ) -> Result<(), AllocError> {
-        let most = most_of(explanation.findings);
+    ) -> Result<(), OutOfMemory> {
+        let found = explanation.drawn()?;
+        let most = most_of(found.as_slice());
         let mut numbering = Numbering {
             path: Vec::new(alloc),
         };
         let mut line = String::new(alloc);
-        for finding in explanation.findings {
+        for finding in &found {
             numbering.step(finding.depth)?;
             if finding.columns.len() > 0 {
                 write_node_line(&mut line, explanation.refuted, &numbering, finding)?;
@@ -105,7 +107,7 @@ fn heading(alloc: Global, explanation: &Explanation<'_>) -> Result<String, Alloc
 {
     let mut text = first_words(alloc, explanation)?;
     if !explanation.is_shown {
-        let refused = first_refused(alloc, explanation)?;
+        let refused = refused_node_words(alloc, explanation)?;
         text.push_str(": ")?;
         text.push_str(refused.as_str())?;
     }
@@ -113,7 +115,7 @@ fn heading(alloc: Global, explanation: &Explanation<'_>) -> Result<String, Alloc
 }
 
 /// The explanation as SVG 1.1: the nodes of which columns are found, one below the other, on one scale.
-pub(crate) fn drawing(alloc: Global, explanation: &Explanation<'_>) -> Result<String, AllocError>
+pub(crate) fn drawing(alloc: Global, explanation: &Explanation<'_>) -> Result<String, OutOfMemory>
     ensures { IfOk result (λ text. (height : ℕ) × BeginsWith (drawing_head height
         ++ verdict_words explanation.now.is_shown explanation.now.refuted.end explanation.now.batches)
         (string_bytes text)) }
@@ -128,7 +130,8 @@ pub(crate) fn drawing(alloc: Global, explanation: &Explanation<'_>) -> Result<St
     sheet.put_words(heading)?;
     sheet.put_nodes(alloc, explanation)?;
     if explanation.is_shown {
-        let closing = conclusion(alloc, explanation.refuted)?;
+        let closing = Conclusion(explanation.refuted);
+        let closing = format!(in alloc; "{closing}")?;
         sheet.put_words(closing.as_str())?;
     }
     sheet.put_words(KEY)?;
@@ -136,7 +139,7 @@ pub(crate) fn drawing(alloc: Global, explanation: &Explanation<'_>) -> Result<St
 }
 
 // The whole page, of what was drawn.
-fn page(alloc: Global, heading: &str, sheet: &Sheet) -> Result<String, AllocError>
+fn page(alloc: Global, heading: &str, sheet: &Sheet) -> Result<String, OutOfMemory>
     ensures { IfOk result (λ text. (height : ℕ) × BeginsWith (drawing_head height ++ heading.now) (string_bytes text)) }
 {
     let tall = sheet.height.saturating_add(8);

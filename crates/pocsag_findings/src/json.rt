@@ -1,13 +1,16 @@
 //! A certificate as JSON, whose texts are fixed words and the numbers of nodes: none of them needs an escape.
 ghost use Rattle.std.specs.Prelude.{IfOk, string_bytes};
 ghost use Rattle.pocsag_findings.specs.Beginnings.{BeginsWith, verdict_members};
+ghost use Rattle.pocsag_findings.specs.Writing.{Adds};
 
+use crate::fault::ExplanationFault;
 use crate::finding::{Fact, Finding, Narrowed, Reached, Share};
+use crate::lines::{PIECE, flush_text};
 use crate::node_number::Numbering;
 use crate::refuted::Explanation;
 use crate::sets::{FIRST_ALONE, smaller_side, start_slot};
 use pocsag_slots::{CLASSES, SLOTS, Way, frame, holds, rest};
-use pocsag_words::End;
+use pocsag_words::{End, Sink};
 use std::alloc::{AllocError, Global};
 use std::fmt::{self, Display, Formatter};
 
@@ -17,11 +20,7 @@ pub(crate) fn verdict(alloc: Global, explanation: &Explanation<'_>) -> Result<St
         (verdict_members explanation.now.is_shown explanation.now.refuted.end explanation.now.batches)
         (string_bytes text)) }
 {
-    let Explanation {
-        is_shown,
-        batches,
-        ..
-    } = *explanation;
+    let (is_shown, batches) = (explanation.is_shown, explanation.batches);
     let end = match explanation.refuted.end {
         End::Open => "open",
         End::Closed => "closed",
@@ -30,58 +29,67 @@ pub(crate) fn verdict(alloc: Global, explanation: &Explanation<'_>) -> Result<St
     format!(in alloc; r#"{{"shown":{is_shown},"end":"{end}","batches":{batches},"#)
 }
 
-/// The members after them, with the nodes no deeper than so.
-pub(crate) fn other_members(
+/// Writes the members after them, with the nodes no deeper than so.
+pub(crate) fn write_members<O: Sink>(
     alloc: Global,
     explanation: &Explanation<'_>,
     depth: u32,
-) -> Result<String, AllocError> {
+    out: &mut O,
+) -> Result<(), ExplanationFault>
+    ensures { Adds O.Sink result out.old out.new }
+{
+    let mut text = first_members(alloc, explanation)?;
+    let mut walk = explanation.walk(depth)?;
+    let mut numbering = Numbering {
+        path: Vec::new(alloc),
+    };
+    while let Some(finding) = walk.next()? {
+        push_node(&mut text, &mut numbering, &finding)?;
+        flush_text(&mut text, PIECE, out)?;
+    }
+    text.push_str("]}\n")?;
+    flush_text(&mut text, 0, out)
+}
+
+// The members up to the nodes.
+fn first_members(alloc: Global, explanation: &Explanation<'_>) -> Result<String, AllocError> {
     let Explanation {
         pages,
         codewords,
         room,
         nodes,
-        findings,
+        refused,
         ..
-    } = *explanation;
+    } = explanation;
+    let number = &refused.number;
     let mut text = format!(in alloc;
         r#""pages":{pages},"codewords":{codewords},"room":{room},"nodes":{nodes},"refused":"#
     )?;
-    let mut numbering = Numbering {
-        path: Vec::new(alloc),
-    };
-    match numbering.step_to_refused(findings)? {
-        Some(_) => write!(text, "\"{numbering}\"")?,
-        None => text.push_str("null")?,
+    if number.is_empty() {
+        text.push_str("null")?;
+    } else {
+        write!(text, "\"{number}\"")?;
     }
-    numbering.path.clear();
-    push_listed(&mut text, &mut numbering, findings, depth)?;
+    text.push_str(",\"listed\":[")?;
     Ok(text)
 }
 
-// Adds the nodes no deeper than so; the root, which stands at depth 1, is the first.
-fn push_listed(
+// Adds the next node; the root, which stands at depth 1, is the first.
+fn push_node(
     text: &mut String,
     numbering: &mut Numbering,
-    findings: &[Finding],
-    depth: u32,
+    finding: &Finding,
 ) -> Result<(), AllocError> {
-    text.push_str(",\"listed\":[")?;
-    for finding in findings {
-        numbering.step(finding.depth)?;
-        if finding.depth <= depth {
-            let comma = if finding.depth > 1 { "," } else { "" };
-            let reached = ReachedFacts(finding.reached);
-            let holds = finding.holds;
-            let limits = LimitFacts(finding);
-            let fact = NodeFacts(finding);
-            write!(
-                text,
-                r#"{comma}{{"node":"{numbering}","reached":{reached},"holds":{holds},"limits":{limits},"fact":{fact}}}"#
-            )?;
-        }
-    }
-    text.push_str("]}\n")
+    numbering.step(finding.depth)?;
+    let comma = if finding.depth > 1 { "," } else { "" };
+    let reached = ReachedFacts(finding.reached);
+    let holds = finding.holds;
+    let limits = LimitFacts(finding);
+    let fact = NodeFacts(finding);
+    write!(
+        text,
+        r#"{comma}{{"node":"{numbering}","reached":{reached},"holds":{holds},"limits":{limits},"fact":{fact}}}"#
+    )
 }
 
 // How a node is reached from the one above it.

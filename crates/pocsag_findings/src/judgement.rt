@@ -87,8 +87,7 @@ pub(crate) fn columns_at(
     Ok(found)
 }
 
-// What the node states under the limits. Its room for the ways is not part of a level of `put_node`.
-#[inline(never)]
+// What the node states under the limits.
 pub(crate) fn fact_of(context: &NodeContext, limits: &Limits, tree: &Tree) -> Fact
     requires { AreInOrder context.now.classes.now limits.now }
     ensures { result ≡ fact_of context.now.classes.now context.now.end limits.now (bound_tree_of tree.now) }
@@ -125,7 +124,6 @@ pub(crate) fn fact_of(context: &NodeContext, limits: &Limits, tree: &Tree) -> Fa
 }
 
 // The shares that the node states: of an overload those of the classes in the least load of its set.
-#[inline(never)]
 pub(crate) fn shares_at(
     context: &NodeContext,
     limits: &Limits,
@@ -160,7 +158,6 @@ fn is_narrower(early: Narrowed) -> bool
 }
 
 // The classes that the limits narrow.
-#[inline(never)]
 pub(crate) fn narrowed_of(
     context: &NodeContext,
     limits: &Limits,

@@ -5,11 +5,13 @@
 mod columns;
 mod drawing;
 mod explained;
+mod fault;
 mod finding;
 mod format;
 mod json;
 mod judgement;
 mod kind;
+mod level;
 mod limit;
 mod lines;
 mod listing;
@@ -19,8 +21,10 @@ mod position;
 mod refuted;
 mod sentences;
 mod sets;
+mod walk;
 
-pub use explained::explanation;
+pub use explained::{JudgedCertificate, write_explanation};
+pub use fault::ExplanationFault;
 pub use finding::{Column, Fact, Finding, Narrowed, Reached, Share};
 pub use format::Format;
 pub use listing::findings;

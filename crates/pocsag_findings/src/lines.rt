@@ -1,6 +1,12 @@
 //! Lines that are not too long.
+ghost use Rattle.pocsag_findings.specs.Writing.{Adds};
 
+use crate::fault::ExplanationFault;
+use pocsag_words::{Sink, write_all};
 use std::alloc::AllocError;
+
+/// The most bytes of text that wait before they are written, beside those of one node.
+pub(crate) const PIECE: usize = 1_048_576;
 
 /// Where the lines of a text begin and end.
 #[derive(Clone, Copy)]
@@ -40,4 +46,20 @@ pub(crate) fn push_lines(
         text.push_str(word)?;
     }
     text.push_str("\n")
+}
+
+/// Writes the text so far where it is at least so long, and empties it.
+pub(crate) fn flush_text<O: Sink>(
+    text: &mut String,
+    least: usize,
+    out: &mut O,
+) -> Result<(), ExplanationFault>
+    ensures { Adds O.Sink result out.old out.new }
+{
+    if text.len() < least {
+        return Ok(());
+    }
+    write_all(out, text.as_str().as_bytes())?;
+    text.clear();
+    Ok(())
 }

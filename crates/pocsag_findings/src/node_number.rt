@@ -1,4 +1,3 @@
-use crate::finding::Finding;
 use std::alloc::AllocError;
 use std::fmt::{self, Display, Formatter};
 
@@ -17,20 +16,6 @@ impl Numbering {
         self.path.truncate(above);
         self.path.push(before.saturating_add(1))?;
         Ok(())
-    }
-
-    /// Goes on from before the root to the first node that does not hold, if there is one.
-    pub(crate) fn step_to_refused<'a>(
-        &mut self,
-        findings: &'a [Finding],
-    ) -> Result<Option<&'a Finding>, AllocError> {
-        for finding in findings {
-            self.step(finding.depth)?;
-            if !finding.holds {
-                return Ok(Some(finding));
-            }
-        }
-        Ok(None)
     }
 }
 

@@ -1,16 +1,19 @@
 //! A certificate as an indented list.
 ghost use Rattle.std.specs.Prelude.{IfOk, string_bytes};
 ghost use Rattle.pocsag_findings.specs.Beginnings.{BeginsWith, verdict_words};
+ghost use Rattle.pocsag_findings.specs.Writing.{Adds};
 
+use crate::fault::ExplanationFault;
 use crate::finding::Finding;
 use crate::limit::LimitWords;
-use crate::lines::{Margins, push_lines};
+use crate::lines::{Margins, PIECE, flush_text, push_lines};
 use crate::node_number::Numbering;
-use crate::refuted::{Explanation, Refuted};
+use crate::refuted::{Explanation, RefusedNode, Refuted};
 use crate::sentences::{Sentence, WayWords};
 use crate::sets::Counted;
-use pocsag_words::End;
+use pocsag_words::{End, Sink};
 use std::alloc::{AllocError, Global};
+use std::fmt::{self, Display, Formatter};
 
 // How many characters stand in a line at the most, where its words are no longer.
 const WIDTH: usize = 100;
@@ -30,54 +33,95 @@ pub(crate) fn margins(indent: usize) -> Margins {
     }
 }
 
-/// What follows the first words: a line for each finding, and one for its limits where they say more than those of the
-/// root; how many nodes are not listed, and the conclusion. Or, if the checker does not accept the certificate, the first
-/// node that does not hold.
-pub(crate) fn outline(alloc: Global, explanation: &Explanation<'_>) -> Result<String, AllocError> {
+/// Writes what follows the first words: a line for each finding no deeper than so, and one for its limits where they say more
+/// than those of the root; how many nodes are not listed, and the conclusion. Or, if the checker does not accept the
+/// certificate, the first node that does not hold.
+pub(crate) fn write_outline<O: Sink>(
+    alloc: Global,
+    explanation: &Explanation<'_>,
+    depth: u32,
+    out: &mut O,
+) -> Result<(), ExplanationFault>
+    ensures { Adds O.Sink result out.old out.new }
+{
     let mut text = format!(in alloc; "\n")?;
     if !explanation.is_shown {
-        let refused = first_refused(alloc, explanation)?;
+        let refused = refused_node_words(alloc, explanation)?;
         push_lines(&mut text, margins(0), refused.as_str())?;
-        return Ok(text);
+        return flush_text(&mut text, 0, out);
     }
     let mut numbering = Numbering {
         path: Vec::new(alloc),
     };
     let mut words = String::new(alloc);
-    for finding in explanation.findings {
-        numbering.step(finding.depth)?;
-        let indent = (finding.depth as usize).saturating_sub(1).saturating_mul(2);
-        write_node_line(&mut words, explanation.refuted, &numbering, finding)?;
-        push_lines(&mut text, margins(indent), words.as_str())?;
-        let limits = LimitWords(explanation.refuted, finding);
-        words.clear();
-        write!(words, "{limits}")?;
-        if words.len() > 0 {
-            push_lines(&mut text, margins(indent.saturating_add(2)), words.as_str())?;
-        }
+    let mut listed: u64 = 0;
+    let mut walk = explanation.walk(depth)?;
+    while let Some(finding) = walk.next()? {
+        push_node(
+            &mut text,
+            &mut words,
+            &mut numbering,
+            explanation.refuted,
+            &finding,
+        )?;
+        flush_text(&mut text, PIECE, out)?;
+        listed = listed.saturating_add(1);
     }
-    let below = explanation
-        .nodes
-        .saturating_sub(explanation.findings.len() as u64);
+    push_conclusion(&mut text, explanation, listed)?;
+    flush_text(&mut text, 0, out)
+}
+
+// Adds the line of the next node, and one for its limits where they say more than those of the root.
+fn push_node(
+    text: &mut String,
+    words: &mut String,
+    numbering: &mut Numbering,
+    refuted: Refuted<'_>,
+    finding: &Finding,
+) -> Result<(), AllocError> {
+    numbering.step(finding.depth)?;
+    write_node_line(words, refuted, numbering, finding)?;
+    let indent = (finding.depth as usize).saturating_sub(1).saturating_mul(2);
+    push_lines(text, margins(indent), words.as_str())?;
+    let limits = LimitWords(refuted, finding);
+    words.clear();
+    write!(words, "{limits}")?;
+    if words.len() > 0 {
+        push_lines(text, margins(indent.saturating_add(2)), words.as_str())?;
+    }
+    Ok(())
+}
+
+// Adds how many nodes are not listed, and the conclusion.
+fn push_conclusion(
+    text: &mut String,
+    explanation: &Explanation<'_>,
+    listed: u64,
+) -> Result<(), AllocError> {
+    let below = explanation.nodes.saturating_sub(listed);
     if below > 0 {
         let nodes = Counted(below, "node");
         write!(text, ".. {nodes} below\n")?;
     }
-    let closing = conclusion(alloc, explanation.refuted)?;
-    write!(text, "{closing}\n")?;
-    Ok(text)
+    let closing = Conclusion(explanation.refuted);
+    write!(text, "{closing}\n")
 }
 
 /// What a certificate shows, as its last sentence: `so 2 batches do not suffice`.
-pub(crate) fn conclusion(alloc: Global, refuted: Refuted<'_>) -> Result<String, AllocError> {
-    let batches = Counted(u64::from(refuted.batches), "batch");
-    let verb = if refuted.batches == 1 { "does" } else { "do" };
-    let end = match refuted.end {
-        End::Open => "",
-        End::Closed => " with a closed end",
-        End::Idle => " with an idle last",
-    };
-    format!(in alloc; "so {batches} {verb} not suffice{end}")
+#[derive(Clone, Copy)]
+pub(crate) struct Conclusion<'a>(pub(crate) Refuted<'a>);
+
+impl Display for Conclusion<'_> {
+    fn fmt<W: fmt::Write>(&self, f: &mut Formatter<W>) -> fmt::Result {
+        let batches = Counted(u64::from(self.0.batches), "batch");
+        let verb = if self.0.batches == 1 { "does" } else { "do" };
+        let end = match self.0.end {
+            End::Open => "",
+            End::Closed => " with a closed end",
+            End::Idle => " with an idle last",
+        };
+        write!(f, "so {batches} {verb} not suffice{end}")
+    }
 }
 
 /// The first line of the text, or of the drawing its title: what is shown, and what the round and the batches hold.
@@ -130,17 +174,14 @@ pub(crate) fn write_node_line(
     write!(words, "node {numbering}{way}: {said}")
 }
 
-/// The first finding that does not hold, and why: `node 1.2: slot 15: 1 codeword at the least, room for 1`.
-pub(crate) fn first_refused(
+/// The first node that does not hold, and why: `node 1.2: slot 15: 1 codeword at the least, room for 1`.
+pub(crate) fn refused_node_words(
     alloc: Global,
     explanation: &Explanation<'_>,
 ) -> Result<String, AllocError> {
-    let mut numbering = Numbering {
-        path: Vec::new(alloc),
-    };
-    let Some(finding) = numbering.step_to_refused(explanation.findings)? else {
+    let RefusedNode { number, why } = &explanation.refused;
+    if number.is_empty() {
         return Ok(String::new(alloc));
-    };
-    let why = Sentence(explanation.refuted, finding);
-    format!(in alloc; "node {numbering}: {why}")
+    }
+    format!(in alloc; "node {number}: {why}")
 }

@@ -1,15 +1,13 @@
-ghost use Rattle.std.specs.Prelude.{◌≡◌, ◌+◌, ◌^◌, ◌<◌, ◌≤◌, IfOk, cond, slice_index};
-ghost use Rattle.pocsag_slots.specs.declared.limit.Limits.{Limits};
+ghost use Rattle.std.specs.Prelude.{◌≡◌};
 ghost use Rattle.pocsag_slots.specs.Loads.{AreInOrder};
-ghost use Rattle.pocsag_slots.specs.Ways.{limits_below, limits_from, MayTake, narrowed_limits};
-ghost use Rattle.pocsag_findings.specs.declared.finding.Reached.TheVariants.{Below, By, From};
+ghost use Rattle.pocsag_findings.specs.Descents.{MayDescend, position_by};
 
 use crate::finding::Reached;
 use pocsag_slots::{Classes, Limits, Way, below_split, from_split, narrow};
-use pocsag_words::{End, OutOfMemory};
+use pocsag_words::End;
 use std::alloc::Global;
 
-// What the nodes are judged for, and how deep they are listed: the batches are one fewer than the certificate's.
+/// What the nodes are judged for, and how deep they are listed: the batches are one fewer than the certificate's.
 #[derive(Clone, Copy)]
 pub(crate) struct NodeContext<'a> {
     pub(crate) alloc: Global,
@@ -27,66 +25,44 @@ pub(crate) struct Position {
     pub(crate) reached: Reached,
 }
 
-// Where the children of a node stand. Each position is made on the heap by a call of its own, so that a level of a
-// deep certificate takes little of the stack.
-impl Position {
-    // Below a split, where fewer than m pages of the class start early, or at least m do.
-    #[inline(never)]
-    pub(crate) fn child_of_split(
-        &self,
-        context: &NodeContext,
-        class: u8,
-        m: u32,
-        is_below: bool,
-    ) -> Result<Box<Position>, OutOfMemory>
-        requires deep { self.now.above + 1 < 2 ^ 32 }
-        requires ordered { AreInOrder context.now.classes.now self.now.limits }
-        requires class { class < 136 }
-        requires above { slice_index self.now.limits.lo class < m }
-        requires within { m ≤ slice_index self.now.limits.hi class }
-        ensures child { IfOk result (λ child. child.value ≡ record {
-          limits = cond is_below (limits_below self.now.limits class m) (limits_from self.now.limits class m);
-          above = self.now.above + 1;
-          reached = cond is_below Below From;
-        }) }
-        ensures ordered { IfOk result (λ child. AreInOrder context.now.classes.now child.value.limits) }
-    {
-        let (limits, reached) = if is_below {
-            (below_split(&self.limits, class, m), Reached::Below)
-        } else {
-            (from_split(&self.limits, class, m), Reached::From)
-        };
-        let position = Position {
-            limits,
-            above: self.above + 1,
-            reached,
-        };
-        Ok(Box::new(context.alloc, position)?)
-    }
-
+// What leads from a node to a child.
+#[derive(Clone, Copy)]
+pub(crate) enum Descent {
+    // To the root, from no node: the limits stay as they are.
+    Start,
+    // To the first child of a split.
+    Low { class: u8, m: u16 },
+    // To the second child of a split.
+    High { class: u8, m: u16 },
     // By a way out of a cut, or a way to close.
-    #[inline(never)]
-    pub(crate) fn child_by(
-        &self,
-        context: &NodeContext,
-        way: Way,
-    ) -> Result<Box<Position>, OutOfMemory>
-        requires deep { self.now.above + 1 < 2 ^ 32 }
-        requires batches { 0 < context.now.batches }
-        requires ordered { AreInOrder context.now.classes.now self.now.limits }
-        requires way { MayTake context.now.classes.now self.now.limits way }
-        ensures child { IfOk result (λ child. child.value ≡ record {
-          limits = narrowed_limits context.now.classes.now self.now.limits way context.now.batches;
-          above = self.now.above + 1;
-          reached = By way;
-        }) }
-        ensures ordered { IfOk result (λ child. AreInOrder context.now.classes.now child.value.limits) }
+    Take(Way),
+    // To a child of a node whose rule does not hold, or that cannot be judged.
+    Unjudged,
+}
+
+impl Descent {
+    // Where the child stands, below so many nodes, if the node stands under these limits.
+    pub(crate) fn position(self, context: &NodeContext, limits: &Limits, above: u32) -> Position
+        requires ordered { AreInOrder context.now.classes.now limits.now }
+        requires allowed { MayDescend context.now.classes.now context.now.batches limits.now self }
+        ensures place { result ≡ position_by context.now.classes.now context.now.batches limits.now above self }
+        ensures above { result.above ≡ above }
+        ensures ordered { AreInOrder context.now.classes.now result.limits }
     {
-        let position = Position {
-            limits: narrow(context.classes, &self.limits, way, context.batches),
-            above: self.above + 1,
-            reached: Reached::By(way),
+        let (limits, reached) = match self {
+            Descent::Start => (*limits, Reached::Root),
+            Descent::Low { class, m } => (below_split(limits, class, u32::from(m)), Reached::Below),
+            Descent::High { class, m } => (from_split(limits, class, u32::from(m)), Reached::From),
+            Descent::Take(way) => (
+                narrow(context.classes, limits, way, context.batches),
+                Reached::By(way),
+            ),
+            Descent::Unjudged => (*limits, Reached::Unreached),
         };
-        Ok(Box::new(context.alloc, position)?)
+        Position {
+            limits,
+            above,
+            reached,
+        }
     }
 }
