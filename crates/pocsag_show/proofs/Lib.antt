@@ -3,9 +3,9 @@ pub mod JudgedBytes
 pub mod KindsAhead
 pub mod LegendPages
 pub mod LettersBefore
+pub mod PageNumbers
 pub mod PlacedReaders
 pub mod Puts
 pub mod Ranges
 pub mod Shown
-pub mod Tables
 pub mod Texts

@@ -13,8 +13,9 @@ use Rattle.pocsag_decode.proofs.SentBytes.{codewords_are}
 use Rattle.pocsag_show.specs.Grid.{starts_from, starts_of}
 use Rattle.pocsag_show.specs.Judged.{kinds_read}
 use Rattle.pocsag_show.specs.Numbers.{numbers_in}
-use Rattle.pocsag_show.specs.Tables.{NumbersPages}
-use Rattle.pocsag_show.proofs.Tables.{addresses_small, numbers_are}
+use Rattle.pocsag_show.specs.PageNumbers.{NumbersPages, number_below}
+use Rattle.pocsag_show.specs.declared.page_numbers.PageNumbers.{PageNumbers}
+use Rattle.pocsag_show.proofs.PageNumbers.{addresses_small, numbers_are}
 use Rattle.pocsag_pages.specs.Listable.{IsListable}
 use Rattle.pocsag_show.specs.declared.placed.Placed.{Placed}
 use Rattle.pocsag_show.specs.Placed.{placed, placed_in}
@@ -48,13 +49,13 @@ listable_placed number_of starts (p ∷ ps) are =
     (listable_placed number_of (drop 1 starts) ps (All-tail IsListable p ps are))
 
 -- all pages of the bytes
-pub all_placed : (X : List ℕ) (ps : List Page) (reading : ReadsAs X ps) (table : List ℕ) → NumbersPages ps table → (index : ℕ)
+pub all_placed : (X : List ℕ) (ps : List Page) (reading : ReadsAs X ps) (numbers : PageNumbers) → NumbersPages ps numbers → (index : ℕ)
     → (kinds : List Kind) (pages : List Page) → index ≡ 0 → kinds ≡ map kind_of (codewords_in X) → pages ≡ ps
-    → placed_from (slice_index table) (starts_from index kinds) pages ≡ placed_in (kinds_read reading) ps
-all_placed X ps reading table numbers index kinds pages first are read =
+    → placed_from (number_below numbers) (starts_from index kinds) pages ≡ placed_in (kinds_read reading) ps
+all_placed X ps reading numbers are_numbers index kinds pages first are read =
     let plain = reads_plainly reading.reads in
     let small : All (λ p. p.address < 2 ^ 21) ps =
     subst (All (λ (p : Page). p.address < 2 ^ 21)) (sym plain.pages) (addresses_small reading.codewords 0) in
     let same : kinds ≡ kinds_read reading = are ∙ ap (map kind_of) (codewords_are X reading.codewords reading.sent) in
-    ap₂ (λ (starts : List ℕ) (l : List Page). placed_from (slice_index table) starts l) (ap₂ starts_from first same) read
-    ∙ placed_is (slice_index table) (starts_of (kinds_read reading)) (numbers_in ps) 0 ps (numbers_are (slice_index table) ps ps numbers small)
+    ap₂ (λ (starts : List ℕ) (l : List Page). placed_from (number_below numbers) starts l) (ap₂ starts_from first same) read
+    ∙ placed_is (number_below numbers) (starts_of (kinds_read reading)) (numbers_in ps) 0 ps (numbers_are (number_below numbers) ps ps are_numbers small)

@@ -23,7 +23,7 @@ use Rattle.pocsag_show.specs.Places.{place_header, place_listing, place_rows}
 use Rattle.pocsag_show.specs.Emission.{IsEmitting}
 use Rattle.pocsag_show.specs.Rows.{end_row, first_row, rows_between}
 use Rattle.pocsag_decode.specs.Faults.{ReadsAs}
-use Rattle.pocsag_show.specs.Tables.{NumbersPages}
+use Rattle.pocsag_show.specs.PageNumbers.{NumbersPages, number_below}
 use Rattle.pocsag_show.specs.Views.{view_text}
 use Rattle.pocsag_show.specs.declared.judged.Judged.{Judged}
 use Rattle.pocsag_show.specs.declared.placed.Placed.{Placed}
@@ -34,7 +34,7 @@ use Rattle.pocsag_show.proofs.JudgedBytes.{kinds_are, pages_are}
 use Rattle.pocsag_show.proofs.LettersBefore.{length-letters_with, letters_at}
 use Rattle.pocsag_show.proofs.Emitted.{begun}
 use Rattle.pocsag_show.proofs.Ranges.{flat_map_same}
-use Rattle.pocsag_show.proofs.Tables.{addresses_small, numbers_are}
+use Rattle.pocsag_show.proofs.PageNumbers.{addresses_small, numbers_are}
 
 -- letters that are the same in so many batches
 module _ (f g : ℕ → ℕ) where
@@ -64,19 +64,19 @@ module _ (X : List ℕ) (judged : Judged) (j : IsJudged X judged) where
 
   -- the letters of the codewords
   module _ (letters : List ℕ)
-      (is : letters ≡ letters_with (slice_index judged.numbers.items) 0 0 (map kind_of (codewords_in judged.bytes.now))) where
-    letters_read : letters ≡ letters_with (slice_index judged.numbers.items) 0 0 kinds
+      (is : letters ≡ letters_with (number_below judged.numbers) 0 0 (map kind_of (codewords_in judged.bytes.now))) where
+    letters_read : letters ≡ letters_with (number_below judged.numbers) 0 0 kinds
     letters_read =
         is
-        ∙ ap (letters_with (slice_index judged.numbers.items) 0 0)
+        ∙ ap (letters_with (number_below judged.numbers) 0 0)
         (ap (λ (Y : List ℕ). map kind_of (codewords_in Y)) j.bytes ∙ kinds_are X j.pages j.reading)
 
     count : length letters ≡ length kinds
-    count = ap length letters_read ∙ length-letters_with (slice_index judged.numbers.items) (numbers_in j.pages) kinds 0 0
+    count = ap length letters_read ∙ length-letters_with (number_below judged.numbers) (numbers_in j.pages) kinds 0 0
 
     each : (i : ℕ) → i < length kinds → slice_index letters i ≡ letter_at (numbers_in j.pages) kinds i
     each i within =
-        let number_of = slice_index judged.numbers.items in
+        let number_of = number_below judged.numbers in
         let plain = reads_plainly j.reading.reads in
         ap (λ (l : List ℕ). slice_index l i) letters_read
         ∙ letters_at number_of (numbers_in j.pages) kinds
@@ -188,10 +188,9 @@ drawing_begun Out now X judged j rows low high text first pls again l h are same
     (omega (arith, ap length t, heading_some low high b w i (legend_lines low high first)))
 
 -- the pages that a reader hands out
-pub placed_again : (X : List ℕ) (judged : Judged) (j : IsJudged X judged) (table : List ℕ) (pls : List Placed) → table ≡ judged.numbers.items
-    → ((ps : List Page) (reading : ReadsAs judged.bytes.now ps) → NumbersPages ps table → pls ≡ placed_in (kinds_read reading) ps)
+pub placed_again : (X : List ℕ) (judged : Judged) (j : IsJudged X judged) (pls : List Placed)
+    → ((ps : List Page) (reading : ReadsAs judged.bytes.now ps) → NumbersPages ps judged.numbers → pls ≡ placed_in (kinds_read reading) ps)
     → pls ≡ placed_in (kinds_read j.reading) j.pages
-placed_again X judged j table pls same left =
-    let numbers : NumbersPages j.pages table = subst (NumbersPages j.pages) (sym same) j.numbers in
+placed_again X judged j pls left =
     subst (λ (Y : List ℕ). (reading : ReadsAs Y j.pages) → pls ≡ placed_in (kinds_read reading) j.pages) j.bytes
-    (λ reading. left j.pages reading numbers) j.reading
+    (λ reading. left j.pages reading j.numbers) j.reading

@@ -1,3 +1,4 @@
+pub mod Counted
 pub mod Drawing
 pub mod Emission
 pub mod Escapes
@@ -9,6 +10,7 @@ pub mod Letters
 pub mod Marks
 pub mod Measures
 pub mod Numbers
+pub mod PageNumbers
 pub mod Picture
 pub mod Placed
 pub mod PlacedReaders
@@ -16,5 +18,4 @@ pub mod Places
 pub mod Rows
 pub mod Shows
 pub mod Style
-pub mod Tables
 pub mod Views

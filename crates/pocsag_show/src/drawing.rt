@@ -111,13 +111,12 @@ pub(crate) fn emit_drawing<S: Sink>(
         (drawing rows (kinds_read j.reading) j.pages) }
 {
     let window = Window::new(rows, judged.counts.batches as usize);
-    let numbers = judged.numbers.as_slice();
-    let mut pages = PlacedReader::new(alloc, judged.bytes, numbers);
+    let mut pages = PlacedReader::new(alloc, judged.bytes, &judged.numbers);
     let drawn = first_drawn(alloc, window, &mut pages)?;
     let mut text = Vec::new(alloc);
     put_heading(&mut text, window, judged.counts, drawn.as_slice())?;
     emit_rows(&mut text, sink, window)?;
-    let mut pages = PlacedReader::new(alloc, judged.bytes, numbers);
+    let mut pages = PlacedReader::new(alloc, judged.bytes, &judged.numbers);
     emit_pages(alloc, &mut text, sink, window, &mut pages)?;
     put_end(&mut text, window, drawn.as_slice())?;
     emit_rest(text.as_slice(), sink)

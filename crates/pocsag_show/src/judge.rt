@@ -3,10 +3,11 @@ ghost use Rattle.pocsag_show.specs.Shows.{Explains};
 ghost use Rattle.pocsag_show.specs.Judged.{IsJudged};
 ghost use Rattle.pocsag_show.specs.declared.fault.ShowFault.TheVariants as fault;
 
-use crate::address_counts::{AddressCounts, codeword_counts, number_pages};
+use crate::codeword_counts::{CodewordCounts, codeword_counts};
 use crate::counts::Counts;
 use crate::fault::ShowFault;
 use crate::judged::Judged;
+use crate::page_numbers::PageNumbers;
 use pocsag_decode::judge_bytes;
 use pocsag_words::BATCH_CODEWORDS;
 use std::alloc::Global;
@@ -20,13 +21,12 @@ pub(crate) fn judge(alloc: Global, bytes: &[u8]) -> Result<Judged<'_>, ShowFault
         Ok(()) => {}
         Err(fault) => return Err(ShowFault::Transmission(fault)),
     }
-    let AddressCounts {
+    let CodewordCounts {
         codewords,
         idles,
-        counts,
-    } = codeword_counts(alloc, bytes)?;
-    let mut numbers = counts;
-    number_pages(numbers.as_mut_slice());
+        pages,
+    } = codeword_counts(bytes);
+    let numbers = PageNumbers::new(alloc, bytes, pages)?;
     let counts = Counts {
         batches: (codewords / BATCH_CODEWORDS) as u64,
         codewords: (codewords - idles) as u64,

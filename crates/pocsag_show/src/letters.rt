@@ -1,10 +1,11 @@
-ghost use Rattle.std.specs.Prelude.{◌≡◌, ◌+◌, ◌%◌, ◌<◌, IfOk, map, slice_index};
+ghost use Rattle.std.specs.Prelude.{◌≡◌, ◌+◌, ◌%◌, ◌<◌, IfOk, map};
 ghost use Rattle.pocsag_words.specs.Kinds.{IsInRange, kind_of};
 ghost use Rattle.pocsag_pages.specs.Bytes.{codewords_in};
 ghost use Rattle.pocsag_show.specs.Letters.{letter_in, letters_with, number_after};
+ghost use Rattle.pocsag_show.specs.PageNumbers.{number_below};
 
-use crate::address_counts::address_at;
-use crate::kind_reader::KindReader;
+use crate::kind_reader::{KindReader, address_at};
+use crate::page_numbers::PageNumbers;
 use pocsag_words::Kind;
 use std::alloc::{AllocError, Global};
 
@@ -19,21 +20,14 @@ pub(crate) fn letter_of(first: u8, number: usize) -> u8
     first + (number % LETTERS) as u8
 }
 
-/// What stands at an index of a list, or 0 behind its end.
-pub(crate) fn entry_at(list: &[usize], index: usize) -> usize
-    ensures { result ≡ slice_index list.now index }
-{
-    if index < list.len() { list[index] } else { 0 }
-}
-
 // The number of the page that began last, once the codeword at this index was read.
-fn number_after(numbers: &[usize], index: usize, last: usize, kind: Kind) -> usize
+fn number_after(numbers: &PageNumbers, index: usize, last: usize, kind: Kind) -> usize
     requires { IsInRange kind }
-    ensures { result ≡ number_after (slice_index numbers.now) index last kind }
+    ensures { result ≡ number_after (number_below numbers.now) index last kind }
 {
     match kind {
         Kind::Idle | Kind::Message(_) => last,
-        Kind::Address { high, function: _ } => entry_at(numbers, address_at(high, index)),
+        Kind::Address { high, function: _ } => numbers.below(address_at(high, index)),
     }
 }
 
@@ -52,10 +46,10 @@ fn letter_in(number: usize, kind: Kind) -> u8
 pub(crate) fn letters_of(
     alloc: Global,
     bytes: &[u8],
-    numbers: &[usize],
+    numbers: &PageNumbers,
 ) -> Result<Vec<u8>, AllocError>
     ensures { IfOk result (λ v. v.items ≡
-        letters_with (slice_index numbers.now) 0 0 (map kind_of (codewords_in bytes.now))) }
+        letters_with (number_below numbers.now) 0 0 (map kind_of (codewords_in bytes.now))) }
 {
     let mut kinds = KindReader::new(bytes);
     let mut letters = Vec::with_capacity(alloc, bytes.len() / 4)?;

@@ -2,7 +2,7 @@
 //! What a transmission looks like: a text grid of its codewords with a letter for each page, a drawing,
 //! and a listing of where its pages stand.
 
-mod address_counts;
+mod codeword_counts;
 mod counts;
 mod drawing;
 mod emission;
@@ -16,6 +16,7 @@ mod letters;
 mod listing;
 mod marks;
 mod page_lines;
+mod page_numbers;
 mod page_text;
 mod picture;
 mod pieces;

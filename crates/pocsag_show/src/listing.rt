@@ -100,7 +100,7 @@ pub(crate) fn emit_listing<S: Sink>(
 {
     let mut writer = Writer::from_writer(Vec::new(alloc));
     put_header(&mut writer)?;
-    let mut pages = PlacedReader::new(alloc, judged.bytes, judged.numbers.as_slice());
+    let mut pages = PlacedReader::new(alloc, judged.bytes, &judged.numbers);
     emit_places(alloc, &mut writer, sink, &mut pages)?;
     let Ok(text) = writer.into_inner() else {
         return Err(ShowFault::OutOfMemory);

@@ -128,7 +128,7 @@ pub(crate) fn emit_grid<S: Sink>(
     ensures { (X : List ℕ) (j : IsJudged X judged.now) → EmitsAll S.Sink result sink.old sink.new
         (grid_text rows (kinds_read j.reading) j.pages) }
 {
-    let letters = letters_of(alloc, judged.bytes, judged.numbers.as_slice())?;
+    let letters = letters_of(alloc, judged.bytes, &judged.numbers)?;
     let window = Window::new(rows, letters.len() / BATCH_CODEWORDS);
     let mut text = Vec::new(alloc);
     put_totals(&mut text, judged.counts)?;

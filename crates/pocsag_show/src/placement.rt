@@ -4,11 +4,11 @@ ghost use Rattle.pocsag_pages.specs.declared.page.Page.{Page};
 ghost use Rattle.pocsag_decode.specs.Faults.{ReadsAs};
 ghost use Rattle.pocsag_show.specs.Judged.{kinds_read};
 ghost use Rattle.pocsag_show.specs.Placed.{placed_in};
+ghost use Rattle.pocsag_show.specs.PageNumbers.{NumbersPages};
 ghost use Rattle.pocsag_show.specs.PlacedReaders.{placed_left};
-ghost use Rattle.pocsag_show.specs.Tables.{NumbersPages};
 
 use crate::kind_reader::KindReader;
-use crate::letters::entry_at;
+use crate::page_numbers::PageNumbers;
 use crate::placed::Placed;
 use pocsag_decode::{PageReader, PageSource};
 use std::alloc::{AllocError, Global};
@@ -18,13 +18,12 @@ use std::alloc::{AllocError, Global};
 pub(crate) struct PlacedReader<'a> {
     pages: PageReader<'a>,
     kinds: KindReader<'a>,
-    // The numbers of pages by their addresses.
-    numbers: &'a [usize],
+    numbers: &'a PageNumbers,
 }
 
 impl<'a> PlacedReader<'a> {
     /// The pages of a transmission whose addresses have these numbers.
-    pub(crate) fn new(alloc: Global, bytes: &'a [u8], numbers: &'a [usize]) -> PlacedReader<'a>
+    pub(crate) fn new(alloc: Global, bytes: &'a [u8], numbers: &'a PageNumbers) -> PlacedReader<'a>
         ensures left { (ps : List Page) (reading : ReadsAs bytes.now ps) → NumbersPages ps numbers.now →
             placed_left result ≡ placed_in (kinds_read reading) ps }
         ensures listable { (ps : List Page) → ReadsAs bytes.now ps →
@@ -47,7 +46,7 @@ impl<'a> PlacedReader<'a> {
         };
         Ok(Some(Placed {
             start: self.kinds.next_start(),
-            number: entry_at(self.numbers, page.address as usize),
+            number: self.numbers.below(page.address),
             page,
         }))
     }

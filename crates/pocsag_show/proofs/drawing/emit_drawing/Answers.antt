@@ -36,8 +36,8 @@ returns-in_err-emit_rows g c =
     (drawing_begun g.S.Sink c.args.sink.now X c.args.judged.now j c.args.rows c.new-window.result.low c.new-window.result.high
     c.put_heading.new.text.items c.as_slice.result.now (placed_left c.new-pages.result) (placed_left c.new-pages.result)
     c.new-window.ensures.low c.new-window.ensures.high
-    (placed_again X c.args.judged.now j c.as_slice-numbers.result.now _ c.as_slice-numbers.ensures.value c.new-pages.ensures.left)
-    (placed_again X c.args.judged.now j c.as_slice-numbers.result.now _ c.as_slice-numbers.ensures.value c.new-pages.ensures.left)
+    (placed_again X c.args.judged.now j _ c.new-pages.ensures.left)
+    (placed_again X c.args.judged.now j _ c.new-pages.ensures.left)
     (subst (λ (l : List Placed). HasLegendOf c.new-window.result.low c.new-window.result.high l (placed_left c.new-pages.result)) (sym c.as_slice.ensures.value) c.in_ok-drawn.ensures.legend)
     (c.in_ok-put_heading.ensures ∙ ap (λ (l : List ℕ). l ++ heading c.new-window.result.low c.new-window.result.high c.args.judged.now.counts.batches c.args.judged.now.counts.codewords c.args.judged.now.counts.idles (legend_lines c.new-window.result.low c.new-window.result.high c.as_slice.result.now)) c.new-text.ensures.items)))
 
@@ -50,8 +50,8 @@ returns-in_err-emit_pages g c =
     (drawing_begun g.S.Sink c.args.sink.now X c.args.judged.now j c.args.rows c.new-window.result.low c.new-window.result.high
     c.put_heading.new.text.items c.as_slice.result.now (placed_left c.new-pages.result) (placed_left c.new-pages-2.result)
     c.new-window.ensures.low c.new-window.ensures.high
-    (placed_again X c.args.judged.now j c.as_slice-numbers.result.now _ c.as_slice-numbers.ensures.value c.new-pages.ensures.left)
-    (placed_again X c.args.judged.now j c.as_slice-numbers.result.now _ c.as_slice-numbers.ensures.value c.new-pages-2.ensures.left)
+    (placed_again X c.args.judged.now j _ c.new-pages.ensures.left)
+    (placed_again X c.args.judged.now j _ c.new-pages-2.ensures.left)
     (subst (λ (l : List Placed). HasLegendOf c.new-window.result.low c.new-window.result.high l (placed_left c.new-pages.result)) (sym c.as_slice.ensures.value) c.in_ok-drawn.ensures.legend)
     (c.in_ok-put_heading.ensures ∙ ap (λ (l : List ℕ). l ++ heading c.new-window.result.low c.new-window.result.high c.args.judged.now.counts.batches c.args.judged.now.counts.codewords c.args.judged.now.counts.idles (legend_lines c.new-window.result.low c.new-window.result.high c.as_slice.result.now)) c.new-text.ensures.items))))
 
@@ -65,8 +65,8 @@ returns-in_err-put_end g c =
     (drawing_begun g.S.Sink c.args.sink.now X c.args.judged.now j c.args.rows c.new-window.result.low c.new-window.result.high
     c.put_heading.new.text.items c.as_slice.result.now (placed_left c.new-pages.result) (placed_left c.new-pages-2.result)
     c.new-window.ensures.low c.new-window.ensures.high
-    (placed_again X c.args.judged.now j c.as_slice-numbers.result.now _ c.as_slice-numbers.ensures.value c.new-pages.ensures.left)
-    (placed_again X c.args.judged.now j c.as_slice-numbers.result.now _ c.as_slice-numbers.ensures.value c.new-pages-2.ensures.left)
+    (placed_again X c.args.judged.now j _ c.new-pages.ensures.left)
+    (placed_again X c.args.judged.now j _ c.new-pages-2.ensures.left)
     (subst (λ (l : List Placed). HasLegendOf c.new-window.result.low c.new-window.result.high l (placed_left c.new-pages.result)) (sym c.as_slice.ensures.value) c.in_ok-drawn.ensures.legend)
     (c.in_ok-put_heading.ensures ∙ ap (λ (l : List ℕ). l ++ heading c.new-window.result.low c.new-window.result.high c.args.judged.now.counts.batches c.args.judged.now.counts.codewords c.args.judged.now.counts.idles (legend_lines c.new-window.result.low c.new-window.result.high c.as_slice.result.now)) c.new-text.ensures.items)))))
 
@@ -83,8 +83,8 @@ returns g c =
     (drawing_begun g.S.Sink c.args.sink.now X c.args.judged.now j c.args.rows c.new-window.result.low c.new-window.result.high
     c.put_heading.new.text.items c.as_slice.result.now (placed_left c.new-pages.result) (placed_left c.new-pages-2.result)
     c.new-window.ensures.low c.new-window.ensures.high
-    (placed_again X c.args.judged.now j c.as_slice-numbers.result.now _ c.as_slice-numbers.ensures.value c.new-pages.ensures.left)
-    (placed_again X c.args.judged.now j c.as_slice-numbers.result.now _ c.as_slice-numbers.ensures.value c.new-pages-2.ensures.left)
+    (placed_again X c.args.judged.now j _ c.new-pages.ensures.left)
+    (placed_again X c.args.judged.now j _ c.new-pages-2.ensures.left)
     (subst (λ (l : List Placed). HasLegendOf c.new-window.result.low c.new-window.result.high l (placed_left c.new-pages.result)) (sym c.as_slice.ensures.value) c.in_ok-drawn.ensures.legend)
     (c.in_ok-put_heading.ensures ∙ ap (λ (l : List ℕ). l ++ heading c.new-window.result.low c.new-window.result.high c.args.judged.now.counts.batches c.args.judged.now.counts.codewords c.args.judged.now.counts.idles (legend_lines c.new-window.result.low c.new-window.result.high c.as_slice.result.now)) c.new-text.ensures.items))))
     (c.in_ok-put_end.ensures ∙ ap (λ (l : List Placed). c.emit_pages.new.text.items ++ behind_pages c.new-window.result.low c.new-window.result.high l) same)))

@@ -27,7 +27,7 @@ returns-in_err-emit_places g c =
     c.in_err-emit_places.ensures c.args.sink.now (place_listing (kinds_read j.reading) j.pages) []
     (listing_begun g.S.Sink c.args.sink.now (kinds_read j.reading) j.pages (text_in c.put_header.new.writer) (placed_left c.new-pages.result)
     (c.in_ok-put_header.ensures.1 ∙ ap (λ (l : List ℕ). l ++ row_text default_writer place_header) empty)
-    (placed_again X c.args.judged.now j c.as_slice.result.now _ c.as_slice.ensures.value c.new-pages.ensures.left)))
+    (placed_again X c.args.judged.now j _ c.new-pages.ensures.left)))
 
 pub returns-in_default : goal.returns-in_default
 returns-in_default g c =
@@ -37,12 +37,12 @@ returns-in_default g c =
     (c.in_ok-emit_places.ensures c.args.sink.now (place_listing (kinds_read j.reading) j.pages) []
     (listing_begun g.S.Sink c.args.sink.now (kinds_read j.reading) j.pages (text_in c.put_header.new.writer) (placed_left c.new-pages.result)
     (c.in_ok-put_header.ensures.1 ∙ ap (λ (l : List ℕ). l ++ row_text default_writer place_header) empty)
-    (placed_again X c.args.judged.now j c.as_slice.result.now _ c.as_slice.ensures.value c.new-pages.ensures.left)))
+    (placed_again X c.args.judged.now j _ c.new-pages.ensures.left)))
 
 pub returns : goal.returns
 returns g c =
     let empty : text_in c.from_writer-writer.result ≡ [] = search rules in
-    let text : text_in c.emit_places.new.writer ≡ c.as_slice-2.result.now = search rules in
+    let text : text_in c.emit_places.new.writer ≡ c.as_slice.result.now = search rules in
     λ X j.
     let all = place_listing (kinds_read j.reading) j.pages in
     c.emit_rest.ensures c.args.sink.now all
@@ -50,4 +50,4 @@ returns g c =
     (c.in_ok-emit_places.ensures c.args.sink.now all []
     (listing_begun g.S.Sink c.args.sink.now (kinds_read j.reading) j.pages (text_in c.put_header.new.writer) (placed_left c.new-pages.result)
     (c.in_ok-put_header.ensures.1 ∙ ap (λ (l : List ℕ). l ++ row_text default_writer place_header) empty)
-    (placed_again X c.args.judged.now j c.as_slice.result.now _ c.as_slice.ensures.value c.new-pages.ensures.left))))
+    (placed_again X c.args.judged.now j _ c.new-pages.ensures.left))))

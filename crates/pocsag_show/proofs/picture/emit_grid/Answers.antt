@@ -1,9 +1,6 @@
-use Rattle.std.proofs.Common.{ℕ, ◌/◌, List, [], ◌++◌, map, slice_index, ap, sym, subst, ◌∙◌}
+use Rattle.std.proofs.Common.{ℕ, ◌/◌, List, [], ◌++◌, ap, sym, subst, ◌∙◌}
 use Rattle.std.proofs.lemmas.Result.{err_from_is_err_and}
-use Rattle.pocsag_words.specs.Kinds.{kind_of}
-use Rattle.pocsag_pages.specs.Bytes.{codewords_in}
 use Rattle.pocsag_show.specs.Judged.{kinds_read}
-use Rattle.pocsag_show.specs.Letters.{letters_with}
 use Rattle.pocsag_show.specs.Picture.{grid_text, totals_line}
 use Rattle.pocsag_show.specs.Emission.{IsEmitting}
 use Rattle.pocsag_show.specs.Rows.{end_row}
@@ -31,32 +28,30 @@ pub returns-in_err-emit_batches : goal.returns-in_err-emit_batches
 returns-in_err-emit_batches g c =
     let p = err_from_is_err_and c.from_residual-in_err-emit_batches.result c.from_residual-in_err-emit_batches.ensures.1 in
     let judged = c.args.judged.now in
-    let letters = c.as_slice-2.result.now in
+    let letters = c.as_slice.result.now in
     rw (p.1, p.2) (λ X j.
     c.in_err-emit_batches.ensures c.args.sink.now (grid_text c.args.rows (kinds_read j.reading) j.pages) []
     (grid_begun X judged j letters
-    (c.as_slice-2.ensures.value ∙ (c.in_ok-letters.ensures
-    ∙ ap (λ (l : List ℕ). letters_with (slice_index l) 0 0 (map kind_of (codewords_in judged.bytes.now))) c.as_slice.ensures.value))
+    (c.as_slice.ensures.value ∙ c.in_ok-letters.ensures)
     g.S.Sink c.args.sink.now c.args.rows c.put_totals.new.text.items c.put.new.text.items c.new-window.result.low c.new-window.result.high
     (c.in_ok-put_totals.ensures
     ∙ ap (λ (l : List ℕ). l ++ totals_line judged.counts.batches judged.counts.codewords judged.counts.idles) c.new-text.ensures.items)
     c.in_ok-put.ensures c.new-window.ensures.low
-    (c.new-window.ensures.high ∙ ap (λ (n : ℕ). end_row c.args.rows (n / 16)) (c.len.ensures ∙ sym c.as_slice-2.ensures.len))))
+    (c.new-window.ensures.high ∙ ap (λ (n : ℕ). end_row c.args.rows (n / 16)) (c.len.ensures ∙ sym c.as_slice.ensures.len))))
 
 pub returns : goal.returns
 returns g c =
     let judged = c.args.judged.now in
-    let letters = c.as_slice-2.result.now in
+    let letters = c.as_slice.result.now in
     λ X j.
     let all = grid_text c.args.rows (kinds_read j.reading) j.pages in
     c.emit_rest.ensures c.args.sink.now all
-    (subst (λ (text : List ℕ). IsEmitting g.S.Sink c.args.sink.now c.emit_batches.new.sink all text []) (sym c.as_slice-3.ensures.value)
+    (subst (λ (text : List ℕ). IsEmitting g.S.Sink c.args.sink.now c.emit_batches.new.sink all text []) (sym c.as_slice-2.ensures.value)
     (c.in_ok-emit_batches.ensures c.args.sink.now all []
     (grid_begun X judged j letters
-    (c.as_slice-2.ensures.value ∙ (c.in_ok-letters.ensures
-    ∙ ap (λ (l : List ℕ). letters_with (slice_index l) 0 0 (map kind_of (codewords_in judged.bytes.now))) c.as_slice.ensures.value))
+    (c.as_slice.ensures.value ∙ c.in_ok-letters.ensures)
     g.S.Sink c.args.sink.now c.args.rows c.put_totals.new.text.items c.put.new.text.items c.new-window.result.low c.new-window.result.high
     (c.in_ok-put_totals.ensures
     ∙ ap (λ (l : List ℕ). l ++ totals_line judged.counts.batches judged.counts.codewords judged.counts.idles) c.new-text.ensures.items)
     c.in_ok-put.ensures c.new-window.ensures.low
-    (c.new-window.ensures.high ∙ ap (λ (n : ℕ). end_row c.args.rows (n / 16)) (c.len.ensures ∙ sym c.as_slice-2.ensures.len)))))
+    (c.new-window.ensures.high ∙ ap (λ (n : ℕ). end_row c.args.rows (n / 16)) (c.len.ensures ∙ sym c.as_slice.ensures.len)))))

@@ -1,7 +1,8 @@
-use Rattle.std.proofs.Common.{slice_index, sym, subst, All}
+use Rattle.std.proofs.Common.{sym, subst, All}
 use Rattle.pocsag_pages.specs.Listable.{IsListable}
 use Rattle.pocsag_decode.specs.PageReaders.{pages_left}
 use Rattle.pocsag_show.specs.Kinds.{kinds_ahead, starts_ahead}
+use Rattle.pocsag_show.specs.PageNumbers.{number_below}
 use Rattle.pocsag_show.proofs.PlacedReaders.{all_placed, listable_placed}
 use Rattle.pocsag_show.proofs.placement.PlacedReader.new.Goals as goal
 
@@ -12,5 +13,5 @@ returns-clause-left c = λ ps reading numbers.
 
 pub returns-clause-listable : goal.returns-clause-listable
 returns-clause-listable c = λ ps reading.
-    listable_placed (slice_index c.args.numbers.now) (starts_ahead c.new-2.result) (pages_left c.new.result)
+    listable_placed (number_below c.args.numbers.now) (starts_ahead c.new-2.result) (pages_left c.new.result)
     (subst (All IsListable) (sym (c.new.ensures.left ps reading)) (c.new.ensures.listable ps reading))

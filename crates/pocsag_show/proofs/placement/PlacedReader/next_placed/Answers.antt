@@ -1,6 +1,7 @@
-use Rattle.std.proofs.Common.{◌≡◌, ℕ, List, ◌∷◌, slice_index, ap, ap₂, sym, ◌∙◌}
+use Rattle.std.proofs.Common.{◌≡◌, ℕ, List, ◌∷◌, ap, ap₂, sym, ◌∙◌}
 use Rattle.pocsag_decode.specs.PageReaders.{pages_left}
 use Rattle.pocsag_show.specs.Kinds.{starts_ahead}
+use Rattle.pocsag_show.specs.PageNumbers.{number_below}
 use Rattle.pocsag_show.specs.PlacedReaders.{placed_from}
 use Rattle.pocsag_show.specs.declared.placed.Placed.{Placed}
 use Rattle.pocsag_show.proofs.placement.PlacedReader.next_placed.Goals as goal
@@ -8,11 +9,11 @@ use Rattle.pocsag_show.proofs.placement.PlacedReader.next_placed.Goals as goal
 pub returns : goal.returns
 returns c =
     let r = c.args.self.now in
-    let number_of = slice_index r.numbers.now in
+    let number_of = number_below r.numbers.now in
     let page = c.in-Some.page in
     let left = pages_left c.next_page.new.self in
     let first : pages_left r.pages ≡ page ∷ left = rw c.in-Some.is at c.in_ok-page.ensures in
     ap (placed_from number_of (starts_ahead r.kinds)) first
     ∙ ap₂ (λ (pl : Placed) (pls : List Placed). pl ∷ pls)
-    (ap₂ (λ (x y : ℕ). record { start = x; number = y; page = page }) (sym c.next_start.ensures.start) (sym c.entry_at.ensures))
+    (ap₂ (λ (x y : ℕ). record { start = x; number = y; page = page }) (sym c.next_start.ensures.start) (sym c.below.ensures))
     (ap (λ (starts : List ℕ). placed_from number_of starts left) (sym c.next_start.ensures.left))
