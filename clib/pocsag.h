@@ -23,10 +23,10 @@
  *           memory is wanting, that may come first.
  * Memory.   A call takes memory with malloc and realloc, and has freed all of it when it returns. Where it is
  *           refused, the status is POCSAG_OUT_OF_MEMORY and no buffer was written. As measured it takes at most 4,096 bytes, for a
- *           drawing or an explanation 32,768, for a page file of 128 pages or more 262,144 more, for what pocsag_show gives 16,777,216
- *           more, and beside them 16 for each byte of a page file or a transmission, for a picture 48 and a drawing 160, for a sound
- *           three times its length, 40 for each node of a certificate or a search, and for each node that is explained 180 near the
- *           root and up to 4,500 at depth 300, most of them for the text.
+ *           drawing or an explanation 32,768, for a page file of 128 pages or more 262,144 more, and beside them 16 for each byte of a
+ *           page file or a transmission, for a picture 48 and a drawing 160, for a sound three times its length, 40 for each node of a
+ *           certificate or a search, and for each node that is explained 180 near the root and up to 4,500 at depth 300, most of them
+ *           for the text.
  * Stack.    POCSAG_CHECK_STACK and so on are the bytes of stack that each call needs at most, and beside them what was measured: for
  *           certificates of the greatest depth, and for rounds and fronts. The deepest search of a plan is computed, not measured.
  * Threads.  The library keeps no state: any number of threads may call at one time, with buffers of their own. No
@@ -51,7 +51,7 @@ extern "C" {
 
 /* The number of this interface, which pocsag_version answers, and the version of the package that it is part of. */
 #define POCSAG_VERSION 5u
-#define POCSAG_RELEASE "1.2.0-rc.5"
+#define POCSAG_RELEASE "1.2.0-rc.6"
 
 /* The end of a transmission: it ends the last message, or the last codeword is no message codeword, or an idle one. */
 #define POCSAG_END_OPEN 0u
@@ -97,7 +97,7 @@ extern "C" {
  * and 1 KiB for each of them. A search goes through at most 289 levels, each of some 1,600 bytes: 462 KB, and what the measured rounds and
  * fronts take in all. What is left of a mebibyte is added. */
 #define POCSAG_CHECK_STACK 372736u   /* measured: 234,856 */
-#define POCSAG_EXPLAIN_STACK 372736u /* measured: 266,216 */
+#define POCSAG_EXPLAIN_STACK 372736u /* measured: 239,336 */
 #define POCSAG_PLAN_STACK 1048576u   /* pocsag_plan_at_most, pocsag_report and pocsag_frames too; measured: 146,600 */
 #define POCSAG_LISTING_STACK 196608u /* all others; measured: 103,720 */
 

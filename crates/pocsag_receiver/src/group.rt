@@ -16,14 +16,11 @@ use pocsag_capture::{CaptureFault, Polarity, Reception, ReceptionStats};
 use pocsag_decode::{DecodeFault, Repaired};
 use pocsag_pager::PagerFault;
 use pocsag_shell::{
-    Call, Context, ErrorStream, FileFault, Group, Loaded, MemoryStreams, Names, PAGES_READ, Role,
-    Shape, TX, Tables, command, load_file, path_of, print_numbers,
+    Call, Context, ErrorStream, FileFault, Group, KEPT_BYTES, Loaded, MemoryStreams, Names,
+    PAGES_READ, Role, Shape, TX, Tables, command, is_kept, load_file, path_of, print_numbers,
 };
 use pocsag_words::{Sink, Source};
 use std::alloc::{AllocError, Global};
-
-// The most bytes of a transmission whose answer is kept in memory until it is printed. That of a longer one is written as it goes.
-const KEPT_BYTES: usize = 4_000_000;
 
 /// The commands `decode`, `hear` and `show`.
 #[derive(Clone, Copy)]
@@ -135,18 +132,14 @@ fn words_error(
     command.error(ErrorKind::ValueValidation, text)
 }
 
-// Returns what is asked of a transmission. Returns the exit status.
+// Does what is asked of a transmission. Returns the exit status.
 fn receive(context: Context<'_>, mut asked: Receiving, mut tx: Loaded, names: Names<'_>) -> u8 {
-    let is_kept = match tx.lent() {
-        Some(bytes) => bytes.len() <= KEPT_BYTES,
-        None => true,
-    };
     let likely = if context.diagnostics.is_asked() {
         likely_bytes(tx.lent().unwrap_or(&[]))
     } else {
         ""
     };
-    let status = if is_kept {
+    let status = if is_kept(&tx, KEPT_BYTES) {
         let mut streams = MemoryStreams::new(context.alloc);
         let out = &mut streams.out;
         let status = carry_out(context.alloc, &mut asked, &mut tx, out, &mut streams.err);

@@ -23,6 +23,9 @@ pub const PAGES_READ: usize = FILE_LIMIT + 1;
 /// fault among these.
 pub const CERT_READ: usize = 8_000_000;
 
+/// The longest page file or transmission of which what a command writes is kept until it is whole.
+pub const KEPT_BYTES: usize = 4_000_000;
+
 /// The system's error number for a folder in place of a file.
 pub(crate) const IS_FOLDER: i32 = 21;
 
@@ -90,6 +93,15 @@ pub fn load<R: Read>(
         context.diagnostics.refuse_large(source.role());
     }
     Ok(Loaded::new(context.alloc, bytes, false))
+}
+
+/// Whether what a command writes of a file is kept until it is whole, and not written as it is made: the file has at most so many
+/// bytes, or could not be read to its end.
+pub fn is_kept(file: &Loaded, most: usize) -> bool {
+    match file.lent() {
+        Some(bytes) => bytes.len() <= most,
+        None => true,
+    }
 }
 
 /// What a file holds, or standard input if there is no path: opens it, and then reads it as `load` does.

@@ -35,9 +35,9 @@ pub use diagnostics::Diagnostics;
 pub use error_stream::ErrorStream;
 pub use fault::{Failure, FileFault};
 pub use files::{
-    CERT_READ, Opened, Outputs, PAGES_READ, is_regular, is_regular_or_none, load, load_both,
-    load_file, open_output, open_outputs, open_source, refuse_input, refuse_one_file,
-    refuse_shared, write_over,
+    CERT_READ, KEPT_BYTES, Opened, Outputs, PAGES_READ, is_kept, is_regular, is_regular_or_none,
+    load, load_both, load_file, open_output, open_outputs, open_source, refuse_input,
+    refuse_one_file, refuse_shared, write_over,
 };
 pub use folder::Folder;
 pub use group::{Both, Call, Group, Tables};
