@@ -6,7 +6,8 @@ ghost use Rattle.pocsag_c.specs.Statuses.{IsOfBytes, nowhere};
 
 use crate::buffer::hand_out;
 use crate::check::{CheckInfo, NOT_JUDGED, verdict_of};
-use pocsag_findings::{Format, explanation};
+use pocsag_findings::{Format, JudgedCertificate, write_explanation};
+use pocsag_words::GrowingSink;
 use std::alloc::Global;
 
 // How the certificate is reported, by the number of a form: 0 in words, 1 as JSON.
@@ -69,10 +70,16 @@ pub extern "C" fn pocsag_explain(
         }
     };
     let shown = verdict.is_shown;
-    match explanation(alloc, format, &verdict.round, &verdict.certificate, shown) {
-        Ok(told) => {
+    let judged = JudgedCertificate {
+        round: &verdict.round,
+        certificate: &verdict.certificate,
+        is_shown: shown,
+    };
+    let mut told = GrowingSink::new(alloc);
+    match write_explanation(alloc, format, judged, &mut told) {
+        Ok(()) => {
             *info = verdict.info;
-            if hand_out(told.as_str().as_bytes(), text, text_len) {
+            if hand_out(told.into_bytes().as_slice(), text, text_len) {
                 u32::from(!shown)
             } else {
                 10

@@ -118,7 +118,7 @@ pub extern "C" fn pocsag_text_of_version(text: &mut [u8], text_len: &mut usize) 
     ensures no_room { result ≡ 10 → IsTooSmall text.old text.new text_len.new release_text }
     ensures only { (result ≡ 0) ⊎ (result ≡ 10) }
 {
-    if hand_out(b"1.2.0-rc.5", text, text_len) {
+    if hand_out(b"1.2.0-rc.6", text, text_len) {
         0
     } else {
         10

@@ -1,5 +1,6 @@
 -- What is printed of a verdict.
-use Rattle.std.proofs.Common.{◌≡◌, ℕ, Bool, List, false, true, Ok, refl}
+use Rattle.std.proofs.Common.{◌≡◌, ℕ, Bool, IsTrue, List, false, true, Ok, refl}
+use Rattle.std.specs.Prelude.{◌↔◌}
 use Rattle.pocsag_words.specs.declared.device.Source.{Ghosts as Reader}
 use Rattle.pocsag_words.specs.declared.ending.End.{End}
 use Rattle.pocsag_pages.specs.declared.page.Page.{Page}
@@ -8,7 +9,7 @@ use Rattle.pocsag_tree.specs.BoundTrees.{BoundTree}
 use Rattle.pocsag_tree.specs.CertificateText.{IsText}
 use Rattle.pocsag_check.specs.Acceptance.{IsAcceptedFor}
 use Rattle.pocsag_plan.specs.Plans.{NoneHasFewer}
-use Rattle.pocsag_centre.specs.Judgements.{PrintsVerdict}
+use Rattle.pocsag_centre.specs.Judgements.{PrintsVerdict, verdict_status}
 
 module _ {P C : Type 0} (Pages : Reader P) (Cert : Reader C) (pages : P) (cert : C) (R : List Page) (end : End) (batches : ℕ) (tree : BoundTree)
     (read : Pages.is_known → verdict (Pages.held pages) ≡ Ok R) (spelled : Cert.is_known → IsText end batches tree (Cert.held cert))
@@ -36,3 +37,9 @@ module _ {P C : Type 0} (Pages : Reader P) (Cert : Reader C) (pages : P) (cert :
     spelled = λ u. (tree, spelled u);
     judged = λ k u. record { round = R; read = read k; tree = tree; spelled = spelled u; refused = refused };
   }
+
+  -- one verdict or the other
+  pub verdict_told : (is_shown : Bool) → Tells is_shown end batches text → (IsTrue is_shown ↔ IsAcceptedFor false end R batches tree) →
+      (IsTrue is_shown → NoneHasFewer end R batches) → PrintsVerdict Pages Cert Tells pages cert (verdict_status is_shown) text
+  verdict_told true told accepted bound = shown_told end batches refl refl told (accepted.0 refl) (bound refl)
+  verdict_told false told accepted bound = not_shown_told end batches refl refl told (λ a. let yes = accepted.1 a in cc)

@@ -3,6 +3,8 @@ use Rattle.std.specs.Prelude.{ℕ}
 use Rattle.pocsag_pages.specs.declared.fault.RoundFault.TheVariants as round
 use Rattle.pocsag_tree.specs.declared.refusals.CertificateFault.TheVariants as certificate
 use Rattle.pocsag_decode.specs.declared.fault.DecodeFault.TheVariants as decoding
+use Rattle.pocsag_findings.specs.declared.fault.ExplanationFault.{ExplanationFault}
+use Rattle.pocsag_findings.specs.declared.fault.ExplanationFault.TheVariants as explanation
 use Rattle.pocsag_plan.specs.declared.fault.NoFront.{NoFront}
 use Rattle.pocsag_plan.specs.declared.fault.NoFront.TheVariants as front
 use Rattle.pocsag_plan.specs.declared.fault.PlanFault.{PlanFault}
@@ -38,3 +40,7 @@ fault_of_stream (streaming.Plan f) = fault_of_plan f
 fault_of_stream (streaming.Round f) = fault.Round f
 fault_of_stream (streaming.Transmission f) = fault.File file_fault.Write
 fault_of_stream (streaming.Certificate f) = fault.File file_fault.Write
+
+abbrev pub fault_of_explanation : ExplanationFault → CentreFault
+fault_of_explanation explanation.WriteFault = fault.File file_fault.Write
+fault_of_explanation explanation.OutOfMemory = fault.File file_fault.OutOfMemory

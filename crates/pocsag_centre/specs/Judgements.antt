@@ -1,13 +1,11 @@
 -- What `check` and `explain` say of a page file and a certificate, and why they say nothing.
-use Rattle.std.specs.Prelude.{◌≡◌, ℕ, Bool, true, false, List, IsOk, Ok}
+use Rattle.std.specs.Prelude.{◌≡◌, ℕ, Bool, true, false, List, IsOk}
 use Rattle.pocsag_words.specs.declared.device.Source.{Ghosts as Reader}
 use Rattle.pocsag_words.specs.declared.ending.End.{End}
-use Rattle.pocsag_pages.specs.declared.page.Page.{Page}
 use Rattle.pocsag_pages.specs.PageFile.{verdict}
 use Rattle.pocsag_tree.specs.BoundTrees.{BoundTree}
 use Rattle.pocsag_tree.specs.CertificateText.{IsText}
 use Rattle.pocsag_plan.specs.Verdicts.{Checked, ExplainsCertificate, ExplainsRound, IsNotShown}
-use Rattle.pocsag_shell.specs.declared.fault.FileFault.TheVariants as file_fault
 use Rattle.pocsag_centre.specs.Lines.{verdict_text}
 use Rattle.pocsag_centre.specs.declared.fault.CentreFault.{CentreFault}
 use Rattle.pocsag_centre.specs.declared.fault.CentreFault.TheVariants as fault
@@ -41,17 +39,3 @@ abbrev pub ExplainsJudging : (file certificate : List ℕ) → CentreFault → T
 ExplainsJudging file certificate (fault.Round f) = ExplainsRound file f
 ExplainsJudging file certificate (fault.Certificate f) = IsOk (verdict file) × ExplainsCertificate certificate f
 ExplainsJudging file certificate _ = ⊥
-
--- The page file is that of a round, and the certificate is a text of a tree.
-pub record CanBeJudged (file certificate : List ℕ) : Type 0 where
-  pub round : List Page
-  pub read : verdict file ≡ Ok round
-  pub end : End
-  pub batches : ℕ
-  pub tree : BoundTree
-  pub text : IsText end batches tree certificate
-
--- Why nothing is explained of a certificate for a page file: memory refused the text, or the certificate was not judged.
-abbrev pub ExplainsUntold : (file certificate : List ℕ) → CentreFault → Type 0
-ExplainsUntold file certificate (fault.File file_fault.OutOfMemory) = CanBeJudged file certificate
-ExplainsUntold file certificate f = ExplainsJudging file certificate f

@@ -48,6 +48,17 @@ answered prints explains = record {
   ends = centre_status;
 }
 
+-- The same, where it writes while it works: it stops behind a part of the text where memory is refused.
+abbrev pub streaming : Work CentreFault → Work CentreFault
+streaming work = record {
+  is_known = work.is_known;
+  prints = work.prints;
+  explains = work.explains;
+  lost = work.lost;
+  stops = λ f. f ≡ fault.File file_fault.OutOfMemory;
+  ends = work.ends;
+}
+
 -- One that reads a page file: it prints only where this is whole.
 abbrev pub of_whole : {P : Type 0} → Reader P → (pages : P) → (prints : (status : ℕ) → (text : List ℕ) → Type 0)
     → (explains : CentreFault → Type 0) → Work CentreFault

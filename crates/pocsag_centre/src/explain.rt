@@ -1,13 +1,13 @@
 ghost use Rattle.pocsag_findings.specs.Beginnings.{GivesVerdict};
-ghost use Rattle.pocsag_shell.specs.Runs.{IsAnswerOf, Ran};
-ghost use Rattle.pocsag_centre.specs.Judgements.{ExplainsUntold};
-ghost use Rattle.pocsag_centre.specs.Works.{judges};
+ghost use Rattle.pocsag_shell.specs.Runs.{IsStreamOf, Ran};
+ghost use Rattle.pocsag_centre.specs.Judgements.{ExplainsJudging};
+ghost use Rattle.pocsag_centre.specs.Works.{judges, streaming};
 
 use crate::fault::CentreFault;
-use pocsag_findings::{Format, explanation};
+use pocsag_findings::{Format, JudgedCertificate, write_explanation};
 use pocsag_pages::read_round;
 use pocsag_plan::verdict_on;
-use pocsag_shell::{CommandAnswer, ErrorStream, FileFault, print_answer};
+use pocsag_shell::ErrorStream;
 use pocsag_tree::read_certificate;
 use pocsag_words::{Sink, Source};
 use std::alloc::Global;
@@ -22,7 +22,8 @@ pub struct ExplainFiles<P: Drop, C: Drop> {
 }
 
 /// `explain PAGES CERT`: reports why fewer batches do not suffice for the page file, by its certificate, or which node of the
-/// certificate does not hold. Returns the exit status: 0 where the certificate shows its number of batches, 1 where it does not.
+/// certificate does not hold. The text is written as it is made. Returns the exit status: 0 where the certificate shows its
+/// number of batches, 1 where it does not.
 pub fn run_explain<P: Source + Drop, C: Source + Drop, O: Sink, E: Sink + Drop>(
     alloc: Global,
     format: Format,
@@ -31,23 +32,24 @@ pub fn run_explain<P: Source + Drop, C: Source + Drop, O: Sink, E: Sink + Drop>(
     err: &mut ErrorStream<CentreFault, E>,
 ) -> u8
     ensures ran { Ran
-        (judges P.Source C.Source (GivesVerdict format) ExplainsUntold
-        files.old.pages files.new.pages files.old.cert files.new.cert)
+        (streaming (judges P.Source C.Source (GivesVerdict format) ExplainsJudging
+        files.old.pages files.new.pages files.old.cert files.new.cert))
         O.Sink E.Sink result out.old out.new err.old err.new }
 {
-    print_answer(answer_explain(alloc, format, files), out, err)
+    err.end(explain(alloc, format, files, out))
 }
 
-// What `explain` answers.
-fn answer_explain<P: Source + Drop, C: Source + Drop>(
+// Judges the certificate and writes the text; the fault is still to be printed.
+fn explain<P: Source + Drop, C: Source + Drop, O: Sink>(
     alloc: Global,
     format: Format,
     files: &mut ExplainFiles<P, C>,
-) -> Result<CommandAnswer, CentreFault>
-    ensures answers { IsAnswerOf
-        (judges P.Source C.Source (GivesVerdict format) ExplainsUntold
-        files.old.pages files.new.pages files.old.cert files.new.cert)
-        result }
+    out: &mut O,
+) -> Result<u8, CentreFault>
+    ensures streams { IsStreamOf
+        (streaming (judges P.Source C.Source (GivesVerdict format) ExplainsJudging
+        files.old.pages files.new.pages files.old.cert files.new.cert))
+        O.Sink out.old out.new result }
 {
     let round = read_round(alloc, &mut files.pages)?;
     let certificate = match read_certificate(alloc, &mut files.cert) {
@@ -55,12 +57,14 @@ fn answer_explain<P: Source + Drop, C: Source + Drop>(
         Err(fault) => return Err(CentreFault::Certificate(fault)),
     };
     let verdict = verdict_on(&round, &certificate);
-    let text = match explanation(alloc, format, &round, &certificate, verdict.is_shown) {
-        Ok(text) => text.into_bytes(),
-        Err(_) => return Err(CentreFault::File(FileFault::OutOfMemory)),
+    let judged = JudgedCertificate {
+        round: &round,
+        certificate: &certificate,
+        is_shown: verdict.is_shown,
     };
+    write_explanation(alloc, format, judged, out)?;
     if verdict.is_shown {
-        return Ok(CommandAnswer { status: 0, text });
+        return Ok(0);
     }
-    Ok(CommandAnswer { status: 1, text })
+    Ok(1)
 }

@@ -2,6 +2,7 @@ ghost use Rattle.std.specs.Prelude.{◌≡◌};
 ghost use Rattle.pocsag_centre.specs.declared.fault.CentreFault.TheVariants as fault;
 
 use pocsag_decode::DecodeFault;
+use pocsag_findings::ExplanationFault;
 use pocsag_pages::{QuoteFault, RoundFault};
 use pocsag_plan::{NoFront, PlanFault, StreamFault};
 use pocsag_shell::{Failure, FileFault, Role};
@@ -88,6 +89,19 @@ impl From<FileFault> for CentreFault {
 
     fn from(refused: FileFault) -> CentreFault {
         CentreFault::File(refused)
+    }
+}
+
+impl From<ExplanationFault> for CentreFault {
+    ghost use Rattle.pocsag_centre.specs.Faults.{fault_of_explanation};
+
+    ghost from_gives = { λ refused e. e ≡ fault_of_explanation refused };
+
+    fn from(refused: ExplanationFault) -> CentreFault {
+        match refused {
+            ExplanationFault::WriteFault => CentreFault::File(FileFault::Write),
+            ExplanationFault::OutOfMemory => CentreFault::File(FileFault::OutOfMemory),
+        }
     }
 }
 

@@ -6,7 +6,7 @@ use crate::explain::{ExplainFiles, run_explain};
 use crate::fault::CentreFault;
 use crate::note::{note_file, note_first, quote_asked};
 use crate::plan::{DEFAULT_SEARCH, run_input};
-use crate::plan_files::{Streams, front_asked, plan_command, refuse_before, refuse_unmet};
+use crate::plan_files::{Streams, front_asked, plan_command, refuse_before, refuse_unmet, written};
 use crate::report::{ReportAsked, run_report};
 use crate::slot::{SlotAsked, run_slot_report};
 use crate::texts::{BAD_SLOT, EARLY_STRICT};
@@ -18,7 +18,7 @@ use clap::{ArgMatches, Error};
 use pocsag_findings::Format;
 use pocsag_shell::{
     CERT, Call, Context, Group, Names, PAGES, PAGES_READ, Role, STANDARD, STRICT, TX, Tables,
-    first_asked, load_both, load_file, path_of, put_whole,
+    first_asked, is_kept, load_both, load_file, path_of, put_whole,
 };
 use pocsag_words::Source;
 use std::alloc::AllocError;
@@ -27,6 +27,9 @@ use std::io::IsTerminal;
 // What a person at a terminal sees who gave no words. It is no fault.
 const AT_TERMINAL: &str =
     "reading a page file from standard input; 'pocsag --help' tells the commands\n";
+
+// The longest certificate of which the text of `explain` is kept until it is whole.
+const KEPT_CERTIFICATE: usize = 4_096;
 
 /// The commands of a paging centre.
 #[derive(Clone, Copy)]
@@ -158,16 +161,19 @@ fn explain_paths(
     let path = path_of(pages);
     let (pages, cert) = load_both(context, pages, cert)?;
     let quote = quote_asked(context, &pages);
+    let (alloc, err) = (context.alloc, &mut streams.err);
+    let is_short = is_kept(&cert, KEPT_CERTIFICATE);
     let mut files = ExplainFiles { pages, cert };
-    let status = run_explain(
-        context.alloc,
-        format,
-        &mut files,
-        &mut streams.out,
-        &mut streams.err,
-    );
+    let status = if is_short {
+        run_explain(alloc, format, &mut files, &mut streams.out, err)
+    } else {
+        run_explain(alloc, format, &mut files, &mut context.out(), err)
+    };
     note_file(context, path, &files.pages, quote, streams.err.fault());
-    Ok(status)
+    if is_short {
+        return Ok(status);
+    }
+    written(streams, status)
 }
 
 // Reports on the plan of a page file.

@@ -12,10 +12,10 @@ use crate::readback::{WrittenFront, run_verify, run_verify_front};
 use pocsag_pages::{FILE_LIMIT, QuoteFault};
 use pocsag_plan::{is_node_limit, most_batches};
 use pocsag_shell::{
-    CERT_READ, Context, FileFault, Loaded, MemoryStreams, Output, Outputs, PAGES_READ, Role,
-    STANDARD, StagedFile, first_asked, is_regular, is_regular_or_none, load, load_file,
-    open_output, open_outputs, open_source, path_of, put_staged, put_whole, refuse_equal,
-    refuse_input, refuse_one_file, refuse_shared, write_over,
+    CERT_READ, Context, FileFault, KEPT_BYTES, Loaded, MemoryStreams, Output, Outputs, PAGES_READ,
+    Role, STANDARD, StagedFile, first_asked, is_kept, is_regular, is_regular_or_none, load,
+    load_file, open_output, open_outputs, open_source, path_of, put_staged, put_whole,
+    refuse_equal, refuse_input, refuse_one_file, refuse_shared, write_over,
 };
 use pocsag_words::{GrowingSink, MemorySink, Sink, Source};
 use std::fs::File;
@@ -183,7 +183,7 @@ fn plan_files<O: Sink>(
     read_files_back(context, args, sent, streams, out)
 }
 
-// Plans a page file, and then writes its transmission and its certificate.
+// Plans a page file, and writes its transmission and its certificate: those of a long one as they are made.
 fn write_plan<O: Sink>(
     context: Context<'_>,
     args: PlanArgs<'_>,
@@ -193,21 +193,41 @@ fn write_plan<O: Sink>(
     let mut source = open_source(context, Role::PageFile, args.pages)?;
     let mut outputs = open_outputs(context, args.pages, args.tx, args.cert)?.emptied(context)?;
     let pages = load(context, &mut source, PAGES_READ)?;
-    let quote = refuse_unmet(context, args.pages, &pages, args.search)?;
+    if !is_kept(&pages, KEPT_BYTES) {
+        let mut files = PlanFiles {
+            pages,
+            tx: outputs.tx,
+            cert: outputs.cert,
+        };
+        let status = plan_loaded(context, args, &mut files, streams, out)?;
+        return written(streams, status);
+    }
     let mut files = PlanFiles {
         pages,
         tx: GrowingSink::new(context.alloc),
         cert: GrowingSink::new(context.alloc),
     };
     let mut lines: MemorySink<LINES> = MemorySink::new(LINES, LINES as u64);
+    let status = plan_loaded(context, args, &mut files, streams, &mut lines)?;
+    if status == 0 {
+        put_whole(&mut outputs.tx, files.tx.into_bytes().as_slice())?;
+        put_whole(&mut outputs.cert, files.cert.into_bytes().as_slice())?;
+        put_whole(out, lines.bytes())?;
+    }
+    Ok(status)
+}
+
+// Plans a page file that was read.
+fn plan_loaded<T: Sink + Drop, C: Sink + Drop, O: Sink>(
+    context: Context<'_>,
+    args: PlanArgs<'_>,
+    files: &mut PlanFiles<Loaded, T, C>,
+    streams: &mut Streams,
+    out: &mut O,
+) -> Result<u8, CentreFault> {
+    let quote = refuse_unmet(context, args.pages, &files.pages, args.search)?;
     let search = args.search.search;
-    let status = run_plan(
-        context.alloc,
-        search,
-        &mut files,
-        &mut lines,
-        &mut streams.err,
-    );
+    let status = run_plan(context.alloc, search, files, out, &mut streams.err);
     note_file(
         context,
         args.pages,
@@ -215,12 +235,16 @@ fn write_plan<O: Sink>(
         quote,
         streams.err.fault(),
     );
-    if status == 0 {
-        put_whole(&mut outputs.tx, files.tx.into_bytes().as_slice())?;
-        put_whole(&mut outputs.cert, files.cert.into_bytes().as_slice())?;
-        put_whole(out, lines.bytes())?;
-    }
     Ok(status)
+}
+
+/// The exit status of a command that wrote to devices. The fault of one that failed is no want of memory, as that of a writer
+/// over memory is.
+pub(crate) fn written(streams: &Streams, status: u8) -> Result<u8, CentreFault> {
+    match streams.err.fault() {
+        Some(CentreFault::File(FileFault::Write)) => Err(CentreFault::File(FileFault::Write)),
+        _ => Ok(status),
+    }
 }
 
 // Plans the front of a page file, and then writes it. Returns the front too.

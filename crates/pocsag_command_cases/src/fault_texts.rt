@@ -4,6 +4,7 @@ use crate::same;
 use pocsag_capture::CaptureFault;
 use pocsag_centre::CentreFault;
 use pocsag_decode::DecodeFault;
+use pocsag_findings::ExplanationFault;
 use pocsag_journal::JournalFault;
 use pocsag_open::{OpenFault, Refusal, UndoneFault, refuse};
 use pocsag_pager::PagerFault;
@@ -68,6 +69,11 @@ const CUT_SHORT: &str = "the transmission is cut short";
 const BAD_RATE: &str = "the rate must be 512, 1200 or 2400";
 
 const LIMIT_REACHED: &str = "search limit reached: at least 2 batches, 3 would do";
+
+const EXPLANATION_FAULTS: [(ExplanationFault, &str); 2] = [
+    (ExplanationFault::WriteFault, NO_WRITE),
+    (ExplanationFault::OutOfMemory, NO_MEMORY),
+];
 
 // The faults of the fields of a record, each with its text.
 const FIELD_FAULTS: [(FieldFault, &str); 8] = [
@@ -338,6 +344,7 @@ fn refusals(rt: HostRuntime) {
         (UndoneFault::OutOfMemory, NO_MEMORY),
     ];
     expect_texts(&rt, alloc, &undone);
+    expect_texts(&rt, alloc, &EXPLANATION_FAULTS);
     for (fault, text) in undone {
         expect_lines(&rt, alloc, &[(Refusal::Undone(fault), text)]);
     }

@@ -1,5 +1,5 @@
 -- A tree of which all that is found holds is accepted.
-use Rattle.pocsag_findings.proofs.Prelude.{◌≡◌, ℕ, ◌+◌, ◌<◌, ◌≤◌, ◌∷◌, [], List, Bool, cond, refl, sym, ◌∙◌, arith, nat_lt, true, false, length, Classes, End, Limits, Stated, Way, BoundTree, BoundTrees, overload, split, cut, close, unexamined, none, more, children_count}
+use Rattle.pocsag_findings.proofs.Prelude.{◌≡◌, ℕ, ◌+◌, ◌<◌, ◌≤◌, ◌∷◌, [], List, Bool, cond, refl, sym, ◌∙◌, arith, nat_lt, true, false, length, slice_index, Classes, End, Limits, Stated, Way, BoundTree, BoundTrees, overload, split, cut, close, unexamined, none, more, children_count}
 use Rattle.pocsag_findings.specs.declared.finding.Reached.{Reached}
 use Rattle.std.specs.List.{AllByRecursion}
 use Rattle.std.proofs.lemmas.Bool.{and_parts}
@@ -16,7 +16,7 @@ use Rattle.pocsag_findings.specs.declared.finding.Reached.TheVariants.{Below, Fr
 use Rattle.pocsag_findings.specs.Findings.{findings_below, findings_by, findings_within, unjudged_below}
 use Rattle.pocsag_findings.specs.Rules.{fact_holds, fact_of, least_of_set, room_of}
 use Rattle.pocsag_laws.proofs.AllHold.{all, each, overload_fact}
-use Rattle.pocsag_findings.proofs.Nodes.{held_close, held_cut, held_split}
+use Rattle.pocsag_findings.proofs.Children.{held_close, held_cut}
 use Rattle.pocsag_laws.proofs.Ordered.{across_allowed, closing_allowed, ordered_below, ordered_from, ordered_narrowed}
 
 held_overload : (k : Classes) (end : End) (b : ℕ) (l : Limits) (set : ℕ) → AreInOrder k l →
@@ -26,6 +26,11 @@ held_overload k end b l set o h =
     let some : 1 ≤ set = grind (arith, nat_tests) in
     let small : set < 65536 = grind (arith, nat_tests) in
     ((some, small), (overload_fact k l set o).0 least)
+
+-- what the rule of a split says
+held_split : (k : Classes) (end : End) (b : ℕ) (l : Limits) (c m : ℕ) (below from : BoundTree) →
+    fact_holds end b (fact_of k end l (split c m below from)) ≡ true → (c < 136) × (slice_index l.lo c < m) × (m ≤ slice_index l.hi c)
+held_split k end b l c m below from h = grind (arith, nat_tests)
 
 -- what the rule of a cut says beside its ways
 record IsCutAt (k : Classes) (l : Limits) (set c : ℕ) : Type 0 where

@@ -1,4 +1,4 @@
-use Rattle.std.proofs.Common.{◌∙◌, ℕ, Bool, true, false, List, subst, sym, inl, inr}
+use Rattle.std.proofs.Common.{◌≡◌, ◌∙◌, ◌++◌, ap, ℕ, Bool, true, false, List, subst, sym, inl, inr}
 use Rattle.pocsag_findings.specs.Beginnings.{GivesVerdict}
 use Rattle.pocsag_c.specs.Explain.{IsTextOfVerdict, IsVerdictText}
 use Rattle.pocsag_c.specs.declared.check.CheckInfo.{CheckInfo}
@@ -9,11 +9,14 @@ either : (form depth : ℕ) (info : CheckInfo) (is_shown : Bool) (text : List �
 either form depth info true text is_known = inl is_known
 either form depth info false text is_known = inr is_known
 
-pub returns-in-Ok-explanation-clause-no_room : goal.returns-in-Ok-explanation-clause-no_room
-returns-in-Ok-explanation-clause-no_room c = λ _.
+pub returns-in-Ok-write_explanation-clause-no_room : goal.returns-in-Ok-write_explanation-clause-no_room
+returns-in-Ok-write_explanation-clause-no_room c = λ _.
     let verdict = c.in-Ok.verdict in
     let format = c.in-Some.format in
-    let bytes = c.as_bytes.result.now in
+    let bytes = c.as_slice.result.now in
+    let told = c.in-Ok-write_explanation.ensures.told in
+    let same : bytes ≡ told.text =
+    c.as_slice.ensures.value ∙ c.into_bytes.ensures ∙ told.taken tt ∙ ap (λ (l : List ℕ). l ++ told.text) c.new-told.ensures.kept in
     record {
       text = bytes;
       is = either c.args.form c.args.depth verdict.info verdict.is_shown bytes
@@ -23,8 +26,7 @@ returns-in-Ok-explanation-clause-no_room c = λ _.
             end = verdict.certificate.end;
             same_end = c.in-Ok.ensures.end;
             is_known = subst (λ (n : ℕ). GivesVerdict format verdict.is_shown verdict.certificate.end n bytes) (sym c.in-Ok.ensures.batches)
-                (subst (GivesVerdict format verdict.is_shown verdict.certificate.end verdict.certificate.batches)
-                (sym (c.as_bytes.ensures.value ∙ c.as_str.ensures.value)) c.in-Ok-explanation.ensures.told);
+                (subst (GivesVerdict format verdict.is_shown verdict.certificate.end verdict.certificate.batches) (sym same) told.told);
           });
       too_small = c.hand_out.ensures.too_small (λ yes. cc);
     }

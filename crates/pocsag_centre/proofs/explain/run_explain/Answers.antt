@@ -1,5 +1,5 @@
-use Rattle.pocsag_shell.proofs.Runs.{ran_as}
+use Rattle.pocsag_shell.proofs.Runs.{ran_streamed}
 use Rattle.pocsag_centre.proofs.explain.run_explain.Goals as goal
 
 pub returns : goal.returns
-returns g c = record { ran = ran_as _ c.answer_explain.ensures.answers c.print_answer.ensures.ran }
+returns g c = record { ran = ran_streamed _ c.explain.result c.explain.ensures.streams c.end.ensures.done c.end.ensures.fault }
