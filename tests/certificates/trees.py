@@ -35,6 +35,16 @@ def overload(members):
     return OVERLOAD, members, 0, 0, ()
 
 
+def halved(number, first, last, leaf):
+    """The bytes of a tree whose splits part how many pages of a class start early, with the bytes of one leaf for each number from the
+    first to the last."""
+    if first == last:
+        return leaf
+    middle = (first + last + 1) // 2
+    head = bytes([SPLIT, number]) + two_bytes(middle)
+    return head + halved(number, first, middle - 1, leaf) + halved(number, middle, last, leaf)
+
+
 def nodes(tree, path=()):
     """Each node of a tree with the way to it from the root."""
     yield path, tree

@@ -14,15 +14,15 @@ import sys
 import tempfile
 
 sys.dont_write_bytecode = True
-sys.path.insert(0, str(pathlib.Path(__file__).resolve().parents[1]))
-sys.path.insert(0, str(pathlib.Path(__file__).resolve().parent))
+HERE = pathlib.Path(__file__).resolve().parent
+sys.path[:0] = [str(HERE), str(HERE.parent), str(HERE.parent / "certificates")]
 import kept
 import noted
 import read_back
+import trees
 from codewords import APART, HEADER, IDLE, MESSAGE, ZERO, codeword, digits, in_order, transmission
 from tally import ENDS, PROGRAM, TOP, Tally
 
-HERE = pathlib.Path(__file__).resolve().parent
 TRIAL = TOP / "crates/pocsag_trial/out/pocsag_trial"
 MOST = 20_000
 
@@ -229,16 +229,15 @@ def try_input(tally, library):
     tally.check("input one byte at a time", short.stdout == ample.stdout and short.returncode == 0, short)
 
 
-def try_plan(tally, library, folder):
-    """`plan` on files: after a refusal TX and then CERT hold a prefix, and the page file is never touched."""
+def try_plan(tally, library, folder, name, page_file, count):
+    """`plan` on files: after a refusal TX and then CERT hold a prefix, and the page file is never touched. Returns the number of writes."""
     pages, tx, cert = folder / "pages.csv", folder / "tx.bin", folder / "cert.bin"
-    page_file = HEADER + b"".join(b"%d,numeric,%d\n" % (k, 10**9 + k) for k in range(400))
     pages.write_bytes(page_file)
     command = [str(PROGRAM), "plan", str(pages), str(tx), str(cert)]
     ample, _ = run(command, library)
     due, shown = tx.read_bytes(), cert.read_bytes()
-    holds = ample.returncode == 0 and ample.stdout.startswith(b"pages 400\nbatches ") and len(due) > 5000
-    tally.check("plan", holds and len(shown) > 10, ample)
+    holds = ample.returncode == 0 and ample.stdout.startswith(b"pages %d\nbatches " % count) and len(due) > 5000
+    tally.check(name, holds and len(shown) > 10, ample)
 
     def prepare():
         tx.write_bytes(b"an older transmission")
@@ -262,19 +261,30 @@ def try_plan(tally, library, folder):
             )
             is_grown = kind == "ALLOC" and is_refused and sent not in (b"an older transmission", b"")
             holds = is_refused or (kind == "ALLOC" and is_ample)
-            tally.check(f"plan without {kind} {number}", holds and pages.read_bytes() == page_file, done)
-            tally.check(f"plan grows nothing after the first byte: {number}", not is_grown, done)
+            tally.check(f"{name} without {kind} {number}", holds and pages.read_bytes() == page_file, done)
+            tally.check(f"{name} grows nothing after the first byte: {number}", not is_grown, done)
 
         return judge_one
 
-    tally.check("plan: growths", each_refusal(command, library, "ALLOC", b"", prepare, judge("ALLOC", OUT_OF_MEMORY)) > 3)
-    tally.check("plan: reads", each_refusal(command, library, "READ", b"", prepare, judge("READ", CANNOT_READ)) > 0)
-    # The transmission, the certificate and the lines are one write each.
-    tally.check("plan: writes", each_refusal(command, library, "WRITE", b"", prepare, judge("WRITE", CANNOT_WRITE)) == 3)
+    tally.check(f"{name}: growths", each_refusal(command, library, "ALLOC", b"", prepare, judge("ALLOC", OUT_OF_MEMORY)) > 3)
+    tally.check(f"{name}: reads", each_refusal(command, library, "READ", b"", prepare, judge("READ", CANNOT_READ)) > 0)
+    writes = each_refusal(command, library, "WRITE", b"", prepare, judge("WRITE", CANNOT_WRITE))
     prepare()
     short, _ = run(command, library, short=True)
     holds = short.returncode == 0 and (tx.read_bytes(), cert.read_bytes()) == (due, shown)
-    tally.check("plan one byte at a time", holds, short)
+    tally.check(f"{name} one byte at a time", holds, short)
+    return writes
+
+
+def try_plans(tally, library, folder):
+    """Of a short page file the transmission, the certificate and the lines are one write each; one of more than 4 MB, nearly all of it
+    empty lines, is sent in pieces of 64 batches, and its certificate in two."""
+    short = HEADER + b"".join(b"%d,numeric,%d\n" % (k, 10**9 + k) for k in range(400))
+    tally.check("plan: writes", try_plan(tally, library, folder, "plan", short, 400) == 3)
+    long = HEADER + 4_000_000 * b"\n" + b"".join(b"%d,alpha,%s\n" % (k, 400 * b"a") for k in range(20))
+    writes = try_plan(tally, library, folder, "plan, long", long, 20)
+    pieces = -(-(folder / "tx.bin").stat().st_size // (64 * 68))
+    tally.check("plan, long: writes", writes == pieces + 3 and pieces > 2, (writes, pieces))
 
 
 def try_printing(tally, library, name, words, files, folder, in_pieces=False):
@@ -475,6 +485,11 @@ def try_devices(tally, library, folder):
 CERTIFICATE = bytes.fromhex("5043423200000000030200013000020000010080 00".replace(" ", ""))
 
 
+# 1,200 calls in one frame, and why 599 batches do not carry them, in 1,199 nodes. Of more than 4,096 bytes it is explained in pieces.
+TONES = HEADER + b"".join(b"%d,tone0,\n" % (8 * place) for place in range(1_200))
+LONG_CERTIFICATE = b"PCB2\0" + (600).to_bytes(4, "big") + trees.halved(1, 0, 599, trees.spelled(trees.overload(0b11)))
+
+
 # One page across two batches.
 ACROSS = transmission([*15 * [IDLE], ZERO, codeword(MESSAGE | digits("12345")[0])])
 
@@ -490,7 +505,7 @@ def main():
         for part in (try_trial, try_large_trial, try_input):
             part(tally, library)
         try_lost(tally, library, folder)
-        try_plan(tally, library, folder)
+        try_plans(tally, library, folder)
         for part in (try_open, try_open_pages, try_late_growths, try_devices, read_back.try_read_back, read_back.try_fronts):
             part(tally, library, folder)
         kept.try_kept(tally, library, folder, run)
@@ -500,6 +515,8 @@ def main():
         try_printing(tally, library, "explain", ["explain", "pages.csv", "cert.bin"], files, folder)
         try_printing(tally, library, "explain --json", ["explain", "pages.csv", "cert.bin", "--json"], files, folder)
         try_printing(tally, library, "explain --svg", ["explain", "pages.csv", "cert.bin", "--svg"], files, folder)
+        words = ["explain", "pages.csv", "cert.bin", "--depth", "300"]
+        try_printing(tally, library, "explain, long", words, {"pages.csv": TONES, "cert.bin": LONG_CERTIFICATE}, folder, in_pieces=True)
         files = {"pages.csv": APART}
         try_printing(tally, library, "report", ["report", "pages.csv", "--rate", "1200"], files, folder)
         try_printing(tally, library, "report --frames", ["report", "pages.csv", "--rate", "1200", "--frames"], files, folder)

@@ -91,8 +91,8 @@ def try_memory(tally, folder, room):
     """No call holds more memory than the header says, also of the smallest files, nor gives more text than it says suffices."""
     call, pages, other = pocsag.Pocsag(str(folder / make.SONAME)), room / "held.csv", room / "held.bin"
     text = re.sub(r"\s*\n \*\s*", " ", (folder / "pocsag.h").read_text())
-    words = re.search(r"at most ([\d,]+) bytes, for a drawing or an explanation ([\d,]+), for a page file of (\d+) pages or more ([\d,]+) more, for what pocsag_show gives ([\d,]+) more, and beside them (\d+) for .*? a picture (\d+) and a drawing (\d+), for a sound three times its", text)
-    fixed, large, many, marks, shown, byte, picture, drawing = (int(it.replace(",", "")) for it in words.groups())
+    words = re.search(r"at most ([\d,]+) bytes, for a drawing or an explanation ([\d,]+), for a page file of (\d+) pages or more ([\d,]+) more, and beside them (\d+) for .*? a picture (\d+) and a drawing (\d+), for a sound three times its", text)
+    fixed, large, many, marks, byte, picture, drawing = (int(it.replace(",", "")) for it in words.groups())
     wrong = []
     for number, lines in enumerate([*crowded_files(), *([f"{address},tone0," for address in range(count)] for count in (1, 2, 5, 16, 30, 32, 1_000, 20_000))]):
         data = "\n".join(["address,kind,message", *lines, ""]).encode()
@@ -104,9 +104,7 @@ def try_memory(tally, folder, room):
         for name, most in [(it, of_pages) for it in ("order", "strict")] + [(it, byte * len(sent)) for it in ("decode", "hear", "repaired")]:
             suffices[name] = suffices.get(name, 0) or 1 << 62
             wrong += held_too_much(room, (pages, other), name, fixed + most, suffices[name])
-        of_shown = shown + picture * len(sent)
-        most_of = {"text": of_shown, "list": of_shown, "drawing": shown + large - fixed + drawing * len(sent), "sound": 3 * suffices["sound"]}
-        for name, most in most_of.items():
+        for name, most in (("text", picture * len(sent)), ("list", picture * len(sent)), ("drawing", large - fixed + drawing * len(sent)), ("sound", 3 * suffices["sound"])):
             wrong += held_too_much(room, (pages, other), name, fixed + most, suffices[name])
         for name in ("plan", "front", "report", "frames") if len(lines) < 100 else ():
             wrong += held_too_much(room, (pages, other), name, fixed + byte * len(data) + 40 * call.plan(data).pages, 1 << 62)

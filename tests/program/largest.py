@@ -157,22 +157,13 @@ def try_hard(tally, folder):
         tally.check_done(f"a free search of {pages} pages", done, 0, due, b"", length > 3 * 319)
 
 
-def halved(number, first, last, leaf):
-    """A tree whose splits part how many pages of a class start early, one leaf for each number from the first to the last."""
-    if first == last:
-        return leaf
-    middle = (first + last + 1) // 2
-    head = bytes([checker.SPLIT, number]) + middle.to_bytes(2, "big")
-    return head + halved(number, first, middle - 1, leaf) + halved(number, middle, last, leaf)
-
-
 def certificates():
     """A page file and certificates of so many nodes: below a closing node the tones of frame 0 are split, and below each of these those
     of frame 1. Each leaf says that the 10,000 tones of frame 0 do not fit into its two slots 4,999 times, whatever else holds."""
     pages = HEADER + b"".join(b"%d,tone0,\n%d,tone0,\n" % (8 * place, 8 * place + 1) for place in range(PAGES // 2))
     leaf = trees.spelled(trees.overload(0b11))
     for outer in (50, 500):
-        tree = bytes([checker.CLOSE, 1]) + halved(1, 0, outer - 1, halved(17, 0, 999, leaf))
+        tree = bytes([checker.CLOSE, 1]) + trees.halved(1, 0, outer - 1, trees.halved(17, 0, 999, leaf))
         yield 2 * 1_000 * outer, pages, b"PCB4" + (5_000).to_bytes(4, "big") + tree
 
 
@@ -193,6 +184,7 @@ def try_certificates(tally, folder):
             holds = (done.returncode, done.stderr) == (0, b"") and done.stdout.startswith(start) and done.stdout.endswith(end)
             holds = holds and ("--depth" not in words or done.stdout.count(b"{" if "--json" in words else b"\n") > count)
             tally.check(f"explain {' '.join(words) or 'alone'} of {count} nodes", holds, (brief(done), done.stdout[-100:]))
+        tally.check_full(f"explain of {count} nodes to a full device", ["explain", "pages.csv", "cert.bin", "--depth", "300"], folder)
 
 
 def repeated(pages, size):
