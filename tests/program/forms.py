@@ -3,14 +3,16 @@ script encodes by itself: Python's `json` and `jq` read what is written, and eac
 
 import itertools
 import json
+import os
 import random
 import shutil
 import subprocess
+import tty
 
 import codewords
 import repair
 from codewords import IDLE, SYNC, characters, codeword, items_of, kind_and_message, sent
-from tally import fault, run, sampled
+from tally import PROGRAM, fault, run, sampled
 
 HEADER = codewords.HEADER.decode()
 # The words for functions, in any order and number, and the functions that they name.
@@ -112,6 +114,37 @@ def try_long(tally, folder):
         tally.check_full(f"decode {words} on a full disk", ["decode", "long.bin", *words], folder)
 
 
+def at_terminal(words, folder):
+    """The status of a command, and what it prints on a terminal, which hands each byte on as it is."""
+    there, here = os.openpty()
+    tty.setraw(here)
+    process = subprocess.Popen([PROGRAM, *words], cwd=folder, stdin=subprocess.DEVNULL, stdout=here)
+    os.close(here)
+    out = b""
+    try:
+        while piece := os.read(there, 1 << 16):
+            out += piece
+    except OSError:  # the program has ended
+        pass
+    os.close(there)
+    return process.wait(), out
+
+
+def try_terminal(tally, folder):
+    """On a terminal each control character of a text but the line feed is a question mark: of what is kept, and of what is written as it
+    is read. Elsewhere it is itself."""
+    once = sent([(11, 3, items_of(bytes(range(1, 128)) * 1_000, 7, 0))])
+    plain = bytes(ord("?") if place < 32 and place != 10 or place == 127 else place for place in range(256))
+    for count in (1, 24):
+        (folder / "tx.bin").write_bytes(once[:72] + count * once[72:])
+        for words in (["decode"], ["decode", "--json"], ["decode", "--capture"], ["hear", "11"], ["hear", "11", "--capture"], ["show", "--list"]):
+            elsewhere = run([*words, "tx.bin"], folder)
+            has_controls = b"\x1b" in elsewhere.stdout
+            holds = elsewhere.returncode == 0 and has_controls == ("--json" not in words)
+            shown = at_terminal([*words, "tx.bin"], folder)
+            tally.check(f"{words} of {count} pages at a terminal", holds and shown == (0, elsewhere.stdout.translate(plain)), (shown[0], shown[1][:80]))
+
+
 def try_words(tally, folder):
     """Words that are refused, and bytes that are: nothing is listed."""
     (folder / "tx.bin").write_bytes(sent([(11, 1, [5])]))
@@ -131,4 +164,4 @@ def try_words(tally, folder):
         tally.check_usage(f"show {option}", run(["show", "tx.bin", *option], folder))
 
 
-PARTS = (try_codes, try_forms, try_long, try_words)
+PARTS = (try_codes, try_forms, try_long, try_terminal, try_words)

@@ -8,10 +8,11 @@ use crate::files::one_file;
 use crate::lines::print_fault;
 use crate::note::print_note;
 use crate::role::{Names, Role};
+use crate::streams::TextOutput;
 use pocsag_pages::FILE_LIMIT;
 use std::alloc::{AllocError, Global};
 use std::fmt::Display;
-use std::io::{self, ErrorKind, Stderr, Stdout};
+use std::io::{self, ErrorKind, Stderr};
 
 /// What each step of a command needs: the runtime, the allocator, and the diagnostics for `--verbose`.
 #[derive(Clone, Copy)]
@@ -50,9 +51,9 @@ impl<'a> Context<'a> {
         })
     }
 
-    /// Standard output.
-    pub fn out(&self) -> WriterSink<'a, Stdout> {
-        WriterSink::new(self.rt.stdout(), Role::Output, self.diagnostics)
+    /// Standard output, for text.
+    pub fn out(&self) -> WriterSink<'a, TextOutput> {
+        WriterSink::new(TextOutput::new(self.rt), Role::Output, self.diagnostics)
     }
 
     /// Standard error.

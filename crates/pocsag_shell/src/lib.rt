@@ -50,7 +50,7 @@ pub use placement::put_files;
 pub use program::run;
 pub use role::{NamedFile, Names, Role};
 pub use staged_file::StagedFile;
-pub use streams::{Input, Output};
+pub use streams::{Input, Output, TextOutput};
 pub use system_folder::{SystemFolder, put_staged};
 pub use tables::command;
 pub use transmission::read_transmission;

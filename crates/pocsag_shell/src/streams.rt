@@ -1,5 +1,5 @@
 use std::fs::{self, File, OpenOptions};
-use std::io::{self, Read, Stdin, Stdout, Write};
+use std::io::{self, IsTerminal, Read, Stdin, Stdout, Write};
 
 /// Keeps the number of a closed standard stream from the files that the program opens, as long as what it returns is there. The
 /// stream stays one that cannot be used: where the program is to read it, it can only be written, and else only be read.
@@ -48,5 +48,54 @@ impl<F: Write> Write for Output<F> {
             Output::File(file) => file.flush(),
             Output::Standard(stdout) => stdout.flush(),
         }
+    }
+}
+
+// How many bytes are printed at once on a terminal.
+const PIECE: usize = 1_024;
+
+/// Standard output for text. On a terminal each control character but the line feed is printed as `?`: a text off the air may hold
+/// any, and a terminal obeys some.
+#[derive(Drop)]
+pub struct TextOutput {
+    stdout: Stdout,
+    is_terminal: bool,
+}
+
+impl TextOutput {
+    /// The standard output of the program.
+    pub(crate) fn new(rt: &HostRuntime) -> TextOutput {
+        let stdout = rt.stdout();
+        let is_terminal = stdout.is_terminal();
+        TextOutput {
+            stdout,
+            is_terminal,
+        }
+    }
+}
+
+// What is printed on a terminal for a byte of text.
+fn printable(byte: u8) -> u8 {
+    if byte.is_ascii_control() && byte != b'\n' {
+        return b'?';
+    }
+    byte
+}
+
+impl Write for TextOutput {
+    fn write(&mut self, buf: &[u8]) -> io::Result<usize> {
+        if !self.is_terminal {
+            return self.stdout.write(buf);
+        }
+        let mut shown = [0u8; PIECE];
+        let count = buf.len().min(PIECE);
+        for place in 0..count {
+            shown[place] = printable(buf[place]);
+        }
+        self.stdout.write(&shown[..count])
+    }
+
+    fn flush(&mut self) -> io::Result<()> {
+        self.stdout.flush()
     }
 }
