@@ -1,13 +1,11 @@
 #!/usr/bin/env python3
 """Runs `check`, `explain` and `decode` of the compiled program, and the second checker, over the vectors of vectors/.
 
-What is due stands in vectors/table.csv, worked out by hand. The files are those that vectors/make.py spells. The last line
-is 'N passed, M failed'.
+What is due stands in vectors/table.csv, worked out by hand. The last line is 'N passed, M failed'.
 """
 
 import csv
-import io
-import subprocess
+import hashlib
 import sys
 
 sys.dont_write_bytecode = True
@@ -18,10 +16,11 @@ VECTORS = TOP / "vectors"
 sys.path[:0] = [str(TOP / "tests"), str(TOP / "tests/certificates"), str(VECTORS)]
 import checker
 import make
-from codewords import IDLE
-from tally import PROGRAM, run_parts, sampled
+from codewords import IDLE, rows_of
+from tally import run as tally_run, run_parts, sampled
 
 FAULT = "pocsag: "
+PAGES = "772c6dd34c2dfd0305b3c8770f9074d0cf62698fdb1d26c872fcd89746a0701e"  # the names and the bytes of vectors/pages
 TOLD = ("refused", "no certificate")  # the answers of the second checker where the product prints a fault
 
 
@@ -32,23 +31,26 @@ def rows():
 
 def run(folder, *words):
     """The status of the program, and its output or the fault that it prints."""
-    done = subprocess.run([str(PROGRAM), *words], cwd=folder, capture_output=True, timeout=300)
+    done = tally_run(words, folder)
     return done.returncode, (done.stdout or done.stderr).decode("latin-1").removesuffix("\n")
 
 
 def try_files(tally, folder):
-    """The files of the repository are those that make.py spells, all of them are in use, and no row comes twice."""
+    """The files of the repository are those that make.py spells, and the page files those of which the table was worked out; all of
+    them are in use, and no row comes twice."""
     make.write(folder, make.small())
     make.write(folder, make.large())
-    spelled = {name for name, _ in make.small()}
-    for name in sorted(spelled):
+    spelled = dict(make.small())
+    for name, data in spelled.items():
         path = VECTORS / name
-        tally.check(f"{name} as it is spelled", path.exists() and path.read_bytes() == (folder / name).read_bytes())
+        tally.check(f"{name} as it is spelled", path.exists() and path.read_bytes() == data)
+    pages = b"".join(name[len("pages/") :].encode() + data for name, data in spelled.items() if name.startswith("pages/"))
+    tally.check("no page file was changed", hashlib.sha256(pages).hexdigest() == PAGES, hashlib.sha256(pages).hexdigest())
     table = rows()
     used = {row[column] for row in table for column in ("pages", "tx", "cert") if row[column]}
     made = {str(path.relative_to(folder)) for path in folder.rglob("*") if path.is_file()}
     here = {f"{part}/{path.name}" for part in ("pages", "certs", "sent") for path in (VECTORS / part).iterdir()}
-    tally.check("each file is in use", used == made and here == spelled, (used ^ made, here ^ spelled))
+    tally.check("each file is in use", used == made and here == spelled.keys(), (used ^ made, here ^ spelled.keys()))
     tally.check("each name stands once", len({row["name"] for row in table}) == len(table))
 
 
@@ -68,7 +70,7 @@ def try_verdicts(tally, folder):
 
 def pages_of(text):
     """The pages of a page file or a listing, in any order. Numeric messages are filled with spaces as they are sent."""
-    records = list(csv.reader(io.StringIO(text, newline="")))[1:]
+    records = rows_of(text)[1:]
     return sorted((int(address), kind, message.rstrip(" ") if kind == "numeric" else message) for address, kind, message in records)
 
 
@@ -78,16 +80,20 @@ def is_sent(folder, row, listing):
     sent = (folder / row["tx"]).read_bytes()
     words = sent.lstrip(b"\xaa")
     ends = {checker.OPEN_END: True, checker.CLOSED_END: words[-4] < 0x80, checker.IDLE_END: words[-4:] == IDLE}
-    same = pages_of(listing) == pages_of((folder / row["pages"]).read_text("latin-1"))
+    same = pages_of(listing.encode("latin-1")) == pages_of((folder / row["pages"]).read_bytes())
     return same and len(words) == 68 * batches and ends[end]
 
 
 def try_transmissions(tally, folder):
-    """What `decode` prints of each transmission, and the pages that it lists beside those of the page file."""
+    """What `decode` prints of each transmission, and the pages that it lists beside those of the page file; `show` and `wav` refuse
+    what it refuses."""
     for row in (row for row in rows() if row["tx"]):
         status, text = run(folder, "decode", row["tx"])
         told = ("yes" if is_sent(folder, row, text) else "no") if status == 0 else text
         tally.check(f"decode: {row['name']}", told == row["sent"], (status, told))
+        for words in (["show"], ["show", "--svg"], ["show", "--list"], ["wav"]) if status else ():
+            done = run(folder, *words, row["tx"])
+            tally.check(f"{' '.join(words)}: {row['name']}", done == (1, row["sent"]), done)
 
 
 if __name__ == "__main__":
