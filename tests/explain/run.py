@@ -1,17 +1,17 @@
 #!/usr/bin/env python3
 """Runs `explain` and `report --frames` of the compiled program.
 
-The sentences of `explain` and the numbers of its drawings are written by hand, from the rules of docs/CERTIFICATES.md over
-rounds that a person can count. The verdict has to be that of `check`, whatever the certificate. The frames are counted again from the page file
-and from the letters of `show`. It takes the binary that the gate left in crates/pocsag_app/out. The last line is
-'N passed, M failed'.
+The sentences of `explain`, in shown.txt, and the numbers of its drawings are written by hand, from the rules of
+docs/CERTIFICATES.md over rounds that a person can count. The verdict has to be that of `check`, whatever the certificate.
+The frames are counted again from the page file and from the letters of `show`. It takes the binary that the gate left in
+crates/pocsag_app/out. The last line is 'N passed, M failed'.
 """
 
 import json
 import pathlib
 import random
+import re
 import sys
-import textwrap
 import xml.etree.ElementTree as ElementTree
 
 sys.dont_write_bytecode = True
@@ -19,7 +19,7 @@ sys.path[:0] = [str(pathlib.Path(__file__).resolve().parents[1] / it) for it in 
 from checker import CLOSE, CLOSED_END as CLOSED, CUT, IDLE_END as IDLE, OPEN_END as OPEN, SPLIT
 from drawings import SVG, box, check_form
 from rounds import page_file, small_pages
-from tally import BAD_LIMIT, BAD_RATE, CANNOT_OPEN, ENDS, NAMED_TWICE, TOP, fault, run, run_parts, said
+from tally import ENDS, TOP, run, run_parts
 from trees import UNEXAMINED, certificate, overload as overload_of
 
 EXAMPLES = TOP / "examples"
@@ -50,137 +50,57 @@ def close(*children):
 
 
 APART = (EXAMPLES / "loops-apart.csv").read_text()
-THREE_TONES = "address 5, 13 or 21 (1 codeword)"
-ONE_LOOP = "1 by whole turns from 1 page of address 0 (16 codewords)"
-EACH_LOOP = f"{ONE_LOOP}, 1 by whole turns from 1 page of address 3 (16 codewords)"
-SUM_APART = "at least 3 batches, open end: 2 pages, 32 codewords, room for 32 in 2 batches, yet"
-SUM_TONES = "at least 2 batches, open end: 3 pages, 3 codewords, room for 16 in 1 batch, yet"
-STARTS = "frame 5 (slots 10 and 11): 3 pages start there, 1 batch has room for 2"
-TWO_WAYS = "the way there and back takes the idle or the page of one of the 2 nodes below"
-ROOT_APART = f"node 1: a page of address 3 (16 codewords) starts or ends outside boundary 0; {TWO_WAYS}"
-SO_APART, SO_TONES = "so 2 batches do not suffice", "so 1 batch does not suffice"
-CASES_OF_TONES = f"node 1: a page of {THREE_TONES} starts in slot 10 or in slot 11: "
-IN_EACH_CASE = [
-    f"node 1.1, in the first case: slot 11: 3 codewords at the least, room for 1; 3 from 3 pages of {THREE_TONES}",
-    f"    limits: 0 of 3 pages of {THREE_TONES} start in slot 10", f"  node 1.2, in the second case: {STARTS}",
-    f"    limits: 1 to 3 of 3 pages of {THREE_TONES} start in slot 10",
-]  # fmt: skip
-LAST_IDLE = [f"  node 1.1, with an idle in slot 15: slot 15: 1 codeword at the least, room for 0; {ONE_LOOP}", "    limits: room for 0 in slot 15"]
 CUT_APART = cut([0], 48, overload(0), overload(15))
 # The same from the other side: the second loop stands between boundaries 6 and 7, and an idle of slot 5 or 7 leads there.
 AROUND = [at for at in range(16) if at not in (6, 7)]
 CUT_AROUND = cut(AROUND, 48, overload(5), overload(7))
-ROOT_AROUND = f"node 1: a page of address 3 (16 codewords) starts or ends at boundaries 6 and 7, the smaller side of the cut; {TWO_WAYS}"
 # Two pages of 2 codewords and two of 18 in one frame, each of which covers slot 7 once, and by a whole turn once more.
 TURNS = HEADER + "".join(f"{address},numeric,{'5' * digits}\n" for address, digits in ((3, 5), (11, 85), (19, 5), (27, 85)))
 # Loops of all frames, two of them of frame 7, and pages of 17 codewords of frames 0 and 1.
 MANY = HEADER + "".join(f"{address},numeric,{'5' * digits}\n" for address, digits in [*((n, 75) for n in range(8)), (15, 75), (8, 80), (9, 80)])
-MANY_TOLD = ", ".join(
-    f"1 by whole turns from 1 page of address {address} ({codewords} codewords)"
-    for address, codewords in ((0, 16), (8, 17), (1, 16), (9, 17), (2, 16), (3, 16), (4, 16), (5, 16))
-)
 LAST_TONE = LOOP + "7,tone0,\n"
 
 
-def idle_node(number, slot, before=""):
-    """The lines of a node of the worked case that an idle in a slot leads to, behind the limits of the nodes above."""
-    indent = "  " * number.count(".")
-    yield f"{indent}node {number}, with an idle in slot {slot}: slot {slot}: 2 codewords at the least, room for 1; {EACH_LOOP}"
-    yield f"{indent}  limits: {before}room for 1 in slot {slot}"
-
-
-# A page file, its certificate, more words, the status, and what is told.
+# Certificates that are shown: their name in shown.txt, the page file, and more words.
 SHOWN = [
-    ("the worked case", APART, certificate(OPEN, 3, CUT_APART), [], [
-        SUM_APART, ROOT_APART, *idle_node("1.1", 0), *idle_node("1.2", 15), SO_APART,
-    ]),
-    ("the worked case from the other side", APART, certificate(OPEN, 3, CUT_AROUND), [], [
-        SUM_APART, ROOT_AROUND, *idle_node("1.1", 5), *idle_node("1.2", 7), SO_APART,
-    ]),
-    ("a cut below a cut", APART, certificate(OPEN, 3, cut([0], 48, CUT_AROUND, overload(15))), [], [
-        SUM_APART, ROOT_APART,
-        f"  node 1.1, with an idle in slot 0: a page of address 3 (16 codewords) starts or ends at boundaries 6 and 7, "
-        f"the smaller side of the cut; {TWO_WAYS}",
-        "    limits: room for 1 in slot 0",
-        *idle_node("1.1.1", 5, "room for 1 in slot 0; "), *idle_node("1.1.2", 7, "room for 1 in slot 0; "), *idle_node("1.2", 15), SO_APART,
-    ]),
-    ("whole turns", TURNS, certificate(OPEN, 6, overload(7)), [], [
-        "at least 6 batches, open end: 4 pages, 40 codewords, room for 80 in 5 batches, yet",
-        "node 1: slot 7: 6 codewords at the least, room for 5; "
-        "6 (2 by whole turns) from 4 pages of address 3, 11, 19, .. (2 or 18 codewords)",
-        "so 5 batches do not suffice",
-    ]),
-    ("many frames and lengths", MANY, certificate(OPEN, 11, overload(15)), [], [
-        "at least 11 batches, open end: 11 pages, 178 codewords, room for 160 in 10 batches",
-        f"node 1: slot 15: 11 codewords at the least, room for 10; {MANY_TOLD}, 3 from 3 other pages",
-        "so 10 batches do not suffice",
-    ]),
-    ("its root alone", APART, certificate(OPEN, 3, CUT_APART), ["--depth", "1"], [SUM_APART, ROOT_APART, ".. 2 nodes below", SO_APART]),
-    ("its sum alone", APART, certificate(OPEN, 3, CUT_APART), ["--depth", "0"], [SUM_APART, ".. 3 nodes below", SO_APART]),
-    ("the sample round", (EXAMPLES / "round.csv").read_text(), certificate(OPEN, 2, overload(*range(16))), [], [
-        "at least 2 batches, open end: 6 pages, 24 codewords, room for 16 in 1 batch",
-        "node 1: all slots: 24 codewords, room for 16", SO_TONES,
-    ]),
-    ("a full frame", TONES, certificate(OPEN, 2, overload(10, 11)), [], [SUM_TONES, f"node 1: {STARTS}", SO_TONES]),
-    ("two cases", TONES, certificate(OPEN, 2, split(81, 1, overload(11), overload(10, 11))), [], [
-        SUM_TONES, f"{CASES_OF_TONES}none starts in slot 10, or at least 1 does", f"  {IN_EACH_CASE[0]}", *IN_EACH_CASE[1:], SO_TONES,
-    ]),
-    ("two cases at 2", TONES, certificate(OPEN, 2, split(81, 2, overload(11), overload(10))), ["--depth=1"], [
-        SUM_TONES, f"{CASES_OF_TONES}fewer than 2 start in slot 10, or at least 2 do", ".. 2 nodes below", SO_TONES,
-    ]),
-    ("slots of more frames", TONES, certificate(OPEN, 2, overload(3, 10, 11)), [], None),
-    ("one batch", TONES, certificate(OPEN, 1, overload(10, 11)), [], [
-        "at least 1 batch, open end: 3 pages, 3 codewords, room for 0 in 0 batches",
-        "node 1: frame 5 (slots 10 and 11): 3 pages start there, 0 batches have room for 0",
-        "so 0 batches do not suffice",
-    ]),
-    ("a closed end that a page may make", LAST_TONE, certificate(CLOSED, 2, close(overload(15), overload(15))), [], [
-        "at least 2 batches, closed end: 2 pages, 17 codewords, room for 16 in 1 batch",
-        "node 1: the last codeword, in slot 15, is an idle or a page of address 7 (1 codeword); a node below for each",
-        *LAST_IDLE,
-        "  node 1.2, with a page of address 7 (1 codeword) that starts in slot 15: slot 15: 2 codewords at the least, room for 1; "
-        f"{ONE_LOOP}, 1 from 1 page of address 7 (1 codeword)",
-        "    limits: 0 of 1 page of address 7 (1 codeword) start in slot 14",
-        f"{SO_TONES} with a closed end",
-    ]),
+    ("the worked case", APART, certificate(OPEN, 3, CUT_APART)),
+    ("the worked case from the other side", APART, certificate(OPEN, 3, CUT_AROUND)),
+    ("a cut below a cut", APART, certificate(OPEN, 3, cut([0], 48, CUT_AROUND, overload(15)))),
+    ("whole turns", TURNS, certificate(OPEN, 6, overload(7))),
+    ("many frames and lengths", MANY, certificate(OPEN, 11, overload(15))),
+    ("its root alone", APART, certificate(OPEN, 3, CUT_APART), "--depth", "1"),
+    ("its sum alone", APART, certificate(OPEN, 3, CUT_APART), "--depth", "0"),
+    ("the sample round", (EXAMPLES / "round.csv").read_text(), certificate(OPEN, 2, overload(*range(16)))),
+    ("a full frame", TONES, certificate(OPEN, 2, overload(10, 11))),
+    ("two cases", TONES, certificate(OPEN, 2, split(81, 1, overload(11), overload(10, 11)))),
+    ("two cases at 2", TONES, certificate(OPEN, 2, split(81, 2, overload(11), overload(10))), "--depth=1"),
+    ("one batch", TONES, certificate(OPEN, 1, overload(10, 11))),
+    ("a closed end that a page may make", LAST_TONE, certificate(CLOSED, 2, close(overload(15), overload(15)))),
+    ("a closed end", LOOP, certificate(CLOSED, 2, close(overload(15)))),
+    ("a closed end with tones", TONES, certificate(CLOSED, 2, overload(10, 11))),
+    ("an idle last", LOOP, certificate(IDLE, 2, close(overload(15)))),
+    ("an idle last with tones", TONES, certificate(IDLE, 2, overload(10, 11))),
 ]
-for end, name, told in ((CLOSED, "a closed end", "closed end"), (IDLE, "an idle last", "idle last")):
-    SHOWN += [
-        (name, LOOP, certificate(end, 2, close(overload(15))), [], [
-            f"at least 2 batches, {told}: 1 page, 16 codewords, room for 16 in 1 batch, yet",
-            "node 1: the last codeword, in slot 15, is an idle", *LAST_IDLE, f"{SO_TONES} with {name}",
-        ]),
-        (f"{name} with tones", TONES, certificate(end, 2, overload(10, 11)), [], [
-            f"at least 2 batches, {told}: 3 pages, 3 codewords, room for 16 in 1 batch, yet", f"node 1: {STARTS}",
-            f"{SO_TONES} with {name}",
-        ]),
-    ]
+# Those that are not.
 REFUSED = [
-    ("another slot", APART, certificate(OPEN, 3, cut([0], 48, overload(0), overload(0))),
-     "node 1.2: slot 0: 2 codewords at the least, room for 2"),
-    ("one batch more", APART, certificate(OPEN, 4, overload(15)), "node 1: slot 15: 2 codewords at the least, room for 3"),
-    ("one page alone", LOOP, certificate(OPEN, 2, overload(15)), "node 1: slot 15: 1 codeword at the least, room for 1"),
-    ("a missing way", APART, certificate(OPEN, 3, cut([0, 1], 48, overload(0), overload(15), overload(1))),
-     "node 1: 2 ways out of boundaries 0 and 1, and 3 nodes for them"),
-    ("without boundary 0", APART, certificate(OPEN, 3, cut([6], 48, overload(0), overload(15))),
-     "node 1: boundary 0 is not in the set of boundary 6"),
-    ("a class that may stay", APART, certificate(OPEN, 3, cut([0], 0, overload(0), overload(15))),
-     "node 1: no page of address 0 (16 codewords) has to start or end outside boundary 0"),
-    ("a class of no pages", APART, certificate(OPEN, 3, cut([0], 5, overload(0), overload(15))),
-     "node 1: no page of frame 0 and length 5 modulo 16 has to start or end outside boundary 0"),
-    ("a node too many of the smaller side", APART, certificate(OPEN, 3, cut(AROUND, 48, overload(5), overload(7), overload(8))),
-     "node 1: 2 ways out of boundaries 6 and 7, the smaller side of the cut, and 3 nodes for them"),
-    ("a split too high", TONES, certificate(OPEN, 2, split(81, 4, overload(11), overload(10))),
-     f"node 1: 0 to 3 pages of {THREE_TONES} may start in slot 10: no split at 4"),
-    ("a deep one", TONES, certificate(OPEN, 2, split(81, 1, split(81, 1, overload(11), overload(11)), overload(10, 11))),
-     f"node 1.1: 0 to 0 pages of {THREE_TONES} may start in slot 10: no split at 1"),
-    ("a close of the open end", LOOP, certificate(OPEN, 2, close(overload(15))), "node 1: a closed end, where the end is open"),
-    ("a close of no batches", LOOP, certificate(CLOSED, 1, close(overload(15))), "node 1: a closed end, where there are no batches"),
-    ("an idle last of no batches", LOOP, certificate(IDLE, 1, close(overload(15))), "node 1: an idle last, where there are no batches"),
-    ("a late tone for an idle end", LOOP, certificate(IDLE, 2, close(overload(15), overload(15))), "node 1: 1 way to close, and 2 nodes for them"),
-    ("not examined", TONES, certificate(OPEN, 2, UNEXAMINED), "node 1: not examined"),
-    ("a cut of no batches", APART, certificate(OPEN, 1, CUT_APART), "node 1: a cut, where there are no batches"),
+    ("another slot", APART, certificate(OPEN, 3, cut([0], 48, overload(0), overload(0)))),
+    ("one batch more", APART, certificate(OPEN, 4, overload(15))),
+    ("one page alone", LOOP, certificate(OPEN, 2, overload(15))),
+    ("a missing way", APART, certificate(OPEN, 3, cut([0, 1], 48, overload(0), overload(15), overload(1)))),
+    ("without boundary 0", APART, certificate(OPEN, 3, cut([6], 48, overload(0), overload(15)))),
+    ("a class that may stay", APART, certificate(OPEN, 3, cut([0], 0, overload(0), overload(15)))),
+    ("a class of no pages", APART, certificate(OPEN, 3, cut([0], 5, overload(0), overload(15)))),
+    ("a node too many of the smaller side", APART, certificate(OPEN, 3, cut(AROUND, 48, overload(5), overload(7), overload(8)))),
+    ("a split too high", TONES, certificate(OPEN, 2, split(81, 4, overload(11), overload(10)))),
+    ("a deep one", TONES, certificate(OPEN, 2, split(81, 1, split(81, 1, overload(11), overload(11)), overload(10, 11)))),
+    ("a close of the open end", LOOP, certificate(OPEN, 2, close(overload(15)))),
+    ("a close of no batches", LOOP, certificate(CLOSED, 1, close(overload(15)))),
+    ("an idle last of no batches", LOOP, certificate(IDLE, 1, close(overload(15)))),
+    ("a late tone for an idle end", LOOP, certificate(IDLE, 2, close(overload(15), overload(15)))),
+    ("not examined", TONES, certificate(OPEN, 2, UNEXAMINED)),
+    ("a cut of no batches", APART, certificate(OPEN, 1, CUT_APART)),
 ]
+TEXTS = dict(re.findall(r"^== (.*)\n((?:(?!==).+\n)*)", pathlib.Path(__file__).with_name("shown.txt").read_text(), re.MULTILINE))
 
 
 def explained(folder, pages, text, *words):
@@ -189,28 +109,15 @@ def explained(folder, pages, text, *words):
     return run(["explain", folder / "pages.csv", folder / "cert.bin", *words])
 
 
-def wrapped(lines):
-    """The lines as they are told: none longer than 100 characters, and further ones four characters further right."""
-    for line in lines:
-        indent = " " * (len(line) - len(line.lstrip()))
-        yield from textwrap.wrap(
-            line.lstrip(), 100, initial_indent=indent, subsequent_indent=indent + "    ", break_long_words=False, break_on_hyphens=False
-        )
-
-
 def try_sentences(tally, folder):
-    for name, pages, text, words, lines in SHOWN:
-        done = explained(folder, pages, text, *words)
-        if lines is None:
-            checked = run(["check", folder / "pages.csv", folder / "cert.bin"])
-            tally.check(f"explain: {name}", done.returncode == checked.returncode, done)
-            continue
-        tally.check_done(f"explain: {name}", done, 0, "".join(f"{line}\n" for line in wrapped(lines)).encode())
-    for name, pages, text, line in REFUSED:
-        wanted = "".join(f"{line}\n" for line in ["not shown", *wrapped([line])]).encode()
-        tally.check_done(f"explain, refused: {name}", explained(folder, pages, text), 1, wanted)
-        told = explained(folder, pages, text, "--depth", "1")
-        tally.check(f"explain, refused at any depth: {name}", told.stdout == wanted, told)
+    for name, pages, text, *words in SHOWN:
+        tally.check_done(f"explain: {name}", explained(folder, pages, text, *words), 0, TEXTS[name].encode())
+    for name, pages, text in REFUSED:
+        for words in ([], ["--depth", "1"], ["--verbose"]):
+            tally.check_done(f"explain, refused: {name} {words}", explained(folder, pages, text, *words), 1, TEXTS[name].encode())
+    done = explained(folder, TONES, certificate(OPEN, 2, overload(3, 10, 11)))
+    checked = run(["check", folder / "pages.csv", folder / "cert.bin"])
+    tally.check("explain: slots of more frames", done.returncode == checked.returncode, done)
 
 
 def kind(frame, length, alone=False):
@@ -272,39 +179,36 @@ DRAWN = {
     "one batch": [(NO_TONE, [0] * 16, [10, 11], [])],
     "a closed end": [([1] * 16, ONE_PLACE, [], []), ([1] * 16, [1] * 15 + [0], [15], [])],
 }
-# A page file, its certificate, what is told of the node that is refused, and of each node that is drawn its line beside these.
+# The same of certificates that are refused.
 DRAWN_REFUSED = [
-    ("a refused node", APART, certificate(OPEN, 3, cut([0], 48, overload(0), overload(0))),
-     "node 1.2: slot 0: 2 codewords at the least, room for 2", [
-        (ROOT_APART, IN_EACH, TWO_PLACES, [], [0]),
-        (f"node 1.1, with an idle in slot 0: slot 0: 2 codewords at the least, room for 1; {EACH_LOOP}",
-         IN_EACH, [1] + [2] * 15, [0], []),
-        ("node 1.2, with an idle in slot 15: slot 0: 2 codewords at the least, room for 2", IN_EACH, [2] * 15 + [1], [0], []),
+    ("a refused node", APART, certificate(OPEN, 3, cut([0], 48, overload(0), overload(0))), [
+        (IN_EACH, TWO_PLACES, [], [0]), (IN_EACH, [1] + [2] * 15, [0], []), (IN_EACH, [2] * 15 + [1], [0], []),
     ]),
-    ("a refused root", APART, certificate(OPEN, 3, cut([0, 1], 48, overload(0), overload(15), overload(1))),
-     "node 1: 2 ways out of boundaries 0 and 1, and 3 nodes for them", [
-        ("node 1: 2 ways out of boundaries 0 and 1, and 3 nodes for them", IN_EACH, TWO_PLACES, [], [0, 1]),
+    ("a refused root", APART, certificate(OPEN, 3, cut([0, 1], 48, overload(0), overload(15), overload(1))), [
+        (IN_EACH, TWO_PLACES, [], [0, 1]),
     ]),
     ("a refused node below those that are drawn", TONES,
-     certificate(OPEN, 2, split(81, 1, overload(11), split(81, 2, overload(9), overload(10)))),
-     "node 1.2.1: slot 9: 0 codewords at the least, room for 1", [
-        (f"{CASES_OF_TONES}none starts in slot 10, or at least 1 does", NO_TONE, ONE_PLACE, [], []),
-        (IN_EACH_CASE[0], TONES_LATE, ONE_PLACE, [11], []),
-        (f"node 1.2, in the second case: {CASES_OF_TONES[len('node 1: '):]}fewer than 2 start in slot 10, or at least 2 do",
-         [0] * 10 + [1] + [0] * 5, ONE_PLACE, [], []),
+     certificate(OPEN, 2, split(81, 1, overload(11), split(81, 2, overload(9), overload(10)))), [
+        (NO_TONE, ONE_PLACE, [], []), (TONES_LATE, ONE_PLACE, [11], []), ([0] * 10 + [1] + [0] * 5, ONE_PLACE, [], []),
     ]),
-]
+]  # fmt: skip
+
+
+def sentences(text):
+    """The sentences of a text, each as one line."""
+    starts = r"\n(?= *(?:node [\d.]+[:,]|limits:|so \d+ batch|\.\. \d|at least \d+ batch))"
+    return [" ".join(it.split()) for it in re.split(starts, text)]
 
 
 def drawn():
     """What is drawn: a name, a page file, its certificate, the status, the heading, the last sentence, and the nodes with their lines."""
     shown = {name: row for name, *row in SHOWN}
-    for name, nodes in DRAWN.items():
-        pages, text, _, lines = shown[name]
-        told = [line.strip() for line in lines if line.lstrip().startswith("node ")]
-        yield name, pages, text, 0, lines[0], f"{lines[-1]} ", [(line, *row) for line, row in zip(told, nodes, strict=True)]
-    for name, pages, text, line, nodes in DRAWN_REFUSED:
-        yield name, pages, text, 1, f"not shown: {line}", "", nodes
+    rows = [(name, *shown[name][:2], 0, nodes) for name, nodes in DRAWN.items()]
+    for name, pages, text, status, nodes in rows + [(*row[:3], 1, row[3]) for row in DRAWN_REFUSED]:
+        heading, *lines = sentences(TEXTS[name])
+        told = [line for line in lines if line.startswith("node ")]
+        last = "" if status else f"{lines[-1]} "
+        yield name, pages, text, status, heading, last, [(line, *row) for line, row in zip(told, nodes, strict=True)]
 
 
 def words_of(nodes):
@@ -357,31 +261,6 @@ def try_drawings(tally, folder):
             lines = [path.get("d") for path in inner.findall(SVG + "path") if path.get("class") == "s"]
             due = [f"M{LEFT + WIDTH * boundary} 6V102" for boundary in boundaries]
             tally.check(f"drawing: {name}: boundaries of {number}", lines == due, lines)
-    explained(folder, APART, certificate(OPEN, 3, CUT_APART))
-    for words in (["--svg", "--json"], ["--svg", "--depth", "2"], ["--svg", "x"]):
-        tally.check_usage(f"usage {words}", run(["explain", folder / "pages.csv", folder / "cert.bin", *words]))
-
-
-def try_words(tally, folder):
-    explained(folder, APART, certificate(OPEN, 3, CUT_APART))
-    pages, cert = folder / "pages.csv", folder / "cert.bin"
-    whole = run(["explain", pages, cert])
-    tally.check("explained", whole.returncode == 0, whole)
-    tally.check_done("the page file by a pipe", run(["explain", "-", cert], stdin=pages.read_bytes()), *said(whole))
-    tally.check_done("the certificate by a pipe", run(["explain", pages, "-"], stdin=cert.read_bytes()), *said(whole))
-    for words, status, err in (
-        (["explain", "-", "-"], 1, NAMED_TWICE),
-        (["explain", pages, pages], 1, fault("not a certificate")),
-        (["explain", folder / "none", cert], 3, CANNOT_OPEN),
-        (["explain", pages, folder / "none"], 3, CANNOT_OPEN),
-    ):
-        tally.check_done(f"{words}", run(words), status, b"", err)
-    for words in (["explain", pages], ["explain", pages, cert, "--depth"], ["explain", pages, cert, "--depth", "x"], ["explain", pages, cert, "--rows", "1"]):
-        tally.check_usage(f"usage {words}", run(words))
-    tally.check_full("a full device", ["explain", pages, cert])
-    (folder / "cert.bin").write_bytes(certificate(OPEN, 4, overload(15)))
-    done = run(["explain", pages, cert, "--verbose"])
-    tally.check("no line of --verbose where it is not shown", (done.returncode, done.stderr) == (1, b""), done)
 
 
 def idles_of(grid):
@@ -434,9 +313,7 @@ def try_frames(tally, folder):
     wanted = [f"frame {frame} pages {pages} codewords {words} room {room}" for frame, pages, words, room in rows]
     told = done.stdout.decode().splitlines()
     tally.check("the frames of the sample round", done.returncode == 0 and told[7:] == wanted, told)
-    tally.check_done("frames at no rate", run(["report", EXAMPLES / "round.csv", "--rate", "7", "--frames"]), 1, b"", BAD_RATE)
-    tally.check_done("frames with no limit", run(["report", EXAMPLES / "round.csv", "--rate", "512", "--limit", "0", "--frames"]), 1, b"", BAD_LIMIT)
 
 
 if __name__ == "__main__":
-    sys.exit(run_parts(try_sentences, try_json, try_drawings, try_words, try_planned, try_frames))
+    sys.exit(run_parts(try_sentences, try_json, try_drawings, try_planned, try_frames))
