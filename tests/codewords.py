@@ -1,6 +1,9 @@
 """Codewords, transmissions and page files, made by the rules of docs/CERTIFICATES.md and by no code of the product. A codeword is
 four bytes. A page is its address, its function, and the items of its message, each of twenty bits."""
 
+import csv
+import io
+
 HEADER = b"address,kind,message\n"
 LARGEST = 268_435_456  # bytes of a page file or a transmission
 # Two pages that fill a batch each and need three.
@@ -139,3 +142,18 @@ def changed(source, data):
         else:
             del data[place:]
     return bytes(data)
+
+
+def flipped(word, *bits):
+    """The codeword with these bits changed, of which the last one sent is bit 0."""
+    return (int.from_bytes(word, "big") ^ sum(1 << bit for bit in bits)).to_bytes(4, "big")
+
+
+def address_at(words, begin):
+    """The address of the page that begins with this one of the codewords of a transmission."""
+    return (int.from_bytes(words[begin], "big") >> 13 & 0x3FFFF) * 8 + begin % 16 // 2
+
+
+def rows_of(listing):
+    """The rows of a listing or a page file."""
+    return list(csv.reader(io.StringIO(listing.decode("latin-1"), newline="")))

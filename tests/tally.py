@@ -1,10 +1,13 @@
 """What the tests of the repository share."""
 
+import contextlib
 import importlib.machinery
 import importlib.util
 import itertools
 import os
 import pathlib
+import re
+import resource
 import shutil
 import subprocess
 import tempfile
@@ -155,3 +158,40 @@ def as_nobody(folder):
     words[0] = shutil.which(words[0])
     can_enter = subprocess.run([*words, "test", "-x", str(folder)], stdout=subprocess.DEVNULL, stderr=subprocess.DEVNULL).returncode == 0
     return words if can_enter else []
+
+
+@contextlib.contextmanager
+def own_disk(folder, options):
+    """A folder with a file system of its own in memory, for which `mount` is given these options; nothing where none can be mounted."""
+    folder.mkdir(exist_ok=True)
+    words = ["mount", "-t", "tmpfs", "-o", options, "pocsag", str(folder)]
+    is_mounted = bool(shutil.which(words[0])) and subprocess.run(words, capture_output=True).returncode == 0
+    try:
+        yield folder if is_mounted else None
+    finally:
+        if is_mounted:
+            subprocess.run(["umount", "-l", str(folder)], check=True)
+
+
+def with_most_bytes(size):
+    """How a program is started that may make no file longer than this."""
+    return {"preexec_fn": lambda: resource.setrlimit(resource.RLIMIT_FSIZE, (size, size)), "restore_signals": False}
+
+
+def put(folder, files):
+    """Writes files, texts or bytes, by their paths in a folder; gives the folder."""
+    for path, data in files.items():
+        (folder / path).parent.mkdir(parents=True, exist_ok=True)
+        (folder / path).write_bytes(data if isinstance(data, bytes) else data.encode())
+    return folder
+
+
+def samples(file):
+    """The texts of a file of samples by their paths, each of which stands behind `====` in a line of its own."""
+    parts = re.split(r"^==== (.*)\n", file.read_text(), flags=re.MULTILINE)
+    return dict(zip(parts[1::2], parts[2::2]))
+
+
+def call(*words, **how):
+    """A run of a command by words, paths and numbers, with what it printed."""
+    return subprocess.run([str(word) for word in words], **({"capture_output": True, "timeout": 600} | how))

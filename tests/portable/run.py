@@ -15,7 +15,6 @@ import re
 import shutil
 import subprocess
 import sys
-import tempfile
 
 sys.dont_write_bytecode = True
 TOP = pathlib.Path(__file__).resolve().parents[2]
@@ -25,7 +24,7 @@ import packages
 import products
 import version
 from cases import CASES
-from tally import LIBRARY, PROGRAM, Tally, as_nobody, said
+from tally import LIBRARY, PROGRAM, as_nobody, put, run_parts, said, skipped
 
 HERE = pathlib.Path(__file__).resolve().parent
 # The scripts that run the program, and of how many of their cases one is tried here: the host is not another in each. Those of
@@ -36,9 +35,9 @@ ON_ARM = {"tests/program/run.py": 101, "tests/program/open.py": 101, "tests/jour
 # How the Makefile has the runtime of wasm2c, and what it has where each address is checked.
 RUNTIME = ["-DWASM_RT_SKIP_SIGNAL_RECOVERY=1", "-DWASM_RT_USE_STACK_DEPTH_COUNT=0"]
 CHECKS = {"by the system": [], "one by one": ["-DWASM_RT_MEMCHECK_SIGNAL_HANDLER=0"]}
-OUT_OF_RANGE = "pocsag: Out-of-bounds access in linear memory or a table\n"
-END_OF_STACK = "pocsag: Call stack exhausted\n"
-OUT_OF_MEMORY = "pocsag: out of memory\n"
+OUT_OF_RANGE, END_OF_STACK, OUT_OF_MEMORY = (
+    (3, "", f"pocsag: {text}\n") for text in ("Out-of-bounds access in linear memory or a table", "Call stack exhausted", "out of memory")
+)
 PRELUDE = """
 pocsag() { "$PROGRAM" "$@"; }
 as_other() { $AS_OTHER "$PROGRAM" "$@"; }
@@ -69,10 +68,7 @@ def compiled(room, name, *settings):
     files = released(f"pocsag-{version.VERSION}-c.tar.xz") if LIBRARY else products.in_c()
     files, folder = {it: file.data for it, file in files.items()}, room / name
     shutil.copytree(products.portable.program(name, *settings, of=files).parents[1], folder)
-    for it in files.keys() - {path.name for path in folder.iterdir()}:
-        (folder / it).parent.mkdir(parents=True, exist_ok=True)
-        (folder / it).write_bytes(files[it])
-    return folder
+    return put(folder, {it: data for it, data in files.items() if not (folder / it).exists()})
 
 
 def prepared(room, name):
@@ -119,10 +115,10 @@ def try_memory(tally, room, program):
     limits = (*range(12_000, 50_000, 2_000), 1_000_000)
     found = [said(limited(f"-d {limit}", program, "report", "--rate", "1200", str(pages))) for limit in limits]
     number, few = found.index(found[-1]), said(limited("-v 1000000", program, "--version"))
-    tally.check("too few addresses", few == (3, "", OUT_OF_MEMORY), few)
+    tally.check("too few addresses", few == OUT_OF_MEMORY, few)
     tally.check("what ample memory gives", found[-1][0] == 0 and found[-1][1].startswith("pages 16000\n"), found[-1])
     tally.check("enough is enough", found[number:] == [found[-1]] * (len(found) - number), found)
-    tally.check("and less is told", number > 5 and found[:number] == [(3, "", OUT_OF_MEMORY)] * number, found)
+    tally.check("and less is told", number > 5 and found[:number] == [OUT_OF_MEMORY] * number, found)
 
 
 def try_stack(tally, room, program):
@@ -133,8 +129,8 @@ def try_stack(tally, room, program):
     for size in (48, 64, 96, 128, 192, 256, 512, 1024, 2048, 8192):
         done = limited(f"-s {size}", program, "check", str(folder / "p.csv"), str(folder / "deep"))
         told = said(done)
-        tally.check(f"{size} KiB of stack", told == (1, "not shown\n", "") or size < 2048 and told == (3, "", END_OF_STACK), told)
-        refused += told == (3, "", END_OF_STACK)
+        tally.check(f"{size} KiB of stack", told == (1, "not shown\n", "") or size < 2048 and told == END_OF_STACK, told)
+        refused += told == END_OF_STACK
     tally.check("the stack ended", refused > 0)
 
 
@@ -146,7 +142,7 @@ def try_out_of_range(tally, room, folder):
         subprocess.run(["cc", "-O1", *RUNTIME, *settings, f"-I{folder}", "-o", str(stand_in), *map(str, files)], check=True)
         for word in ("read", "write", "length", "path", "status", "folder", "time", "word", "stack", *(() if settings else ("load", "far"))):
             done = subprocess.run([str(stand_in), word], capture_output=True, text=True, stdin=subprocess.DEVNULL)
-            tally.check(f"out of range, seen {checked}: {word}", said(done) == (3, "", END_OF_STACK if word == "stack" else OUT_OF_RANGE), done)
+            tally.check(f"out of range, seen {checked}: {word}", said(done) == (END_OF_STACK if word == "stack" else OUT_OF_RANGE), done)
 
 
 def try_check(tally, folder, name, emulator=""):
@@ -176,6 +172,7 @@ def try_package(tally, folder):
 
 def try_armhf(tally, room):
     """The program for 32-bit ARM, under an emulator."""
+    room.chmod(0o755)
     native, why_not = room / "native armhf", arm64.why_not(products.ARMHF)
     if why_not:
         print(f"left out: {why_not}")
@@ -202,6 +199,7 @@ def try_others(tally, room):
 
 def try_native(tally, room):
     """The program by this machine's compiler."""
+    room.chmod(0o755)
     folder = compiled(room, "native", "CFLAGS=-O1")
     program = shutil.copy(folder / "bin/pocsag", room / "pocsag")
     for part in (try_cases, try_memory, try_stack):
@@ -212,17 +210,9 @@ def try_native(tally, room):
 
 
 def main(words):
-    tally = Tally()
     if what_is_missing():
-        print(f"skipped: {what_is_missing()}")
-        tally.check("skipped", True)
-        return tally.end()
-    with tempfile.TemporaryDirectory() as name:
-        room = pathlib.Path(name)
-        room.chmod(0o755)
-        for part in (try_others, try_armhf) if words == ["--others"] else (try_native,):
-            part(tally, room)
-    return tally.end()
+        return skipped(what_is_missing())
+    return run_parts(*((try_others, try_armhf) if words == ["--others"] else (try_native,)))
 
 
 if __name__ == "__main__":

@@ -13,26 +13,24 @@ import random
 import shutil
 import subprocess
 import sys
-import tempfile
 import time
 
 sys.dont_write_bytecode = True
 TOP = pathlib.Path(__file__).resolve().parents[2]
 sys.path[:0] = [str(TOP / it) for it in ("tests", "tests/program", "portable", "release", "tools")]
+import hosts
 import packages
 import run as program
 import version
 import windows
-from tally import ENDS, LIBRARY, Tally, said
+from codewords import APART, HEADER
+from hosts import ROUND
+from tally import CANNOT_OPEN, CANNOT_WRITE, ENDS, LIBRARY, NAMED_TWICE, fault, files_of, put, run_parts, said, skipped
 
 TOOLS = {"wine": "wine", "wineserver": "wine", "wasm2c": "wabt", "wat2wasm": "wabt", windows.COMPILER: "gcc-mingw-w64-x86-64"}  # with Debian's packages
 STREAMS = ("stdin", "stdout", "stderr")
-HEADER, ROUND = program.HEADER, (TOP / "examples/round.csv").read_bytes()
-APART = HEADER + b"0,numeric," + b"1" * 75 + b"\n3,numeric," + b"1" * 75 + b"\n"
-TONES = HEADER + b"".join(b"%d,tone0,\n" % (8 * k) for k in range(1, 8))
-TWICE = TONES + b'8,alpha,"a, ""b"""\r\n16,numeric,[12-34]\r\n'
 PLANNED = (0, b"pages 6\nbatches 2\n", b"")  # what a plan of ROUND prints
-CANNOT_OPEN, CANNOT_WRITE, ONE_FILE = b"pocsag: cannot read or open a file\n", b"pocsag: cannot write\n", b"pocsag: the same file is named twice\n"
+NOT_OWNER = fault("the new file cannot be given the owner, group and mode of the old one")
 # Names of several scripts, and with what shells and paths could take otherwise.
 NAMES = ("Zürich.csv", "данные.csv", "頁.csv", "📟 page.csv", "a'b & c.csv", "%TEMP%.csv", "^!.csv", "-.csv")
 
@@ -78,147 +76,49 @@ def native(words, folder, stdin=b""):
     return said(program.run(words, folder, stdin))
 
 
-def put(folder, files):
+def begin(folder, files):
     """Makes the folder anew, with these files, and a folder in it."""
     shutil.rmtree(folder, ignore_errors=True)
     (folder / "folder").mkdir(parents=True)
-    for name, data in files.items():
-        (folder / name).write_bytes(data)
+    put(folder, files)
 
 
-def files_of(folder):
-    return {path.name: path.read_bytes() for path in folder.iterdir() if path.is_file()}
-
-
-class Both:
-    """The program for Windows and the native one, each in a folder with the same files."""
-
-    def __init__(self, tally, room, wine):
-        self.tally, self.room, self.wine, self.files = tally, room, wine, {}
-
-    def make(self, words, *names):
-        """Adds files that the native program makes."""
-        put(self.room / "native", self.files)
-        native(words.split(), self.room / "native")
-        self.files |= {name: (self.room / "native" / name).read_bytes() for name in names}
-
-    def check(self, words, stdin=b""):
-        words = words.split() if isinstance(words, str) else words
-        found = []
-        for name, run in (("native", native), ("windows", self.wine.run)):
-            put(self.room / name, self.files)
-            found.append((run(words, self.room / name, stdin), files_of(self.room / name)))
-        wrong = [name for name in found[0][1].keys() | found[1][1].keys() if found[0][1].get(name) != found[1][1].get(name)]
-        self.tally.check(f"as the native program: {words} {stdin[:40]}", found[0] == found[1], str((found[0][0], found[1][0], wrong))[:2000])
+def try_same(tally, room, wine, files, words, stdin=b""):
+    """Whether the program for Windows and the native one do the same, each in a folder with the same files."""
+    found = []
+    for name, run in (("native", native), ("windows", wine.run)):
+        begin(room / name, files)
+        found.append((run(words, room / name, stdin), files_of(room / name)))
+    (told, left), (due, wanted) = found
+    wrong = [name for name in left.keys() | wanted.keys() if left.get(name) != wanted.get(name)]
+    tally.check(f"as the native program: {words} {stdin[:40]}", found[0] == found[1], str((told, due, wrong))[:2000])
 
 
 # ---- beside the native program
 
-LINES = """
---help
---version
-plan --help
-help open
-plan tones.csv a.bin
-plan tones.csv a.bin a.cert --limit x
-nothing
-plan round.csv a.bin a.cert --verify --strict --expect 6
-plan round.csv a.bin a.cert --keep --verify
-plan round.csv old.bin old.cert --keep
-plan round.csv old.bin old.cert --always --limit 1
-plan bad.csv old.bin old.cert
-plan bad.csv old.bin old.cert --keep --verbose
-plan none.csv old.bin old.cert --verbose
-plan none.csv old.bin old.cert --keep --verbose
-plan folder old.bin old.cert --verbose
-plan round.csv folder old.cert --verbose
-plan round.csv old.bin folder --keep --verbose
-plan round.csv none/a.bin old.cert --verbose
-plan round.csv none/a.bin old.cert --keep --verbose
-plan round.csv round.csv old.cert --verbose
-plan round.csv ./round.csv old.cert --verbose
-plan round.csv old.bin folder/../old.bin --verbose
-plan round.csv new.bin ./new.bin
-plan - a.bin a.cert
-plan - - a.cert
-plan - a.bin - --verbose
-plan round.csv /dev/null a.cert
-plan /dev/null a.bin a.cert --verbose
-plan tones.csv a.bin a.cert --at-most 2 --rest rest.csv --why why --keep
-plan tones.csv a.bin a.cert --at-most 2 --rest tones.csv --verbose
-plan apart.csv a.bin a.cert --at-most 1 --oversized over.csv --rest rest.csv
-plan twice.csv a.bin a.cert --airtime 900 --rate 512 --later --rest twice.rest --keep
-plan twice.csv a.bin a.cert
-check apart.csv apart.cert
-check tones.csv apart.cert --verbose
-check - apart.cert
-check apart.csv apart.bin
-check apart.csv none.cert --verbose
-report round.csv --rate 1200 --frames
-report twice.csv --rate 512
-explain apart.csv apart.cert
-explain apart.csv apart.cert --json --depth 1
-explain apart.csv apart.cert --svg
-explain round.csv apart.cert
-decode apart.bin
-decode mixed.bin --repair --json
-decode cut.bin
-decode mixed.bin --text 8
-decode air.bin --capture
-decode air.bin --capture --json
-hear 8 mixed.bin
-hear 16 worn.bin --json
-hear 2097152 mixed.bin
-show round.bin
-show round.bin --svg
-show air.bin --capture --nth 2 --list
-show mixed.bin --list --rows 2-3
-show worn.bin --repair --rows 2
-wav round.bin
-wav round.bin --rate 512 --samples 8000 --invert --tail 0
-wav round.bin --preamble 577
-open --journal none/new
-open --journal old.journal --read-only
-"""
-EDITS = b'add,8,tone0,\nadd,11,alpha,"Pump 4, hall ""B"""\r\nadd,8,tone0,\nlist\nplan,a.bin,a.cert\nplan,a.bin,a.cert,closed,1\nlist\nsent,1\nclear\nplan,x\nlist'
-
-
-def air(first, second):
-    """A capture: noise, and two transmissions at bits that begin no byte, the second in the other polarity."""
-    bits = "".join(f"{byte:08b}" for byte in b"\x35\x9d\xc1" + first + b"\x17")[3:]
-    bits += "".join(f"{byte ^ 255:08b}" for byte in second) + "011"
-    bits += "0" * (-len(bits) % 8)
-    return int(bits, 2).to_bytes(len(bits) // 8, "big")
+# Devices that Wine has from the system, and journals that are not written.
+LINES = [
+    "plan round.csv /dev/null a.cert",
+    "plan /dev/null a.bin a.cert --verbose",
+    "open --journal none/new",
+    "open --journal old.journal --read-only",
+]
 
 
 def try_beside(tally, room, wine):
     """A sample of the cases of the native program's own tests."""
-    both = Both(tally, room, wine)
-    both.files = {"round.csv": ROUND, "apart.csv": APART, "tones.csv": TONES, "twice.csv": TWICE, "bad.csv": HEADER + b"1,tone0,\n2,tone9,\n"}
-    both.files["mixed.csv"] = HEADER + b'8,alpha,"a ""b"", c"\r\n16,numeric,12-[ U]*\n24,tone3,\n2007663,alpha,\x01~\x7f\n'
-    for name in ("round", "apart", "mixed"):
-        both.make(f"plan {name}.csv {name}.bin {name}.cert", f"{name}.bin", f"{name}.cert")
-    sent = both.files["mixed.bin"]
-    both.files |= {"worn.bin": sent[:80] + bytes([sent[80] ^ 0x90]) + sent[81:], "cut.bin": sent[:-1], "air.bin": air(both.files["round.bin"], sent)}
-    both.files |= {"old.bin": b"older" * 99, "old.cert": b"older", "rest.csv": b"old rest", "old.journal": b"add,8,tone0,\nadd,16,tone1,\n"}
-    for words in LINES.strip().split("\n"):
-        both.check(words, ROUND)
-    for stdin in (ROUND, ROUND.replace(b"\n", b"\r\n"), b"", b"\0" * 5000, APART[:-1]):
-        both.check("", stdin)
-    both.check("open", EDITS)
-    both.check("open round.csv --expect 6 --keep", EDITS)
-    both.check("open --verbose", b"plan,tx.bin,folder,open\nplan,tx.bin,none/x,open\nadd,1,tone0,\nplan,folder,a.cert,open\n")
+    files = hosts.first_files(room) | {"old.journal": b"add,8,tone0,\nadd,16,tone1,\n"}
+    for words, stdin in hosts.commands(files, *LINES):
+        try_same(tally, room, wine, files, words, stdin)
 
 
 def try_rounds(tally, room, wine):
     """Some of the worked rounds, and of the page files that are refused."""
-    both = Both(tally, room, wine)
+    words = ["plan", "pages.csv", "tx.bin", "cert.bin"]
     for name, end in itertools.islice(itertools.product(program.ROUNDS, ENDS), 0, None, 4):
-        both.files = {"pages.csv": HEADER + program.ROUNDS[name][0]}
-        both.check(["plan", "pages.csv", "tx.bin", "cert.bin", *ENDS[end], "--verify"])
+        try_same(tally, room, wine, {"pages.csv": HEADER + program.ROUNDS[name][0]}, [*words, *ENDS[end], "--verify"])
     for name in list(program.REFUSED)[::3]:
-        both.files = {"pages.csv": program.REFUSED[name][0] or b""}
-        both.check("plan pages.csv tx.bin cert.bin --verbose")
+        try_same(tally, room, wine, {"pages.csv": program.REFUSED[name][0] or b""}, [*words, "--verbose"])
 
 
 # ---- names and paths
@@ -226,12 +126,12 @@ def try_rounds(tally, room, wine):
 
 def try_names(tally, room, wine):
     folder = room / "names"
-    put(folder, dict.fromkeys(NAMES, ROUND))
+    begin(folder, dict.fromkeys(NAMES, ROUND))
     for name in NAMES:
         told = wine.run(["plan", "--keep", "--", name, f"{name}.bin", f"{name}.cert"], folder)
         tally.check(f"the name {name}", told == PLANNED and (folder / f"{name}.bin").is_file(), told)
         told = wine.run(["decode", "--verbose", f"no {name}"], folder)
-        due = CANNOT_OPEN + f"pocsag: transmission no {name}: No such file or directory (os error 2)\n".encode()
+        due = CANNOT_OPEN + fault(f"transmission no {name}: No such file or directory (os error 2)")
         tally.check(f"no file of the name {name}", told == (3, b"", due), told)
     told = wine.run(["open"], folder, "add,8,tone0,\nplan,Äther.bin,folder\\Äther.cert,open\n".encode())
     made = (folder / "Äther.bin").is_file() and (folder / "folder/Äther.cert").is_file()
@@ -248,7 +148,7 @@ def drive_path(path):
 def try_paths(tally, room, wine):
     """Words with `\\`, from the folder on and from the drive on, in a path of more than 260 characters too."""
     folder = room / "paths"
-    put(folder, {})
+    begin(folder, {})
     deep = pathlib.Path(*(["a folder of fifty characters, of which there are six"] * 6))
     (folder / deep).mkdir(parents=True)
     for place in (pathlib.Path("folder"), deep):
@@ -262,7 +162,7 @@ def try_paths(tally, room, wine):
     told = wine.run(["plan", "folder\\pages.csv", "NUL", "folder\\a.cert"], folder)
     tally.check("the device NUL", told == PLANNED and not (folder / "NUL").exists(), told)
     told = wine.run(["plan", "folder/pages.csv", "folder\\Pages.CSV", "a.cert", "--verbose"], folder)
-    due = ONE_FILE + b"pocsag: page file folder/pages.csv and transmission folder/Pages.CSV are one file\n"
+    due = NAMED_TWICE + fault("page file folder/pages.csv and transmission folder/Pages.CSV are one file")
     tally.check("names that differ in case", told == (1, b"", due), told)
 
 
@@ -271,13 +171,13 @@ def try_paths(tally, room, wine):
 
 def try_journal(tally, room, wine):
     """There are no locks, so no journal is written, and none is made."""
-    folder, why = room / "journal", b"pocsag: journal %s: Operation not supported (os error 95)\n"
-    put(folder, {})
+    folder, why = room / "journal", "journal {}: Operation not supported (os error 95)".format
+    begin(folder, {})
     native(["open", "--journal", "old"], folder, b"add,8,tone0,\n")
     before = files_of(folder)
     for name, told_why in itertools.product(("new", "old"), (False, True)):
         told = wine.run(["open", "--journal", name, *["--verbose"] * told_why], folder, b"add,16,tone0,\n")
-        tally.check(f"the journal {name}, told why: {told_why}", told == (3, b"", CANNOT_OPEN + why % name.encode() * told_why), told)
+        tally.check(f"the journal {name}, told why: {told_why}", told == (3, b"", CANNOT_OPEN + fault(why(name)) * told_why), told)
     tally.check("no journal is made or changed", before and files_of(folder) == before, files_of(folder))
     told = wine.run(["open", "--journal", "old", "--read-only"], folder)
     tally.check("a journal is listed", told == (0, HEADER + b"8,tone0,\n", b"pocsag: 1 edit read, 1 page\n"), told)
@@ -286,12 +186,12 @@ def try_journal(tally, room, wine):
 def try_kept(tally, room, wine):
     """`--keep` where the transmission cannot be replaced: another program has it open, or it is read-only."""
     folder, words = room / "kept", ["plan", "round.csv", "sent.bin", "sent.cert", "--keep"]
-    put(folder, {"round.csv": ROUND, "sent.cert": b"older"})
+    begin(folder, {"round.csv": ROUND, "sent.cert": b"older"})
     other = wine.start(["plan", "-", "sent.bin", "other.cert"], folder)  # which waits for its pages
     while not (folder / "other.cert").exists() and other.poll() is None:
         time.sleep(0.05)
     before, told = files_of(folder), wine.run([*words, "--verbose"], folder)
-    due = CANNOT_WRITE + b"pocsag: transmission sent.bin: Permission denied (os error 13)\n"
+    due = CANNOT_WRITE + fault("transmission sent.bin: Permission denied (os error 13)")
     tally.check("a file that is open is not replaced", told == (3, b"", due), told)
     tally.check("both files are back", before.items() <= files_of(folder).items(), sorted(files_of(folder)))
     other.kill()
@@ -306,15 +206,14 @@ def try_kept(tally, room, wine):
     tally.check("a closed file is replaced", told == PLANNED and (folder / "sent.bin").read_bytes() == (folder / "a.bin").read_bytes(), told)
     (folder / "sent.bin").chmod(0o444)
     before, told = files_of(folder), wine.run(words, folder)
-    due = b"pocsag: the new file cannot be given the owner, group and mode of the old one\n"
-    tally.check("a read-only file", told == (3, b"", due) and files_of(folder) == before, (told, sorted(files_of(folder))))
+    tally.check("a read-only file", told == (3, b"", NOT_OWNER) and files_of(folder) == before, (told, sorted(files_of(folder))))
 
 
 def try_left(tally, room, wine):
     """What killed runs left keeps no later run from its files, in a folder with ten thousand names; and stays there."""
     folder = room / "left"
     left = {f"sent.bin.pocsag.{number}.{ending}": b"left" for number in (4242, 1 << 31) for ending in ("new", "old")}
-    put(folder, {"round.csv": ROUND, **left, "sent.bin.pocsag.lock": b"", "sent.cert.pocsag.lock": b"", **{f"name {k}": b"" for k in range(10_000)}})
+    begin(folder, {"round.csv": ROUND, **left, "sent.bin.pocsag.lock": b"", "sent.cert.pocsag.lock": b"", **{f"name {k}": b"" for k in range(10_000)}})
     start = time.monotonic()
     told = wine.run(["plan", "round.csv", "sent.bin", "sent.cert", "--keep"], folder)
     tally.check("left-overs", told == PLANNED and time.monotonic() - start < 10, told)
@@ -325,7 +224,7 @@ def try_left(tally, room, wine):
 def try_killed(tally, room, wine):
     """A run with --keep that is killed leaves each file whole, and no new transmission beside an old certificate."""
     folder, source, due = room / "killed", random.Random(80), {}
-    put(folder, {"round.csv": ROUND, "apart.csv": APART})
+    begin(folder, {"round.csv": ROUND, "apart.csv": APART})
     places = [folder / name for name in ("sent.bin", "sent.cert")]
     for name in ("round", "apart"):
         native(["plan", f"{name}.csv", "sent.bin", "sent.cert"], folder)
@@ -350,7 +249,7 @@ def try_killed(tally, room, wine):
 def try_full(tally, room, wine):
     """A file system without room, where one can be mounted."""
     folder, small = room / "full", room / "full/folder"
-    put(folder, {"many.csv": HEADER + b"".join(b"%d,alpha,%s\n" % (8 * k + 1, b"w" * 90) for k in range(2_000))})
+    begin(folder, {"many.csv": HEADER + b"".join(b"%d,alpha,%s\n" % (8 * k + 1, b"w" * 90) for k in range(2_000))})
     words = ["mount", "-t", "tmpfs", "-o", "size=64k", "tmpfs", str(small)]
     if not shutil.which(words[0]) or subprocess.run(words, capture_output=True).returncode:
         print("left out: a full file system, since none can be mounted here")
@@ -358,7 +257,7 @@ def try_full(tally, room, wine):
     try:
         (small / "sent.bin").write_bytes(b"older")
         words = ["plan", "many.csv", "folder/sent.bin", "many.cert", "--always", "--verbose"]
-        due = CANNOT_WRITE + b"pocsag: transmission folder/sent.bin: No space left on device (os error 28)\n"
+        due = CANNOT_WRITE + fault("transmission folder/sent.bin: No space left on device (os error 28)")
         told = wine.run([*words, "--keep"], folder)
         tally.check("a full file system, kept", told == (3, b"", due) and files_of(small) == {"sent.bin": b"older"}, (told, sorted(files_of(small))))
         told = wine.run(words, folder)
@@ -372,7 +271,7 @@ def try_full(tally, room, wine):
 
 def try_streams(tally, room, wine):
     folder, report = room / "streams", ["report", "round.csv", "--rate", "512"]
-    put(folder, {"round.csv": ROUND})
+    begin(folder, {"round.csv": ROUND})
     process = wine.start(["open"], folder)
     for line, answers in ((b"add,8,tone0,\n", [b"ok 1\n"]), (b"list\r\n", [HEADER, b"8,tone0,\n", b"ok 1\n"]), (b"plan,a.bin,a.cert,open\n", [b"batches 1\n"])):
         process.stdin.write(line)
@@ -387,7 +286,7 @@ def try_streams(tally, room, wine):
     os.close(write)
     with open("/dev/full", "wb") as full:
         told = wine.run([*report, "--verbose"], folder, stdout=full)
-        due = CANNOT_WRITE + b"pocsag: standard output: No space left on device (os error 28)\n"
+        due = CANNOT_WRITE + fault("standard output: No space left on device (os error 28)")
         tally.check("a full device", told == (3, b"", due), told)
         told = wine.run(["plan", "none.csv", "a.bin", "a.cert"], folder, stderr=full)
         tally.check("a full device for faults", told == (3, b"", b""), told)
@@ -399,7 +298,7 @@ def try_streams(tally, room, wine):
 def try_shell(tally, room, wine):
     """The redirections of `cmd`, and words that name the file behind a stream."""
     folder = room / "shell"
-    put(folder, {"round.csv": ROUND, "crlf.csv": ROUND.replace(b"\n", b"\r\n")})
+    begin(folder, {"round.csv": ROUND, "crlf.csv": ROUND.replace(b"\n", b"\r\n")})
     native(["plan", "round.csv", "due.bin", "due.cert"], folder)
     due = (folder / "due.bin").read_bytes()
 
@@ -414,9 +313,9 @@ def try_shell(tally, room, wine):
     for line in ("plan round.csv a.bin b.cert > a.bin 2> why", "plan round.csv b.bin a.bin < a.bin 2> why", "plan round.csv - b.cert > why 2>&1"):
         (folder / "a.bin").write_bytes(due)
         told = shell(f"pocsag {line}")
-        tally.check(f"one file twice: {line}", told[0] == 1 and (folder / "why").read_bytes() == ONE_FILE, (told, (folder / "why").read_bytes()))
+        tally.check(f"one file twice: {line}", told[0] == 1 and (folder / "why").read_bytes() == NAMED_TWICE, (told, (folder / "why").read_bytes()))
     told = shell("pocsag report round.csv --rate 512 > NUL & pocsag < NUL")
-    tally.check("the device NUL as a stream", told == (1, b"", b"pocsag: the header must be address,kind,message\n"), told)
+    tally.check("the device NUL as a stream", told == (1, b"", fault("the header must be address,kind,message")), told)
 
 
 # ---- what the module cannot do
@@ -436,16 +335,16 @@ def try_traps(tally, room, wine):
     """A module that reads behind its memory, or calls without end, in place of the program's. Made twice, it has the same bytes."""
     made = []
     for folder in (room / "traps", room / "a folder of another name"):
-        put(folder, {"pocsag.wat": TRAPS.encode()})
+        begin(folder, {"pocsag.wat": TRAPS.encode()})
         subprocess.run(["wat2wasm", "pocsag.wat", "-o", "pocsag.wasm"], check=True, cwd=folder)
         subprocess.run(["wasm2c", "-n", "pocsag", "pocsag.wasm", "-o", "pocsag.c"], check=True, cwd=folder)
         (folder / "pocsag.c").write_text((folder / "pocsag.c").read_text().replace(windows.make.ALLOCA, ""))
         windows.compile_in(folder, {path.name: path.read_bytes() for path in (*folder.glob("*.[ch]"), *windows.make.RUNTIME.iterdir())})
         made.append((folder / windows.PROGRAM).read_bytes())
     tally.check("the same bytes in two folders", made[0] == made[1])
-    for stdin, why in ((b"1", b"Out-of-bounds access in linear memory or a table"), (b"2", b"Call stack exhausted")):
+    for stdin, why in ((b"1", "Out-of-bounds access in linear memory or a table"), (b"2", "Call stack exhausted")):
         told = ended(wine.start([], folder, exe=windows.PROGRAM), stdin)
-        tally.check(f"trap {why}", told == (3, b"", b"pocsag: %s\n" % why), told)
+        tally.check(f"trap {why}", told == (3, b"", fault(why)), told)
 
 
 PARTS = (
@@ -453,20 +352,20 @@ PARTS = (
 )  # fmt: skip
 
 
+def try_windows(tally, room):
+    wine = Windows(room)
+    try:
+        for part in PARTS:
+            part(tally, room, wine)
+    finally:
+        wine.end()
+
+
 def main():
-    tally, missing = Tally(), [it for it in TOOLS if not shutil.which(it)]
+    missing = [it for it in TOOLS if not shutil.which(it)]
     if missing:
-        print(f"skipped: missing in PATH: {' '.join(missing)}; on Debian: apt-get install {' '.join(dict.fromkeys(TOOLS[it] for it in missing))}")
-        tally.check("skipped", True)
-        return tally.end()
-    with tempfile.TemporaryDirectory() as name:
-        wine = Windows(pathlib.Path(name))
-        try:
-            for part in PARTS:
-                part(tally, pathlib.Path(name), wine)
-        finally:
-            wine.end()
-    return tally.end()
+        return skipped(f"missing in PATH: {' '.join(missing)}; on Debian: apt-get install {' '.join(dict.fromkeys(TOOLS[it] for it in missing))}")
+    return run_parts(try_windows)
 
 
 if __name__ == "__main__":

@@ -4,14 +4,14 @@ import base64
 import json
 import os
 import re
-import shlex
 import shutil
 import subprocess
 import sys
 import time
 
-from codewords import APART, HEADER
-from tally import CANNOT_OPEN, CANNOT_WRITE, PROGRAM, TOO_LARGE, TOP, as_nobody, fault, faulty, files_of
+import hosts
+from codewords import HEADER
+from tally import CANNOT_OPEN, CANNOT_WRITE, PROGRAM, TOO_LARGE, TOP, as_nobody, fault, faulty, files_of, put
 
 sys.path.insert(0, str(TOP / "tests/release"))
 import arm64
@@ -22,37 +22,15 @@ PLAN = ["plan", "pages.csv", "tx.bin", "cert.bin"]
 NOT_OWNER = fault("the new file cannot be given the owner, group and mode of the old one")
 # Scripts of the program that run over Node, with one of so many of their cases.
 SCRIPTS = {"tests/program/run.py": 41, "tests/capture/run.py": 41}
-# Words; what stands behind `<` is standard input: a file, or lines. Node refuses a journal.
-LINES = r"""
-< round.csv
---strict < bad.csv
-plan round.csv a.bin a.cert --keep --verify --verbose
-plan round.csv round.bin round.cert --keep --verify
-plan bad.csv round.bin round.cert --keep
-plan - ward/a.bin ward/../a.cert < round.csv
-plan round.csv - a.cert
-plan round.csv round.bin round.cert --at-most 1 --rest rest.csv --why why.cert --oversized over.csv --keep
-plan none.csv a.bin a.cert --verbose
-plan '' a.bin a.cert --verbose
-plan round.csv '' a.cert --verbose
-plan round.csv a.bin '' --keep --verbose
-plan round.csv/ a.bin a.cert --verbose
-plan ward a.bin a.cert --verbose
-plan round.csv none/a.bin a.cert --verbose
-plan round.csv a.bin ward/../none/a.cert --keep --verbose
-check apart.csv round.cert
-report - --rate 512 --frames < round.csv
-explain apart.csv apart.cert --svg
-decode - --json < round.bin
-hear 11 round.bin --text 0
-show round.bin --capture --nth 1
-wav round.bin --rate 2400 --tail 0
-open round.csv --keep < plan,round.bin,round.cert\nplan,ward/a.bin,none/a.cert\nadd,16,tone0,\nlist\n
-open --journal new round.csv < add,16,tone0,\ndrop,3\nlist\n
-open --journal journal --verbose < add,24,tone0,\nplan,a.bin,a.cert\n
-open --journal round.csv
-open --journal ward
-"""
+# Places where Wine tells another fault, and journals, of which Node has none.
+LINES = [
+    "plan round.csv a.bin '' --keep --verbose",
+    "plan round.csv/ a.bin a.cert --verbose",
+    r"open --journal new round.csv < add,16,tone0,\ndrop,3\nlist\n",
+    r"open --journal journal --verbose < add,24,tone0,\nplan,a.bin,a.cert\n",
+    "open --journal round.csv",
+    "open --journal ward",
+]
 
 
 def outcome(command, folder, stdin=b"", **how):
@@ -76,24 +54,6 @@ class Node:
         return outcome([*before, str(self.path), *words], folder, stdin, **how)
 
 
-def fresh(room, name, files):
-    folder = room / name
-    for path, data in files.items():
-        (folder / path).parent.mkdir(parents=True, exist_ok=True)
-        (folder / path).write_bytes(data)
-    return folder
-
-
-def first_files(room):
-    """Rounds, a plan of two of them, a folder, and a journal."""
-    round_ = (TOP / "examples/round.csv").read_bytes()
-    folder = fresh(room, "first", {"round.csv": round_, "apart.csv": APART, "bad.csv": HEADER + b"2,tone9,\n", "ward/other.csv": TONE})
-    for name in ("round", "apart"):
-        native(["plan", f"{name}.csv", f"{name}.bin", f"{name}.cert"], folder)
-    native(["open", "--journal", "journal", "round.csv"], folder, b"add,32,tone0,\n")
-    return files_of(folder)
-
-
 def in_memory(node, runs, files):
     """Status, output and errors of each run over these files, and the files that it leaves."""
     packed, unpacked = lambda data: base64.b64encode(data).decode(), base64.b64decode
@@ -106,13 +66,13 @@ def in_memory(node, runs, files):
 
 def try_beside(tally, room, node):
     """Both hosts do what the native program does."""
-    files, runs = first_files(room), []
-    for line in LINES.strip().split("\n"):
-        words, _, stdin = (part.strip() for part in line.partition("<"))
-        runs.append((shlex.split(words), files.get(stdin, stdin.replace("\\n", "\n").encode())))
+    files = hosts.first_files(room)
+    native(["open", "--journal", "journal", "round.csv"], room / "first", b"add,32,tone0,\n")
+    files["journal"] = (room / "first/journal").read_bytes()
+    runs = [*hosts.commands(files, *LINES)]
     found = list(in_memory(node, runs, files))
     for k, (words, stdin) in enumerate(runs):
-        folders = [fresh(room, f"{name} {k}", files) for name in ("native", "node")]
+        folders = [put(room / f"{name} {k}", files) for name in ("native", "node")]
         due = native(words, folders[0], stdin), files_of(folders[0])
         tally.check(f"in memory {words}", found[k : k + 1] == [due], (found[k : k + 1], due))
         if "--journal" not in words:
@@ -122,13 +82,13 @@ def try_beside(tally, room, node):
 
 def try_locks(tally, room, node):
     """Node has no locks: a journal is refused, `--keep` goes on, and nothing is removed that a killed run may have left."""
-    folder = fresh(room, "locks", {**OLD, "old": b"kept"})
+    folder = put(room / "locks", {**OLD, "old": b"kept"})
     before = files_of(folder)
     for journal in ("new", "old"):
         told = node.run(["open", "--journal", journal, "pages.csv", "--verbose"], folder)
         due = 3, b"", CANNOT_OPEN + fault(f"journal {journal}: Operation not supported (os error 95)")
         tally.check(f"a journal is refused: {journal}", told == due and files_of(folder) == before, told)
-    fresh(room, "locks", {"tx.bin.pocsag.4194305.new": b"left", os.fsdecode(b"a\xff"): b"", **{str(k): b"" for k in range(10_000)}})
+    put(room / "locks", {"tx.bin.pocsag.4194305.new": b"left", os.fsdecode(b"a\xff"): b"", **{str(k): b"" for k in range(10_000)}})
     before, start = files_of(folder), time.monotonic()
     told = node.run([*PLAN, "--keep", "--verify"], folder)
     native(["plan", "pages.csv", "../tx", "../cert"], folder)
@@ -141,11 +101,11 @@ def try_way_back(tally, room, node):
     """Where a call fails that puts files in place the old files stand whole, also for a user who may not do it."""
     failing = [("rename", 1), ("rename", 2), ("fsync", 1), ("fchmod", 1)] if shutil.which("strace") else []
     for call, number in failing:
-        folder = fresh(room, f"{call} {number}", OLD)
+        folder = put(room / f"{call} {number}", OLD)
         told = node.run([*PLAN, "--keep", "--verbose"], folder, before=faulty(call, f"error=EIO:when={number}"))
         holds = told[:2] == (3, b"") and told[2].endswith(b": Input/output error (os error 5)\n") and files_of(folder) == OLD
         tally.check(f"the way back where {call} {number} fails", holds, (told, files_of(folder)))
-    folder, user = fresh(room, "another user", {**OLD, "shut.csv": TONE}), as_nobody(room)
+    folder, user = put(room / "another user", {**OLD, "shut.csv": TONE}), as_nobody(room)
     folder.chmod(0o777)
     (folder / "shut.csv").chmod(0)
     for words, why in (
@@ -183,7 +143,7 @@ def at_terminal(command, folder):
 
 def try_streams(tally, room, node):
     """Pipes that are not ready, a terminal, and streams that are closed, which Node opens as /dev/null."""
-    folder = fresh(room, "streams", {"pages.csv": TONE})
+    folder = put(room / "streams", {"pages.csv": TONE})
     native(PLAN, folder)
     sound, told = native(["wav", "tx.bin"], folder)[1], unready(node, ["wav", "-"], folder, (folder / "tx.bin").read_bytes())
     tally.check("pipes that are not ready", told == (None, sound, 0) and len(sound) > 1 << 16, told[::2])
@@ -207,13 +167,13 @@ def try_streams(tally, room, node):
 
 def try_limits(tally, room, node):
     """Words that are no UTF-8, a module that is none, memory that is refused, and the largest files."""
-    folder = fresh(room, "limits", {"tones.csv": HEADER + b"".join(b"%d,tone0,\n" % k for k in range(20_000))})
+    folder = put(room / "limits", {"tones.csv": HEADER + b"".join(b"%d,tone0,\n" % k for k in range(20_000))})
     for words in ([b"a\xff"], [b"check", b"\xc3", b"x"], [b"decode", b"\xed\xa0\x80", ""]):
         told = node.run(words, folder)
         tally.check(f"no UTF-8 {words}", told == native(words, folder) and told[0] == 2, told)
     whole = (node.made / "program.wasm").read_bytes()
     for module in ({}, *({"program.wasm": data} for data in (b"", whole[:8], whole[:-1000]))):
-        other = fresh(room, "other", {**module, **{it: (node.made / it).read_bytes() for it in ("cli.mjs", "system.mjs")}})
+        other = put(room / "other", {**module, **{it: (node.made / it).read_bytes() for it in ("cli.mjs", "system.mjs")}})
         told = Node(other, other, node.node).run(["--version"], folder)
         tally.check(f"no module {module.values()}"[:60], told[:2] == (3, b"") and re.fullmatch(rb"pocsag: [^\n]+\n", told[2]), told)
     for pages, due in ((150, (3, b"", fault("out of memory"))), (2_000, (0, b"pages 20000\nbatches 1250\n", b""))):

@@ -1,10 +1,10 @@
 """The package of npm: what it holds, how it is installed, and its types, by the compiler of TypeScript in each way to look for modules."""
 
+import functools
 import json
 import pathlib
 import re
 import shutil
-import subprocess
 import sys
 
 TOP = pathlib.Path(__file__).resolve().parents[2]
@@ -12,6 +12,7 @@ sys.path[:0] = [str(TOP / it) for it in ("release", "tools")]
 import contents
 import packages
 import version
+from tally import call, put
 
 PLANNED = 'import { plan, Pocsag, Fault } from "pocsag"; console.log(plan("address,kind,message\\n8,tone0,\\n").batches, typeof Pocsag, typeof Fault);'
 USE = """import { plan, planAtMost, check, decode, hear, show, wav, writePage, KINDS, Fault, Pocsag, type Plan, type Front } from "pocsag";
@@ -36,8 +37,7 @@ REFUSED = {
 WAYS = (("node", "es2022"), ("node16", "node16"), ("nodenext", "nodenext"))
 
 
-def run(*words, **how):
-    return subprocess.run([str(word) for word in words], capture_output=True, text=True, timeout=300, **how)
+run = functools.partial(call, text=True)
 
 
 def installed(tally, folder, room):
@@ -72,8 +72,7 @@ def try_types(tally, user):
         print("skipped: tsc is missing; on Debian: apt-get install node-typescript")
         return
     files = {"use.mts": USE, "use.ts": USE, **{f"wrong{number}.mts": USE + text for number, text in enumerate(REFUSED)}}
-    for name, text in files.items():
-        (user / name).write_text(text)
+    put(user, files)
     for resolution, module in WAYS:
         words = ["tsc", "--strict", "--skipDefaultLibCheck", "--noEmit", "--target", "es2022", "--lib", "es2022", "--module", module, "--moduleResolution", resolution]
         done = run(*words, *files, cwd=user)

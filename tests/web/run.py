@@ -14,7 +14,6 @@ import pathlib
 import random
 import re
 import shutil
-import subprocess
 import sys
 import tarfile
 
@@ -26,16 +25,12 @@ import host
 import native
 import package
 from codewords import HEADER, changed, random_file
-from tally import LIBRARY, PROGRAM, module_at, run_parts
+from tally import LIBRARY, PROGRAM, call as run, module_at, run_parts
 
 
 ROUNDS, PER_BATCH = 2_000, 500
 NODE, CHROMIUM, FIREFOX = shutil.which("node"), shutil.which("chromium"), shutil.which("firefox-esr") or shutil.which("firefox")
 SIZES = {"plan": 48, "front": 56, "check": 32, "report": 72, "frames": 224, "place": 24, "number": 4}
-
-
-def run(*words, **how):
-    return subprocess.run([str(word) for word in words], capture_output=True, timeout=600, **how)
 
 
 def info(kind):
