@@ -10,7 +10,7 @@ from tally import fault, make_huge, room_in, run, sampled
 
 TONE = HEADER + b"8,tone0,\n"
 BAD = HEADER + b"8,tone0,\n9,tone9,\n"
-QUOTE = HEADER + b'8,alpha,"Ward 3\n'
+FILES = {"pages.csv": TONE, "apart.csv": APART, "bad.csv": BAD, "journal": b"pocsag journal,1\n"}
 OLD = b"older"
 NOT_TEXT = b"""error: invalid UTF-8 was detected in one or more arguments
 
@@ -25,7 +25,7 @@ PLAN = ["plan", "pages.csv", "tx.bin", "cert.bin"]
 
 def fresh(folder, name):
     """A folder with a page file, a bad one, and what `plan` writes of the first; gives these two as well."""
-    room = room_in(folder, f"doors, {name}", {"pages.csv": TONE, "apart.csv": APART, "bad.csv": BAD, "quote.csv": QUOTE})
+    room = room_in(folder, f"doors, {name}", FILES)
     run(PLAN, room)
     return room, stand(room)
 
@@ -47,14 +47,12 @@ def try_words_of_bytes(tally, folder):
     """A word that is no UTF-8 text is usage, wherever it stands, and no file is touched."""
     room, made = fresh(folder, "bytes")
     before = sorted(os.listdir(room))
-    wrong = b"a\xff"
-    cases = [
-        [wrong], [b"\xc3"], [b"--" + wrong], [b"--verbose", wrong], [b"help", wrong], [b"plan", b"pages.csv", wrong, b"cert.bin"],
-        [b"plan", b"pages.csv", b"tx.bin", b"cert.bin", b"--limit", wrong], [b"plan", b"pages.csv", b"tx.bin", b"cert.bin", b"--end=" + wrong],
-        [b"check", wrong, b"cert.bin"], [b"report", wrong, b"--rate", b"512"], [b"decode", wrong], [b"hear", wrong, b"tx.bin"],
-        [b"show", b"tx.bin", b"--rows", wrong], [b"wav", wrong], [b"open", wrong], [b"explain", b"pages.csv", wrong], [b"--help", wrong],
+    calls = [
+        b"@", b"\xc3", b"--@", b"--verbose @", b"help @", b"plan pages.csv @ cert.bin", b"plan pages.csv tx.bin cert.bin --limit @",
+        b"plan pages.csv tx.bin cert.bin --end=@", b"check @ cert.bin", b"report @ --rate 512", b"decode @", b"hear @ tx.bin",
+        b"show tx.bin --rows @", b"wav @", b"open @", b"explain pages.csv @", b"--help @",
     ]  # fmt: skip
-    for words in cases:
+    for words in (call.replace(b"@", b"a\xff").split() for call in calls):
         tally.check_done(f"no text {words}", run(words, room), 2, b"", NOT_TEXT, stand(room) == made and sorted(os.listdir(room)) == before)
 
 
@@ -65,7 +63,7 @@ PRINTING = [
     "report pages.csv --rate 512", "report pages.csv --rate 512 --frames", "decode tx.bin", "decode tx.bin --repair", "decode tx.bin --capture",
     "hear 8 tx.bin", "hear 8 tx.bin --capture", "show tx.bin", "show tx.bin --svg", "show tx.bin --list", "show tx.bin --capture", "wav tx.bin",
     "open", "open pages.csv", "explain pages.csv cert.bin", "explain apart.csv cert.bin", "explain pages.csv cert.bin --json",
-    "explain pages.csv cert.bin --svg",
+    "explain pages.csv cert.bin --svg", "open --journal journal --read-only",
 ]  # fmt: skip
 STDIN = {"": TONE, "open": b"add,9,tone0,\n", "open pages.csv": b"list\n"}
 
@@ -180,8 +178,6 @@ def try_refused(tally, folder):
         (["large.csv"], 1, TOO_LARGE),
         (["/proc/self/mem"], 3, CANNOT_OPEN),
         (["apart.csv", "--limit", "2"], 1, STOPPED),
-        (["pages.csv", "--expect", "2"], 1, fault("pages 1, where 2 were expected")),
-        (["quote.csv", "--strict"], 1, fault("record 1: the quote in line 2 is not closed")),
     ]
     for (pages, *more), status, told in cases:
         for content in (OLD, None):

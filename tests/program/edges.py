@@ -1,4 +1,4 @@
-"""The program at the edges of its numbers: counts by the hundred, the largest files, the default limit of nodes."""
+"""The program at the edges of its numbers: places by the thousand, the largest files, the default limit of nodes."""
 
 from codewords import HEADER, IDLE, LARGEST, ONES, PREAMBLE, SYNC, TONE
 from tally import IS_EMULATED, TOO_LARGE, fault, run
@@ -14,59 +14,8 @@ def run_on(path):
         return run([], stdin=pages)
 
 
-def try_hundreds(tally, folder):
-    """Counts above 255 and above 65,535 are told whole."""
-    (folder / "pages.csv").write_bytes(HEADER + b"".join(b"%d,tone0,\n" % (8 * place + 5) for place in range(700)))
-    report = b"pages 700\ncodewords 700\nin_order 350\nbatches 350\nidles 4900\nbits 190976\nairtime_ms 373000\n"
-    for words, told in (
-        ([*PLAN, "--verify"], b"pages 700\nbatches 350\nverified\n"),
-        ([*PLAN, "--always"], b"pages 700\nbatches 350\n"),
-        (["check", "pages.csv", "cert.bin"], b"at least 350 batches\n"),
-        (["report", "pages.csv", "--rate", "512"], report),
-        (["report", "pages.csv", "--rate", "512", "--always"], report),
-    ):
-        tally.check_done(f"700 pages: {words}", run(words, folder), 0, told)
-    tally.check_done("700 pages: no words", run_on(folder / "pages.csv"), 0, b"pages 700\nbatches 350\n")
-    loops_apart(tally, folder)
-    places_of_faults(tally, folder)
-    (folder / "pages.csv").write_bytes(HEADER + b"".join(b"%d,alpha,%s\n" % (place, b"a" * 4000) for place in range(800)))
-    done = run(["report", "pages.csv", "--rate", "2400", "--end", "closed"], folder)
-    counts = [int(line.split()[1]) for line in done.stdout.splitlines()]
-    batches = 800 * 1401 // 16
-    holds = counts[:2] == [800, 800 * 1401] and counts[3] in (batches, batches + 1)
-    bits = 576 + 544 * counts[3]
-    holds = holds and counts[4:] == [16 * counts[3] - counts[1], bits, -(-1000 * bits // 2400)]
-    tally.check("1,120,800 codewords", done.returncode == 0 and holds, done)
-
-
-def loops_apart(tally, folder):
-    """Four pages of 87 whole turns, two at each of two boundaries: the search stops at one node, between 348 batches
-    and 349."""
-    pages = b"".join(b"%d,alpha,%s\n" % (address, b"a" * 3974) for address in (0, 8, 3, 11))
-    (folder / "pages.csv").write_bytes(HEADER + pages)
-    for end, closed in (("open", b""), ("closed", b" with a closed end")):
-        plan = [*PLAN, "--end", end]
-        stopped = fault("search limit reached: at least 348 batches, 349 would do")
-        tally.check_done(f"348 or 349 batches, {end}", run([*plan, "--limit", "1"], folder), 1, b"", stopped)
-        done = run([*plan, "--limit", "1", "--always", "--verify"], folder)
-        tally.check_done(f"349 batches, {end}", done, 0, b"pages 4\nbatches 349\nat least 348 batches\nverified\n")
-        done = run(["check", "pages.csv", "cert.bin"], folder)
-        tally.check_done(f"at least 348, {end}", done, 0, b"at least 348 batches%s\n" % closed)
-        done = run(["report", "pages.csv", "--rate", "1200", "--end", end, "--limit", "1", "--always"], folder)
-        tally.check(f"report of a bound of 348, {end}", done.stdout.endswith(b"\nat least 348 batches\n"), done)
-        tally.check_done(f"349 are the fewest, {end}", run(plan, folder), 0, b"pages 4\nbatches 349\n")
-
-
-def places_of_faults(tally, folder):
-    """Records, characters, batches and codewords above 255 in the texts of faults."""
-    tones = b"".join(b"%d,tone0,\n" % place for place in range(65_540 // 4))
-    for records, why in (
-        (tones[: tones.index(b"\n300,") + 1] + b"8;tone0\n", "record 301: three fields are wanted"),
-        (b"8,numeric," + b"1" * 3999 + b"x\n", "record 1: bad character at 3999"),
-        (tones + b"8,tone0,\n", "record 16386: the address is already there"),
-    ):
-        (folder / "pages.csv").write_bytes(HEADER + records)
-        tally.check_done(why, run(PLAN, folder), 1, b"", fault(why))
+def try_places_of_faults(tally, folder):
+    """Batches and codewords above 255 and above 65,535 in the texts of faults."""
     batch = SYNC + 16 * IDLE
     for last, why in (
         (b"\0" + batch[1:], "batch 5000: no synchronisation codeword"),
@@ -103,20 +52,6 @@ def try_largest_files(tally, folder):
         path.unlink()
 
 
-def try_largest_round(tally, folder):
-    """The frames of 20,000 pages of 4,000 characters, of which each frame has 2,500 and no slot is left over."""
-    with open(folder / "pages.csv", "wb") as file:
-        file.write(HEADER)
-        for address in range(20_000):
-            file.write(b"%d,alpha,%s\n" % (address, b"a" * 4_000))
-    done = run(["report", "pages.csv", "--rate", "2400", "--frames"], folder)
-    told = done.stdout.decode().splitlines()
-    counts = ["pages 20000", "codewords 28020000", f"batches {20_000 * 1_401 // 16}", "idles 0"]
-    tally.check("the largest round: its report", done.returncode == 0 and told[:2] + told[3:5] == counts, (done, counts))
-    frames = {f"frame {frame} pages 2500 codewords {2_500 * 1_401} room 0" for frame in range(8)}
-    tally.check("the largest round: its frames", len(told) == 15 and set(told[7:]) == frames, told[7:])
-
-
 # Rounds whose trees have a little less than 100,000 nodes and a little more: the frame and the codewords of each page,
 # the nodes, and the fewest batches, all with the open end. None is known that takes 100,000 just.
 NEAR_THE_LIMIT = [
@@ -140,12 +75,10 @@ def try_default_limit(tally, folder):
                 status, printed, why = due[is_done]
                 holds = (done.returncode, done.stderr) == (status, why) and (words[0] == "report" or done.stdout == printed)
                 tally.check(f"{nodes} nodes: {words[0]} {limit}", holds, done)
-            shown = run([words[0], "--help"], folder).stdout
-            tally.check(f"help of {words[0]} names the limit", b"[default: 100000]" in shown, shown)
         tally.check_done(f"{nodes} nodes: no words", run_on(folder / "pages.csv"), *due[is_default])
         done = run(["open"], folder, b"".join(b"add," + record for record in records) + b"plan,tx.bin,cert.bin\n")
         answer = f"batches {batches}" if is_default else f"refused: {stopped}"
         tally.check(f"{nodes} nodes: open", done.returncode == 0 and done.stdout.endswith(f"\n{answer}\n".encode()), done)
 
 
-PARTS = (try_hundreds,) if IS_EMULATED else (try_hundreds, try_largest_files, try_largest_round, try_default_limit)
+PARTS = (try_places_of_faults,) if IS_EMULATED else (try_places_of_faults, try_largest_files, try_default_limit)

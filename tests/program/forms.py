@@ -11,7 +11,7 @@ import tty
 
 import codewords
 import repair
-from codewords import IDLE, SYNC, characters, codeword, items_of, kind_and_message, sent
+from codewords import IDLE, SYNC, items_of, kind_and_message, sent
 from tally import PROGRAM, fault, run, sampled
 
 HEADER = codewords.HEADER.decode()
@@ -52,12 +52,6 @@ def due_of(pages, texts, is_json):
     if is_json:
         return "".join(json.dumps(it, ensure_ascii=False, separators=(",", ":")) + "\n" for it in objects), objects
     return HEADER + "".join(f"{it['address']},{field(it['kind'])},{field(it['message'])}\n" for it in objects), objects
-
-
-def try_codes(tally, _folder):
-    tally.check("codewords", codeword(int.from_bytes(IDLE, "big") >> 11) == IDLE and codeword(0) == bytes(4))
-    every = "".join(map(chr, range(1, 128)))
-    tally.check("texts", characters(items_of(every.encode(), 7, 0)) == every)
 
 
 def try_pages(tally, folder, source, pages, reads):
@@ -160,8 +154,6 @@ def try_words(tally, folder):
                 for verbose, note in (([], b""), (["--verbose"], fault(f"transmission short.bin{hint}"))):
                     told = fault("the preamble is too short") + note
                     tally.check_done(f"{words} {verbose}", run([*words, *verbose], folder), 1, b"", told)
-    for option in (["--json"], ["--text", "0"]):
-        tally.check_usage(f"show {option}", run(["show", "tx.bin", *option], folder))
 
 
-PARTS = (try_codes, try_forms, try_long, try_terminal, try_words)
+PARTS = (try_forms, try_long, try_terminal, try_words)

@@ -151,6 +151,8 @@ def try_hard(tally, folder):
         tally.check_done(f"a search of {pages} pages to 1,000,000 nodes", run([*plan, "1000000"], folder), 1, b"", stopped)
         due = b"pages %d\nbatches %d\nat least %d batches\n" % (pages, least + 1, least)
         tally.check_done(f"a plan of {pages} pages that is one batch above its bound", run([*plan, "10", "--always"], folder), 0, due)
+        done = run(["report", "pages.csv", "--rate", "512", "--limit", "10", "--always"], folder)
+        tally.check(f"a report of {pages} pages with their bound", done.stdout.endswith(b"\nat least %d batches\n" % least), brief(done))
         (folder / "pages.csv").write_bytes(filled(FREE, pages))
         done = run([*plan, "1000000", "--always"], folder)
         due, length = b"pages %d\nbatches %d\n" % (pages, pages - len(FREE) + 18), (folder / "cert.bin").stat().st_size
@@ -328,8 +330,8 @@ def try_edits(tally, folder):
         (folder / "journal").unlink(missing_ok=True)
         first, then = pages // 32 * 16, pages // 2 - 100
         lines = b"".join(b"add,%d,tone0,\n" % address for address in range(pages))
-        lines += b"plan,tx.bin,cert.bin,open,%d\nsent,%d\n" % (pages // 32, then)
-        due = b"".join(b"ok %d\n" % (count + 1) for count in range(pages))
+        lines += b"add,20000,tone0,\n" * (pages == PAGES) + b"plan,tx.bin,cert.bin,open,%d\nsent,%d\n" % (pages // 32, then)
+        due = b"".join(b"ok %d\n" % (count + 1) for count in range(pages)) + b"refused: too many pages\n" * (pages == PAGES)
         due += b"batches %d, sent %d\nok %d\n" % (pages // 32, first, pages - first - then)
         for words, name, noted in ((["--journal", "journal"], "with", read_again(0, 0)), ([], "without", b"")):
             tally.check_done(f"{pages} edits {name} a journal", run(["open", *words], folder, lines), 0, due, noted)

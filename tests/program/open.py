@@ -5,6 +5,7 @@ line is sent, and edits by the thousand are compared with a list that is kept he
 It takes the binary that the gate left in crates/pocsag_app/out. The last line is 'N passed, M failed'.
 """
 
+import collections
 import os
 import pathlib
 import random
@@ -13,8 +14,8 @@ import sys
 
 sys.dont_write_bytecode = True
 sys.path.insert(0, str(pathlib.Path(__file__).resolve().parents[1]))
-from codewords import HEADER, IDLE, NUMERIC, TONE, transmission
-from sessions import Session
+from codewords import HEADER
+from sessions import Session, edited, listing
 from tally import CANNOT_OPEN, TOP, fault, room_in, run, run_parts
 from worked import HARD, shaped
 
@@ -45,103 +46,34 @@ def check_end(tally, name, session, status=0, err=b""):
     tally.check(name, found == (status, b"", err), found)
 
 
-def ok(pages):
-    return b"ok %d" % len(pages)
-
-
-def field(message):
-    """A message as a field of CSV, in quotes where it needs them."""
-    if b"," in message or b'"' in message:
-        return b'"' + message.replace(b'"', b'""') + b'"'
-    return message
-
-
-def reserved(address):
-    return 2007664 <= address <= 2007671 or 2045056 <= address <= 2045063
-
-
-class Kept:
-    """The list of pages as the page of the format says it: address, kind, message, in order of adding."""
-
-    def __init__(self):
-        self.pages = []
-
-    def there(self, address):
-        return any(page[0] == address for page in self.pages)
-
-    def add(self, address, kind, message):
-        if address > 2097151:
-            return b"refused: bad address"
-        if reserved(address):
-            return b"refused: reserved address"
-        if kind not in (b"tone0", b"tone1", b"tone2", b"tone3", b"numeric", b"alpha"):
-            return b"refused: unknown kind"
-        if kind.startswith(b"tone") and message:
-            return b"refused: a tone page has no message"
-        if not kind.startswith(b"tone") and not message:
-            return b"refused: the message is empty"
-        if kind == b"numeric":
-            for place, character in enumerate(message.decode()):
-                if character not in NUMERIC:
-                    return b"refused: bad character at %d" % place
-        if self.there(address):
-            return b"refused: the address is already there"
-        self.pages.append((address, kind, message))
-        return ok(self.pages)
-
-    def cancel(self, address):
-        if not self.there(address):
-            return NO_PAGE
-        self.pages = [page for page in self.pages if page[0] != address]
-        return ok(self.pages)
-
-    def clear(self):
-        self.pages = []
-        return ok(self.pages)
-
-    def lines(self):
-        """What `list` prints."""
-        return [HEADER.strip()] + [b"%d,%s,%s" % (address, kind, field(message)) for address, kind, message in self.pages] + [ok(self.pages)]
-
-
 def edits_of(chance, count):
     """Random edits, among few addresses, so that many are refused."""
-    kinds = [b"tone0", b"tone1", b"tone2", b"tone3", b"numeric", b"alpha", b"fax"]
+    kinds = (b"tone0", b"tone1", b"tone2", b"tone3", b"numeric", b"alpha", b"fax")
+    messages = (b"", b"12345", b"17 U", b"7x", b"*[]-", b'"Bed 2, ""now"""')
     for _ in range(count):
         address = chance.choice([chance.randrange(400), chance.randrange(400), 2097152, 2007670, 2045056])
         draw = chance.random()
         if draw < 0.55:
-            kind = chance.choice(kinds)
-            message = chance.choice([b"", b"12345", b"17 U", b"7x", b"*[]-", b'Bed 2, "now"'])
-            yield "add", address, kind, message
-        elif draw < 0.998:
-            yield "cancel", address, b"", b""
+            yield b"add,%d,%s,%s" % (address, chance.choice(kinds), chance.choice(messages))
         else:
-            yield "clear", 0, b"", b""
+            yield b"cancel,%d" % address if draw < 0.998 else b"clear"
 
 
 def many_edits(tally, folder):
-    kept, session = Kept(), Session(folder)
-    wrong, lists, words = [], [], {}
-    for number, (word, address, kind, message) in enumerate(edits_of(random.Random(SEED), EDITS), 1):
-        if word == "add":
-            due, line = kept.add(address, kind, message), b"add,%d,%s,%s" % (address, kind, field(message))
-        elif word == "cancel":
-            due, line = kept.cancel(address), b"cancel,%d" % address
-        else:
-            due, line = kept.clear(), b"clear"
+    pages, session = [], Session(folder)
+    wrong, lists, words = [], [], collections.Counter()
+    for number, line in enumerate(edits_of(random.Random(SEED), EDITS), 1):
+        due, pages = edited(pages, line)
         found = session.ask(line)
-        words[word, due[:2]] = words.get((word, due[:2]), 0) + 1
+        words[line[:3], due[:2]] += 1
         if found != due:
             wrong.append((number, line, due, found))
         if number % LISTED == 0:
-            lists.append(session.lines(b"list") == kept.lines())
+            lists.append(session.lines(b"list") == [*listing(pages).splitlines(), b"ok %d" % len(pages)])
     tally.check(f"{EDITS} edits are answered as a list answers them", not wrong, wrong[:3])
     tally.check("each kind of edit was taken, and each but `clear` refused", len(words) == 5 and min(words.values()) > 3, words)
     tally.check(f"the {len(lists)} lists in between are that list, in its order", all(lists) and len(lists) >= 10, lists)
-    listed = session.lines(b"list")
-    tally.check("so is the list after them", listed == kept.lines(), (listed[:4], kept.lines()[:4]))
-    plans_of_the_list(tally, folder, session, kept)
+    plans_of_the_list(tally, folder, session, listing(pages).splitlines()[1:])
     check_end(tally, "the end of the input ends it with status 0", session)
 
 
@@ -156,9 +88,8 @@ def shown_by(folder, name, records):
     return run(["check", "shown.csv", name], folder).stdout
 
 
-def plans_of_the_list(tally, folder, session, kept):
+def plans_of_the_list(tally, folder, session, records):
     """What is planned holds the pages of the list, and the certificate shows its batches for them."""
-    records = kept.lines()[1:-1]
     for end, told in ((b"open", b""), (b"closed", b" with a closed end"), (b"idle", b" with an idle last")):
         answer, found = session.ask(b"plan,many.bin,many.cert," + end), sent_by(folder, "many.bin")
         tally.check(f"a plan with the {end.decode()} end sends the pages of the list", found == sorted(records), found[:3])
@@ -181,42 +112,16 @@ WORDS = [
     (b"plan,tx.bin,cert.bin", b"batches 1"),
     (b"plan,tx.bin,cert.bin,closed", b"batches 1"),
     (b"plan,tx.bin,cert.bin,idle", b"batches 1"),
-    (b"plan,tx.bin,cert.bin,Idle", UNKNOWN),
     (b"plan,tx.bin,cert.bin,open", b"batches 1"),
-    (b"plan,tx.bin,cert.bin,soon", UNKNOWN),
     (b"plan,tx.bin,tx.bin", TWICE),
     (b"plan,no/such/tx.bin,cert.bin", NO_FILE),
     (b"cancel,16", b"ok 0"),
     (b"plan,tx.bin,cert.bin", NO_PAGES),
-    (b"add,2097152,tone0,", b"refused: bad address"),
-    (b"add,2007664,tone0,", b"refused: reserved address"),
-    (b"add,8,fax,", b"refused: unknown kind"),
-    (b"add,8,tone0,1", b"refused: a tone page has no message"),
-    (b"add,8,numeric,", b"refused: the message is empty"),
-    (b"add,8,numeric,12a", b"refused: bad character at 2"),
     (b"add,8,numeric," + b"1" * 4001, b"refused: the message is too long"),
     (b'add,8,alpha,"Ward 3, bed 2"', b"ok 1"),
-    (b"", UNKNOWN),
-    (b"add,8,tone0", UNKNOWN),
-    (b"add,8,tone0,,", UNKNOWN),
-    (b"List", UNKNOWN),
-    (b"list,", UNKNOWN),
     (b"cancel,8\r", b"ok 0"),
-    (b"list\rlist", UNKNOWN),
-    (b"x" * 65536, UNKNOWN),
-    (b"x" * 65537, UNKNOWN),
-    (b"list," + b"x" * 1000000, UNKNOWN),
     (LONGEST, BAD_AT_ITS_END),
-    (LONGEST + b"1", UNKNOWN),
-    (LONGEST + b"\r", UNKNOWN),
-    (b"1" + LONGEST[:-1], UNKNOWN),
-    (b"x" * 65536 + b"clear", UNKNOWN),
-    (b"x" * 65537 + b"add,9,tone0,", UNKNOWN),
-    (b"x" * 131072 + b"add,9,tone0,", UNKNOWN),
-    (b"add,8,tone0," + b" " * 65536, UNKNOWN),
     (b"clear\r", b"ok 0"),
-    (b"clear" + b"\r" * 65531, UNKNOWN),
-    (b"clear" + b"\r" * 65532, UNKNOWN),
     (b"add,7,tone3,", b"ok 1"),
     *((word, UNKNOWN) for word in (
         b"c,7", b"can,7", b"cancels,7", b"Cancel,7", b"cancel", b"cancel,7,", b" cancel,7", b"cl", b"c", b"clears", b"Clear",
@@ -224,6 +129,10 @@ WORDS = [
         b"p,tx.bin,cert.bin", b"plans,tx.bin,cert.bin", b"Plan,tx.bin,cert.bin", b"plan,tx.bin", b"plan",
         b"plan,tx.bin,cert.bin,o", b"plan,tx.bin,cert.bin,opened", b"plan,tx.bin,cert.bin,c", b"plan,tx.bin,cert.bin,Closed",
         b"plan,tx.bin,cert.bin,closed,", b"plan,tx.bin,cert.bin,", b"cancel,7\rclear", b"cancel;7", b"\xff,7",
+        b"plan,tx.bin,cert.bin,Idle", b"plan,tx.bin,cert.bin,soon", b"", b"add,8,tone0", b"add,8,tone0,,", b"List", b"list,", b"list\rlist",
+        b"x" * 65536, b"x" * 65537, b"list," + b"x" * 1000000, b"x" * 65536 + b"clear", b"x" * 65537 + b"add,9,tone0,",
+        b"x" * 131072 + b"add,9,tone0,", b"add,8,tone0," + b" " * 65536, b"clear" + b"\r" * 65531, b"clear" + b"\r" * 65532,
+        LONGEST + b"1", LONGEST + b"\r", b"1" + LONGEST[:-1],
     )),
     (b'add,8,alpha,"Fire, hall B', b"refused: the line ends inside quotes"),
     (b'evacuate ward 3"', b"refused: a quote is out of place"),
@@ -272,41 +181,12 @@ def devices_of_a_plan(tally, folder):
     check_end(tally, "no device ends it", session)
 
 
-def many_pages(tally, folder):
-    """Pages and batches by the hundred: each count is told whole."""
-    session, records = Session(folder), [b"%d,tone0," % (8 * place + 5) for place in range(700)]
-    found = [session.ask(b"add," + record) for record in records]
-    tally.check("each of 700 pages is counted", found == [b"ok %d" % count for count in range(1, 701)], found[250:260])
-    for end in (b"open", b"closed"):
-        tally.check(f"they take 350 batches, {end.decode()}", session.ask(b"plan,m.bin,m.cert," + end) == b"batches 350")
-    check_list(tally, "they are listed, and counted behind the list", session, *records)
-    tally.check("one less is counted", session.ask(b"cancel,5") == b"ok 699")
-    session.close()
-
-
-def files_of_a_plan(tally, folder):
-    session = Session(folder)
-    session.ask(b"add,8,tone0,")
-    tally.check("a lone tone takes one batch", session.ask(b"plan,a.bin,a.cert") == b"batches 1")
-    found = (folder / "a.bin").read_bytes()
-    # The two codewords of its frame are the only places of the page.
-    tally.check("its transmission is written", found in (transmission([TONE]), transmission([IDLE, TONE])), found.hex())
-    shown = shown_by(folder, "a.cert", [b"8,tone0,"])
-    tally.check("its certificate is accepted", shown == b"at least 1 batches\n", shown)
-    for address in (13, 21, 29):
-        session.ask(b"add,%d,tone0," % address)
-    tally.check("the round stays open", session.ask(b"plan,b.bin,b.cert") == b"batches 2")
-    pages = sent_by(folder, "b.bin")
-    tally.check("a later plan sends all pages", pages == [b"13,tone0,", b"21,tone0,", b"29,tone0,", b"8,tone0,"], pages)
-    session.close()
-
-
 HARD_PAGES = [record.strip() for record in shaped(HARD[0][1])]  # nine batches are the fewest
 STOPPED = b"refused: search limit reached: at least 8 batches, 9 would do"
 
 
 def hard_plans(tally, folder):
-    """A round that the search gives up at is planned with `--always`, whether its pages come by lines or from PAGES."""
+    """A round that the search gives up at is planned with `--always`, whether its pages come by lines or from PAGES, and so is a front."""
     (folder / "hard.csv").write_bytes(HEADER + b"\n".join(HARD_PAGES) + b"\n")
     for words in ((), ("--always",), ("hard.csv",), ("hard.csv", "--always"), ("--always", "hard.csv")):
         session = Session(folder, *words)
@@ -315,8 +195,9 @@ def hard_plans(tally, folder):
         for end in (b"", b",open", b",closed"):
             found = session.ask(b"plan,hard.bin,hard.cert" + end)
             tally.check(f"a hard round with {words}{end.decode()}", found == (b"batches 9" if "--always" in words else STOPPED), found)
-        tally.check("it is open as before", session.ask(b"cancel,0") == NO_PAGE)
-        tally.check("its pages are there", session.lines(b"list")[-1] == b"ok 8")
+        found = session.ask(b"plan,h.bin,h.cert,open,8")
+        tally.check(f"a hard front with {words}", found == (b"batches 8, sent 7" if "--always" in words else STOPPED), found)
+        check_list(tally, f"the pages that stay with {words}", session, *(HARD_PAGES[-1:] if "--always" in words else HARD_PAGES))
         session.close()
 
 
@@ -357,18 +238,6 @@ def slots_of_a_day(tally, folder):
     check_end(tally, "slots end nothing", session)
 
 
-def hard_slots(tally, folder):
-    """Where the search gives up, a front is refused, and sent with `--always`."""
-    for words in ((), ("--always",)):
-        session = Session(folder, *words)
-        for page in HARD_PAGES:
-            session.ask(b"add," + page)
-        found = session.ask(b"plan,h.bin,h.cert,open,8")
-        tally.check(f"a hard front {words}", found == (b"batches 8, sent 7" if words else STOPPED), found)
-        check_list(tally, f"the pages that stay {words}", session, *(HARD_PAGES[-1:] if words else HARD_PAGES))
-        session.close()
-
-
 def begins_with_pages(tally, folder):
     path = folder / "pages.csv"
     path.write_bytes(HEADER + b"8,tone0,\n16,numeric,12\n")
@@ -390,7 +259,6 @@ def last_line(tally, folder):
     tally.check_done("a last line without its line feed is an edit", done, 0, b"ok 1\n" + HEADER + b"8,tone0,\nok 1\n")
     for line, due in ((LONGEST, BAD_AT_ITS_END), (LONGEST + b"1", UNKNOWN)):
         tally.check_done(f"so is one of {len(line)} bytes, answered {due!r}", run(["open"], folder, line), 0, due + b"\n")
-    tally.check_full("a full device ends it with status 3", ["open"], folder, b"clear\n")
 
 
 def worked_session(tally, folder):
@@ -440,7 +308,7 @@ def demands(tally, folder):
 
 
 PARTS = (
-    words_of_answers, devices_of_a_plan, many_edits, many_pages, files_of_a_plan, hard_plans, slots_of_a_day, hard_slots, begins_with_pages,
+    words_of_answers, devices_of_a_plan, many_edits, hard_plans, slots_of_a_day, begins_with_pages,
     demands, last_line, worked_session,
 )  # fmt: skip
 

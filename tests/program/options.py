@@ -50,7 +50,7 @@ class Due:
         self.pages, self.end = pages, end
         self.shapes = tuple((address % 8, 1 + items) for address, items in pages)
         self.fewest = FEWEST.fewest(self.shapes, end)
-        self.text = HEADER + "".join(FEWEST.record(*page) for page in pages).encode()
+        self.text = FEWEST.page_file_of(pages)
         self.codewords = sum(length for _, length in self.shapes)
 
     def shown(self, bound):

@@ -3,18 +3,11 @@ wrong bits in each word all is told that is told of the transmission itself, and
 
 import random
 
-from codewords import random_file
+from codewords import flipped, random_file
 from tally import fault, run, said, sampled
 
 FRONT, WORD = 72, 4
 VIEWS = ([], ["--rows", "1"], ["--rows", "2-"], ["--svg"], ["--svg", "--rows", "1-2"], ["--list"])
-
-
-def flipped(word, bits):
-    number = int.from_bytes(word, "big")
-    for bit in bits:
-        number ^= 1 << bit
-    return number.to_bytes(WORD, "big")
 
 
 def damaged(sent, source):
@@ -22,7 +15,7 @@ def damaged(sent, source):
     out, words, bits = [sent[:FRONT]], 0, 0
     for place in range(FRONT, len(sent), WORD):
         wrong = source.sample(range(32), source.choice([0, 0, 0, 1, 2]))
-        out.append(flipped(sent[place : place + WORD], wrong))
+        out.append(flipped(sent[place : place + WORD], *wrong))
         words, bits = words + bool(wrong), bits + len(wrong)
     return b"".join(out), words, bits
 
@@ -53,7 +46,7 @@ def try_beyond(tally, folder, source, sent):
     """Three wrong bits in one word."""
     place = source.randrange((len(sent) - FRONT) // WORD)
     at = FRONT + WORD * place
-    wrong = flipped(sent[at : at + WORD], source.sample(range(32), 3))
+    wrong = flipped(sent[at : at + WORD], *source.sample(range(32), 3))
     (folder / "rx.bin").write_bytes(sent[:at] + wrong + sent[at + WORD :])
     batch, word = divmod(place, 17)
     why = f"batch {batch}: no synchronisation codeword" if word == 0 else f"codeword {16 * batch + word - 1}: not a codeword"

@@ -10,10 +10,11 @@ from worked import LOOP_APART
 LATE = HEADER + LOOP_APART
 PLAN = ["plan", "p.csv", "tx.bin", "cert.bin"]
 
-NO_HEADER = "the header must be address,kind,message"
+NO_HEADER, TWICE = "the header must be address,kind,message", "the same file is named twice"
 # Page files that are refused: what stands in them, the fault, and the line and the text of the record behind it.
 PAGE_FILES = [
     (b"", NO_HEADER, None),
+    (bytes(4096), NO_HEADER, "line 1: " + 80 * "?" + ": UTF-16 or UTF-32, not ASCII"),
     (b"address;kind;message\n8;tone0;\n", NO_HEADER, "line 1: address;kind;message: semicolons in place of commas"),
     (b"\n\naddress\tkind\tmessage\n8\ttone0\t\n", NO_HEADER, "line 3: address?kind?message: tabs in place of commas"),
     (b"\xef\xbb\xbfAddress,Kind,Message\n8,tone0,\n", NO_HEADER, "line 1: ???Address,Kind,Message: capitals"),
@@ -35,7 +36,7 @@ PAGE_FILES = [
     (HEADER + b'8,alpha,"Pump 4,\n' + b"," * 200000 + b'",hall\r\n', "record 1: three fields are wanted", 'line 2: 8,alpha,"Pump 4,'),
     (HEADER + b'8,alpha,Pump 4,"hall B\n' + b"9,tone0,,,\n" * 50000, "record 1: three fields are wanted", 'line 2: 8,alpha,Pump 4,"hall B'),
     (HEADER + b"12x,tone0,\n", "record 1: bad address", "line 2: 12x,tone0,"),
-    (HEADER + b"2007664,tone0,\n", "record 1: reserved address", "line 2: 2007664,tone0,"),
+    (HEADER + b"8,tone0,\n2045063,tone0,\n", "record 2: reserved address", "line 3: 2045063,tone0,"),
     (HEADER.replace(b"\n", b"\r\n") + b"8,tone0,\r\n\r\n7,Tone0,\r\n", "record 2: unknown kind", "line 4: 7,Tone0,"),
     (b"\xef\xbb\xbf" + HEADER + b'\n8,alpha,"one\ntwo\n"\n9,tone0\n10', "record 2: three fields are wanted", "line 6: 9,tone0"),
     # A carriage return ends a record and begins no line.
@@ -43,6 +44,8 @@ PAGE_FILES = [
     (HEADER + b"7,tone1,x\n", "record 1: a tone page has no message", "line 2: 7,tone1,x"),
     (HEADER + b"7,alpha,\n", "record 1: the message is empty", "line 2: 7,alpha,"),
     (HEADER + b"7,numeric,12a\n", "record 1: bad character at 2", "line 2: 7,numeric,12a: byte 0x61"),
+    (HEADER + b"7,numeric,u\n", "record 1: bad character at 0", "line 2: 7,numeric,u: byte 0x75"),
+    (HEADER + b"7,alpha," + b"a" * 4001 + b"\x00\n", "record 1: bad character at 4001", "line 2: 7,alpha," + "a" * 72 + ": byte 0x00"),
     # No byte of the record moves the cursor of a terminal.
     (HEADER + b"7,alpha,a\xc3\xa4\x1b\n", "record 1: bad character at 1", "line 2: 7,alpha,a???: byte 0xC3, not ASCII"),
     (HEADER + b'7,alpha,"a\nb""\x00"\n', "record 1: bad character at 4", 'line 2: 7,alpha,"a: byte 0x00'),
@@ -56,36 +59,37 @@ PAGE_FILES = [
 TWICE_DAMAGED, BEYOND_REPAIR = (PREAMBLE + bytes.fromhex("7CD215D9") + 15 * IDLE + bytes.fromhex(last) for last in ("7A89C194", "7A89C190"))
 
 # Files, words, standard input, status, what is told on standard output, the fault, and the notes.
-TWICE = "the same file is named twice"
-BAD_HEADER = "the header must be address,kind,message"
 ANYWHERE = "transmission p.csv: for bits off the air that begin anywhere, give --capture"
 COMMA = "ADDRESS, KIND and MESSAGE are wanted, and quotes around a message that holds a comma"
 EDITS = "the edits are add, cancel, sent and clear"
 REFUSED_EDITS = (b"add,8,tone0,\nadd,5,alpha,Ward 3, bed 2\nadd,5,tone0\nadd,2097152,tone0,\nadd,8,tone1,\ncancel,9\nsent,2\n"
                  b'add,5,alpha,"a\nadd,5,alpha,a"b\nclear\nclear\n')
 NO_FILE, IS_FOLDER, NO_SPACE = (f"{os.strerror(code)} (os error {code})" for code in (2, 21, 28))
+# Words that name no file, and how the file is named.
+MISSING = [
+    ("plan none.csv tx.bin cert.bin", "page file none.csv"), ("plan p.csv none/tx.bin cert.bin", "transmission none/tx.bin"),
+    ("plan p.csv tx.bin none/c", "certificate none/c"), ("plan p.csv none/tx.bin cert.bin --keep", "transmission none/tx.bin"),
+    ("report none.csv --rate 512", "page file none.csv"), ("check p.csv none", "certificate none"),
+    ("explain p.csv none", "certificate none"), ("decode none", "transmission none"), ("decode none --repair", "transmission none"),
+    ("show none --svg", "transmission none"), ("wav none", "transmission none"), ("open none.csv", "page file none.csv"),
+]  # fmt: skip
+# Words that name a file twice, and how that is told.
+ONE_FILE = [
+    ("plan p.csv p.csv cert.bin", "page file p.csv and transmission p.csv are one file"),
+    ("plan p.csv t ././t", "transmission t and certificate ././t are one file"),
+    ("plan p.csv t ./p.csv --keep", "page file p.csv and certificate ./p.csv are one file"),
+    ("plan p.csv t c --at-most 2 --rest r --why ./p.csv", "page file p.csv and certificate of one page more ./p.csv are one file"),
+    ("plan p.csv t c --at-most 2 --rest r --oversized r", "page file of the rest r and page file of the oversized r are one file"),
+    ("plan p.csv - -", "transmission - and certificate - are one file"), ("open -", "page file -: standard input holds the lines"),
+    ("check - -", "page file - and certificate - are one file"), ("explain - -", "page file - and certificate - are one file"),
+]  # fmt: skip
 CASES = [
-    (APART, ["plan", "none.csv", "tx.bin", "cert.bin"], b"", 3, "", "cannot read or open a file", [f"page file none.csv: {NO_FILE}"]),
     (APART, ["plan", ".", "tx.bin", "cert.bin"], b"", 3, "", "cannot read or open a file", [f"page file .: {IS_FOLDER}"]),
-    (APART, ["plan", "p.csv", "none/tx.bin", "cert.bin"], b"", 3, "", "cannot read or open a file", [f"transmission none/tx.bin: {NO_FILE}"]),
-    (APART, ["plan", "p.csv", "tx.bin", "none/c"], b"", 3, "", "cannot read or open a file", [f"certificate none/c: {NO_FILE}"]),
-    (APART, ["plan", "p.csv", "none/tx.bin", "cert.bin", "--keep"], b"", 3, "", "cannot read or open a file", [f"transmission none/tx.bin: {NO_FILE}"]),
     (APART, ["plan", "p.csv", "/dev/full", "cert.bin"], b"", 3, "", "cannot write", [f"transmission /dev/full: {NO_SPACE}"]),
     (APART, ["plan", "p.csv", "tx.bin", "/dev/full"], b"", 3, "", "cannot write", [f"certificate /dev/full: {NO_SPACE}"]),
     (APART, ["plan", "p.csv", "a\nb/\x1b[2J", "cert.bin"], b"", 3, "", "cannot read or open a file", [f"transmission a?b/?[2J: {NO_FILE}"]),
-    (APART, ["plan", "p.csv", "p.csv", "cert.bin"], b"", 1, "", TWICE, ["page file p.csv and transmission p.csv are one file"]),
-    (APART, ["plan", "p.csv", "t", "././t"], b"", 1, "", TWICE, ["transmission t and certificate ././t are one file"]),
-    (APART, ["plan", "p.csv", "t", "./p.csv", "--keep"], b"", 1, "", TWICE, ["page file p.csv and certificate ./p.csv are one file"]),
-    (APART, [*PLAN, "--at-most", "2", "--rest", "r", "--why", "./p.csv"], b"", 1, "", TWICE, ["page file p.csv and certificate of one page more ./p.csv are one file"]),
-    (APART, [*PLAN, "--at-most", "2", "--rest", "r", "--oversized", "r"], b"", 1, "", TWICE, ["page file of the rest r and page file of the oversized r are one file"]),
-    (APART, ["plan", "p.csv", "-", "-"], b"", 1, "", TWICE, ["transmission - and certificate - are one file"]),
-    (APART, ["open", "-"], b"", 1, "", TWICE, ["page file -: standard input holds the lines"]),
-    (APART, ["open", "p.csv", "--journal", "./p.csv"], b"", 1, "", TWICE, ["page file p.csv and journal ./p.csv are one file"]),
-    (APART, ["open", "--journal", "-"], b"", 1, "", TWICE, ["journal -: standard input holds the lines, and standard output takes the answers"]),
-    (APART, ["plan", "-", "-", "cert.bin"], b"", 1, "", BAD_HEADER, ["page file -"]),
-    (APART, ["plan", "-", "tx.bin", "-"], b"", 1, "", BAD_HEADER, ["page file -"]),
-    (APART, ["check", "-", "-"], b"", 1, "", TWICE, ["page file - and certificate - are one file"]),
-    (APART, ["explain", "-", "-"], b"", 1, "", TWICE, ["page file - and certificate - are one file"]),
+    (APART, ["plan", "-", "-", "cert.bin"], b"", 1, "", NO_HEADER, ["page file -"]),
+    (APART, ["plan", "-", "tx.bin", "-"], b"", 1, "", NO_HEADER, ["page file -"]),
     (APART, [*PLAN, "--limit", "1"], b"", 1, "", "search limit reached: at least 2 batches, 3 would do", ["page file p.csv: --always plans every round"]),
     (APART, [*PLAN, "--limit", "0"], b"", 1, "", "the limit must be 1 to 1000000", []),
     (APART, [*PLAN, "--expect", "3"], b"", 1, "", "pages 2, where 3 were expected", ["page file p.csv"]),
@@ -102,17 +106,13 @@ CASES = [
     (APART, [], APART, 0, "pages 2\nbatches 3\n", None, []),
     (APART, [], HEADER + b"8,tone9,\n", 1, "", "record 1: unknown kind", ["page file -: line 2: 8,tone9,"]),
     (APART, ["plan", "-", "tx.bin", "cert.bin"], HEADER + b"8,tone9,\n", 1, "", "record 1: unknown kind", ["page file -: line 2: 8,tone9,"]),
-    (APART, ["report", "none.csv", "--rate", "512"], b"", 3, "", "cannot read or open a file", [f"page file none.csv: {NO_FILE}"]),
     (APART, ["report", "p.csv", "--rate", "9"], b"", 1, "", "the rate must be 512, 1200 or 2400", []),
-    (APART, ["check", "p.csv", "none"], b"", 3, "", "cannot read or open a file", [f"certificate none: {NO_FILE}"]),
     (APART, ["check", "p.csv", "other.csv"], b"", 1, "", "not a certificate", ["certificate other.csv"]),
     (APART, ["explain", "p.csv", "other.csv"], b"", 1, "", "not a certificate", ["certificate other.csv"]),
     (APART, ["check", "p.csv", "p.csv"], b"", 1, "", "not a certificate", ["page file p.csv and certificate p.csv are one file"]),
     (APART, ["check", "p.csv", "other.cert"], b"", 1, "not shown\n", None, []),
     (HEADER + b"8,tone9,\n", ["check", "p.csv", "other.cert"], b"", 1, "", "record 1: unknown kind", ["page file p.csv: line 2: 8,tone9,"]),
     (HEADER + b"8,tone9,\n", ["explain", "p.csv", "other.cert"], b"", 1, "", "record 1: unknown kind", ["page file p.csv: line 2: 8,tone9,"]),
-    (APART, ["explain", "p.csv", "none"], b"", 3, "", "cannot read or open a file", [f"certificate none: {NO_FILE}"]),
-    (APART, ["decode", "none"], b"", 3, "", "cannot read or open a file", [f"transmission none: {NO_FILE}"]),
     (APART, ["decode", "p.csv"], b"", 1, "", "the preamble is too short", ["transmission p.csv"]),
     (APART, ["decode", "-", "--repair"], TWICE_DAMAGED, 0, HEADER.decode(), None, ["transmission -: corrected bits 3, words 2"]),
     (APART, ["show", "-", "--repair", "--list"], TWICE_DAMAGED, 0, "batch,frame,slot,codewords,address,kind,message\n", None,
@@ -120,16 +120,10 @@ CASES = [
     (APART, ["show", "-", "--repair"], BEYOND_REPAIR, 1, "", "codeword 15: not a codeword", ["transmission -"]),
     (APART, ["decode", "p.csv", "--repair"], b"", 1, "", "the preamble is too short", [ANYWHERE]),
     (APART, ["show", "p.csv", "--repair"], b"", 1, "", "the preamble is too short", ["transmission p.csv"]),
-    (APART, ["decode", "none", "--repair"], b"", 3, "", "cannot read or open a file", [f"transmission none: {NO_FILE}"]),
-    (APART, ["show", "none", "--svg"], b"", 3, "", "cannot read or open a file", [f"transmission none: {NO_FILE}"]),
-    (APART, ["wav", "none"], b"", 3, "", "cannot read or open a file", [f"transmission none: {NO_FILE}"]),
     (APART, ["wav", "none", "--rate", "9"], b"", 1, "", "the rate must be 512, 1200 or 2400", []),
     (APART, ["wav", "p.csv"], b"", 1, "", "the preamble is too short", ["transmission p.csv"]),
     (APART, ["hear", "2097152", "p.csv"], b"", 1, "", "bad address", []),
     (APART, ["hear", "8", "p.csv"], b"", 1, "", "the preamble is too short", [ANYWHERE]),
-    (APART, ["open", "p.csv", "--journal", "other.csv"], b"", 1, "", "not a journal", ["journal other.csv"]),
-    (HEADER + b'8,alpha,"a\nb"\n', ["open", "p.csv", "--journal", "new.journal"], b"", 1, "", "page 1: no line of a journal holds its message", ["page file p.csv"]),
-    (APART, ["open", "--journal", "/dev/null"], b"", 3, "", "cannot read or open a file", ["journal /dev/null: no regular file"]),
     (APART, ["open", "p.csv", "--keep"], b"plan,./p.csv,c\nplan,t,./p.csv\nplan,t,t\nplan,-,c\nplan,/dev/null,c\n", 0,
      4 * f"refused: {TWICE}\n" + "refused: cannot read or open a file\n", None,
      ["transmission ./p.csv", "certificate ./p.csv", "transmission t and certificate t are one file", "-: standard output takes the answers",
@@ -142,37 +136,38 @@ CASES = [
     (APART, ["open"], REFUSED_EDITS, 0, "ok 1\nrefused: unknown edit\nrefused: unknown edit\nrefused: bad address\nrefused: the address is already there\n"
      "refused: no such page\nrefused: no such page\nrefused: the line ends inside quotes\nrefused: a quote is out of place\nok 0\nok 0\n", None,
      [f"add,5,alpha,Ward 3, bed 2: {COMMA}", f"add,5,tone0: {COMMA}", "add,2097152,tone0,", "add,8,tone1,", "cancel,9", "sent,2", 'add,5,alpha,"a', 'add,5,alpha,a"b']),
-    (APART, ["open", "none.csv"], b"", 3, "", "cannot read or open a file", [f"page file none.csv: {NO_FILE}"]),
     (APART, ["open"], b"add,8,tone0,\nplan,none/tx.bin,cert.bin\nplan,tx.bin,none/c\nadd,9,tone0,\nplan,/dev/full,cert.bin\n", 0,
      "ok 1\nrefused: cannot read or open a file\nrefused: cannot read or open a file\nok 2\nrefused: cannot write\n", None,
      [f"transmission none/tx.bin: {NO_FILE}", f"certificate none/c: {NO_FILE}", f"transmission /dev/full: {NO_SPACE}"]),
 ]
+CASES += [(APART, words.split(), b"", 3, "", "cannot read or open a file", [f"{name}: {NO_FILE}"]) for words, name in MISSING]
+CASES += [(APART, words.split(), b"", 1, "", TWICE, [told]) for words, told in ONE_FILE]
 
 
-def fresh(folder):
-    """No outputs, and a certificate for another page file: five batches."""
-    for name in ("tx.bin", "cert.bin"):
-        (folder / name).unlink(missing_ok=True)
-    (folder / "other.csv").write_bytes(HEADER + b"".join(b"%d,tone0,\n" % (8 * k) for k in range(9)))
-    run(["plan", "other.csv", "other.bin", "other.cert"], folder)
-
-
-def try_case(tally, folder, case):
-    """The same status, output and first line with `--verbose` as without it, and behind that line the notes."""
+def try_case(tally, folder, case, left=None):
+    """The same status, output and first line with `--verbose` as without it, and behind that line the notes. What TX and CERT hold
+    then is told where it is `left`."""
     file, words, stdin, status, out, fault, notes = case
     first = told_of(fault) if fault else b""
     for more, told in (([], first), (["--verbose"], first + b"".join(map(told_of, notes)))):
-        fresh(folder)
+        for name in PLAN[2:]:
+            (folder / name).unlink(missing_ok=True)
         (folder / "p.csv").write_bytes(file)
         done = run([*words, *more], folder, stdin)
-        tally.check_done(f"verbose {words} {file[21:50]} {more}", done, status, out.encode(), told)
+        holds = left is None or {(folder / name).read_bytes() for name in PLAN[2:]} == {left}
+        tally.check_done(f"verbose {words} {file[21:50]} {more}", done, status, out.encode(), told, holds)
 
 
 def try_verbose(tally, folder):
+    # A certificate for another page file: five batches.
+    (folder / "other.csv").write_bytes(HEADER + b"".join(b"%d,tone0,\n" % (8 * k) for k in range(9)))
+    run(["plan", "other.csv", "other.bin", "other.cert"], folder)
     for file, fault, record in sampled(PAGE_FILES):
         named, unnamed = ([f"page file {name}: {record}" if record else f"page file {name}"] for name in ("p.csv", "-"))
-        try_case(tally, folder, (file, PLAN, b"", 1, "", fault, named))
-        try_case(tally, folder, (APART, ["report", "-", "--rate", "512", "--always"], file, 1, "", fault, unnamed))
+        for words in (PLAN, [*PLAN, "--always"]):
+            try_case(tally, folder, (file, words, b"", 1, "", fault, named), b"")
+        for words in ([], ["report", "-", "--rate", "512", "--always"]):
+            try_case(tally, folder, (APART, words, file, 1, "", fault, unnamed))
     for case in sampled(CASES):
         try_case(tally, folder, case)
     (folder / "p.csv").write_bytes(APART)
@@ -186,11 +181,6 @@ def try_verbose(tally, folder):
     before = run(["--verbose", "plan", "none.csv", "t", "c"], folder)
     behind = run(["plan", "none.csv", "t", "c", "--verbose"], folder)
     tally.check("--verbose before the command", before.stderr == behind.stderr and before.returncode == 3, before)
-    for words in ([], ["plan"], ["check"], ["explain"], ["decode"], ["hear"], ["show"], ["wav"], ["open"], ["report"]):
-        done = run([*words, "--help"], folder)
-        tally.check(f"--verbose in the help of {words}", b"--verbose" in done.stdout, done.stdout)
-        longest = max(len(line) for line in done.stdout.splitlines())
-        tally.check(f"width of the help of {words}", longest <= 100, longest)
 
 
 PARTS = (try_verbose,)
