@@ -10,6 +10,7 @@ import itertools
 import os
 import pathlib
 import random
+import re
 import resource
 import shutil
 import subprocess
@@ -21,7 +22,9 @@ sys.path.insert(0, str(pathlib.Path(__file__).resolve().parents[1]))
 import sessions
 import tally as shared
 from codewords import HEADER
-from tally import CANNOT_OPEN, CANNOT_WRITE, IS_EMULATED, ONE_IN, PROGRAM, as_nobody, fault, faulty, files_of, room_in, run_parts, sampled
+from sessions import listing
+from tally import CANNOT_OPEN, CANNOT_WRITE, IS_EMULATED, ONE_IN, PROGRAM, as_nobody, fault, faulty
+from tally import files_of, own_disk, room_in, run_parts, sampled, with_most_bytes
 
 FIRST_LINE = b"pocsag journal,1\n"
 EDITS, KILLS, TURNS = (500, 30, 2_000) if IS_EMULATED else (5_000, 300, 20_000)
@@ -33,22 +36,12 @@ THREE_EDITS = FIRST_LINE + b"add,8,tone0,\nadd,16,tone0,\ncancel,8\n"
 
 
 def after(pages, line):
-    """The pages after an edit, as pairs of an address and the rest of its record; nothing where it is refused."""
-    words = line.split(b",", 2)
-    if words[0] == b"add":
-        address = int(words[1])
-        if any(address == other for other, _ in pages):
-            return None
-        return pages + [(address, words[2])]
-    if words[0] == b"sent":
-        return pages[int(words[1]) :] if int(words[1]) <= len(pages) else None
-    if words[0] == b"plan":
+    """The pages after an edit; nothing where it is refused."""
+    if line.startswith(b"plan"):
         # The pages are tones of one frame: each batch carries two.
         return pages[2 * int(line.rsplit(b",")[-1]) :] if pages else None
-    if words[0] == b"cancel":
-        left = [page for page in pages if page[0] != int(words[1])]
-        return left if len(left) < len(pages) else None
-    return [] if line == b"clear" else None
+    answer, left = sessions.edited(pages, line)
+    return None if answer.startswith(b"refused") else left
 
 
 def all_after(lines):
@@ -60,10 +53,6 @@ def all_after(lines):
 
 def in_lines(lines):
     return b"".join(line + b"\n" for line in lines)
-
-
-def listing(pages):
-    return HEADER + b"".join(b"%d,%s\n" % page for page in pages)
 
 
 def random_edit(chooser, pages):
@@ -124,54 +113,34 @@ def check_listed(tally, name, folder, pages, told):
     tally.check(name, found == (listing(pages), told), found)
 
 
-def try_first_use(tally, place):
-    """Start, add ten, kill -9, start, list."""
-    session = start(place)
-    lines = [b"add,%d,tone0," % (8 * number) for number in range(10)]
-    for number, line in enumerate(lines):
-        tally.check(f"first use {number}", session.ask(line) == b"ok %d" % (number + 1))
-    session.kill()
-    found, err = listed(place)
-    tally.check("first use: the list", found == listing(all_after(lines)), found)
-    tally.check("first use: what it tells", err == read_line(10, 10), err)
-
-
 def one_life(session, chooser, pages, count, edit_of):
     """Sends edits one by one, and then a few without waiting, and kills it; gives the edits that were sent in their
     order, as far as they are accepted, and how many of them were answered ok."""
-    sent, answered = [], 0
-    for _ in range(count):
+    sent, burst, answered = [], [], 0
+    for number in range(count + chooser.randrange(4)):
         line = edit_of(chooser, pages)
-        answer, later = session.ask(line), after(pages, line)
-        if answer is None or (later is not None) != is_done(answer):
-            return None
+        later = after(pages, line)
+        if number < count:
+            answer = session.ask(line)
+            if answer is None or (later is not None) != is_done(answer):
+                return None
+            answered += later is not None
+        else:
+            burst.append(line)
         if later is not None:
             pages = later
             sent.append(line)
-            answered += 1
-    burst, many = [], []
-    for _ in range(chooser.randrange(4)):
-        line = edit_of(chooser, pages)
-        many.append(line)
-        later = after(pages, line)
-        if later is not None:
-            pages = later
-            burst.append(line)
-    session.send(in_lines(many))
+    session.send(in_lines(burst))
     time.sleep(chooser.random() * 0.004)
     told = session.kill()
     answered += sum(is_done(answer) for answer in told.splitlines(True) if answer.endswith(b"\n"))
-    return sent + burst, answered
+    return sent, answered
 
 
 def try_kills(tally, folder):
-    """Random edits, killed at random moments and started again each time."""
-    many_lives(tally, folder, random_edit, KILLS, EDITS)
-
-
-def try_killed_slots(tally, folder):
-    """The same where pages are sent slot by slot."""
-    many_lives(tally, folder, random_tone, KILLS // 3, EDITS // 5)
+    """Random edits, killed at random moments and started again each time; the same where pages are sent slot by slot."""
+    for edit_of, kills, edits_due in ((random_edit, KILLS, EDITS), (random_tone, KILLS // 3, EDITS // 5)):
+        many_lives(tally, room_in(folder, edit_of.__name__), edit_of, kills, edits_due)
 
 
 def many_lives(tally, place, edit_of, kills, edits_due):
@@ -217,60 +186,34 @@ def try_cuts(tally, place):
 SECTOR = 512
 
 
-def lose_sector(path, text, sector, start=0):
-    """Writes the text, of which this sector, from the start on, was not written; gives where its zeros begin and end."""
-    low, high = max(start, sector * SECTOR), min(len(text), (sector + 1) * SECTOR)
-    path.write_bytes(text[:low] + bytes(high - low) + text[high:])
-    return low, high
-
-
-def check_bad_line(tally, name, place, number):
-    """Whether a start refuses the line of this number, and leaves the journal as it is."""
-    held = (place / NAME).read_bytes()
-    done = run(place, [b"list"])
-    tally.check_done(name, done, 1, b"", fault(BAD % number), (place / NAME).read_bytes() == held)
-
-
 def try_lost_sectors(tally, place):
-    """A last line of 4,000 letters, of which each sector in turn was not written: it is taken for none. The start reads the
-    lines before it, or refuses the journal, and then leaves it as it is."""
-    before = [b"add,%d,alpha,Ward %d" % (8 * number, number) for number in range(40)]
-    text = FIRST_LINE + in_lines(before)
-    start = len(text)
-    text += b"add,800,alpha,%s\n" % (b"w" * 4000)
-    for sector in range(start // SECTOR, len(text) // SECTOR + 1):
-        _, high = lose_sector(place / NAME, text, sector, start)
-        if high == len(text):
-            told = torn_line(len(text) - start, b"cut off") + read_line(len(before), len(before))
-            check_listed(tally, f"sector {sector} lost, with the line feed", place, all_after(before), told)
-        else:
-            check_bad_line(tally, f"sector {sector} lost", place, len(before) + 2)
-
-
-def try_lost_lines(tally, place):
-    """A journal of short lines, of which each sector of the last 4 KB in turn was not written: the start reads the lines before
-    it, where it is the last, or refuses the first line that is lost."""
-    lines = [b"add,%d,alpha,Ward %d" % (8 * number, number) for number in range(300)]
-    text = FIRST_LINE + in_lines(lines)
-    last = (len(text) - 1) // SECTOR
-    for sector in range(last - 7, last + 1):
-        low, _ = lose_sector(place / NAME, text, sector)
-        whole = text[:low].count(b"\n")
-        if sector == last:
-            told = torn_line(len(text) - text[:low].rfind(b"\n") - 1, b"cut off") + read_line(whole - 1, whole - 1)
-            check_listed(tally, "the last sector lost", place, all_after(lines[: whole - 1]), told)
-        else:
-            check_bad_line(tally, f"sector {sector} of short lines lost", place, whole + 1)
+    """Of a last line of 4,000 letters, and of the last lines of many, each sector in turn was not written. The start reads the lines
+    before it, where nothing stands behind it, or refuses the first line that is lost, and leaves the journal as it is."""
+    short = [b"add,%d,alpha,Ward %d" % (8 * number, number) for number in range(300)]
+    for lines, lost in ((short, 0), ([*short[:40], b"add,2400,alpha,%s" % (b"w" * 4000)], 40)):
+        text = FIRST_LINE + in_lines(lines)
+        begin = len(FIRST_LINE + in_lines(lines[:lost]))
+        for sector in range((len(text) - 1) // SECTOR + 1)[-9:]:
+            low, high = max(begin, sector * SECTOR), min(len(text), (sector + 1) * SECTOR)
+            held = text[:low] + bytes(high - low) + text[high:]
+            (place / NAME).write_bytes(held)
+            whole, name = text[:low].count(b"\n"), f"sector {sector} of {len(lines)} lines lost"
+            if high == len(text):
+                told = torn_line(len(text) - text[:low].rfind(b"\n") - 1, b"cut off") + read_line(whole - 1, whole - 1)
+                check_listed(tally, name, place, all_after(lines[: whole - 1]), told)
+            else:
+                done = run(place, [b"list"])
+                tally.check_done(name, done, 1, b"", fault(BAD % (whole + 1)), (place / NAME).read_bytes() == held)
 
 
 def traced(folder, words, lines):
-    """The calls by which a program brings files to the disk and renames them, in order."""
+    """A run, the calls by which it brings files to the disk and renames them, in order, and whether it opens the journal to append."""
     place = folder / "calls"
-    strace = ["strace", "-f", "-y", "-o", str(place), "-e", "trace=fsync,fdatasync,rename,renameat,renameat2,link,linkat"]
-    done = shared.run(words, folder, lines, before=strace)
-    calls = [line.split(maxsplit=1)[1].split("(")[0] for line in place.read_text().splitlines() if "(" in line]
+    strace = ["strace", "-f", "-o", str(place), "-e", "trace=fsync,fdatasync,rename,renameat,renameat2,openat"]
+    done, text = shared.run(words, folder, lines, before=strace), place.read_text()
     place.unlink()
-    return done, ["rename" if call.startswith("rename") else call for call in calls if not call.startswith("link")]
+    calls = re.findall(r"^\d+ +(fsync|fdatasync|rename)", text, re.MULTILINE)
+    return done, calls, re.search(rf'"(?:[^"]*/)?{NAME}", [A-Z_|]*O_APPEND', text)
 
 
 def try_synchronised(tally, place):
@@ -278,20 +221,18 @@ def try_synchronised(tally, place):
     if not shutil.which("strace"):
         print("left out: the calls that synchronise, since there is no strace")
         return
-    (place / "pages.csv").write_bytes(HEADER + b"8,tone0,\n")
     both = ["fsync", "fsync", "rename", "fsync", "rename", "fsync"]  # the folder behind each renaming
-    for number in range(2):
-        done, calls = traced(place, ["plan", "pages.csv", "t", "c", "--keep"], b"")
-        tally.check(f"synchronised: plan --keep {number}", done.returncode == 0 and calls == both, (done, calls))
     anew, keep = ["fsync", "rename", "fsync"], [*OPEN, "--keep"]
-    done, calls = traced(place, OPEN, b"add,8,tone0,\nadd,8,tone0,\nadd,16,tone0,\nlist\n")
-    tally.check("synchronised: a journal", done.returncode == 0 and calls == anew + ["fdatasync"] * 2, (done, calls))
-    done, calls = traced(place, keep, b"plan,t,c\n")
-    tally.check("synchronised: a plan of an open round", done.stdout == b"batches 1\n" and calls == anew + both, (done, calls))
-    done, calls = traced(place, keep, b"plan,t,c,open,1\n")
-    kept = (place / NAME).read_bytes().endswith(b"\nsent,2\n")
-    due = anew + both + ["fdatasync"]
-    tally.check("synchronised: a slot", done.stdout == b"batches 1, sent 2\n" and calls == due and kept, (done, calls))
+    for words, lines, told, due in (
+        (OPEN, b"add,8,tone0,\nadd,8,tone0,\nadd,16,tone0,\n", b"ok 2\n", anew + ["fdatasync"] * 2),
+        (keep, b"plan,t,c\n", b"batches 1\n", anew + both),
+        (keep, b"plan,t,c,open,1\n", b"batches 1, sent 2\n", anew + both + ["fdatasync"]),
+    ):
+        done, calls, is_to_append = traced(place, words, lines)
+        holds = done.returncode == 0 and done.stdout.endswith(told) and calls == due
+        tally.check(f"synchronised: {lines}", holds and is_to_append, (done, calls, is_to_append))
+    kept = (place / NAME).read_bytes()
+    tally.check("synchronised: a slot is kept", kept.endswith(b"\nsent,2\n"), kept)
 
 
 BAD_LINES = [
@@ -368,7 +309,7 @@ HARMS = [
 
 def try_harms(tally, folder):
     """A journal that another program moves, deletes, cuts or writes to while it is held gives no `ok` any more, and what
-    stands there stays as it was left. It is opened to append."""
+    stands there stays as it was left."""
     for number, harm in enumerate(HARMS):
         for more in ([], ["--verbose"]):
             place = room_in(folder, f"harm{number}{len(more)}")
@@ -380,22 +321,6 @@ def try_harms(tally, folder):
             due = read_line(0, 0) + told(MOVED, [f"journal {NAME}"] if more else [])
             tally.check(f"harm {number} {more}", found == (3, b"", due), found)
             tally.check(f"harm {number} {more}: the files", files_of(place) == left, left)
-    place = room_in(folder, "append")
-    session = start(place)
-    session.process.stderr.readline()
-    number = session.process.pid
-    flags = [open_flags(number, name) for name in os.listdir(f"/proc/{number}/fd") if leads_to(number, name, place)]
-    session.kill()
-    tally.check("opened to append", flags and all(flag & os.O_APPEND for flag in flags), flags)
-
-
-def leads_to(process, name, place):
-    return os.readlink(f"/proc/{process}/fd/{name}") == str(place / NAME)
-
-
-def open_flags(process, name):
-    lines = pathlib.Path(f"/proc/{process}/fdinfo/{name}").read_text().splitlines()
-    return next(int(line.split()[1], 8) for line in lines if line.startswith("flags:"))
 
 
 NOBODY = 65534
@@ -420,29 +345,23 @@ def try_rights(tally, place):
     """A journal that is written anew keeps its owner, group and mode; where the system refuses that, it stays as it is."""
     place.parent.chmod(0o755)
     place.chmod(0o755)
-    path = place / NAME
-    for mode in (0o600, 0o640, 0o666):
+    path, user = place / NAME, as_nobody(place)
+    for owner, mode in itertools.product([(os.geteuid(), os.getegid()), *[(NOBODY, NOBODY)] * bool(user)], (0o600, 0o640, 0o664)):
         path.write_bytes(THREE_EDITS)
-        path.chmod(mode)
-        owner = rights(path)[:2]
-        found, err = listed(place)
-        tally.check(f"rights {mode:o}", found == HEADER + b"16,tone0,\n" and rights(path) == (*owner, mode), (found, err, rights(path)))
-    user = as_nobody(place)
-    if not user:
-        print("left out: journals of another user, since we are not the superuser")
-        return
-    for mode in (0o600, 0o640, 0o664):
-        path.write_bytes(THREE_EDITS)
-        os.chown(path, NOBODY, NOBODY)
+        os.chown(path, *owner)
         path.chmod(mode)
         number = path.stat().st_ino
         found, err = listed(place)
-        holds = found == HEADER + b"16,tone0,\n" and rights(path) == (NOBODY, NOBODY, mode) and path.stat().st_ino != number
-        tally.check(f"rights of another user {mode:o}", holds, (found, err, rights(path)))
-        place.chmod(0o777)
-        done = run(place, [b"add,24,tone0,"], before=user)
-        tally.check(f"rights of another user {mode:o}: the user goes on", (done.stdout, done.returncode) == (b"ok 2\n", 0), done)
-        place.chmod(0o755)
+        holds = found == HEADER + b"16,tone0,\n" and rights(path) == (*owner, mode) and path.stat().st_ino != number
+        tally.check(f"rights of {owner} {mode:o}", holds, (found, err, rights(path)))
+        if NOBODY in owner:
+            place.chmod(0o777)
+            done = run(place, [b"add,24,tone0,"], before=user)
+            tally.check(f"rights of another user {mode:o}: the user goes on", (done.stdout, done.returncode) == (b"ok 2\n", 0), done)
+            place.chmod(0o755)
+    if not user:
+        print("left out: journals of another user, since we are not the superuser")
+        return
     path.unlink()
     path.write_bytes(FIRST_LINE + b"add,8,tone0,\n")
     path.chmod(0o666)
@@ -494,15 +413,6 @@ def try_no_locks(tally, folder):
                 tally.check(f"{call} {error} {number} {text}: nothing is left", holds, (done, os.listdir(place)))
 
 
-def try_backups(tally, place):
-    """A user's dated copies of the journal stay."""
-    copies = {f"{NAME}.{name}" for name in ("20261128.old", "20261128.new", "1.old", "999999.new", "pocsag.old")}
-    for name in copies:
-        (place / name).touch()
-    done = run(place, [b"add,8,tone0,"])
-    tally.check("dated copies stay", done.returncode == 0 and set(os.listdir(place)) == copies | {NAME}, os.listdir(place))
-
-
 def try_read_only(tally, place):
     """`--read-only` lists a journal that another program holds, one with a torn line, and one that may only be read; it
     changes nothing, and reads no line."""
@@ -534,51 +444,30 @@ def try_read_only(tally, place):
     for more, notes in with_notes(f"journal {NAME}: {NO_FILE}"):
         done = run(place, [], "--read-only", *more)
         tally.check_done(f"read only: no file {more}", done, 3, b"", told(CANNOT, notes), not os.listdir(place))
-    for words in (["open", "--read-only"], *([*read_only, word] for word in ("pages.csv", "--always", "--keep"))):
-        tally.check_usage(f"read only: {words}", shared.run(words, place), also=not os.listdir(place))
-    path.write_bytes(FIRST_LINE)
-    tally.check_full("read only: a full output", read_only, place)
+    tally.check_usage("read only: PAGES", shared.run([*read_only, "pages.csv"], place), also=not os.listdir(place))
 
 
 def try_use(tally, place):
-    """One program at a time; PAGES; the lines as an input; what stands at FILE; plans."""
+    """PAGES; the lines as an input; plans; and a user's dated copies of the journal, which stay."""
     path = place / NAME
+    copies = {f"{NAME}.{name}" for name in ("20261128.old", "20261128.new", "1.old", "999999.new", "pocsag.old")}
+    for name in copies:
+        (place / name).touch()
     (place / "pages.csv").write_bytes(HEADER + b'8,alpha,"Ward 3, now"\n16,numeric,"12   345     "\n24,numeric, \n')
     first = run(place, [b"list"], "pages.csv")
     tally.check("PAGES and a new journal", (first.stderr, first.returncode) == (read_line(0, 3), 0), first)
     again = run(place, [b"list", b"add,32,tone0,"])
     tally.check("the pages of PAGES are kept", again.stdout.startswith(first.stdout) and again.stderr == read_line(3, 3), (first, again))
     held = path.read_bytes()
-    tally.check_done("PAGES and a journal with edits", run(place, [b"list"], "pages.csv"), 1, b"", fault(BEGUN))
-    tally.check("PAGES and a journal with edits: the file", path.read_bytes() == held)
     fed = shared.run(["open"], place, held + b"list\n")
     tally.check("the journal as input", b"refused" not in fed.stdout and fed.stdout.count(b"ok ") == held.count(b"\n") + 1, fed)
-    session = start(place)
-    tally.check("a program that holds it", session.process.stderr.readline() == read_line(4, 4))
-    tally.check_done("a second program", run(place, [b"list"]), 1, b"", fault(HELD))
-    session.kill()
     for pair in ((b"round.journal", b"c"), (b"t", b"round.journal"), (b"t", b"./round.journal")):
         out = run(place, [b"plan,%s,%s" % pair]).stdout
         tally.check(f"a plan to the journal {pair}", out == b"refused: the same file is named twice\n", out)
     tally.check("a plan to the journal: the file", path.read_bytes().count(b"\n") == 5, path.read_bytes())
     out = run(place, [b"plan,t,c", b"clear"], "--always", "--keep").stdout
     tally.check("a plan beside a journal", out == b"batches 2\nok 0\n" or out.startswith(b"batches "), out)
-    (place / "feed.csv").write_bytes(HEADER + b'8,tone0,\n16,alpha,"two\nlines"\n')
-    path.unlink()
-    done = run(place, [b"list"], "feed.csv")
-    tally.check_done("a message with a line feed", done, 1, b"", fault("page 2: no line of a journal holds its message"))
-    path.unlink(missing_ok=True)
-    (place / "other").write_bytes(b"")
-    path.symlink_to("other")
-    done = run(place, [b"list"])
-    tally.check("a link as a journal", (done.stdout, done.returncode) == (b"", 3), done)
-    done = shared.run(["open", "--journal", "/dev/full"], place, b"list\n")
-    tally.check("a device as a journal", (done.stdout, done.returncode) == (b"", 3), done)
-
-
-def limited(size):
-    """How a program is started that may make no file longer than this."""
-    return {"preexec_fn": lambda: resource.setrlimit(resource.RLIMIT_FSIZE, (size, size)), "restore_signals": False}
+    tally.check("dated copies stay", set(os.listdir(place)) == copies | {NAME, "pages.csv", "t", "c"}, os.listdir(place))
 
 
 def try_full_disk(tally, place):
@@ -586,21 +475,12 @@ def try_full_disk(tally, place):
     lines = [b"add,%d,alpha,Ward %d is full" % (8 * number, number) for number in range(40)]
     for size in range(200, 900, 37):
         (place / NAME).unlink(missing_ok=True)
-        done = run(place, lines, **limited(size))
+        done = run(place, lines, **with_most_bytes(size))
         answered = done.stdout.count(b"\n")
         tally.check(f"full at {size}", 0 < answered < 40 and done.returncode == 3 and CANNOT_WRITE in done.stderr, done)
         tally.check(f"full at {size}: answers", all(map(is_done, done.stdout.splitlines())), done)
         found, err = listed(place)
         tally.check(f"full at {size}: the list", found == listing(all_after(lines[:answered])), (found, err))
-
-
-def mount_small(place):
-    """Mounts a file system of 64 KiB at the place; says why where it cannot be."""
-    words = ["mount", "-t", "tmpfs", "-o", "size=64k", "tmpfs", str(place)]
-    if not shutil.which(words[0]):
-        return "there is no mount"
-    done = subprocess.run(words, capture_output=True, text=True, timeout=60)
-    return done.stderr.strip() if done.returncode else ""
 
 
 def fill(room, left):
@@ -610,17 +490,14 @@ def fill(room, left):
     (room / "rest").write_bytes(b"x" * max(0, free.f_bavail * free.f_frsize - left))
 
 
-def try_full_system(tally, room):
+def try_full_system(tally, folder):
     """A file system with no room left: no ok, status 3, and the next start reads what was answered; where there is no
     room to write it anew the program ends with 3 and leaves it as it is."""
-    why = mount_small(room)
-    if why:
-        print(f"left out: a small file system, since none can be mounted here ({why})")
-        return
-    try:
-        fill_and_keep(tally, room)
-    finally:
-        subprocess.run(["umount", str(room)], check=True, timeout=60)
+    with own_disk(folder / "small", "size=64k") as room:
+        if room:
+            fill_and_keep(tally, room)
+        else:
+            print("left out: a small file system, since none can be mounted here")
 
 
 def fill_and_keep(tally, room):
@@ -702,7 +579,7 @@ def try_verbose_later(tally, place):
     lines = [b"add,%d,tone0," % (8 * number) for number in range(9)]
     for more, notes in with_notes(f"journal {NAME}: {BEYOND}"):
         (place / NAME).unlink(missing_ok=True)
-        done = run(place, lines, *more, **limited(60))
+        done = run(place, lines, *more, **with_most_bytes(60))
         found, due = (done.stdout.count(b"ok"), done.stderr, done.returncode), read_line(0, 0) + told("cannot write", notes)
         tally.check(f"told of a journal that may not grow {more}", found == (3, due, 3), done)
     user = as_nobody(place)
@@ -725,19 +602,6 @@ def try_announced(tally, place):
             done = run(place, [], *words, "--verbose")
             tally.check(f"announced {count} {words}", (done.stderr, done.returncode) == (due + read_line(count, count), 0), done)
             tally.check(f"not announced {count} {words}", run(place, [], *words).stderr == read_line(count, count))
-
-
-def try_many(tally, place):
-    """A round of 20,000 pages, which is all that there may be: it is written, read and written anew."""
-    file = HEADER + b"".join(b"%d,alpha,Ward %d\n" % (number, number) for number in range(20000))
-    (place / "pages.csv").write_bytes(file)
-    done = run(place, [b"add,20000,tone0,", b"cancel,0", b"add,20000,tone0,"], "pages.csv")
-    tally.check_done("many pages", done, 0, b"refused: too many pages\nok 19999\nok 20000\n", read_line(0, 20000))
-    found, err = listed(place)
-    tally.check("many pages: the edits", err == read_line(20002, 20000), err)
-    tally.check("many pages: the list", found == file.replace(b"0,alpha,Ward 0\n", b"", 1) + b"20000,tone0,\n")
-    found, err = listed(place)
-    tally.check("many pages: written anew", err == read_line(20000, 20000), err)
 
 
 def turning_journal(pages, turns):
@@ -784,9 +648,9 @@ def try_growth(tally, place):
 
 
 PARTS = (
-    try_first_use, try_kills, try_killed_slots, try_cuts, try_lost_sectors, try_lost_lines, try_synchronised, try_bad_lines, try_others, try_harms,
-    try_rights, try_failed_look, try_no_locks, try_backups, try_read_only, try_use, try_full_disk, try_full_system, try_verbose, try_verbose_later,
-    try_announced, try_many, try_long_start, try_growth,
+    try_kills, try_cuts, try_lost_sectors, try_synchronised, try_bad_lines, try_others, try_harms,
+    try_rights, try_failed_look, try_no_locks, try_read_only, try_use, try_full_disk, try_full_system, try_verbose, try_verbose_later,
+    try_announced, try_long_start, try_growth,
 )  # fmt: skip
 
 if __name__ == "__main__":

@@ -1,13 +1,12 @@
 """A folder with a queue, its transmitter, and faults in the commands that `next-slot` and `enqueue` start."""
 
 import collections
-import csv
-import io
 import os
 import re
 import shutil
 import subprocess
 
+from codewords import rows_of
 from tally import PROGRAM, TOP
 
 COMMANDS = ("cp", "find", "flock", "head", "ls", "mv", "rm", "sync", "tail", "tr", "wc", "xargs")
@@ -156,7 +155,7 @@ class Channel:
 
 def pages_of(file):
     """The pages of a page file."""
-    return [tuple(row) for row in csv.reader(io.StringIO(file.decode(), newline=""))][1:]
+    return [tuple(row) for row in rows_of(file)[1:]]
 
 
 def can_trace():

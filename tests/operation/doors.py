@@ -1,20 +1,20 @@
 """Files that the program refuses to write beside its lines, and files that it puts in place of others."""
 
+import itertools
 import os
-import pwd
 import shutil
-import signal
 import stat
 import subprocess
 
 from codewords import APART, HEADER
-from tally import CANNOT_OPEN, CANNOT_WRITE, NAMED_TWICE, PROGRAM, fault, faulty, room_in, run
+from tally import CANNOT_OPEN, CANNOT_WRITE, NAMED_TWICE, PROGRAM, as_nobody, fault, faulty, files_of, room_in, run
 
-TONE = HEADER + b"8,tone0,\n"
+TONE, BAD = HEADER + b"8,tone0,\n", HEADER + b"8,tone9,\n"
 PLAN = ["plan", "pages.csv", "tx.bin", "cert.bin"]
 OLD = (b"an older transmission", b"an older certificate")
 NO_OWNER = fault("the new file cannot be given the owner, group and mode of the old one")
-IS_ROOT = os.geteuid() == 0
+NOBODY = (65534, 65534)  # the user and the group of `as_nobody`
+RENAMES = "rename,renameat,renameat2"
 
 
 def put_old(room):
@@ -25,7 +25,7 @@ def put_old(room):
 
 def fresh(folder, name):
     """A new folder with page files, an older transmission and an older certificate."""
-    room = room_in(folder, name, {"pages.csv": TONE, "apart.csv": APART, "bad.csv": HEADER + b"8,tone9,\n"})
+    room = room_in(folder, name, {"pages.csv": TONE, "apart.csv": APART, "bad.csv": BAD})
     put_old(room)
     return room
 
@@ -94,96 +94,66 @@ def try_streams(tally, folder):
 
 
 def another_user(folder):
-    """The numbers of another user and of their group, and what runs the program as that user in a folder of this one."""
-    nobody = pwd.getpwnam("nobody")
-    who = {"user": nobody.pw_uid, "group": nobody.pw_gid, "extra_groups": []}
+    """The words that run the program as a user without rights in a folder of this one; none where we cannot."""
     folder.chmod(0o755)
-    shutil.copyfile(PROGRAM, folder / "pocsag")
-    (folder / "pocsag").chmod(0o755)
-    run_as = lambda words, room: subprocess.run(["../pocsag", *words], cwd=room, capture_output=True, timeout=60, **who)
-    return (nobody.pw_uid, nobody.pw_gid), run_as
+    return as_nobody(folder) and as_nobody(PROGRAM.parent)
 
 
 def try_rights(tally, folder):
     """With `--keep` the new files have the owner, the group and the rights of the old ones, or the old ones stay."""
-    if not IS_ROOT:
+    room, user = fresh(folder, "rights"), another_user(folder)
+    if not user:
         return
-    room, (nobody, run_as) = fresh(folder, "rights"), another_user(folder)
     for name in ("tx.bin", "cert.bin"):
-        os.chown(room / name, *nobody)
+        os.chown(room / name, *NOBODY)
         (room / name).chmod(0o640)
     done = run([*PLAN, "--keep"], room)
     found = [(it.st_uid, it.st_gid, stat.S_IMODE(it.st_mode)) for it in ((room / name).stat() for name in ("tx.bin", "cert.bin"))]
-    holds = done.returncode == 0 and stand(room) != OLD and found == 2 * [(*nobody, 0o640)]
+    holds = done.returncode == 0 and stand(room) != OLD and found == 2 * [(*NOBODY, 0o640)]
     tally.check("the owner, the group and the rights stay", holds, (done, found))
     for name in ("tx.bin", "cert.bin"):
         room = fresh(folder, f"another's {name}")
-        os.chown(room, *nobody)
+        os.chown(room, *NOBODY)
         for own in {"tx.bin", "cert.bin"} - {name}:
-            os.chown(room / own, *nobody)
+            os.chown(room / own, *NOBODY)
         before = names(room)
-        done = run_as([*PLAN, "--keep", "--verbose"], room)
+        done = run([*PLAN, "--keep", "--verbose"], room, before=user)
         note = f"{name}: {os.strerror(1)} (os error 1)\n".encode()
         holds = (done.returncode, done.stdout) == (3, b"") and done.stderr.startswith(NO_OWNER) and done.stderr.endswith(note)
         tally.check(f"another's {name} stays", holds and stand(room) == OLD and names(room) == before, (done, names(room)))
     room = fresh(folder, "unread")
     for name in (".", "tx.bin", "cert.bin"):
-        os.chown(room / name, *nobody)
+        os.chown(room / name, *NOBODY)
     room.chmod(0o300)
-    done = run_as([*PLAN, "--keep", "--verify"], room)
+    done = run([*PLAN, "--keep", "--verify"], room, before=user)
     room.chmod(0o700)
     tally.check_done("a folder that cannot be read", done, 3, b"", CANNOT_OPEN, stand(room) == OLD and not list(room.glob("*.new")))
 
 
 def try_last_step(tally, folder):
-    """Where the last step fails both old files stand, and nothing is told to be done."""
+    """Where the last step fails all old files stand, and nothing is told to be done. Ended at a renaming, it leaves those new that
+    were renamed before: REST, WHY, CERT and TX, in this order."""
     room = fresh(folder, "a folder for TX")
     (room / "tx.bin").unlink()
     (room / "tx.bin").mkdir()
     before = names(room)
     done = run([*PLAN, "--keep", "--verify"], room)
     tally.check_done("TX is a folder", done, 3, b"", CANNOT_WRITE, names(room) == before and (room / "cert.bin").read_bytes() == OLD[1])
-    if not shutil.which("strace"):
-        return
-    renames = "rename,renameat,renameat2"
-    for has_old in (True, False):
-        for call, number in ((renames, 1), (renames, 2), ("link,linkat", 1)):
-            room = fresh(folder, f"{call[:6]} {number} {has_old}")
-            if not has_old:
-                (room / "cert.bin").unlink()
-            before = names(room)
-            done = run([*PLAN, "--keep", "--verify"], room, before=faulty(call, f"error=EPERM:when={number}"))
-            if call == renames:
-                holds = (room / "tx.bin").read_bytes() == OLD[0] and names(room) == before
-                tally.check_done(f"{call} {number} {has_old}", done, 3, b"", CANNOT_WRITE, holds)
-                tally.check(f"{call} {number} {has_old}: CERT", not has_old or (room / "cert.bin").read_bytes() == OLD[1])
-            else:
-                holds = done.returncode == 0 and names(room) == before | {"cert.bin"} and stand(room) != OLD
-                tally.check(f"no second name {has_old}", holds, (done, names(room)))
-
-
-def try_left_over(tally, folder):
-    """A run removes what runs that were ended left beside the same places, and nothing else."""
-    room = fresh(folder, "left over")
-    before = names(room)
-    left = subprocess.Popen(["true"])
-    left.wait()
-    gone = {f"tx.bin.pocsag.{left.pid}.new", f"cert.bin.pocsag.{left.pid}.new", f"cert.bin.pocsag.{left.pid}.old"}
-    kept = {f"tx.bin.pocsag.{os.getpid()}.new", f"tx.bin.{left.pid}.new", f"cert.bin.{left.pid}.old", "tx.bin.20261128.new", "tx.bin.20261128.old",
-            "tx.bin.pocsag.x.new", f"tx.bin.pocsag.{left.pid}.newer", f"tx.bin.pocsag.{left.pid}", "tx.bin.pocsag.+7.new"}  # fmt: skip
-    for name in gone | kept:
-        (room / name).touch()
-    done = run([*PLAN, "--keep"], room)
-    tally.check("those of processes that are gone", done.returncode == 0 and names(room) == before | kept, (done, names(room)))
-    for name in kept:
-        (room / name).unlink()
-    for how in (signal.SIGTERM, signal.SIGINT, signal.SIGKILL):
-        process = subprocess.Popen([str(PROGRAM), "plan", "pages.csv", "./tx.bin", str(room / "cert.bin"), "--keep"], cwd=room,
-                                   stdin=subprocess.DEVNULL, stdout=subprocess.DEVNULL, stderr=subprocess.DEVNULL)
-        process.send_signal(how)
-        process.wait(60)
-    done = run([*PLAN, "--keep"], room)
-    tally.check("after signals", done.returncode == 0 and names(room) == before, names(room))
+    places = ("rest.csv", "why.bin", "cert.bin", "tx.bin")
+    front = ["plan", "apart.csv", "tx.bin", "cert.bin", "--at-most", "2", "--rest", "rest.csv", "--why", "why.bin", "--keep"]
+    cases = [*itertools.product((RENAMES,), ("signal=KILL", "error=EPERM"), range(1, 5)), ("link,linkat", "error=EPERM", 1)]
+    for has_old, (calls, what, number) in itertools.product((True, False), cases if shutil.which("strace") else ()):
+        name, old = f"{what} at {calls[:6]} {number}, {has_old}", dict.fromkeys(places, OLD[0]) if has_old else {}
+        room = room_in(folder, name, {"apart.csv": APART, **old})
+        done = run(front, room, before=faulty(calls, f"{what}:when={number}"))
+        found = {place: text for place, text in files_of(room).items() if place in places}
+        new = [place in found and found[place] != OLD[0] for place in places]
+        renamed = {"signal=KILL": number - 1, "error=EPERM": 0}[what] if calls == RENAMES else 4
+        holds = new == [at < renamed for at in range(4)] and (done.returncode == 0) == (renamed == 4)
+        if what == "error=EPERM":
+            holds = holds and names(room) == {"apart.csv", *(places if renamed else old)}
+            holds = holds and (renamed or (done.returncode, done.stderr) == (3, CANNOT_WRITE))
+        tally.check(name, holds, (done, new, names(room)))
 
 
 def try_folders(tally, folder):
@@ -201,21 +171,6 @@ def try_folders(tally, folder):
     tally.check_done("a fault of the page file comes first", run(["check", "bad.csv", "folder"], room), 1, b"", fault("record 1: unknown kind"))
     for words in (["decode", "folder"], ["check", "pages.csv", "folder"], ["open", "--journal", "folder"], ["open", "--journal", "folder", "--read-only"]):
         tally.check_done(f"{words}", run(words, room), 3, b"", CANNOT_OPEN)
-
-
-def try_closed_pipe(tally, folder):
-    """Where nobody reads standard output any more, it ends with 3 and says so."""
-    room = room_in(folder, "closed pipe", {"pages.csv": HEADER + b"".join(b"%d,numeric,12345\n" % k for k in range(20000))})
-    run([*PLAN, "--always"], room)
-    for words in ("decode tx.bin", "decode tx.bin --verbose", "show tx.bin", "show tx.bin --svg", "show tx.bin --list", "decode tx.bin --repair",
-                  "hear 8 tx.bin", "check pages.csv cert.bin", "explain pages.csv cert.bin", "report pages.csv --rate 512", "--help", "open"):
-        ours, theirs = os.pipe()
-        os.close(ours)
-        done = run(words.split(), room, (room / "pages.csv").read_bytes() if words == "open" else b"", stdout=theirs)
-        os.close(theirs)
-        tally.check(f"{words} and nobody reads", (done.returncode, done.stderr.split(b"\n")[0] + b"\n") == (3, CANNOT_WRITE), done)
-    done = shell("pocsag plan pages.csv /dev/full cert.bin --always", room)
-    tally.check("a full device is told", (done.returncode, done.stderr) == (3, CANNOT_WRITE), done)
 
 
 def try_file_size(tally, folder):
@@ -246,26 +201,35 @@ WELL_QUOTED = [
 ]
 
 
-def try_strict(tally, folder):
-    """`--strict` refuses a page file with a misplaced quote, and leaves empty files, or with `--keep` those that were there."""
-    room = fresh(folder, "strict")
-    for file, why in MISPLACED:
-        (room / "quotes.csv").write_bytes(file)
-        plan = ["plan", "quotes.csv", "tx.bin", "cert.bin", "--strict"]
-        for words in (plan, [*plan, "--keep", "--always", "--expect", "1"], ["report", "quotes.csv", "--rate", "512", "--strict"], ["--strict"]):
+SWALLOWED = HEADER + b'8,tone0,\n9,alpha,"Pump 4\n16,tone0,\n24,tone0,\n'
+REFUSED = [(["--strict"], *row) for row in MISPLACED]
+REFUSED += [(["--expect", "4"], SWALLOWED, "pages 2, where 4 were expected"), (["--expect", "1"], BAD, "record 1: unknown kind")]
+TAKEN = [*((["--strict"], file) for file in WELL_QUOTED), (["--expect", "2"], SWALLOWED)]
+
+
+def try_demands(tally, folder):
+    """`--strict` and `--expect` refuse a page file with a misplaced quote or with another number of pages, and leave empty files, or with
+    `--keep` those that were there."""
+    room = fresh(folder, "demands")
+    plan, report = ["plan", "round.csv", "tx.bin", "cert.bin"], ["report", "round.csv", "--rate", "512"]
+    for demand, file, why in REFUSED:
+        (room / "round.csv").write_bytes(file)
+        for words in (plan, [*plan, "--always"], [*plan, "--keep", "--always"], ["plan", "-", "-", "cert.bin"], report, []):
             put_old(room)
-            done = run(words, room, file)
-            left = (b"", b"") if words == plan else OLD
-            tally.check_done(f"{words}: {why}", done, 1, b"", fault(why), stand(room) == left and not list(room.glob("*.new")))
-        done = run(["plan", "quotes.csv", "t", "c", "--verbose"], room)
-        tally.check(f"--verbose names it: {why}", f": {why}\n".encode() in done.stderr or why.startswith("record 0"), done)
-    for file in WELL_QUOTED:
-        (room / "quotes.csv").write_bytes(file)
-        for words in (["plan", "quotes.csv", "t", "c"], ["report", "quotes.csv", "--rate", "512"], []):
-            plain, done = run(words, room, file), run([*words, "--strict"], room, file)
-            tally.check_done(f"well quoted {words} {file[21:40]}", done, 0, plain.stdout, b"", plain.returncode == 0)
-    for words in (["--strict", "plan", "pages.csv", "t", "c"], ["decode", "tx.bin", "--strict"], ["--strict", "decode", "tx.bin"]):
+            done = run([*words, *demand], room, file)
+            left = tuple(b"" if name in words and "--keep" not in words else data for name, data in zip(PLAN[2:], OLD))
+            due = (1, b"", fault(why)) if words or demand == ["--strict"] else (2, b"", done.stderr)
+            tally.check_done(f"{words} {demand}: {why}", done, *due, stand(room) == left and not list(room.glob("*.new")))
+        done = run([*plan, "--verbose"], room)
+        told = f": {why}\n".encode() in done.stderr or why.startswith(("record 0", "pages"))
+        tally.check(f"--verbose names it: {why}", told, done)
+    for demand, file in TAKEN:
+        (room / "round.csv").write_bytes(file)
+        for words in (plan, [*plan, "--keep", "--verify", "--always"], report, *([[]] if demand == ["--strict"] else [])):
+            plain, done = run(words, room, file), run([*words, *demand], room, file)
+            tally.check_done(f"taken {words} {demand} {file[21:40]}", done, 0, plain.stdout, b"", plain.returncode == 0)
+    for words in (["--strict", *PLAN], ["decode", "tx.bin", "--strict"], ["--strict", "decode", "tx.bin"], [*PLAN, "--expect", "x"]):
         tally.check_usage(f"usage: {words}", run(words, room))
 
 
-PARTS = (try_streams, try_rights, try_last_step, try_left_over, try_folders, try_closed_pipe, try_file_size, try_strict)
+PARTS = (try_streams, try_rights, try_last_step, try_folders, try_file_size, try_demands)

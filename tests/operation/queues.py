@@ -4,15 +4,13 @@ and on full disks. Each page that `enqueue` took must be sent once, in order.
 
     tests/operation/queues.py          ends a script at each call that changes something outside its process
     tests/operation/queues.py --all    at each system call
-    tests/operation/queues.py 10000    runs next-slot so often, ends most runs at random moments, and does nothing else
+    tests/operation/queues.py 10000    sends so many pages while next-slot is ended at random moments, and does nothing else
 
 Where strace is missing, commands are killed before and behind their work, and not at their calls. It takes the binary that
 the gate left in crates/pocsag_app/out. The last line is 'N passed, M failed'.
 """
 
-import concurrent.futures
 import contextlib
-import fcntl
 import os
 import pathlib
 import random
@@ -26,32 +24,21 @@ import time
 sys.dont_write_bytecode = True
 sys.path.insert(0, str(pathlib.Path(__file__).resolve().parents[1]))
 from channel import HEADER, KILLS, Channel, calls_of, can_trace, pages_of
-from tally import MEMORY, TOP, as_nobody, files_of, run_parts
+from tally import MEMORY, TOP, as_nobody, files_of, own_disk, run_parts
 
 IS_EACH = sys.argv[1:] == ["--all"]
-RUNS = sum(int(word) for word in sys.argv[1:] if word.isdigit())  # of next-slot, where nothing else is tried
-CHANNELS = min(4, os.cpu_count() or 1)  # that run at the same time
-PAGES = 150  # that are sent under random kills
+ASKED = sum(int(word) for word in sys.argv[1:] if word.isdigit())
+PAGES = ASKED or 150  # that are sent under random kills
 DONE = (0, "", "")  # what a script that went well ends with and prints
 SILENT = {"stdout": subprocess.DEVNULL, "stderr": subprocess.DEVNULL}
 
 
 @contextlib.contextmanager
-def disk(folder, size="4m"):
+def second_disk(folder):
     """A file system of its own, or a folder of another one, or none."""
-    folder.mkdir()
-    mounted = subprocess.run(["mount", "-t", "tmpfs", "-o", f"size={size}", "queues", str(folder)], capture_output=True).returncode == 0
-    try:
-        if mounted:
-            yield folder
-        elif MEMORY and os.stat(MEMORY).st_dev != folder.stat().st_dev and size == "4m":
-            with tempfile.TemporaryDirectory(dir=MEMORY) as name:
-                yield pathlib.Path(name)
-        else:
-            yield None
-    finally:
-        if mounted:
-            subprocess.run(["umount", "-l", str(folder)], check=True)
+    with own_disk(folder, "size=4m") as mounted, tempfile.TemporaryDirectory(dir=MEMORY) as name:
+        other = mounted or pathlib.Path(name)
+        yield other if other.stat().st_dev != folder.parent.stat().st_dev else None
 
 
 def after_fault(tally, channel, name):
@@ -98,18 +85,23 @@ def try_sending(tally, channel, faults):
 
 
 def try_kills(tally, folder):
-    """Kills before and behind each command of next-slot."""
-    channel = Channel(folder / "kills")
+    """Kills before and behind each command of next-slot. Each slot is kept with its pages and its certificate."""
+    channel = Channel(folder / "kills", options="--at-most 1 --idle-last")
     commands = turns_of(channel)
     try_sending(tally, channel, kills(commands))
     tally.check("next-slot starts commands", len(commands) > 10, commands)
+    for path in channel.folder.glob("sent.*.cert"):
+        done = channel.run_program("check", path.with_suffix(".csv").name, path.name)
+        listed = channel.run_program("decode", path.with_suffix(".bin").name)
+        holds = done == (0, "at least 1 batches with an idle last\n", "") and listed == (0, path.with_suffix(".csv").read_text(), "")
+        tally.check(f"{path.name} is that of its pages", holds, (done, listed))
 
 
 def try_calls(tally, folder):
     """Faults at the system calls of next-slot, where `outgoing` is elsewhere."""
     if not can_trace():
         return
-    with disk(folder / "other disk") as other:
+    with second_disk(folder / "other disk") as other:
         channel = Channel(folder / "calls", outgoing=other)
         channel.fill()
         calls = calls_of(channel, "next-slot")
@@ -180,7 +172,7 @@ def kill_at_random(channel, chance):
 
 def try_random(tally, folder):
     """Random kills under a transmitter that never waits and a queue that grows; then the queue is sent to its end."""
-    with disk(folder / "second disk") as other:
+    with second_disk(folder / "second disk") as other:
         channel, ends, are_good = Channel(folder / "random", outgoing=other), threading.Event(), []
         transmitter = threading.Thread(target=transmit, args=(channel, ends, are_good))
         transmitter.start()
@@ -196,47 +188,9 @@ def try_random(tally, folder):
         tally.check("each page is sent once, in order", channel.is_balanced() and not channel.waiting(), channel.told())
         tally.check("the last runs say nothing", done == channel.send() == DONE, done)
         tally.check("next-slot was ended at times", PAGES // 4 < ended < PAGES, ended)
-
-
-def run_often(channel, runs, chance):
-    """Runs next-slot so often, each time with pages that wait, and ends it at a random moment; gives how often it was ended, and
-    whether each slot was whole."""
-    ended, are_good, longest = 0, True, 0.05
-    folder = os.open(channel.folder, os.O_RDONLY)
-    for _ in range(runs):
-        fcntl.flock(folder, fcntl.LOCK_EX)  # until the last command of the run before has ended
-        if not {"slot.bin", "rest.csv"} <= {*os.listdir(channel.folder)}:
-            channel.fill()
-        are_good &= channel.take()
-        fcntl.flock(folder, fcntl.LOCK_UN)
-        was_ended = end_at_random(channel.start("next-slot", **SILENT), chance, longest)
-        ended += was_ended
-        longest = min(longest * (1.05 if was_ended else 0.9), 1.0)
-    fcntl.flock(folder, fcntl.LOCK_EX)
-    os.close(folder)
-    return ended, are_good
-
-
-def try_runs(tally, folder):
-    """Thousands of runs of next-slot, in several channels at the same time: each page is sent once, in order, and no file of an
-    ended run is left."""
-    channels = [Channel(folder / f"channel {number}", options="--at-most 1") for number in range(CHANNELS)]
-    shares = [(RUNS + number) // CHANNELS for number in range(CHANNELS)]
-    start = time.monotonic()
-    with concurrent.futures.ThreadPoolExecutor(CHANNELS) as pool:
-        found = list(pool.map(run_often, channels, shares, map(random.Random, range(CHANNELS))))
-    for number, (channel, share, (ended, are_good)) in enumerate(zip(channels, shares, found)):
-        for _ in range(9):
-            is_done = channel.send()
-            are_good &= channel.take()
         # A process of now may have the number of one that was ended.
         left = [name for name in os.listdir(channel.folder) if ".pocsag" in name and not os.path.exists(f"/proc/{name.split('.')[-2]}")]
-        holds = channel.is_balanced() and not channel.waiting() and is_done == DONE
-        tally.check(f"channel {number}: each page is sent once, in order", holds and are_good, (is_done, are_good, channel.told()))
-        tally.check(f"channel {number}: no file is left", not left, left)
-        tally.check(f"channel {number}: many runs were ended", share // 4 < ended <= share, (ended, share))
-    pages, ended = sum(len(channel.added) for channel in channels), sum(it[0] for it in found)
-    print(f"{RUNS} runs, {ended} of them ended, {pages} pages, {time.monotonic() - start:.0f} s")
+        tally.check("no file of an ended run is left", not left, left)
 
 
 def crowd(folder):
@@ -250,7 +204,7 @@ def crowd(folder):
 
 def try_full_disks(tally, folder):
     """A full disk under `outgoing`, before a slot is there and before it has its name, and then under the queue."""
-    with disk(folder / "outgoing disk", "128k") as full:
+    with own_disk(folder / "outgoing disk", "size=128k") as full:
         if full:
             channel = Channel(folder / "full outgoing", outgoing=full)
             commands = turns_of(channel)
@@ -264,7 +218,7 @@ def try_full_disks(tally, folder):
                 tally.check_run("a full outgoing is told", channel.send(), 3, "", "next-slot: cannot ")
                 crowding.unlink()
                 after_fault(tally, channel, f"a full outgoing {fault}")
-    with disk(folder / "queue disk", "128k") as full:
+    with own_disk(folder / "queue disk", "size=128k") as full:
         if full:
             channel = Channel(folder / "full queue", folder=full)
             channel.fill()
@@ -464,21 +418,7 @@ def try_link(tally, folder):
 
 
 def try_kept(tally, folder):
-    """Each slot is kept with its pages and its certificate, once, however next-slot is ended, and as long as slot.options says."""
-    channel = Channel(folder / "kept", options="--at-most 1 --idle-last")
-    for turn in range(1, len(turns_of(channel)) + 1):
-        for how in (KILLS[2], KILLS[3]):
-            channel.fill()
-            channel.send(at=turn, fault=how)
-            channel.take()
-            last = channel.send()
-            holds = channel.take() and last == DONE and channel.is_balanced()
-            tally.check(f"what is kept after {how} at {turn}", holds, (last, channel.told()))
-    for path in channel.folder.glob("sent.*.cert"):
-        done = channel.run_program("check", path.with_suffix(".csv").name, path.name)
-        listed = channel.run_program("decode", path.with_suffix(".bin").name)
-        holds = done == (0, "at least 1 batches with an idle last\n", "") and listed == (0, path.with_suffix(".csv").read_text(), "")
-        tally.check(f"{path.name} is that of its pages", holds, (done, listed))
+    """Each slot is kept as long as slot.options says."""
     own = ["sent.1.2.bin", "sent.x1.bin", "sent. 1.bin", "sent.01.bin", "sent.1.bin.old", "other.1.bin", "sent.bin"]
     for limit, days, due in (("keep 3 slots", 0, 3), ("keep 1 slots", 0, 1), ("keep 2 days", 1, 4), ("keep 2 days", 3, 1), ("", 99, 4)):
         channel = Channel(folder / f"kept {limit} {days}", options=f"--at-most 1\r\n{limit}\r")
@@ -585,6 +525,4 @@ PARTS = (
 )  # fmt: skip
 
 if __name__ == "__main__":
-    if RUNS:
-        tempfile.tempdir = MEMORY
-    sys.exit(run_parts(*[try_runs] if RUNS else PARTS))
+    sys.exit(run_parts(*[try_random] if ASKED else PARTS))

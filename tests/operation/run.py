@@ -22,11 +22,10 @@ import time
 sys.dont_write_bytecode = True
 sys.path[:0] = [str(pathlib.Path(__file__).resolve().parents[at]) for at in (0, 1)]
 import doors
-import slots
 import turns
 from codewords import APART, HEADER
-from doors import OLD, PLAN, TONE, fresh, names, put_old, stand
-from tally import CANNOT_OPEN, NAMED_TWICE, PROGRAM, TOP, fault, faulty, room_in, run, run_parts
+from doors import OLD, PLAN, TONE, fresh, names, stand
+from tally import CANNOT_OPEN, NAMED_TWICE, PROGRAM, TOP, faulty, room_in, run, run_parts
 
 KILLS = 200
 
@@ -71,19 +70,15 @@ def try_keep(tally, folder):
 def try_keep_open(tally, folder):
     """`open --keep`: a plan line that is refused leaves the old files, one that is answered replaces both."""
     room, due = fresh(folder, "keep open"), planned(folder, TONE, "due open")
-    before = names(room)
-    cannot, twice = b"refused: cannot read or open a file\n", b"refused: the same file is named twice\n"
-    done = run(["open", "--keep"], room, b"plan,tx.bin,cert.bin\n")
-    holds = stand(room) == OLD and names(room) == before
-    tally.check_done("open --keep, refused", done, 0, b"refused: there are no pages\n", b"", holds)
-    done = run(["open", "--keep"], room, b"add,8,tone0,\nplan,tx.bin,none/cert.bin\nplan,none/tx.bin,cert.bin\n")
-    holds = stand(room) == OLD and names(room) == before
-    tally.check_done("open --keep in no folder", done, 0, b"ok 1\n" + 2 * cannot, b"", holds)
     (room / "link.bin").symlink_to("tx.bin")
     os.mkfifo(room / "fifo")
-    lines = b"add,8,tone0,\nplan,link.bin,cert.bin\nplan,tx.bin,fifo\nplan,tx.bin,tx.bin\nplan,a,./a\nplan,-,cert.bin\n"
+    before = names(room)
+    lines = b"plan,tx.bin,cert.bin\nadd,8,tone0,\nplan,tx.bin,none/cert.bin\nplan,none/tx.bin,cert.bin\nplan,link.bin,cert.bin\n"
+    lines += b"plan,tx.bin,fifo\nplan,tx.bin,tx.bin\nplan,a,./a\nplan,-,cert.bin\n"
+    told = b"refused: there are no pages\nok 1\n" + 4 * b"refused: cannot read or open a file\n"
+    told += 3 * b"refused: the same file is named twice\n"
     done = run(["open", "--keep"], room, lines)
-    tally.check_done("open --keep at links and pipes", done, 0, b"ok 1\n" + 2 * cannot + 3 * twice, b"", stand(room) == OLD)
+    tally.check_done("open --keep, refused", done, 0, told, b"", stand(room) == OLD and names(room) == before)
     done = run(["open", "--keep", "pages.csv"], room, 2 * b"plan,tx.bin,cert.bin\n")
     holds = stand(room) == due and not list(room.glob("*.new"))
     tally.check_done("open --keep puts both in place", done, 0, 2 * b"batches 1\n", b"", holds)
@@ -139,6 +134,8 @@ def kill_often(tally, room, words, lines, kills):
         process.stdin.close()
         tally.check(f"ended at a random moment, {words[1]} {number}", is_one_of(stand(room), before, due))
     tally.check(f"some of {words[1]} were ended", 0 < ended and (ended < kills or lines), ended)
+    subprocess.run(words, cwd=room, input=lines, check=True, capture_output=True)
+    tally.check(f"what they left is gone behind the next run of {words[1]}", not list(room.glob("*.pocsag.*")), names(room))
 
 
 def try_single_calls(tally, folder):
@@ -188,25 +185,6 @@ def try_order(tally, folder):
         tally.check(f"then name by name {has_old}", steps[4:] == due, steps)
 
 
-def try_expect(tally, folder):
-    """`--expect` refuses a round of another number of pages, and leaves empty files, or with `--keep` those that were there."""
-    room = fresh(folder, "expect")
-    swallowed = HEADER + b'8,tone0,\n9,alpha,"Pump 4\n16,tone0,\n24,tone0,\n'
-    (room / "quote.csv").write_bytes(swallowed)
-    plan = ["plan", "quote.csv", "tx.bin", "cert.bin"]
-    for words in (plan, [*plan, "--keep"], ["plan", "-", "-", "cert.bin"], ["report", "quote.csv", "--rate", "512"], [*plan, "--always"]):
-        put_old(room)
-        done = run([*words, "--expect", "4"], room, swallowed)
-        left = tuple(b"" if words[0] == "plan" and "--keep" not in words and name in words else data for name, data in zip(PLAN[2:], OLD))
-        tally.check_done(f"unexpected: {words}", done, 1, b"", fault("pages 2, where 4 were expected"), stand(room) == left)
-    for words in (["plan", "quote.csv", "t", "c"], ["plan", "quote.csv", "t", "c", "--keep", "--verify", "--always"], ["report", "quote.csv", "--rate", "512"]):
-        plain, done = run(words, room), run([*words, "--expect", "2"], room)
-        tally.check_done(f"expected: {words}", done, 0, plain.stdout, b"", plain.returncode == 0)
-    done = run(["plan", "bad.csv", "tx.bin", "cert.bin", "--expect", "1"], room)
-    tally.check("a fault before the count", done.stderr == b"pocsag: record 1: unknown kind\n" and stand(room) == (b"", b""), done)
-    tally.check_usage("no number", run([*PLAN, "--expect", "x"], room), also=stand(room) == (b"", b""))
-
-
 def try_verify(tally, folder):
     """`--verify` says at once that a pipe or a device cannot be read again."""
     room = fresh(folder, "verify")
@@ -231,21 +209,19 @@ def try_pipes(tally, folder):
         (["plan", "-", "t.bin", "-"], APART, 0, due_cert, counts),
         (["plan", "-", "t.bin", "c.bin"], APART, 0, counts, b""),
         (["plan", "-", "-", "c.bin", "--always"], APART, 0, due, counts),
-        (["plan", "-", "-", "none.bin"], HEADER, 1, b"", fault("there are no pages")),
-        (["plan", "apart.csv", "-", "-"], b"", 1, b"", NAMED_TWICE),
-        (["check", "-", "c.bin"], APART, 0, b"at least 3 batches\n", b""),
-        (["check", "apart.csv", "-"], due_cert, 0, b"at least 3 batches\n", b""),
-        (["check", "-", "-"], APART, 1, b"", NAMED_TWICE),
-        (["open", "-"], APART, 1, b"", NAMED_TWICE),
     ]
     for words, given, *told in cases:
         tally.check_done(f"pipes {words}", run(words, room, given), *told)
     tally.check("nothing is called -", not (room / "-").exists() and (room / "c.bin").read_bytes() == due_cert)
     (room / "tx.bin").write_bytes(due)
-    for words, given in ((["decode"], due), (["hear", "3"], due), (["show"], due), (["show", "--list"], due), (["wav"], due), (["report", "--rate", "512"], APART)):
-        file = "apart.csv" if words[0] == "report" else "tx.bin"
-        wanted, done = run([*words, file], room), run([*words, "-"], room, given)
-        tally.check_done(f"{words} -", done, 0, wanted.stdout, b"", wanted.returncode == 0)
+    files = {due: "tx.bin", APART: "apart.csv", due_cert: "c.bin"}
+    for words, given in (
+        ("decode -", due), ("hear 3 -", due), ("show -", due), ("show --list -", due), ("wav -", due), ("report --rate 512 -", APART),
+        ("explain - c.bin", APART), ("explain apart.csv -", due_cert), ("check - c.bin", APART), ("check apart.csv -", due_cert),
+    ):  # fmt: skip
+        wanted = run([files[given] if it == "-" else it for it in words.split()], room)
+        done = run(words.split(), room, given)
+        tally.check_done(words, done, 0, wanted.stdout, b"", wanted.returncode == 0)
     ours, theirs = socket.socketpair()
     process = subprocess.Popen([str(PROGRAM), "plan", "-", "-", "s.bin"], cwd=room, stdin=theirs, stdout=theirs, stderr=subprocess.PIPE)
     theirs.close()
@@ -372,8 +348,8 @@ def try_recipe(tally, folder):
 
 
 PARTS = (
-    try_keep, try_keep_open, try_kills, try_single_calls, try_order, try_expect, try_verify, try_pipes, try_terminal, try_page, try_recipe,
-    *doors.PARTS, *slots.PARTS, *turns.PARTS,
+    try_keep, try_keep_open, try_kills, try_single_calls, try_order, try_verify, try_pipes, try_terminal, try_page, try_recipe,
+    *doors.PARTS, *turns.PARTS,
 )  # fmt: skip
 
 if __name__ == "__main__":

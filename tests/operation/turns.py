@@ -3,6 +3,7 @@
 import contextlib
 import fcntl
 import os
+import pathlib
 import resource
 import shutil
 import signal
@@ -12,8 +13,8 @@ import tempfile
 import time
 
 from codewords import HEADER
-from doors import another_user
-from tally import CANNOT_OPEN, CANNOT_WRITE, MEMORY, PROGRAM, fault, faulty, room_in, run
+from doors import NOBODY, RENAMES, another_user
+from tally import CANNOT_OPEN, CANNOT_WRITE, MEMORY, PROGRAM, fault, faulty, own_disk, room_in, run
 
 PAIRS = 200
 CONTAINERS = 1000
@@ -21,7 +22,6 @@ ENDED = 40  # rounds that are ended, each with places of its own
 # Two rounds, of which no file of a plan is that of the other.
 ROUNDS = [HEADER + b"".join(b"%d,numeric,%d\n" % (8 * k + k % 3, 10**9 + k + n) for k in range(count)) for n, count in ((0, 40), (5000, 90))]
 NAMES = ("tx.bin", "cert.bin", "rest.csv", "why.bin")
-RENAMES = "rename,renameat,renameat2"
 SILENT = {"stdin": subprocess.PIPE, "stdout": subprocess.DEVNULL, "stderr": subprocess.DEVNULL}
 
 
@@ -158,17 +158,14 @@ def try_failed_locks(tally, room, dues, lock):
     holds = of_locks and all(note.endswith(b": Too many open files (os error 24)") for note in of_locks)
     tally.check("too many open files for a lock", holds, notes)
     tally.check("no other cause is told", not any(b"another run" in note for note in notes), notes)
-    small = room_in(room.parent, "few inodes")
-    if subprocess.run(["mount", "-t", "tmpfs", "-o", "nr_inodes=7", "turns", str(small)], capture_output=True).returncode:
-        return
-    try:
-        for name in ("0.csv", "tx.bin", "cert.bin"):
-            shutil.copyfile(room / name, small / name)
-        done = run(["plan", "0.csv", "tx.bin", "cert.bin", "--keep", "--verbose"], small)
-        due = CANNOT_WRITE + fault("transmission tx.bin: cannot lock tx.bin.pocsag.lock: No space left on device (os error 28)")
-        tally.check_done("no inode for a lock", done, 3, b"", due, stand(small, NAMES[:2]) == stand(room, NAMES[:2]) and not left_in(small))
-    finally:
-        subprocess.run(["umount", "-l", str(small)], check=True)
+    with own_disk(room.parent / "few inodes", "nr_inodes=7") as small:
+        if small:
+            for name in ("0.csv", "tx.bin", "cert.bin"):
+                shutil.copyfile(room / name, small / name)
+            done = run(["plan", "0.csv", "tx.bin", "cert.bin", "--keep", "--verbose"], small)
+            due = CANNOT_WRITE + fault("transmission tx.bin: cannot lock tx.bin.pocsag.lock: No space left on device (os error 28)")
+            holds = stand(small, NAMES[:2]) == stand(room, NAMES[:2]) and not left_in(small)
+            tally.check_done("no inode for a lock", done, 3, b"", due, holds)
 
 
 # Has a command be process 1, as in a container.
@@ -241,32 +238,32 @@ def try_failed_look(tally, folder):
 
 def try_others(tally, folder):
     """Another user: in a folder of theirs with locks of the superuser, and in one that they cannot write to."""
-    if os.geteuid():
+    (room, dues), user = fresh(folder, "others"), another_user(folder)
+    if not user:
         return
-    (room, dues), (nobody, run_as) = fresh(folder, "others"), another_user(folder)
     for path in (room, *room.iterdir()):
-        os.chown(path, *nobody)
+        os.chown(path, *NOBODY)
     for mode in (0o644, 0o444):
         for name in NAMES:
             (room / f"{name}.pocsag.lock").touch()
             (room / f"{name}.pocsag.lock").chmod(mode)
-        check_taken(tally, f"locks of the superuser, {mode:o}", run_as(plan(0), room), room, dues[0])
+        check_taken(tally, f"locks of the superuser, {mode:o}", run(plan(0), room, before=user), room, dues[0])
     lock = room / "tx.bin.pocsag.lock"
     with lock.open("w") as held:
         lock.chmod(0o444)
         fcntl.flock(held, fcntl.LOCK_EX)
-        done = run_as(plan(0, "--always"), room)
+        done = run(plan(0, "--always"), room, before=user)
     tally.check_done("a lock that the superuser holds", done, 3, b"", CANNOT_WRITE, stand(room) == dues[0])
     lock.unlink()
-    try_killed_locks(tally, room, dues, run_as)
+    try_killed_locks(tally, room, dues, user)
     before = stand(room)
     room.chmod(0o555)
-    done = run_as(plan(0), room)
+    done = run(plan(0), room, before=user)
     room.chmod(0o755)
     tally.check_done("a folder that cannot be written to", done, 3, b"", CANNOT_OPEN, stand(room) == before and not left_in(room))
 
 
-def try_killed_locks(tally, room, dues, run_as):
+def try_killed_locks(tally, room, dues, user):
     """The superuser, whose mask leaves nothing to others, is killed at each call of the system that makes a lock; then another user
     plans."""
     if not shutil.which("strace"):
@@ -277,7 +274,7 @@ def try_killed_locks(tally, room, dues, run_as):
             if not run(plan(0), room, before=faulty(calls, f"signal=KILL:when={number}"), umask=0o077).returncode:
                 break
             ends += 1
-            left, modes, done = left_in(room), modes_of_locks(room), run_as(plan(1), room)
+            left, modes, done = left_in(room), modes_of_locks(room), run(plan(1), room, before=user)
             holds = modes <= {0o444} and done.returncode == 0 and stand(room) == dues[1]
             tally.check(f"another user, and locks of a run that was killed at {calls} {number}", holds, (left, modes, done, left_in(room)))
     tally.check("runs were killed while they made locks", ends > 12, ends)
@@ -293,16 +290,11 @@ def try_left(tally, folder):
     kept = {f"tx.bin.{number}.new", f"tx.bin.{number}.old", "tx.bin.20261128.new", "tx.bin.20261128.old", f"other.bin.{number}.new"}
     kept |= {f"report.{number}.old", f"other.bin.pocsag.{number}.old", f"other.bin.pocsag.{os.getpid()}.new", "held.bin.pocsag.lock"}
     kept |= {"other.bin.pocsag.x.new", "other.bin.pocsag.new", f"other.bin.pocsag.0{number}.new", f"other.bin.pocsag.{number}.newer"}
+    kept |= {"other.bin.pocsag.+7.new", f"other.bin.pocsag.{number}"}
     kept |= {f"{place}.pocsag.{number}.new" for place in ("held.bin", "pipe", "link", "folder")}
+    make = {"pipe": os.mkfifo, "link": lambda path: path.symlink_to("0.csv"), "folder": os.mkdir}
     for name in gone | kept:
-        if name.startswith("pipe"):
-            os.mkfifo(room / name)
-        elif name.startswith("link"):
-            (room / name).symlink_to("0.csv")
-        elif name.startswith("folder"):
-            (room / name).mkdir()
-        else:
-            (room / name).touch()
+        make.get(name.split(".")[0], pathlib.Path.touch)(room / name)
     before = set(os.listdir(room))
     with contextlib.ExitStack() as files:
         for name in kept:
