@@ -6,21 +6,21 @@ the table `largest.txt`. What reads this table is tried on a small tree. The las
 
 import pathlib
 import re
+import shutil
 import sys
-import tempfile
 
 sys.dont_write_bytecode = True
 sys.path[:0] = [str(pathlib.Path(__file__).resolve().parents[1]), str(pathlib.Path(__file__).resolve().parents[2] / "tools")]
-import selftest
 import sizes
 import workspace
-from tally import Tally
+from tally import put, run_parts, samples
 
 GROUPS = ("pocsag_centre", "pocsag_receiver", "pocsag_sound", "pocsag_open")
 COMMANDS = {  # of the specification, with the group of each
     "run_input": "pocsag_centre", "run_plan": "pocsag_centre", "run_check": "pocsag_centre", "run_report": "pocsag_centre",
     "run_decode": "pocsag_receiver", "run_hear": "pocsag_receiver",
 }
+SELFTEST = pathlib.Path(__file__).resolve().parent / "selftest"
 STREAMS = ("plan_stream", "plan_stream_always")
 ABOVE = {"pocsag_shell", *GROUPS}  # what a library for C has no use for; with them goes `clap`
 
@@ -31,8 +31,8 @@ def code_of(crate):
     return re.sub(r"//.*|^(?:pub |ghost )?use [^;]*;", "", text, flags=re.MULTILINE)
 
 
-def main():
-    tally, crates = Tally(), workspace.read_crates()
+def try_sources(tally, _):
+    crates = workspace.read_crates()
     for group in GROUPS:
         code = code_of(crates[group])
         named = re.findall(r"\bpub fn (run_\w+)", code)
@@ -48,10 +48,27 @@ def main():
     tally.check("the C library stands on no commands", not above, above)
     wrong = sizes.problems(sizes.TOP)
     tally.check("each call that may lack memory has its largest run", not wrong, "\n".join(wrong))
-    with tempfile.TemporaryDirectory() as folder:
-        selftest.try_changes(tally, pathlib.Path(folder))
-    return tally.end()
+
+
+def cells(row):
+    """The cells of a row, between bars that stand by themselves; in a cell a bar is written `\\|`."""
+    return [it.replace("\\|", "|").replace("\\n", "\n") for it in re.split(r" (?<!\\)\| ", row)]
+
+
+def try_changes(tally, folder):
+    """Nothing is wrong with a small tree, and what each change makes wrong is told, and no more."""
+    top, small = folder / "small", samples(SELFTEST / "small.txt")
+    for number, row in enumerate((SELFTEST / "changes.txt").read_text().splitlines()[1:], 2):
+        due, *changes = cells(row)
+        shutil.rmtree(top, ignore_errors=True)
+        before = sizes.problems(put(top, small))
+        for path, old, new in zip(changes[::3], changes[1::3], changes[2::3]):
+            text = (top / path).read_text() if (top / path).exists() else ""
+            tally.check(f"line {number}: there is what is changed", old in text, old)
+            (top / path).write_text(text.replace(old, new, 1))
+        found = sizes.problems(top)
+        tally.check(f"line {number}: {due or 'nothing'} is told", not before and "; ".join(found) == due, (before, found))
 
 
 if __name__ == "__main__":
-    sys.exit(main())
+    sys.exit(run_parts(try_sources, try_changes))

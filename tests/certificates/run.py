@@ -14,7 +14,6 @@ import random
 import re
 import subprocess
 import sys
-import tempfile
 import threading
 from concurrent.futures import ProcessPoolExecutor, ThreadPoolExecutor
 
@@ -23,11 +22,12 @@ HERE = pathlib.Path(__file__).resolve().parent
 sys.path[:0] = [str(HERE), str(HERE.parent)]
 import checker
 import wrong
-from checker import CLOSE, CUT, SPLIT, TOLD
+from checker import CLOSE, SPLIT, TOLD
+from codewords import changed
 from pairs import pairs
 from rounds import HEADER, page_file, small_pages
-from tally import ENDS, Tally, run
-from trees import UNEXAMINED, certificate, overload
+from tally import ENDS, run, run_parts
+from trees import UNEXAMINED, certificate, nodes, overload, replaced
 from worked import CHECKS
 
 CHANGES = 3_000
@@ -91,50 +91,29 @@ class Product:
         return done.returncode, done.stdout.decode(), done.stderr.decode()
 
 
-def changed_field(source, node):
-    """The node with another number in one of its fields."""
-    tag, members, c, m, children = node
-    other = lambda value: source.choice([value ^ 1 << source.randrange(16), value + 1, max(0, value - 1)])
-    which = source.choice({SPLIT: "cm", CUT: "sc"}.get(tag, "s"))
-    return (tag, *{
-        "s": lambda: (other(members), c, m),
-        "c": lambda: (members, other(c), m),
-        "m": lambda: (members, c, other(m)),
-    }[which](), children)
-
-
 def changed_node(source, tree):
-    """One change somewhere in the tree."""
-    tag, members, c, m, children = tree
-    if children and source.random() < 0.6:
-        place = source.randrange(len(children))
-        below = (*children[:place], changed_node(source, children[place]), *children[place + 1:])
-        return tag, members, c, m, below
-    kind = source.randrange(7)
-    if kind == 0 and tag != CLOSE and tree != UNEXAMINED:
-        return changed_field(source, tree)
-    if kind == 1 and len(children) > 1:
-        return tag, members, c, m, tuple(source.sample(children, len(children)))
-    if kind == 2 and children and tag != SPLIT:
-        return tag, members, c, m, children[1:] if source.random() < 0.5 else children + children[:1]
-    if kind == 3:
-        return overload(source.choice([0xFFFF, 0x0001, 0x8000, source.randrange(1, 65536)]))
-    if kind == 4:
-        return UNEXAMINED
-    if kind == 5:
-        return SPLIT, 0, source.randrange(136), source.randrange(1, 4), (tree, tree)
-    return CLOSE, 0, 0, 0, (tree,) * source.randrange(1, 3)
+    """The tree with another node in the place of one of its nodes."""
+    path, node = source.choice([*nodes(tree)])
+    tag, members, c, m, children = node
+    bit, by = 1 << source.randrange(16), source.choice([-1, 1])
+    others = [
+        *((tag, other, c, m, children) for other in (members ^ bit, max(0, members + by))),
+        *((tag, members, other, m, children) for other in (c ^ bit, max(0, c + by))),
+        *((tag, members, c, other, children) for other in (m ^ bit, max(0, m + by))),
+        *((tag, members, c, m, other) for other in (tuple(source.sample(children, len(children))), children[1:], children + children[:1])),
+        overload(source.choice([0xFFFF, 0x0001, 0x8000, source.randrange(1, 65536)])),
+        UNEXAMINED,
+        (SPLIT, 0, source.randrange(136), source.randrange(1, 4), (node, node)),
+        (CLOSE, 0, 0, 0, (node,) * source.randrange(1, 3)),
+    ]
+    return replaced(tree, path, source.choice([other for other in others if other != node]))
 
 
-def changed(source, text):
-    """A certificate made from another: a byte, its batches, its end or a node is another."""
+def other_certificate(source, text):
+    """A certificate made from another: some bytes, its batches, its end or a node is another."""
     kind = source.randrange(10)
-    if kind == 0:
-        place = source.randrange(len(text))
-        return text[:place] + bytes([source.randrange(256)]) + text[place + 1:]
-    if kind == 1:
-        place = source.randrange(len(text) + 1)
-        return text[:place] + bytes([source.randrange(5)]) * source.randrange(2) + text[place + 1:]
+    if kind < 2:
+        return changed(source, text)
     end, batches, tree = checker.parse(text)
     first = text[3:4] == b"1"
     if kind == 2:
@@ -179,7 +158,7 @@ class Comparing:
             pages, text = source.choice(self.known)
             if source.random() < 0.05:
                 pages = source.choice(self.known)[0]
-            self.compare("changed", pages, changed(source, text))
+            self.compare("changed", pages, other_certificate(source, text))
 
     def statuses(self, source):
         """The second checker as a program: its text is its answer, and its status says whether that is a yes."""
@@ -212,18 +191,14 @@ def check_wrong(tally, judged):
             tally.check(f"wrong checker: {row[0]}", has_erred, "errs on no pair")
 
 
-def main():
-    tally = Tally()
-    source = random.Random(1981)
-    with tempfile.TemporaryDirectory() as name:
-        comparing = Comparing(tally, Product(pathlib.Path(name)))
-        comparing.examples_and_plans(source)
-        judged = comparing.all_pairs(random.Random(1981))
-        comparing.changes(source)
-        comparing.statuses(source)
-        check_wrong(tally, judged)
-    return tally.end()
+def try_all(tally, folder):
+    comparing, source = Comparing(tally, Product(folder)), random.Random(1981)
+    comparing.examples_and_plans(source)
+    judged = comparing.all_pairs(random.Random(1981))
+    comparing.changes(source)
+    comparing.statuses(source)
+    check_wrong(tally, judged)
 
 
 if __name__ == "__main__":
-    sys.exit(main())
+    sys.exit(run_parts(try_all))

@@ -6,9 +6,9 @@ import sys
 
 sys.dont_write_bytecode = True
 from codewords import HEADER
-from tally import PROGRAM
+from tally import CANNOT_OPEN, CANNOT_WRITE, PROGRAM, fault
 
-TEXTS = {"ALLOC": b"pocsag: out of memory\n", "READ": b"pocsag: cannot read or open a file\n", "WRITE": b"pocsag: cannot write\n"}
+TEXTS = {"ALLOC": fault("out of memory"), "READ": CANNOT_OPEN, "WRITE": CANNOT_WRITE}
 REASON = f": {os.strerror(5)} (os error 5)\n".encode()
 
 
@@ -53,7 +53,7 @@ def try_command(tally, run, each_refusal, library, command):
                 met.update(notes)
             tally.check(f"noted: {words[:1]} without {kind} {number}", holds, done)
 
-        count = each_refusal(noted, library, kind, stdin, lambda: None, judge)
+        count = each_refusal(noted, library, kind, stdin, judge)
         tally.check(f"noted: {words[:1]} tells each file, {kind}", count > 0 and met == due, (count, met, due))
 
 

@@ -5,23 +5,44 @@ import sys
 
 sys.dont_write_bytecode = True
 from codewords import APART, HEADER, HEADS, IDLE, ONES, SYNC, ZERO, transmission
-from tally import ENDS, run
+from tally import ENDS, fault, run
 
 IDLES = SYNC + 16 * IDLE
-NOT_THE_PAGES = b"pocsag: the transmission does not hold the pages of the page file\n"
-NOT_THE_BOUND = b"pocsag: the certificate does not show the batches of the transmission\n"
-NOT_THE_END = b"pocsag: the transmission does not end as was asked for\n"
+NOT_THE_PAGES = fault("the transmission does not hold the pages of the page file")
+NOT_THE_BOUND = fault("the certificate does not show the batches of the transmission")
+NOT_THE_END = fault("the transmission does not end as was asked for")
 # The round's pages in three batches, the last message of which goes on to the end.
 OPEN_END = transmission([*6 * [IDLE], ZERO, *15 * [ONES], *10 * [IDLE], ZERO, *15 * [ONES]])
 TOLD = b"pages 2\nbatches 3\n"
 
 
-def read_back(folder, library, end, asked, kept, given):
-    """`plan --verify` of the round, as is asked, where one of its files is read back as other bytes."""
+def verify(folder, library, *words, **settings):
+    """`plan --verify` by the settings of refuse.c."""
+    environment = {**os.environ, "LD_PRELOAD": str(library), **settings}
+    return run(["plan", "pages.csv", "tx.bin", "cert.bin", "--verify", *words], folder, env=environment)
+
+
+def check_read_back(tally, folder, library, name, end, asked, file, given, told, refusal):
+    """Whether the round is verified, as is asked, or refused, where one of its files is read back as other bytes."""
     (folder / "given").write_bytes(given)
-    environment = dict(os.environ, LD_PRELOAD=str(library), REFUSE_KEPT=kept, REFUSE_GIVEN="given")
-    words = ["plan", "pages.csv", "tx.bin", "cert.bin", "--verify", *ENDS[end], *asked]
-    return run(words, folder, env=environment)
+    done = verify(folder, library, *ENDS[end], *asked, REFUSE_KEPT=file, REFUSE_GIVEN="given")
+    wanted = (1, told, refusal) if refusal else (0, told + b"verified\n", b"")
+    tally.check_done(f"{name} read back, {end} {asked}", done, *wanted)
+
+
+def try_lost(tally, library, folder):
+    """`--verify` on a device that loses what it takes: the page file is open when TX is opened, and then CERT."""
+    (folder / "pages.csv").write_bytes(HEADER + b"8,tone0,\n")
+    for name, number, text in (("transmission", 4, "the preamble is too short"), ("certificate", 5, "the certificate is cut short")):
+        done = verify(folder, library, REFUSE_LOSE=str(number))
+        tally.check_done(f"a lost {name} is not verified", done, 1, b"pages 1\nbatches 1\n", fault(text))
+
+
+def planned(folder, pages, end):
+    """The transmission and the certificate of a page file."""
+    (folder / "other.csv").write_bytes(pages)
+    run(["plan", "other.csv", "tx.bin", "cert.bin", *ENDS[end]], folder)
+    return [(folder / file).read_bytes() for file in ("tx.bin", "cert.bin")]
 
 
 def certificate(end, batches, tree):
@@ -32,7 +53,7 @@ def try_read_back(tally, library, folder):
     """`--verify` of other bytes than were written: taken where they show as much, and else refused as they deserve."""
     (folder / "pages.csv").write_bytes(APART)
     cut, overloaded = "02 0001 30 0002 00 0001 00 8000", "00 FFFF"
-    no_version = b"pocsag: unknown certificate version\n"
+    no_version = fault("unknown certificate version")
     for end, other in (("open", "closed"), ("closed", "idle"), ("idle", "open")):
         three, two, one = ((end, batches, tree) for batches, tree in ((3, cut), (2, overloaded), (1, overloaded)))
         certificates = [
@@ -45,12 +66,9 @@ def try_read_back(tally, library, folder):
             ("an open tree", certificate(end, 3, "03"), NOT_THE_BOUND, NOT_THE_BOUND),
             ("no certificate", b"PCB3", no_version, no_version),
         ]
-        for name, given, fault, fault_always in certificates:
-            for always, due in (([], fault), (["--always"], fault_always)):
-                done = read_back(folder, library, end, always, "cert.bin", given)
-                wanted = (1, TOLD, due) if due else (0, TOLD + b"verified\n", b"")
-                holds = (done.returncode, done.stdout, done.stderr) == wanted
-                tally.check(f"{name} read back, {end} {always}", holds, done)
+        for name, given, *refusals in certificates:
+            for always, refusal in zip(([], ["--always"]), refusals):
+                check_read_back(tally, folder, library, name, end, always, "cert.bin", given, TOLD, refusal)
         try_transmissions(tally, library, folder, end)
 
 
@@ -63,24 +81,17 @@ def try_transmissions(tally, library, folder, end):
         ("a page more", APART + b"8,tone0,\n"),
         ("another function", HEADER + b"0,alpha,a\n3,numeric," + b"1" * 75 + b"\n"),
     ]
-    run(["plan", "pages.csv", "tx.bin", "cert.bin", *ENDS[end]], folder)
-    sent = (folder / "tx.bin").read_bytes()
+    sent, _ = planned(folder, APART, end)
     cases = [("what was written", sent, b""), ("a preamble more", b"\xaa" * 9 + sent, b"")]
     cases += [("a message at the end", OPEN_END, NOT_THE_END if end != "open" else b"")]
-    cases += [("cut short", sent[:-1], b"pocsag: the transmission is cut short\n")]
+    cases += [("cut short", sent[:-1], fault("the transmission is cut short"))]
     cases += [("a batch more", sent + IDLES, NOT_THE_BOUND)]
     cases += [("two batches more", sent + 2 * IDLES, NOT_THE_BOUND)]
-    for name, text in others:
-        (folder / "other.csv").write_bytes(text)
-        run(["plan", "other.csv", "tx.bin", "cert.bin", *ENDS[end]], folder)
-        cases.append((name, (folder / "tx.bin").read_bytes(), NOT_THE_PAGES))
-    for name, given, fault in cases:
+    cases += [(name, planned(folder, text, end)[0], NOT_THE_PAGES) for name, text in others]
+    for name, given, refusal in cases:
         for always in ([], ["--always"]):
-            is_taken = not fault or always and name == "a batch more"
-            done = read_back(folder, library, end, always, "tx.bin", given)
-            wanted = (0, TOLD + b"verified\n", b"") if is_taken else (1, TOLD, fault)
-            holds = (done.returncode, done.stdout, done.stderr) == wanted
-            tally.check(f"{name} read back, {end} {always}", holds, (done, wanted))
+            is_taken = always and name == "a batch more"
+            check_read_back(tally, folder, library, name, end, always, "tx.bin", given, TOLD, b"" if is_taken else refusal)
 
 
 def try_fronts(tally, library, folder):
@@ -88,23 +99,16 @@ def try_fronts(tally, library, folder):
     (folder / "pages.csv").write_bytes(APART)
     first, second = (HEADER + line + b"\n" for line in APART.splitlines()[1:])
     for end in ENDS:
-        sent = {}
-        for name, text in (("first", first), ("second", second), ("both", APART)):
-            (folder / "other.csv").write_bytes(text)
-            run(["plan", "other.csv", "tx.bin", "cert.bin", *ENDS[end]], folder)
-            sent[name] = [(folder / file).read_bytes() for file in ("tx.bin", "cert.bin")]
+        (of_first, shown), (of_second, _), (of_both, shown_of_both) = (planned(folder, text, end) for text in (first, second, APART))
         cases = [
-            ("tx.bin", "what was written", sent["first"][0], b""),
-            ("tx.bin", "the page that is left", sent["second"][0], NOT_THE_PAGES),
-            ("tx.bin", "both pages", sent["both"][0], NOT_THE_PAGES),
-            ("tx.bin", "a batch more", sent["first"][0] + IDLES, NOT_THE_BOUND),
-            ("cert.bin", "what was written", sent["first"][1], b""),
-            ("cert.bin", "the certificate of both pages", sent["both"][1], NOT_THE_BOUND),
+            ("tx.bin", "what was written", of_first, b""),
+            ("tx.bin", "the page that is left", of_second, NOT_THE_PAGES),
+            ("tx.bin", "both pages", of_both, NOT_THE_PAGES),
+            ("tx.bin", "a batch more", of_first + IDLES, NOT_THE_BOUND),
+            ("cert.bin", "what was written", shown, b""),
+            ("cert.bin", "the certificate of both pages", shown_of_both, NOT_THE_BOUND),
             ("cert.bin", "a tree that is not accepted", certificate(end, 3, "00 FFFF"), NOT_THE_BOUND),
         ]
         told = b"pages 1\nbatches %d\nleft 1\n" % (1 if end == "open" else 2)
-        for file, name, given, fault in cases:
-            done = read_back(folder, library, end, ["--at-most", "2"], file, given)
-            wanted = (1, told, fault) if fault else (0, told + b"verified\n", b"")
-            holds = (done.returncode, done.stdout, done.stderr) == wanted
-            tally.check(f"{name} read back of a front, {end}", holds, (done, wanted))
+        for file, name, given, refusal in cases:
+            check_read_back(tally, folder, library, f"of a front, {name}", end, ["--at-most", "2"], file, given, told, refusal)

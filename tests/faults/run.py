@@ -11,7 +11,6 @@ import os
 import pathlib
 import subprocess
 import sys
-import tempfile
 
 sys.dont_write_bytecode = True
 HERE = pathlib.Path(__file__).resolve().parent
@@ -21,61 +20,42 @@ import noted
 import read_back
 import trees
 from codewords import APART, HEADER, IDLE, MESSAGE, ZERO, codeword, digits, in_order, transmission
-from tally import ENDS, PROGRAM, TOP, Tally
+from noted import TEXTS
+from tally import ENDS, NAMED_TWICE, PROGRAM, TOP, run_parts
 
 TRIAL = TOP / "crates/pocsag_trial/out/pocsag_trial"
 MOST = 20_000
-
-OUT_OF_MEMORY = b"pocsag: out of memory\n"
-CANNOT_READ = b"pocsag: cannot read or open a file\n"
-CANNOT_WRITE = b"pocsag: cannot write\n"
+LONE_TONE = HEADER + b"8,tone0,\n"
 
 
 def build(folder):
     """The library that refuses, compiled outside the crates."""
     library = folder / "refuse.so"
-    subprocess.run(
-        ["cc", "-shared", "-fPIC", "-O1", "-o", str(library), str(HERE / "refuse.c")], check=True
-    )
+    subprocess.run(["cc", "-shared", "-fPIC", "-O1", "-o", str(library), str(HERE / "refuse.c")], check=True)
     return library
 
 
-def run(command, library, kind=None, number=0, stdin=b"", short=False, same=False):
+def marked(command, library, stdin, mark, **settings):
+    """A run by the settings of refuse.c, and the marks that it wrote into the pipe of one of these."""
+    reader, writer = os.pipe()
+    environment = {**os.environ, "LD_PRELOAD": str(library), mark: str(writer), **settings}
+    done = subprocess.run(command, input=stdin, capture_output=True, env=environment, pass_fds=(writer,), timeout=60)
+    os.close(writer)
+    with open(reader, "rb") as marks:
+        return done, marks.read()
+
+
+def run(command, library, kind=None, number=0, stdin=b"", **settings):
     """Runs the command with one call refused; returns whether that call was reached. Bytes that are written to a file
     after its write was refused are told behind the output, which then is none that is due."""
-    reader, writer = os.pipe()
-    environment = dict(os.environ, LD_PRELOAD=str(library), REFUSE_MARK=str(writer))
-    if kind:
-        environment[f"REFUSE_{kind}"] = str(number)
-    if short:
-        environment["REFUSE_SHORT"] = "1"
-    if same:
-        environment["REFUSE_SAME"] = "1"
-    done = subprocess.run(
-        command, input=stdin, capture_output=True, env=environment, pass_fds=(writer,), timeout=60
-    )
-    os.close(writer)
-    told = os.read(reader, MOST)
-    os.close(reader)
+    refused = {f"REFUSE_{kind}": str(number)} if kind else {}
+    done, told = marked(command, library, stdin, "REFUSE_MARK", **refused, **settings)
     if b"a" in told:
         done.stdout += kept.MORE
     return done, b"x" in told
 
 
-def late_growths(command, library, stdin=b""):
-    """How often the command asks for memory after its first write."""
-    reader, writer = os.pipe()
-    environment = dict(os.environ, LD_PRELOAD=str(library), REFUSE_LATE=str(writer))
-    done = subprocess.run(
-        command, input=stdin, capture_output=True, env=environment, pass_fds=(writer,), timeout=60
-    )
-    os.close(writer)
-    told = os.read(reader, MOST)
-    os.close(reader)
-    return done, len(told)
-
-
-def each_refusal(command, library, kind, stdin, prepare, judge):
+def each_refusal(command, library, kind, stdin, judge, prepare=lambda: None):
     """Refuses the 1st, the 2nd, .. call of a kind until none is reached, and judges each run."""
     for number in range(1, MOST):
         prepare()
@@ -86,8 +66,11 @@ def each_refusal(command, library, kind, stdin, prepare, judge):
     raise SystemExit(f"{command}: over {MOST} calls of {kind}")
 
 
-def nothing():
-    pass
+def is_told(done, kind, printed):
+    """Whether a run ended by the fault of what was refused, with a part of what is printed with ample memory. The fault is missing where
+    it is standard error that cannot be written."""
+    has_text = done.stderr == TEXTS[kind] or kind == "WRITE" and TEXTS[kind].endswith(done.stderr)
+    return done.returncode == 3 and has_text and printed.startswith(done.stdout)
 
 
 # Of the calls of the trial, the one that takes no memory, one that tells two wants of memory apart, and those
@@ -96,6 +79,7 @@ COPY = b"Page::copy of lone-tone"
 STREAM = b"first_stream of lone-tone"
 READ = b"read_round of lone-tone"
 READ_AND_LAID = b"lay_in_order of lone-tone"
+LACK, LACK_IN_ROUND = b": out of memory", b": out of memory in the round"
 
 
 def is_stream(name):
@@ -105,12 +89,12 @@ def is_stream(name):
 
 def are_in_turn(name, answers):
     """First the round lacks memory, and then what is behind it."""
-    in_round = answers.count(name + b": out of memory in the round")
+    in_round = answers.count(name + LACK_IN_ROUND)
     behind = len(answers) - in_round
-    return in_round > 0 and behind > 0 and answers[in_round:] == [name + b": out of memory"] * behind
+    return in_round > 0 and behind > 0 and answers[in_round:] == [name + LACK] * behind
 
 
-def try_trial(tally, library):
+def try_trial(tally, library, folder):
     """Each line is the answer with ample memory, or the want of memory."""
     ample, _ = run([str(TRIAL)], library)
     lines = ample.stdout.splitlines()
@@ -124,17 +108,16 @@ def try_trial(tally, library):
         for answer, (name, wanted) in zip(told, ample_of.items()):
             if answer != wanted:
                 lacks[name].append(answer)
-                in_round = is_stream(name) and answer == name + b": out of memory in the round"
-                holds = holds and (in_round or answer == name + b": out of memory")
+                holds = holds and (answer == name + LACK or is_stream(name) and answer == name + LACK_IN_ROUND)
         tally.check(f"trial without its growth {number}", holds, done.stdout[-400:])
 
-    count = each_refusal([str(TRIAL)], library, "ALLOC", b"", nothing, judge)
+    count = each_refusal([str(TRIAL)], library, "ALLOC", b"", judge)
     never = {name for name, answers in lacks.items() if not answers}
     tally.check("trial: each call but one lacked memory", never == {COPY}, f"{count}, {never}")
     for name in filter(is_stream, lacks):
         tally.check(f"{name.decode()}: the round and then the rest", are_in_turn(name, lacks[name]), lacks[name])
     in_round, in_layout = len(lacks[READ]), len(lacks[READ_AND_LAID]) - len(lacks[READ])
-    due = [STREAM + b": out of memory in the round"] * in_round + [STREAM + b": out of memory"] * in_layout
+    due = [STREAM + LACK_IN_ROUND] * in_round + [STREAM + LACK] * in_layout
     tally.check("trial: whose memory was wanting", in_layout > 0 and lacks[STREAM] == due, lacks[STREAM])
 
 
@@ -159,7 +142,7 @@ def book_told(numbers, last):
     return f"{counts} {stream} {stream} {last}"
 
 
-def try_large_trial(tally, library):
+def try_large_trial(tally, library, folder):
     """The calls at the largest sizes that their limits allow, and at one between, against numbers from outside."""
     done, _ = run([str(TRIAL)], library, stdin=b"x")
     header = len(HEADER)
@@ -197,38 +180,6 @@ def try_large_trial(tally, library):
         tally.check(due, answer == due, answer)
 
 
-def try_input(tally, library):
-    """The program with no words, over standard input."""
-    page_file = b"address,kind,message\n0,numeric,12345\n9,alpha,Hello\n8,tone1,\n"
-    command = [str(PROGRAM)]
-    ample, _ = run(command, library, stdin=page_file)
-    tally.check("input", ample.returncode == 0 and ample.stdout.startswith(b"pages 3\nbatches "), ample)
-
-    def judge_alloc(number, done):
-        is_ample = done.returncode == 0 and done.stdout == ample.stdout
-        is_lack = done.returncode == 3 and done.stderr == OUT_OF_MEMORY and done.stdout == b""
-        tally.check(f"input without growth {number}", is_ample or is_lack, done)
-
-    def judge_read(number, done):
-        holds = done.returncode == 3 and done.stderr == CANNOT_READ and done.stdout == b""
-        tally.check(f"input without read {number}", holds, done)
-
-    def judge_write(number, done):
-        holds = (
-            done.returncode == 3
-            and ample.stdout.startswith(done.stdout)
-            and done.stdout != ample.stdout
-            and CANNOT_WRITE.endswith(done.stderr)
-        )
-        tally.check(f"input without write {number}", holds, done)
-
-    tally.check("input: growths", each_refusal(command, library, "ALLOC", page_file, nothing, judge_alloc) > 3)
-    tally.check("input: reads", each_refusal(command, library, "READ", page_file, nothing, judge_read) > 0)
-    tally.check("input: writes", each_refusal(command, library, "WRITE", page_file, nothing, judge_write) == 1)
-    short, _ = run(command, library, stdin=page_file, short=True)
-    tally.check("input one byte at a time", short.stdout == ample.stdout and short.returncode == 0, short)
-
-
 def try_plan(tally, library, folder, name, page_file, count):
     """`plan` on files: after a refusal TX and then CERT hold a prefix, and the page file is never touched. Returns the number of writes."""
     pages, tx, cert = folder / "pages.csv", folder / "tx.bin", folder / "cert.bin"
@@ -249,31 +200,24 @@ def try_plan(tally, library, folder, name, page_file, count):
             return sent in (b"an older transmission", b"") and certified == b"an older certificate"
         return due.startswith(sent) and shown.startswith(certified) and (not certified or sent == due)
 
-    def judge(kind, text):
+    def judge(kind):
         def judge_one(number, done):
             sent, certified = tx.read_bytes(), cert.read_bytes()
-            is_ample = done.returncode == 0 and (sent, certified) == (due, shown)
-            is_refused = (
-                done.returncode == 3
-                and (done.stderr == text or (kind == "WRITE" and text.endswith(done.stderr)))
-                and are_left(sent, certified)
-                and ample.stdout.startswith(done.stdout)
-            )
+            is_ample = kind == "ALLOC" and done.returncode == 0 and (sent, certified) == (due, shown)
+            is_refused = is_told(done, kind, ample.stdout) and are_left(sent, certified)
             is_grown = kind == "ALLOC" and is_refused and sent not in (b"an older transmission", b"")
-            holds = is_refused or (kind == "ALLOC" and is_ample)
-            tally.check(f"{name} without {kind} {number}", holds and pages.read_bytes() == page_file, done)
+            tally.check(f"{name} without {kind} {number}", (is_refused or is_ample) and pages.read_bytes() == page_file, done)
             tally.check(f"{name} grows nothing after the first byte: {number}", not is_grown, done)
 
         return judge_one
 
-    tally.check(f"{name}: growths", each_refusal(command, library, "ALLOC", b"", prepare, judge("ALLOC", OUT_OF_MEMORY)) > 3)
-    tally.check(f"{name}: reads", each_refusal(command, library, "READ", b"", prepare, judge("READ", CANNOT_READ)) > 0)
-    writes = each_refusal(command, library, "WRITE", b"", prepare, judge("WRITE", CANNOT_WRITE))
+    counts = {kind: each_refusal(command, library, kind, b"", judge(kind), prepare) for kind in TEXTS}
+    tally.check(f"{name}: growths and reads", counts["ALLOC"] > 3 and counts["READ"] > 0, counts)
     prepare()
-    short, _ = run(command, library, short=True)
+    short, _ = run(command, library, REFUSE_SHORT="1")
     holds = short.returncode == 0 and (tx.read_bytes(), cert.read_bytes()) == (due, shown)
     tally.check(f"{name} one byte at a time", holds, short)
-    return writes
+    return counts["WRITE"]
 
 
 def try_plans(tally, library, folder):
@@ -287,49 +231,34 @@ def try_plans(tally, library, folder):
     tally.check("plan, long: writes", writes == pieces + 3 and pieces > 2, (writes, pieces))
 
 
-def try_printing(tally, library, name, words, files, folder, in_pieces=False):
-    """A command that reads files and prints: after a refusal a prefix of its text was printed, which is not all of it; nothing where
-    memory was refused, unless the text is written in pieces."""
+def try_printing(tally, library, folder, words, files, in_pieces=False, stdin=b""):
+    """A command that reads and prints: after a refusal a part of its text was printed, which is not all of it; nothing where memory or a
+    read was refused, unless the text is written in pieces. Returns how many calls of each kind there are."""
+    name = f"{' '.join(words) or 'input'}{', long' * in_pieces}"
     for file, content in files.items():
         (folder / file).write_bytes(content)
     command = [str(PROGRAM)] + [str(folder / word) if word in files else word for word in words]
-    ample, _ = run(command, library)
+    ample, _ = run(command, library, stdin=stdin)
     tally.check(name, ample.returncode == 0 and len(ample.stdout) > 5, ample)
-
     behind = set()
 
-    def judge(kind, text):
+    def judge(kind):
         def judge_one(number, done):
             is_ample = kind == "ALLOC" and done.returncode == 0 and done.stdout == ample.stdout
-            is_refused = (
-                done.returncode == 3
-                and (done.stderr == text or (kind == "WRITE" and text.endswith(done.stderr)))
-                and ample.stdout.startswith(done.stdout)
-                and (kind == "WRITE" or done.stdout == b"" or (in_pieces and done.stdout != ample.stdout))
-            )
+            is_part = done.stdout != ample.stdout and (kind == "WRITE" or in_pieces or not done.stdout)
+            is_refused = is_told(done, kind, ample.stdout) and is_part
             behind.update({kind} if is_refused and done.stdout else ())
             kept = all((folder / file).read_bytes() == content for file, content in files.items())
             tally.check(f"{name} without {kind} {number}", (is_ample or is_refused) and kept, done)
 
         return judge_one
 
-    for kind, text in (("ALLOC", OUT_OF_MEMORY), ("READ", CANNOT_READ), ("WRITE", CANNOT_WRITE)):
-        count = each_refusal(command, library, kind, b"", nothing, judge(kind, text))
-        tally.check(f"{name}: {kind}", count > 0, count)
+    counts = {kind: each_refusal(command, library, kind, stdin, judge(kind)) for kind in TEXTS}
+    tally.check(f"{name}: calls of each kind", min(counts.values()) > 0, counts)
     tally.check(f"{name}: memory refused behind a part", ("ALLOC" in behind) == in_pieces, behind)
-    short, _ = run(command, library, short=True)
+    short, _ = run(command, library, stdin=stdin, REFUSE_SHORT="1")
     tally.check(f"{name} one byte at a time", short.returncode == 0 and short.stdout == ample.stdout, short)
-
-
-def try_lost(tally, library, folder):
-    """`--verify` on a device that loses what it takes: the page file is open when TX is opened, and then CERT."""
-    (folder / "pages.csv").write_bytes(b"address,kind,message\n8,tone0,\n")
-    command = [str(PROGRAM), "plan", *(str(folder / name) for name in ("pages.csv", "tx.bin", "cert.bin")), "--verify"]
-    for name, number, text in (("transmission", 4, b"the preamble is too short"), ("certificate", 5, b"the certificate is cut short")):
-        environment = dict(os.environ, LD_PRELOAD=str(library), REFUSE_LOSE=str(number))
-        done = subprocess.run(command, capture_output=True, env=environment, timeout=60)
-        due = (1, b"pages 1\nbatches 1\n", b"pocsag: " + text + b"\n")
-        tally.check(f"a lost {name} is not verified", (done.returncode, done.stdout, done.stderr) == due, done)
+    return counts
 
 
 class Answers:
@@ -402,51 +331,43 @@ def try_open(tally, library, folder):
     tally.check("open with ample memory", holds, ample)
     wanting = []
 
-    def judge_alloc(number, done):
-        if done.returncode == 3:
-            tally.check(f"open without growth {number}", (done.stdout, done.stderr) == (b"", OUT_OF_MEMORY), done)
-            return
-        kept = Answers(edits)
-        refusable = (b"add", b"cancel", b"list", b"plan", b"clear", b"bogus")
-        holds = kept.are(done.stdout.splitlines(), b"refused: out of memory", refusable) and len(kept.refused) <= 1
-        tally.check(f"open without growth {number}", holds and (done.returncode, done.stderr) == (0, b""), done)
-        wanting.extend(kept.refused)
+    def judge(kind):
+        def judge_one(number, done):
+            kept, answers = Answers(edits), done.stdout.splitlines()
+            if kind == "ALLOC" and done.returncode == 0:
+                refusable = (b"add", b"cancel", b"list", b"plan", b"clear", b"bogus")
+                holds = kept.are(answers, b"refused: out of memory", refusable) and len(kept.refused) <= 1 and not done.stderr
+                wanting.extend(kept.refused)
+            elif kind == "WRITE" and done.returncode == 0:
+                holds = kept.are(answers, b"refused: cannot write", (b"plan",)) and len(kept.refused) == 1
+            else:
+                is_part = {"ALLOC": not answers, "READ": done.stdout in (b"", ample.stdout), "WRITE": done.stdout != ample.stdout}
+                holds = is_told(done, kind, ample.stdout) and is_part[kind]
+            tally.check(f"open without {kind} {number}", holds, done)
 
-    def judge_write(number, done):
-        is_ended = done.returncode == 3 and CANNOT_WRITE.endswith(done.stderr)
-        is_ended = is_ended and ample.stdout.startswith(done.stdout) and done.stdout != ample.stdout
-        kept = Answers(edits)
-        is_refused = done.returncode == 0 and kept.are(done.stdout.splitlines(), b"refused: cannot write", (b"plan",))
-        tally.check(f"open without write {number}", is_ended or is_refused and len(kept.refused) == 1, done)
+        return judge_one
 
-    def judge_read(number, done):
-        holds = (done.returncode, done.stderr) == (3, CANNOT_READ) and done.stdout in (b"", ample.stdout)
-        tally.check(f"open without read {number}", holds, done)
-
-    for kind, judge in (("ALLOC", judge_alloc), ("WRITE", judge_write), ("READ", judge_read)):
-        count = each_refusal(command, library, kind, stdin, nothing, judge)
-        tally.check(f"open: {kind}", count > 1, count)
+    counts = {kind: each_refusal(command, library, kind, stdin, judge(kind)) for kind in TEXTS}
+    tally.check("open: calls of each kind", min(counts.values()) > 1, counts)
     tally.check("open: each word that takes memory lacked it", {b"add", b"list", b"plan"} <= set(wanting), wanting)
-    short, _ = run(command, library, stdin=stdin, short=True)
+    short, _ = run(command, library, stdin=stdin, REFUSE_SHORT="1")
     tally.check("open one byte at a time", short.stdout == ample.stdout and short.returncode == 0, short)
 
 
 def try_open_pages(tally, library, folder):
     """`open PAGES`: want of memory, or a read that fails, before the first line ends it."""
-    pages = b"8,tone0,\n17,numeric,5550199\n26,alpha,Ward\n"
     path = folder / "open.csv"
-    path.write_bytes(HEADER + pages)
+    path.write_bytes(HEADER + b"8,tone0,\n17,numeric,5550199\n26,alpha,Ward\n")
     command = [str(PROGRAM), "open", str(path)]
     due = path.read_bytes() + b"ok 3\n"
-    for kind, said, least in (("ALLOC", OUT_OF_MEMORY, 5), ("READ", CANNOT_READ, 2)):
+    for kind, least in (("ALLOC", 5), ("READ", 2)):
 
         def judge(number, done):
-            is_lack = done.returncode == 3 and done.stderr == said and done.stdout in (b"", due)
-            is_refused = kind == "ALLOC" and (done.returncode, done.stdout) == (0, b"refused: out of memory\n")
-            is_ample = kind == "ALLOC" and (done.returncode, done.stdout) == (0, due)
-            tally.check(f"open PAGES without {kind} {number}", is_lack or is_refused or is_ample, done)
+            is_lack = is_told(done, kind, due) and done.stdout in (b"", due)
+            is_answered = kind == "ALLOC" and done.returncode == 0 and done.stdout in (b"refused: out of memory\n", due)
+            tally.check(f"open PAGES without {kind} {number}", is_lack or is_answered, done)
 
-        count = each_refusal(command, library, kind, b"list\n", nothing, judge)
+        count = each_refusal(command, library, kind, b"list\n", judge)
         tally.check(f"open PAGES: {kind}", count >= least, count)
 
 
@@ -463,80 +384,67 @@ def try_late_growths(tally, library, folder):
     others += [["report", names[0], "--rate", "512", *more] for more in ([], ["--always"], ["--frames"])]
     others += [["explain", names[0], names[2], *more] for more in ([], ["--json"], ["--svg"])]
     for words in [*plans, *others, []]:
-        done, count = late_growths([str(PROGRAM), *words], library, b"" if words else pages.read_bytes())
-        tally.check(f"no growth after the first byte: {words[:1]}", done.returncode == 0 and count == 0, (words, count, done.stderr))
+        done, late = marked([str(PROGRAM), *words], library, b"" if words else pages.read_bytes(), "REFUSE_LATE")
+        tally.check(f"no growth after the first byte: {words[:1]}", done.returncode == 0 and not late, (words, late, done.stderr))
 
 
 def try_devices(tally, library, folder):
     """Files of one number on different devices are different files."""
-    pages = folder / "pages.csv"
-    pages.write_bytes(b"address,kind,message\n8,tone0,\n")
-    words = [str(folder / name) for name in ("pages.csv", "one.bin", "other.bin")]
-    for name in words[1:]:
-        pathlib.Path(name).write_bytes(b"older")
-    done, _ = run([str(PROGRAM), "plan", *words], library, same=True)
-    tally.check("files of one number on three devices", (done.returncode, done.stdout) == (0, b"pages 1\nbatches 1\n"), done)
-    (folder / "again.bin").unlink(missing_ok=True)
-    os.link(words[1], folder / "again.bin")
-    done, _ = run([str(PROGRAM), "plan", words[0], words[1], str(folder / "again.bin")], library, same=True)
-    tally.check("one number on one device", (done.returncode, done.stderr) == (1, b"pocsag: the same file is named twice\n"), done)
-
-
-CERTIFICATE = bytes.fromhex("5043423200000000030200013000020000010080 00".replace(" ", ""))
-
-
-# 1,200 calls in one frame, and why 599 batches do not carry them, in 1,199 nodes. Of more than 4,096 bytes it is explained in pieces.
-TONES = HEADER + b"".join(b"%d,tone0,\n" % (8 * place) for place in range(1_200))
-LONG_CERTIFICATE = b"PCB2\0" + (600).to_bytes(4, "big") + trees.halved(1, 0, 599, trees.spelled(trees.overload(0b11)))
+    pages, one, other, again = (folder / name for name in ("pages.csv", "one.bin", "other.bin", "again.bin"))
+    pages.write_bytes(LONE_TONE)
+    for path in (one, other):
+        path.write_bytes(b"older")
+    plan = lambda *paths: run([str(PROGRAM), "plan", *map(str, paths)], library, REFUSE_SAME="1")[0]
+    tally.check_done("files of one number on three devices", plan(pages, one, other), 0, b"pages 1\nbatches 1\n")
+    again.hardlink_to(one)
+    tally.check_done("one number on one device", plan(pages, one, again), 1, b"", NAMED_TWICE)
 
 
 # One page across two batches.
 ACROSS = transmission([*15 * [IDLE], ZERO, codeword(MESSAGE | digits("12345")[0])])
-
+FILES = {"pages.csv": APART, "cert.bin": bytes.fromhex("5043423200000000030200013000020000010080 00"), "tx.bin": ACROSS}
+# 1,200 calls in one frame, and why 599 batches do not carry them, in 1,199 nodes. Of more than 4,096 bytes it is explained in pieces.
 # Three pages, of which two are more text than is written at once, in each form. A transmission of 4 MB is written as it is read.
-LONG = transmission(3 * [ZERO, *400_000 * [codeword(MESSAGE | digits("12345")[0])]])
+LONG_FILES = {
+    "pages.csv": HEADER + b"".join(b"%d,tone0,\n" % (8 * place) for place in range(1_200)),
+    "cert.bin": b"PCB2\0" + (600).to_bytes(4, "big") + trees.halved(1, 0, 599, trees.spelled(trees.overload(0b11))),
+    "tx.bin": transmission(3 * [ZERO, *400_000 * [codeword(MESSAGE | digits("12345")[0])]]),
+}
+# Commands that print, with the options of each; and those whose text is written in pieces.
+PRINTED = [
+    ("check pages.csv cert.bin", [""]),
+    ("explain pages.csv cert.bin", ["", "--json", "--svg"]),
+    ("report pages.csv --rate 1200", ["", "--frames"]),
+    ("decode tx.bin", ["", "--json", "--text 0", "--repair --json", "--repair --text 0", "--capture"]),
+    ("hear 7 tx.bin", ["", "--json", "--text 0", "--capture"]),
+    ("show tx.bin", ["--capture"]),
+    ("wav tx.bin", ["--samples 8000"]),
+]
+IN_PIECES = [
+    ("explain pages.csv cert.bin", ["--depth 300"]),
+    ("decode tx.bin", ["", "--json", "--text 0", "--capture", "--capture --json"]),
+    ("show tx.bin", ["", "--list", "--svg"]),
+]
 
 
-def main():
-    tally = Tally()
-    with tempfile.TemporaryDirectory() as name:
-        folder = pathlib.Path(name)
-        library = build(folder)
-        for part in (try_trial, try_large_trial, try_input):
-            part(tally, library)
-        try_lost(tally, library, folder)
-        try_plans(tally, library, folder)
-        for part in (try_open, try_open_pages, try_late_growths, try_devices, read_back.try_read_back, read_back.try_fronts):
-            part(tally, library, folder)
-        kept.try_kept(tally, library, folder, run)
-        noted.try_noted(tally, run, each_refusal, library, folder)
-        files = {"pages.csv": APART, "cert.bin": CERTIFICATE}
-        try_printing(tally, library, "check", ["check", "pages.csv", "cert.bin"], files, folder)
-        try_printing(tally, library, "explain", ["explain", "pages.csv", "cert.bin"], files, folder)
-        try_printing(tally, library, "explain --json", ["explain", "pages.csv", "cert.bin", "--json"], files, folder)
-        try_printing(tally, library, "explain --svg", ["explain", "pages.csv", "cert.bin", "--svg"], files, folder)
-        words = ["explain", "pages.csv", "cert.bin", "--depth", "300"]
-        try_printing(tally, library, "explain, long", words, {"pages.csv": TONES, "cert.bin": LONG_CERTIFICATE}, folder, in_pieces=True)
-        files = {"pages.csv": APART}
-        try_printing(tally, library, "report", ["report", "pages.csv", "--rate", "1200"], files, folder)
-        try_printing(tally, library, "report --frames", ["report", "pages.csv", "--rate", "1200", "--frames"], files, folder)
-        files = {"tx.bin": ACROSS}
-        try_printing(tally, library, "decode", ["decode", "tx.bin"], files, folder)
-        try_printing(tally, library, "hear", ["hear", "7", "tx.bin"], files, folder)
-        for words in (["decode", "tx.bin"], ["decode", "tx.bin", "--repair"], ["hear", "7", "tx.bin"]):
-            for form in (["--json"], ["--text", "0"]):
-                try_printing(tally, library, f"{words[0]} {form[0]}", [*words, *form], files, folder)
-        for form in ([], ["--json"], ["--text", "0"], ["--capture"], ["--capture", "--json"]):
-            words = ["decode", "tx.bin", *form]
-            try_printing(tally, library, f"{' '.join(words)}, long", words, {"tx.bin": LONG}, folder, in_pieces=True)
-        for form in ([], ["--list"], ["--svg"]):
-            words = ["show", "tx.bin", *form]
-            try_printing(tally, library, f"{' '.join(words)}, long", words, {"tx.bin": LONG}, folder, in_pieces=True)
-        try_printing(tally, library, "wav", ["wav", "tx.bin", "--samples", "8000"], files, folder)
-        for words in (["decode", "tx.bin"], ["hear", "7", "tx.bin"], ["show", "tx.bin"]):
-            try_printing(tally, library, f"{words[0]} --capture", [*words, "--capture"], files, folder)
-    return tally.end()
+def try_printings(tally, library, folder):
+    """All of these, and the program with no words, over standard input."""
+    for rows, files, in_pieces in ((PRINTED, FILES, False), (IN_PIECES, LONG_FILES, True)):
+        for words, options in rows:
+            for option in options:
+                try_printing(tally, library, folder, [*words.split(), *option.split()], files, in_pieces)
+    counts = try_printing(tally, library, folder, [], {}, stdin=HEADER + b"0,numeric,12345\n9,alpha,Hello\n8,tone1,\n")
+    tally.check("input: growths and writes", counts["ALLOC"] > 3 and counts["WRITE"] == 1, counts)
+
+
+def try_all(tally, folder):
+    library = build(folder)
+    for part in (try_trial, try_large_trial, try_plans, try_open, try_open_pages, try_late_growths, try_devices,
+                 read_back.try_lost, read_back.try_read_back, read_back.try_fronts, try_printings):  # fmt: skip
+        part(tally, library, folder)
+    kept.try_kept(tally, library, folder, run)
+    noted.try_noted(tally, run, each_refusal, library, folder)
 
 
 if __name__ == "__main__":
-    sys.exit(main())
+    sys.exit(run_parts(try_all))

@@ -20,12 +20,11 @@ from functools import lru_cache
 
 sys.dont_write_bytecode = True
 HERE = pathlib.Path(__file__).resolve().parent
-sys.path.insert(0, str(HERE.parent))
-sys.path.insert(0, str(HERE.parent / "certificates"))
+sys.path[:0] = [str(HERE.parent), str(HERE.parent / "certificates")]
 import checker
 from codewords import HEADER, IDLE, codewords_of, transmission
 from rounds import page_file
-from tally import ENDS, MEMORY, Tally, run, said
+from tally import ENDS, MEMORY, run, run_parts, said
 from trees import certificate
 
 ROUNDS = 1_500
@@ -85,13 +84,9 @@ def random_round(source):
     return [(address, source.choice(lengths)) for address in source.sample(frames, count)]
 
 
-def record(address, items):
-    return f"{address},numeric,{'1' * 5 * items}\n" if items else f"{address},tone0,\n"
-
-
 def page_file_of(pages):
     """The page file of pages (address, number of message codewords)."""
-    return HEADER + "".join(record(*page) for page in pages).encode()
+    return HEADER + b"".join(b"%d,%s\n" % (address, b"numeric," + b"1" * 5 * items if items else b"tone0,") for address, items in pages)
 
 
 def rows(data):
@@ -110,15 +105,13 @@ def pages_read(sent):
     pages, is_open = [], False
     for index, word in enumerate(words):
         number = int.from_bytes(word, "big")
-        if word == IDLE:
-            is_open = False
-        elif number >> 31:
-            if not is_open:
-                return None
+        if number >> 31 and not is_open:
+            return None
+        if number >> 31:
             pages[-1][1] += 1
-        else:
+        elif word != IDLE:
             pages.append([(number >> 13) * 8 + index % 16 // 2, 0])
-            is_open = True
+        is_open = word != IDLE
     return sorted(map(tuple, pages))
 
 
@@ -152,8 +145,7 @@ def try_own_checker(tally, folder, end):
     told = re.fullmatch(r"at least \d+ batches(.*)\n", checked.stdout.decode())
     tally.check("checked", checked.returncode == 0 and told and told[1] == TOLD[end], checked)
     (folder / "more.bin").write_bytes(one_more(text))
-    checked = run(["check", "pages.csv", "more.bin"], folder)
-    tally.check("one more is not shown", (checked.returncode, checked.stdout) == (1, b"not shown\n"), checked)
+    tally.check_done("one more is not shown", run(["check", "pages.csv", "more.bin"], folder), 1, b"not shown\n")
 
 
 def try_round(tally, folder, pages, end, search):
@@ -161,8 +153,7 @@ def try_round(tally, folder, pages, end, search):
     (folder / "pages.csv").write_bytes(text)
     due = fewest(framed(pages), end)
     planned = run(["plan", "pages.csv", "tx.bin", "cert.bin", *ENDS[end], *search], folder)
-    printed = f"pages {len(pages)}\nbatches {due}\n".encode()
-    tally.check(" ".join(["fewest", end, "end", *search]), planned.returncode == 0 and planned.stdout == printed, (text, due, planned))
+    tally.check_done(" ".join(["fewest", end, "end", *search]), planned, 0, b"pages %d\nbatches %d\n" % (len(pages), due))
     if planned.returncode != 0:
         return
     sent = (folder / "tx.bin").read_bytes()
@@ -271,21 +262,21 @@ def try_fronts(tally, folder, source):
                 try_front(tally, folder, pages, end, batches, needs)
 
 
-def main():
-    tally = Tally()
+def try_rounds(tally, folder, source):
+    for _ in range(ROUNDS):
+        pages = random_round(source)
+        for end, search in itertools.product(ENDS, ([], ["--always"])):
+            try_round(tally, folder, pages, end, search)
+
+
+def try_all(tally, folder):
     source = random.Random(584)
-    with tempfile.TemporaryDirectory(dir=MEMORY) as name:
-        folder = pathlib.Path(name)
-        for _ in range(ROUNDS):
-            pages = random_round(source)
-            for end, search in itertools.product(ENDS, ([], ["--always"])):
-                try_round(tally, folder, pages, end, search)
-        try_checks(tally, folder, source)
-        try_ends(tally, folder, source)
-        try_examples(tally, folder)
-        try_fronts(tally, folder, source)
-    return tally.end()
+    for part in (try_rounds, try_checks, try_ends):
+        part(tally, folder, source)
+    try_examples(tally, folder)
+    try_fronts(tally, folder, source)
 
 
 if __name__ == "__main__":
-    sys.exit(main())
+    tempfile.tempdir = MEMORY
+    sys.exit(run_parts(try_all))

@@ -40,11 +40,8 @@ PARTS = [
 
 def try_part(tally, name, script, status, counts):
     gate = Gate(TOP, io.StringIO())
-    tally.check(f"{name}: whether it passed", gate.part("part", "sh", "-c", script) == (status == 0))
-    tally.check(f"{name}: its counts", (gate.passed, gate.failed) == counts, (gate.passed, gate.failed))
-    tally.check(f"{name}: the status", gate.end() == status)
-    told = gate.out.getvalue().splitlines()[-1]
-    tally.check(f"{name}: the last line", told == f"{counts[0]} passed, {counts[1]} failed", told)
+    found = gate.part("part", "sh", "-c", script), (gate.passed, gate.failed), gate.end(), gate.out.getvalue().splitlines()[-1]
+    tally.check(name, found == (status == 0, counts, status, f"{counts[0]} passed, {counts[1]} failed"), found)
 
 
 def try_others(tally):
@@ -53,7 +50,6 @@ def try_others(tally):
     tally.check("a command that is not there fails", (gate.passed, gate.failed) == (0, 1))
     gate = Gate(TOP, io.StringIO())
     tally.check("no part at all fails", gate.end() == 1)
-    gate = Gate(TOP, io.StringIO())
     tally.check("a step that fails is told", not gate.step("step", "sh", "-c", "exit 2") and gate.failed == 1)
     tally.check("a step that passes counts once", gate.step("step", "true") and gate.passed == 1)
     tally.check("one failure fails the whole", gate.end() == 1)
@@ -139,19 +135,14 @@ def try_spent(tally):
 
 def try_lanes(tally):
     """The order in which tasks begin, how many jobs each gets, and what is left out."""
-    tasks = [
-        Task("low", lambda jobs: ["echo", str(jobs)], TOP, (), 5),
-        Task("beside", lambda jobs: ["echo", str(jobs)], TOP, (), 9),
-        Task("high", lambda jobs: ["echo", str(jobs)], TOP, ("low", "no task"), 9),
-        Task("bad", ["false"], TOP, ("high",)),
-        Task("behind", ["true"], TOP, ("bad",)),
-    ]
+    echo = lambda jobs: ["echo", str(jobs)]
+    tasks = [Task("low", echo, TOP, (), 5), Task("beside", echo, TOP, (), 9), Task("high", echo, TOP, ("low", "no task"), 9)]
+    tasks += [Task("bad", ["false"], TOP, ("high",)), Task("behind", ["true"], TOP, ("bad",))]
     begun = []
     ended = {it.name: it for it in Lanes(tasks, begun.append).run()}
     tally.check("the longest chain first", begun[:2] == ["low", "beside"], begun)
-    tally.check("jobs of the longest chain", ended["low"].text == "2\n", ended["low"])
-    tally.check("jobs of what is beside it", ended["beside"].text == "1\n", ended["beside"])
-    tally.check("jobs of what is alone", ended["high"].text in ("2\n", "3\n"), ended["high"])
+    for name, jobs in (("low", "2"), ("beside", "1"), ("high", "23")):  # the longest chain, what is beside it, and what is alone
+        tally.check(f"jobs of {name}", ended[name].text.strip() in jobs, ended[name])
     tally.check("what waits for a failure is left out", "behind" not in ended and ended["bad"].status == 1, [*ended])
     began = time.monotonic()
     for it in Lanes([Task("quick", ["false"], TOP), Task("slow", ["sleep", "30"], TOP)]).run():

@@ -93,11 +93,8 @@ class Clone:
         return {"PATH": str(self.commands), "TMPDIR": str(self.temporary), **more}
 
     def start(self, words=("w",), folder=None, script=None, before=(), **more):
-        return subprocess.Popen(
-            [*before, str(script or self.top / "pocsag"), *words],
-            stdin=subprocess.PIPE, stdout=subprocess.PIPE, stderr=subprocess.PIPE,
-            cwd=folder or self.top, env=self.environment(**more), text=True, start_new_session=True,
-        )
+        command, pipes = [*before, str(script or self.top / "pocsag"), *words], dict.fromkeys(("stdin", "stdout", "stderr"), subprocess.PIPE)
+        return subprocess.Popen(command, **pipes, cwd=folder or self.top, env=self.environment(**more), text=True, start_new_session=True)
 
     def run(self, words=("w",), folder=None, script=None, stdin="", before=(), **more):
         process = self.start(words, folder, script, before, **more)
@@ -112,8 +109,11 @@ class Clone:
 
     def check_builds(self, tally, name, count):
         """Runs the program, which is built for the time of this number."""
-        self.run()
-        tally.check(name, self.builds()[0] == count, self.builds())
+        status = self.run()[0]
+        tally.check(name, status == 7 and self.builds()[0] == count, (status, self.builds()))
+
+    def check_no_log(self, tally, name):
+        tally.check(f"no log is left: {name}", not list(self.temporary.iterdir()), list(self.temporary.iterdir()))
 
     def build(self, *words, **how):
         """Runs the script that builds."""
@@ -133,7 +133,7 @@ def try_success(tally, clone):
     tally.check_run("what it takes is told", done, 7, due, "memory", "disk")
     calls = clone.builds()[1]
     tally.check("each crate once, lowest first", calls == ["low lib", "middle lib", "pocsag_app run"], calls)
-    tally.check("no log is left", list(clone.temporary.iterdir()) == [], list(clone.temporary.iterdir()))
+    clone.check_no_log(tally, "a build")
     for words in ([], ["plan"], ["--help"]):
         status, out, err = clone.run(words)
         tally.check(f"built once, {words}", (status, err, clone.builds()[0]) == (7, "", 1), (status, err))
@@ -154,38 +154,30 @@ def try_success(tally, clone):
 
 
 def put_old(path, text):
-    """Writes a file, and gives it a time of long ago."""
+    """Writes a file, and gives it and its folder a time of long ago."""
+    path.parent.mkdir(exist_ok=True)
     path.write_text(text)
     os.utime(path, (10**9, 10**9))
+    os.utime(path.parent, (10**9, 10**9))
 
 
 def try_old_times(tally, clone):
     """Edits that leave no newer file behind."""
-    clone.run()
-    put_old(clone.source("low"), "first\n")
-    tally.check("the program runs after another time alone", clone.run()[0] == 7)
-    clone.check_builds(tally, "another time alone builds nothing", 1)
-    put_old(clone.source("low"), "other\n")
-    clone.check_builds(tally, "an edit with an old time", 2)
-    put_old(clone.top.parent / "old.rt", "third\n")
-    shutil.copy2(clone.top.parent / "old.rt", clone.source("low"))
-    clone.check_builds(tally, "a file put there with its old time", 3)
-    specs = clone.top / "crates/middle/specs"
-    specs.mkdir()
-    (specs / "Lib.antt").write_text("words\n")
-    clone.run()
-    shutil.rmtree(specs)
-    clone.check_builds(tally, "a folder taken away", 5)
-    older = clone.top.parent / "older"
-    older.mkdir()
-    put_old(older / "lib.rt", "as it was\n")
-    os.utime(older, (10**9, 10**9))
-    source = clone.source("middle").parent
-    source.rename(clone.top.parent / "away")
-    older.rename(source)
-    clone.check_builds(tally, "a folder replaced by an older one", 6)
-    clone.source("low").rename(clone.source("low").with_name("renamed.rt"))
-    clone.check_builds(tally, "a file renamed", 7)
+    room, low, middle, specs = clone.top.parent, clone.source("low"), clone.source("middle").parent, clone.top / "crates/middle/specs"
+    put_old(room / "other/old.rt", "third\n")
+    put_old(room / "older/lib.rt", "as it was\n")
+    for name, count, edit in [
+        ("a first build", 1, lambda: None),
+        ("another time alone builds nothing", 1, lambda: put_old(low, "first\n")),
+        ("an edit with an old time", 2, lambda: put_old(low, "other\n")),
+        ("a file put there with its old time", 3, lambda: shutil.copy2(room / "other/old.rt", low)),
+        ("a new folder", 4, lambda: put_old(specs / "Lib.antt", "words\n")),
+        ("a folder taken away", 5, lambda: shutil.rmtree(specs)),
+        ("a folder replaced by an older one", 6, lambda: (middle.rename(room / "away"), (room / "older").rename(middle))),
+        ("a file renamed", 7, lambda: low.rename(low.with_name("renamed.rt"))),
+    ]:
+        edit()
+        clone.check_builds(tally, name, count)
 
 
 def try_forms(tally, clone):
@@ -243,7 +235,7 @@ def try_unwritable(tally, clone):
 
 def try_failure(tally, clone):
     tally.check_run("a build that fails", clone.run(["decode"]), 3, "", "goal left open", "pocsag_app failed")
-    tally.check("no log is left by it", list(clone.temporary.iterdir()) == [])
+    clone.check_no_log(tally, "a build that fails")
     clone.stand_in("makes")
     tally.check("and is tried again", clone.run(["z"])[0] == 7)
     clone.source("low").write_text("edited\n")
@@ -272,7 +264,7 @@ def try_nothing_left(tally, clone):
 
 
 def try_edit_meanwhile(tally, clone):
-    tally.check("an edit during the build", clone.run()[0] == 7)
+    clone.check_builds(tally, "an edit during the build", 1)
     clone.stand_in("makes")
     clone.check_builds(tally, "is built at the next call", 2)
 
@@ -297,23 +289,19 @@ def try_side_by_side(tally, clone):
         clone.source("low").write_text("edited\n")
 
 
-def interrupted(tally, clone, number):
-    """Ends a build by a signal; gives how it ended and what still runs of it."""
-    call = clone.start()
-    time.sleep(0.7)
-    if number == signal.SIGINT:
-        os.killpg(call.pid, number)
-    else:
-        call.send_signal(number)
-        subprocess.run(["pkill", f"-{number}", "-s", str(call.pid)], check=False)
-    call.communicate(timeout=60)
-    tally.check(f"signal {number} ends it", call.returncode != 0, call.returncode)
-    tally.check(f"signal {number} leaves no log", list(clone.temporary.iterdir()) == [], list(clone.temporary.iterdir()))
-
-
 def try_interrupt(tally, clone):
+    """A build that a signal ends leaves nothing behind."""
     for number in (signal.SIGINT, signal.SIGTERM, signal.SIGKILL):
-        interrupted(tally, clone, number)
+        call = clone.start()
+        time.sleep(0.7)
+        if number == signal.SIGINT:
+            os.killpg(call.pid, number)
+        else:
+            call.send_signal(number)
+            subprocess.run(["pkill", f"-{number}", "-s", str(call.pid)], check=False)
+        call.communicate(timeout=60)
+        tally.check(f"signal {number} ends it", call.returncode != 0, call.returncode)
+        clone.check_no_log(tally, f"signal {number}")
     clone.stand_in("makes")
     tally.check("and the next call builds", clone.run()[0] == 7)
 
@@ -345,7 +333,7 @@ def try_unit(tally, clone):
         ran, printed = clone.build("unit", capture_output=True, text=True), f"first\n{1 - status} passed, {status} failed\n"
         tally.check_done(f"the lowest crate, status {status}", ran, status, printed, "pocsag: spent 0 s on pocsag_words\n")
     tally.check("it was proved in a copy", [it.name for it in clone.source("pocsag_words").parent.iterdir()] == ["lib.rt"])
-    tally.check("no copy is left", list(clone.temporary.iterdir()) == [], list(clone.temporary.iterdir()))
+    clone.check_no_log(tally, "nor a copy")
 
 
 def try_compilers(tally, clone):

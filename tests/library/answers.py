@@ -1,22 +1,16 @@
 """What a call gives and what the program says of the same, and how both are run."""
 
-import subprocess
-
 import pocsag
-from tally import ENDS, PROGRAM
+from tally import ENDS, PROGRAM, call
 
 # The words of the program for each end, and what its `check` tells of it.
 WORDS = dict(zip((pocsag.OPEN, pocsag.CLOSED, pocsag.IDLE), ENDS.values()))
 TOLD = dict(zip(WORDS, (b"", b" with a closed end", b" with an idle last")))
 
 
-def run(*words, **how):
-    return subprocess.run([str(word) for word in words], capture_output=True, timeout=120, **how)
-
-
 def program(*words):
     """What the program prints where it is done, or else why it is not."""
-    ran = run(PROGRAM, *words)
+    ran = call(PROGRAM, *words)
     return ran.returncode, (ran.stdout if ran.returncode == 0 or not ran.stderr else ran.stderr)
 
 

@@ -8,7 +8,8 @@ TOP = HERE.parents[1]
 import make
 import pocsag
 import trees
-from answers import PROGRAM, WORDS, attempt, run
+from answers import WORDS, attempt
+from tally import PROGRAM, call as run
 
 ROUND = TOP / "examples/round.csv"
 

@@ -2,6 +2,7 @@
 
 import copy
 import ctypes
+import functools
 import inspect
 import os
 import pathlib
@@ -14,6 +15,7 @@ import sys
 
 import pocsag
 from answers import check_fault
+from tally import call
 
 HERE = pathlib.Path(__file__).resolve().parent
 CLIB = HERE.parents[1] / "clib"
@@ -45,9 +47,7 @@ POOLED = "[1, 2] 1\nBadKind 22 1 record 1: unknown kind\n1 BadKind('record 1: un
 REFUSED = ("p.plan(5)", "p.plan(b'', end='shut')", "p.plan_at_most(b'', 1, sizes=(1, 2))", "p.show(b'', batches=(1,))", "p.decode('')", "p.plan(b'').batch")
 
 
-def run(*words, **how):
-    beside = {**os.environ, "PYTHONPATH": str(CLIB), "PYTHONDONTWRITEBYTECODE": "1"}
-    return subprocess.run([str(word) for word in words], capture_output=True, text=True, timeout=300, env=beside, **how)
+run = functools.partial(call, text=True, env={**os.environ, "PYTHONPATH": str(CLIB), "PYTHONDONTWRITEBYTECODE": "1"})
 
 
 def of_c(declared):

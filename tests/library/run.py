@@ -10,6 +10,7 @@ The last line is 'N passed, M failed'.
 """
 
 import csv
+import functools
 import io
 import os
 import pathlib
@@ -32,14 +33,22 @@ import pocsag
 import version
 import workspace
 from prover import Room
-from answers import TOLD, WORDS, attempt, check_fault, is_same, program, run
+from answers import TOLD, WORDS, attempt, check_fault, is_same, program
 from codewords import HEADER, IDLE, TONE, changed, random_file, transmission
-from tally import LIBRARY, run_parts
+from tally import LIBRARY, call as run, run_parts
 
 EXAMPLES = TOP / "clib/examples"
 ROUND = TOP / "examples/round.csv"
 ROUNDS, CHANGED = 1_200, 400
 ROUNDS_OF_BOTH, CHANGED_OF_BOTH = 2_000, 8_000
+IN_CPP = """#include "pocsag.h"
+int main() {
+    size_t tx, cert;
+    pocsag_plan_bound(0, 1, &tx, &cert);
+    bool fits = POCSAG_LISTING_BOUND(tx) > 0 && POCSAG_SHOW_DRAWING_BOUND(tx) > 0 && POCSAG_WAV_BOUND(tx, 512u, 8000u, 0u) > tx;
+    return fits && pocsag_version() == POCSAG_VERSION && tx == 208 && cert == 12 && *pocsag_status_text(0) == 'd' ? 0 : 1;
+}
+"""
 CALLS = {"airtime_batches", "check", "decode", "decode_as", "explain", "hear", "hear_as", "lay_in_order", "plan", "plan_at_most"}
 CALLS |= {"frames", "report", "show", "strict", "text_of_status", "text_of_version", "version", "wav", "write_page"}
 CALLS = {f"pocsag_{name}" for name in CALLS}
@@ -53,36 +62,26 @@ class Library:
         self.pocsag = pocsag.Pocsag(str(folder / make.SONAME))
         self.pages, self.tx, self.cert = room / "pages.csv", room / "pages.bin", room / "pages.cert"
 
-    def beside_program(self, pages, end, always):
-        """Whether a plan, its check and its listings are those of the program; and the plan."""
+    def beside_program(self, pages, end, always, batches=None):
+        """Whether a plan, or the front of so many batches, is that of the program, with its files and its text, and its certificate is
+        shown; and the plan."""
         self.pages.write_bytes(pages)
-        words = [*WORDS[end], *["--always"] * always]
-        status, text = program("plan", self.pages, self.tx, self.cert, *words)
-        plan = attempt(self.pocsag.plan, pages, end=end, always=always)
+        files, call, words = [self.tx, self.cert], self.pocsag.plan, [*WORDS[end], *["--always"] * always]
+        if batches is not None:
+            files += [self.pages.with_suffix(ending) for ending in (".rest", ".why")]
+            call = functools.partial(self.pocsag.plan_at_most, batches=batches)
+            words += ["--at-most", batches, "--rest", files[2], "--why", files[3]]
+        told = program("plan", self.pages, self.tx, self.cert, *words)
+        plan = attempt(call, pages, end=end, always=always)
         if isinstance(plan, pocsag.Fault):
-            return is_same(plan, (status, text)), None
-        same = status == 0 and (plan.transmission, plan.certificate) == (self.tx.read_bytes(), self.cert.read_bytes())
-        told = b"pages %d\nbatches %d\n" % (plan.pages, plan.batches)
-        same = same and text == told + (b"at least %d batches\n" % plan.bound) * (plan.bound < plan.batches)
-        shown = self.pocsag.check(pages, plan.certificate)
-        same = same and shown == (True, end, plan.bound)
-        return same, plan
-
-    def front_beside_program(self, pages, batches, end, always):
-        """Whether the plan of a front, the pages that are left, and why not one more are those of the program; and the front."""
-        self.pages.write_bytes(pages)
-        rest, why = self.pages.with_suffix(".rest"), self.pages.with_suffix(".why")
-        words = [*WORDS[end], *["--always"] * always, "--at-most", batches, "--rest", rest, "--why", why]
-        status, text = program("plan", self.pages, self.tx, self.cert, *words)
-        front = attempt(self.pocsag.plan_at_most, pages, batches, end=end, always=always)
-        if isinstance(front, pocsag.Fault):
-            return is_same(front, (status, text)), None
-        files = [path.read_bytes() for path in (self.tx, self.cert, rest, why)]
-        same = status == 0 and [front.transmission, front.certificate, front.rest, front.why] == files
-        told = b"pages %d\nbatches %d\n" % (front.pages, front.batches)
-        told += b"at least %d batches\n" % front.bound * (front.bound < front.batches) + b"left %d\n" % front.left
-        told += b"at least %d batches with one page more\n" % front.beyond * (0 < front.beyond <= batches)
-        return same and text == told, front
+            return is_same(plan, told), None
+        text = b"pages %d\nbatches %d\n" % (plan.pages, plan.batches) + b"at least %d batches\n" % plan.bound * (plan.bound < plan.batches)
+        if batches is None:
+            same = self.pocsag.check(pages, plan.certificate) == (True, end, plan.bound)
+        else:
+            same = True
+            text += b"left %d\n" % plan.left + b"at least %d batches with one page more\n" % plan.beyond * (0 < plan.beyond <= batches)
+        return same and told == (0, text) and [*plan[: len(files)]] == [path.read_bytes() for path in files], plan
 
     def reads_alike(self, pages, tx, cert, address):
         """Whether a check, a listing and what a pager shows are what the program says."""
@@ -127,7 +126,7 @@ def try_fronts(tally, library, plans, seed):
     wrong, kinds = [], set()
     for number, (pages, plan) in enumerate(plans[::3]):
         batches = source.randrange(plan.batches + 2)
-        same, front = library.front_beside_program(pages, batches, source.randrange(3), source.randrange(4) == 0)
+        same, front = library.beside_program(pages, source.randrange(3), source.randrange(4) == 0, batches)
         wrong += [number] * (not same)
         kinds.add("none" if front is None else "all" if front.left == 0 else "some")
     tally.check(f"{len(plans[::3])} fronts are planned as the program plans them", not wrong, wrong[:5])
@@ -169,25 +168,52 @@ def try_changed(tally, library, plans, count, seed):
     tally.check("some of them are refused", refused > 0)
 
 
+def refused_calls(call, sample, sent):
+    """Calls that are refused: what is wrong, the fault, the call, and what it is given."""
+    apart, long = (TOP / "examples/loops-apart.csv").read_bytes(), sent[:72] + sent[72:] * 160_000
+    tone, unknown, quoted = (pocsag.HEADER + record for record in (b"8,tone0,\n", b"8,tone9,\n", b'8,alpha,a"b\n'))
+    return [
+        ("a limit of 0", pocsag.BadLimit, call.plan, (sample,), {"limit": 0}),
+        ("a limit above the greatest", pocsag.BadLimit, call.plan, (sample,), {"limit": 1_000_001}),
+        ("an end that is none", pocsag.BadEnd, call.plan, (sample,), {"end": 3}),
+        ("an address that is none", pocsag.PagerBadAddress, call.hear, (2_097_152, b""), {}),
+        ("a form that is none", pocsag.BadForm, call.explain, (sample, call.plan(sample).certificate), {"form": 2}),
+        ("a rate that is none", pocsag.BadRate, call.report, (sample, 1201), {}),
+        ("frames of no end", pocsag.BadEnd, call.frames, (tone,), {"end": 3, "limit": 0}),
+        ("frames of no kind", pocsag.BadKind, call.frames, (unknown,), {"limit": 0}),
+        ("frames of no limit", pocsag.BadLimit, call.frames, (tone,), {"limit": 0}),
+        ("frames behind the limit", pocsag.SearchLimit, call.frames, (apart,), {"limit": 2, "always": False}),
+        ("frames of a quote inside", pocsag.QuoteInside, call.frames, (quoted,), {"strict": True}),
+        ("a reading that is none", pocsag.BadReading, call.decode, (sent, 3), {}),
+        ("one that a pager has not", pocsag.BadReading, call.hear, (8, sent, 2**32), {}),
+        ("a picture that is none", pocsag.BadReading, call.show, (sent, 3, (0, 9)), {}),
+        ("batch 0", pocsag.BadRows, call.show, (sent, pocsag.SHOW_LIST, (0, 9)), {}),
+        ("batches from the last", pocsag.BadRows, call.show, (sent, pocsag.SHOW_TEXT, (2, 1)), {}),
+        ("batches behind the last", pocsag.BadRows, call.show, (sent, pocsag.SHOW_TEXT, (3, 3)), {}),
+        ("a drawing of none", pocsag.BadRows, call.show, (sent, pocsag.SHOW_DRAWING, (3, 2**64 - 1)), {}),
+        ("a fault before batches behind the last", pocsag.Truncated, call.show, (sent[:-1], pocsag.SHOW_TEXT, (3, 3)), {}),
+        ("a capture of a byte too many", pocsag.CaptureTooLarge, call.decode, (bytes(268_435_457), pocsag.CAPTURED), {}),
+        ("a sound at no rate", pocsag.BadRate, call.wav, (sent, 1201), {}),
+        ("a sound of too many samples", pocsag.BadSamples, call.wav, (sent, 1200, 2**32), {}),
+        ("a sound of no preamble", pocsag.BadPreamble, call.wav, (sent, 1200, 48_000, 0), {}),
+        ("a sound that is too long", pocsag.TooLongForWav, call.wav, (long, 512, 192_000), {}),
+        ("an airtime at no rate", pocsag.BadRate, call.airtime_batches, (934, 1201), {}),
+    ]
+
+
 def try_faults(tally, library):
     call, sample = library.pocsag, ROUND.read_bytes()
     tally.check("the version", call.version() == 5)
-    for name, wanted, given in (
-        ("a limit of 0", pocsag.BadLimit, dict(limit=0)),
-        ("a limit above the greatest", pocsag.BadLimit, dict(limit=1_000_001)),
-        ("an end that is none", pocsag.BadEnd, dict(end=3)),
-    ):
-        check_fault(tally, name, wanted, call.plan, sample, **given)
+    plan = call.plan(sample)
+    for name, wanted, refused, words, named in refused_calls(call, sample, plan.transmission):
+        check_fault(tally, name, wanted, refused, *words, **named)
     fault = attempt(call.plan, b"address,kind,message\n1,tone0,\n2,tone9,\n")
     tally.check("the record of a fault", (type(fault), fault.record_number) == (pocsag.BadKind, 2), vars(fault))
     fault = attempt(call.plan, b"address,kind,message\n8,numeric,12x4\n")
     told = type(fault), fault.record_number, fault.at, str(fault)
     tally.check("the place of a fault", told == (pocsag.BadCharacter, 1, 2, "record 1: bad character at 2"), vars(fault))
-    check_fault(tally, "an address that is none", pocsag.PagerBadAddress, call.hear, 2_097_152, b"")
-    plan = call.plan(sample)
     other = call.check(sample.replace(b"20451", b"2"), plan.certificate)
     tally.check("a certificate of another round may not be shown, and is judged", other.batches == 2, other)
-    check_fault(tally, "a form that is none", pocsag.BadForm, call.explain, sample, plan.certificate, form=2)
 
 
 def try_large(tally, room):
@@ -206,7 +232,6 @@ def try_reports(tally, library):
         told = library.pocsag.report(ROUND.read_bytes(), rate)
         text = "".join(f"{name} {getattr(told, name)}\n" for name in names).encode()
         tally.check(f"the report at {rate}", (0, text) == program("report", ROUND, "--rate", rate), told)
-    check_fault(tally, "a rate that is none", pocsag.BadRate, library.pocsag.report, ROUND.read_bytes(), 1201)
 
 
 def try_frames(tally, library, plans, seed):
@@ -233,14 +258,6 @@ def try_frames(tally, library, plans, seed):
     given = call(pocsag.HEADER + tones + b"15,numeric,5550199\n")
     wanted = [(0, 5, 5, 0), *((frame, 0, 0, 6) for frame in range(1, 7)), (7, 1, 3, 4)]
     tally.check("the frames of a round by hand", (given.frames, given.batches, given.bound) == (wanted, 3, 3), given)
-    for wanted, words, named in (
-        (pocsag.BadEnd, (pocsag.HEADER + tones,), dict(end=3, limit=0)),
-        (pocsag.BadKind, (pocsag.HEADER + b"8,tone9,\n",), dict(limit=0)),
-        (pocsag.BadLimit, (pocsag.HEADER + tones,), dict(limit=0)),
-        (pocsag.SearchLimit, ((TOP / "examples/loops-apart.csv").read_bytes(),), dict(limit=2, always=False)),
-        (pocsag.QuoteInside, (pocsag.HEADER + b'8,alpha,a"b\n',), dict(strict=True)),
-    ):
-        check_fault(tally, f"no frames: {wanted.__name__}", wanted, call, *words, **named)
     loose = call((TOP / "examples/loops-apart.csv").read_bytes(), limit=2)
     tally.check("the frames of a plan above its bound", (loose.batches, loose.bound) == (3, 2), loose)
 
@@ -327,18 +344,6 @@ def try_readings(tally, library, plans, seed):
     fault = attempt(call.decode, wrong_bit)
     tally.check("two wrong bits are a fault", (type(fault), fault.at) == (pocsag.BadWord, 1), fault)
     tally.check("and are repaired", call.decode(wrong_bit, pocsag.REPAIRED) == listing)
-    for name, wanted, words, given in (
-        ("a reading that is none", pocsag.BadReading, (call.decode, sent, 3), {}),
-        ("one that a pager has not", pocsag.BadReading, (call.hear, 8, sent, 2**32), {}),
-        ("a picture that is none", pocsag.BadReading, (call.show, sent, 3, (0, 9)), {}),
-        ("batch 0", pocsag.BadRows, (call.show, sent, pocsag.SHOW_LIST, (0, 9)), {}),
-        ("batches from the last", pocsag.BadRows, (call.show, sent, pocsag.SHOW_TEXT, (2, 1)), {}),
-        ("batches behind the last", pocsag.BadRows, (call.show, sent, pocsag.SHOW_TEXT, (3, 3)), {}),
-        ("a drawing of none", pocsag.BadRows, (call.show, sent, pocsag.SHOW_DRAWING, (3, 2**64 - 1)), {}),
-        ("a fault before batches behind the last", pocsag.Truncated, (call.show, sent[:-1], pocsag.SHOW_TEXT, (3, 3)), {}),
-        ("a capture of a byte too many", pocsag.CaptureTooLarge, (call.decode, bytes(268_435_457), pocsag.CAPTURED), {}),
-    ):
-        check_fault(tally, name, wanted, *words, **given)
     tally.check("the list has all pages, whatever batches are asked for", call.show(sent, pocsag.SHOW_LIST, (3, 3)) == call.show(sent, pocsag.SHOW_LIST))
     lines = call.show(sent, pocsag.SHOW_TEXT, (2, 2**64 - 1)).splitlines()
     tally.check("the second batch alone", len(lines) == 3 and lines[2].startswith(b"  2"), lines)
@@ -355,10 +360,6 @@ def try_sounds(tally, library, plans, seed):
         given = attempt(call, plan.transmission, rate, samples, preamble, inverted)
         wrong += [(number, words)] * (not is_same(given, program("wav", library.tx, *words)))
     tally.check(f"{len(plans[::30])} sounds are those of the program", not wrong, wrong[:5])
-    sent = plans[0][1].transmission
-    for wanted, given in ((pocsag.BadRate, (1201,)), (pocsag.BadSamples, (1200, 2**32)), (pocsag.BadPreamble, (1200, 48_000, 0))):
-        check_fault(tally, f"no sound: {wanted.__name__}", wanted, call, sent, *given)
-    check_fault(tally, "a sound that is too long", pocsag.TooLongForWav, call, sent[:72] + sent[72:] * 160_000, 512, 192_000)
 
 
 def try_orders(tally, library, plans):
@@ -435,17 +436,13 @@ def try_airtimes(tally, library):
     wanted = {(933, 1200): 0, (934, 1200): 1, (1_386, 1200): 1, (1_387, 1200): 2, (2_187, 512): 0, (2_188, 512): 1, (467, 2400): 1}
     given = {words: call(*words) for words in wanted}
     tally.check("the batches of an airtime", given == wanted, given)
-    check_fault(tally, "a rate that is none has none", pocsag.BadRate, call, 934, 1201)
     tally.check("the version of the package", library.pocsag.release() == version.VERSION, library.pocsag.release())
 
 
 def try_symbols(tally, folder):
-    told = run("nm", "-D", "--defined-only", folder / make.SONAME).stdout.decode().split("\n")
-    names = {line.split()[2].split("@")[0] for line in told if len(line.split()) == 3 and line.split()[1] == "T"}
-    tally.check("the calls alone are seen", names == CALLS, names ^ CALLS)
-    told = run("nm", "--defined-only", "--extern-only", folder / "libpocsag.a").stdout.decode().split("\n")
-    names = {line.split()[2] for line in told if len(line.split()) == 3}
-    tally.check("and so in the archive", names == CALLS, names ^ CALLS)
+    for name, words in (("the library", ["-D", "--defined-only", folder / make.SONAME]), ("the archive", ["--extern-only", "--defined-only", folder / "libpocsag.a"])):
+        names = {*re.findall(r"^[0-9a-f]+ T ([^@\n]+)", run("nm", *words).stdout.decode(), re.M)}
+        tally.check(f"the calls alone are seen in {name}", names == CALLS, names ^ CALLS)
     told = run("readelf", "-d", folder / make.SONAME).stdout
     tally.check("it has its name", make.SONAME.encode() in told and b"TEXTREL" not in told, told)
 
@@ -454,19 +451,15 @@ def try_examples(tally, folder, room):
     wanted = re.search(r"```\n(pages 6\n.*?)```", (TOP / "docs/LIBRARY.md").read_text(), re.DOTALL)[1].encode()
     beside = {**os.environ, "LD_LIBRARY_PATH": str(folder), "PYTHONPATH": str(folder), "PYTHONDONTWRITEBYTECODE": "1"}
     flags = ["-std=c11", "-Wall", "-Wextra", "-Werror", f"-I{folder}"]
-    built = run("cc", *flags, EXAMPLES / "plan.c", folder / "libpocsag.a", "-o", room / "plan")
-    tally.check("the example in C, with the archive", run(room / "plan", ROUND).stdout == wanted, built.stderr)
-    built = run("cc", *flags, EXAMPLES / "plan.c", f"-L{folder}", "-lpocsag", "-o", room / "plan_shared")
-    ran = run(room / "plan_shared", ROUND, env=beside)
-    tally.check("the example in C, with the shared library", ran.stdout == wanted, (built.stderr, ran))
+    for name, words in (("shared library", [f"-L{folder}", "-lpocsag"]), ("archive", [folder / "libpocsag.a"])):
+        built = run("cc", *flags, EXAMPLES / "plan.c", *words, "-o", room / "plan")
+        ran = run(room / "plan", ROUND, env=beside)
+        tally.check(f"the example in C, with the {name}", ran.stdout == wanted, (built.stderr, ran))
     ran = run(sys.executable, EXAMPLES / "plan.py", ROUND, env={**beside, "LD_LIBRARY_PATH": ""})
     tally.check("the example in Python", ran.stdout == wanted, ran)
     try_large(tally, room)
     if shutil.which("c++"):
-        lines = ['#include "pocsag.h"', "int main() {", "size_t tx, cert;", "pocsag_plan_bound(0, 1, &tx, &cert);"]
-        lines += ["bool fits = POCSAG_LISTING_BOUND(tx) > 0 && POCSAG_SHOW_DRAWING_BOUND(tx) > 0 && POCSAG_WAV_BOUND(tx, 512u, 8000u, 0u) > tx;"]
-        lines += ["return fits && pocsag_version() == POCSAG_VERSION && tx == 208 && cert == 12 && *pocsag_status_text(0) == 'd' ? 0 : 1;", "}", ""]
-        (room / "plan.cc").write_text("\n".join(lines))
+        (room / "plan.cc").write_text(IN_CPP)
         flags = ["-Wall", "-Wextra", "-Wold-style-cast", "-Wuseless-cast", "-Wconversion", "-Wno-unknown-warning-option", "-Werror", f"-I{folder}"]
         built = run("c++", *flags, room / "plan.cc", folder / "libpocsag.a", "-o", room / "plan_cc")
         tally.check("the header in C++", built.returncode == 0 and run(room / "plan_cc").returncode == 0, built.stderr)
@@ -541,22 +534,20 @@ def try_both(tally, one, other, rounds, count, seed):
     """The answers of two libraries, over random rounds and over changed files."""
     source = random.Random(seed)
     wrong, files = [], []
-    for number in range(rounds):
-        pages, end, always = random_file(source), source.randrange(3), number % 3 == 0
-        plan = one.plan(pages, end=end, always=always)
-        files.append((pages, plan.transmission, plan.certificate))
+    for number in range(rounds + count):
+        end, always = source.randrange(3), number % 3 == 0
+        if number < rounds:
+            pages = random_file(source)
+            plan = one.plan(pages, end=end, always=always)
+            files.append((pages, plan.transmission, plan.certificate))
+            given = files[-1]
+        else:
+            given, which, end = [*source.choice(files)], source.randrange(3), 0
+            given[which] = changed(source, given[which])
         address = source.randrange(2_100_000)
-        pair = [all_answers(it, *files[-1], address, end, always) for it in (one, other)]
-        wrong += [number] * (pair[0] != pair[1])
-    tally.check(f"{rounds} rounds are answered alike by both libraries", not wrong, wrong[:5])
-    for number in range(count):
-        whole = [*source.choice(files)]
-        which = source.randrange(3)
-        whole[which] = changed(source, whole[which])
-        address = source.randrange(2_100_000)
-        pair = [all_answers(it, *whole, address, 0, number % 3 == 0) for it in (one, other)]
-        wrong += [number] * (pair[0] != pair[1])
-    tally.check(f"{count} changed files are judged alike by both libraries", not wrong, wrong[:5])
+        mine, others = (all_answers(it, *given, address, end, always) for it in (one, other))
+        wrong += [number] * (mine != others)
+    tally.check(f"{rounds} rounds and {count} changed files are answered alike by both libraries", not wrong, wrong[:5])
 
 
 def try_other_compiler(tally, room, library):

@@ -10,7 +10,6 @@ import re
 import shutil
 import subprocess
 import sys
-import tempfile
 
 sys.dont_write_bytecode = True
 TOP = pathlib.Path(__file__).resolve().parents[2]
@@ -18,12 +17,12 @@ sys.path[:0] = [str(TOP / it) for it in ("tests", "release", "tools", "clib")]
 import lanes
 import make
 import products
-from tally import PROGRAM, Tally
+from codewords import random_file
+from tally import PROGRAM, files_of, room_in, run_parts, said, skipped
 
 EMULATORS = {products.ARM: "qemu-aarch64", products.ARMHF: "qemu-arm"}
 SCRIPTS = ("tests/program/run.py", "tests/program/open.py", "tests/journal/run.py", "tests/sound/run.py", "tests/vectors/run.py")
 ROUNDS = 10
-HEADER = "address,kind,message\n"
 
 
 def why_not(processor=products.ARM):
@@ -45,17 +44,6 @@ def emulated(folder, name, program, processor=products.ARM):
     return script
 
 
-def page_file(chance):
-    """A round of some pages of all kinds."""
-    rows = []
-    for address in chance.sample(range(0, 2_000_000), chance.choice([1, 2, 6, 30, 300])):
-        kind = chance.choice(["tone0", "tone3", "numeric", "alpha"])
-        length = chance.choice([1, 5, 20, 80])
-        text = "".join(chance.choice("0123456789*U -][") for _ in range(length)) if kind == "numeric" else "x" * length if kind == "alpha" else ""
-        rows.append(f'{address},{kind},"{text}"\n' if text else f"{address},{kind},\n")
-    return HEADER + "".join(rows)
-
-
 # What is run of each round, one command after the other in one folder.
 COMMANDS = [
     ["plan", "p.csv", "t.bin", "c.cert"], ["plan", "p.csv", "idle.bin", "idle.cert", "--idle-last", "--always"], ["check", "p.csv", "c.cert"],
@@ -68,19 +56,16 @@ COMMANDS = [
 def answers(program, folder, file):
     """All that the commands print and write of a round."""
     shutil.rmtree(folder, ignore_errors=True)
-    folder.mkdir()
-    (folder / "p.csv").write_text(file)
-    found = []
-    for words in COMMANDS:
-        done = subprocess.run([str(program), *words], cwd=folder, capture_output=True, timeout=300)
-        found.append((words, done.returncode, done.stdout, done.stderr))
-    return found + sorted((it.name, it.read_bytes()) for it in folder.iterdir())
+    room_in(folder.parent, folder.name, {"p.csv": file})
+    found = [(words, said(subprocess.run([str(program), *words], cwd=folder, capture_output=True, timeout=300))) for words in COMMANDS]
+    return found + sorted(files_of(folder).items())
 
 
 def try_beside(tally, folder, program):
     """Of each round both programs print and write the same bytes."""
     chance = random.Random(64)
-    files = [path.read_text() for path in sorted((TOP / "examples").glob("*.csv"))] + [page_file(chance) for _ in range(ROUNDS)]
+    files = [path.read_bytes() for path in sorted((TOP / "examples").glob("*.csv"))]
+    files += [random_file(chance, chance.choice([1, 2, 6, 30, 300])) for _ in range(ROUNDS)]
     for number, file in enumerate(files):
         ours, theirs = answers(PROGRAM, folder / "native", file), answers(program, folder / "other", file)
         tally.check(f"round {number} as on x86-64", ours == theirs, [pair for pair in zip(ours, theirs) if pair[0] != pair[1]][:1])
@@ -110,22 +95,14 @@ def try_scripts(tally, program, scripts):
         tally.check(f"{it.name} ended well", not it.status)
 
 
-def main():
-    tally = Tally()
-    if why_not():
-        print(f"skipped: {why_not()}")
-        tally.check("skipped", True)
-        return tally.end()
-    with tempfile.TemporaryDirectory() as name:
-        folder = pathlib.Path(name)
-        folder.chmod(0o755)
-        linked, archive, memory = products.built_for_arm(folder)
-        program = emulated(folder, "pocsag", linked)
-        try_beside(tally, folder, program)
-        try_library(tally, folder, archive, memory)
-        try_scripts(tally, program, dict.fromkeys(SCRIPTS, 101))
-    return tally.end()
+def try_arm64(tally, folder):
+    folder.chmod(0o755)
+    linked, archive, memory = products.built_for_arm(folder)
+    program = emulated(folder, "pocsag", linked)
+    try_beside(tally, folder, program)
+    try_library(tally, folder, archive, memory)
+    try_scripts(tally, program, dict.fromkeys(SCRIPTS, 101))
 
 
 if __name__ == "__main__":
-    sys.exit(main())
+    sys.exit(skipped(why_not()) if why_not() else run_parts(try_arm64))

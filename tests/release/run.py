@@ -15,13 +15,12 @@ import re
 import shutil
 import subprocess
 import sys
-import tempfile
 import time
 
 sys.dont_write_bytecode = True
 sys.path.insert(0, str(pathlib.Path(__file__).resolve().parent))
 from copies import Copy, User
-from tally import LIBRARY, TOP, Tally, module_at
+from tally import LIBRARY, TOP, module_at, run_parts
 
 sys.path[:0] = [str(TOP / "release"), str(TOP / "clib")]
 import packages
@@ -45,7 +44,7 @@ COMMANDS = [
 ]
 
 
-def try_versions(tally):
+def try_versions(tally, _):
     """Each place that names the version names the one of VERSION, as its kind spells it."""
     python = version.VERSION.replace("-rc.", "rc")
     places = [
@@ -70,7 +69,7 @@ def try_versions(tally):
     tally.check("CHANGELOG's first section is short", section and section[0].count("\n") <= 41)
 
 
-def try_kinds(tally):
+def try_kinds(tally, _):
     """Each kind of package holds what was put into it, and has the same bytes in whatever order that was."""
     files = {"usr/a": File(b"a", 0o755), "usr/share/b": File(bytes(range(256)) * 40), "usr/z": File(b"a", 0o777, "a")}
     plain = {name: file for name, file in files.items() if not file.link}
@@ -138,6 +137,12 @@ def put_back(copy, files):
         path.write_bytes(data)
 
 
+def check_make(tally, name, copy, status, *told, **environment):
+    """Whether `release/make --check` ends with this status, and says all of this."""
+    found, out = copy.make("--check", **environment)
+    tally.check(name, found == status and all(it in out for it in told) and "Traceback" not in out, out)
+
+
 def try_packed(tally, folder):
     """The same sources give the same packages, in whatever folder, time zone and umask."""
     copy = Copy(folder)
@@ -156,8 +161,7 @@ def try_packed(tally, folder):
 
 def try_forged(tally, copy):
     """`--check` passes what the sources give, however compressed, and refuses anything else, whatever the sums say."""
-    status, out = copy.make("--check")
-    tally.check("it is what the sources give", status == 0 and "is what the sources give" in out, out)
+    check_make(tally, "it is what the sources give", copy, 0, "is what the sources give")
     files = kept(copy)
     for name, ending, change, told in FORGERIES:
         forge(copy, ending, change)
@@ -168,8 +172,7 @@ def try_forged(tally, copy):
     path = copy.package(".tar.xz")
     path.write_bytes(lzma.compress(lzma.decompress(path.read_bytes()), preset=1))
     renew_sums(copy)
-    status, out = copy.make("--check")
-    tally.check("compressed anew it passes", status == 0 and "is what the sources give" in out, out)
+    check_make(tally, "compressed anew it passes", copy, 0, "is what the sources give")
     put_back(copy, files)
 
 
@@ -179,16 +182,14 @@ def try_spoiled(tally, copy):
     for ending in ENDINGS:
         path = copy.package(ending)
         path.write_bytes(spoiled(path.read_bytes()))
-        tally.check(f"a spoiled {ending}", copy.make("--check")[0] == 1)
+        check_make(tally, f"a spoiled {ending}", copy, 1)
         path.write_bytes(b"no package at all")
-        status, out = copy.make("--check")
-        tally.check(f"no {ending} at all", status == 1 and "Traceback" not in out, out)
+        check_make(tally, f"no {ending} at all", copy, 1)
         path.unlink()
-        tally.check(f"a missing {ending}", copy.make("--check")[0] == 1)
+        check_make(tally, f"a missing {ending}", copy, 1)
         put_back(copy, files)
-    more = copy.top / "release/more.deb"
-    more.write_bytes(b"")
-    tally.check("a package that nobody listed", copy.make("--check")[0] == 1)
+    (copy.top / "release/more.deb").write_bytes(b"")
+    check_make(tally, "a package that nobody listed", copy, 1)
     put_back(copy, files)
 
 
@@ -196,22 +197,18 @@ def try_other_sources(tally, copy):
     """Of other sources, or without the toolchain, the sums alone are compared, and that is said."""
     files = kept(copy)
     for part in ("crates/pocsag_words/src/lib.rt", "crates/pocsag_c/src/lib.rt", "clib/pocsag.h", "docs/pocsag.1"):
-        path = copy.top / part
-        before = path.read_bytes()
-        path.write_bytes(before + b"\n")
-        status, out = copy.make("--check")
-        tally.check(f"an edit of {part}", status == 0 and f"release {version.VERSION} is of other sources\n" in out, out)
-        path.write_bytes(before)
+        undo = edited(copy, part)
+        check_make(tally, f"an edit of {part}", copy, 0, f"release {version.VERSION} is of other sources\n")
+        undo()
     copy.package(".deb").write_bytes(b"spoiled")
     (copy.top / "clib/more").write_text("")
-    tally.check("spoiled, and of other sources", copy.make("--check")[0] == 1)
+    check_make(tally, "spoiled, and of other sources", copy, 1)
     (copy.top / "clib/more").unlink()
     put_back(copy, files)
-    status, out = copy.make("--check", PATH="/usr/bin:/bin")
-    tally.check("without the toolchain", status == 0 and ("here is no toolchain" in out or LIBRARY), out)
-    put_back(copy, {path: data for path, data in files.items() if path.name not in ("MANIFEST", "SHA256SUMS") and not path.name.endswith((*ENDINGS, ".zip", ".tgz", ".html"))})
-    status, out = copy.make("--check")
-    tally.check("no release", status == 0 and "is not packed" in out, out)
+    check_make(tally, "without the toolchain", copy, 0, *[] if LIBRARY else ["here is no toolchain"], PATH="/usr/bin:/bin")
+    packed = ("MANIFEST", "SHA256SUMS", ".zip", ".tgz", ".html", *ENDINGS)
+    put_back(copy, {path: data for path, data in files.items() if not path.name.endswith(packed)})
+    check_make(tally, "no release", copy, 0, "is not packed")
     put_back(copy, files)
 
 
@@ -257,9 +254,9 @@ def try_later_calls(tally, copy):
     shutil.rmtree(copy.top / "out")
 
 
-def edited(copy):
+def edited(copy, part="crates/pocsag_words/src/lib.rt"):
     """Edits a source; gives what puts it back."""
-    path = copy.top / "crates/pocsag_words/src/lib.rt"
+    path = copy.top / part
     before = path.read_bytes()
     path.write_bytes(before + b"\n")
     return lambda: path.write_bytes(before)
@@ -335,21 +332,26 @@ def try_at_once(tally, copy):
     copy.drop_built()
 
 
+def installed(copy, *words, **environment):
+    """A run of ./install without the toolchain."""
+    command = [sys.executable, str(copy.top / "install"), *map(str, words)]
+    return subprocess.run(command, env={"PATH": "/usr/bin:/bin", **environment}, capture_output=True, text=True)
+
+
 def try_installed(tally, copy):
     """./install copies from the release, also where the program alone was unpacked before, and what it brings runs."""
     if "dpkg-deb" in READERS:
         User(copy, "dpkg-deb").run(*WORDS)
         tally.check("the program alone", not (copy.top / "out/release/current/lib").exists())
     prefix = copy.top.parent / "prefix"
-    environment = {"PATH": "/usr/bin:/bin"}
-    done = subprocess.run([sys.executable, str(copy.top / "install"), str(prefix)], env=environment, capture_output=True, text=True)
+    done = installed(copy, prefix)
     path = copy.package(".tar.xz")
     files = packages.read(path.name, path.read_bytes())
     tally.check("./install takes the release", done.returncode == 0 and "release of release/" in done.stderr, done)
     for name in ("bin/pocsag", "lib/libpocsag.a", "lib/libpocsag.so.1", "include/pocsag.h", "share/man/man1/pocsag.1", "lib/pkgconfig/pocsag.pc"):
         tally.check(f"{name} is the packed one", (prefix / name).read_bytes() == files[name].data)
     undo = edited(copy)
-    done = subprocess.run([sys.executable, str(copy.top / "install"), "--program", str(prefix)], env=environment, capture_output=True, text=True)
+    done = installed(copy, "--program", prefix)
     tally.check("an edit, and no toolchain", done.returncode == 0 and "is of other sources" in done.stderr, done)
     undo()
     copy.drop_built()
@@ -383,8 +385,7 @@ def try_in_c(tally, copy):
         tally.check(f"{machine}: once", user.run(*WORDS, **machine) == (0, PLANNED, ""))
         tally.check(f"{machine}: its version", user.run("--version", **machine)[1].endswith(", from release/\n"))
         prefix = copy.top.parent / "prefix in C"
-        words = [sys.executable, str(copy.top / "install"), str(prefix)]
-        done = subprocess.run(words, env={"PATH": "/usr/bin:/bin", **machine}, capture_output=True, text=True)
+        done = installed(copy, prefix, **machine)
         tally.check(f"{machine}: installed", done.returncode == 0 and "has no C library for this machine" in done.stderr, done)
         brought = sorted(it.name for it in prefix.glob("**/*") if it.is_file())
         tally.check(f"{machine}: without the library", brought == ["_pocsag", "enqueue", "made", "next-slot", "pocsag", "pocsag", "pocsag.1", "pocsag.fish"], brought)
@@ -463,27 +464,18 @@ def try_debian(tally, copy, folder):
         tally.check("lintian finds no error", not re.search("^[EW]: ", told, re.M), told)
 
 
-def main():
-    tally = Tally()
-    try_versions(tally)
-    try_kinds(tally)
-    with tempfile.TemporaryDirectory() as name:
-        folder = pathlib.Path(name).resolve()
-        copy = try_packed(tally, folder)
-        if "is of other sources" in copy.make("--check")[1]:
-            print("skipped: the release is of other sources")
-            return tally.end()
-        if not LIBRARY:
-            try_forged(tally, copy)
-        try_spoiled(tally, copy)
-        try_other_sources(tally, copy)
-        for part in (try_first_call, try_later_calls, try_edit, try_refused, try_at_once, try_installed, try_in_c):
-            part(tally, copy)
-        try_wheel(tally, copy, folder)
-        try_tar(tally, copy, folder)
-        try_debian(tally, copy, folder)
-    return tally.end()
+def try_release(tally, folder):
+    copy = try_packed(tally, folder)
+    if "is of other sources" in copy.make("--check")[1]:
+        print("skipped: the release is of other sources")
+        return
+    if not LIBRARY:
+        try_forged(tally, copy)
+    for part in (try_spoiled, try_other_sources, try_first_call, try_later_calls, try_edit, try_refused, try_at_once, try_installed, try_in_c):
+        part(tally, copy)
+    for part in (try_wheel, try_tar, try_debian):
+        part(tally, copy, folder)
 
 
 if __name__ == "__main__":
-    sys.exit(main())
+    sys.exit(run_parts(try_versions, try_kinds, try_release))

@@ -10,7 +10,6 @@ import pathlib
 import random
 import re
 import shutil
-import subprocess
 import sys
 
 sys.dont_write_bytecode = True
@@ -21,7 +20,7 @@ import wrong_rules
 from checker import CLOSED_END, IDLE_END, OPEN_END, TOLD
 from pairs import of_bytes, of_files, of_trees
 from rounds import HEADER, message_of, page_file, small_pages
-from tally import ENDS, PROGRAM, TOP, run_parts, skipped
+from tally import ENDS, PROGRAM, TOP, call, run_parts, said, skipped
 
 PLANS = 500
 PAIRS = 1_000
@@ -33,8 +32,7 @@ NEEDED = ("coqc", "coqchk", "ocamlfind")
 
 
 def run(*words, folder=None):
-    done = subprocess.run([str(it) for it in words], cwd=folder, capture_output=True, text=True, timeout=300)
-    return done.returncode, done.stdout, done.stderr
+    return said(call(*words, cwd=folder, text=True))
 
 
 class Copy:
@@ -188,16 +186,10 @@ def try_kernel(tally, copy, folder):
 
 def try_all(tally, folder):
     copy = Copy(folder)
-    if not build(tally, copy):
-        return
-    try_theorems(tally, copy, folder)
-    try_words(tally, copy, folder)
-    try_vectors(tally, copy, folder)
-    try_large(tally, copy, folder)
-    try_plans(tally, copy, folder)
-    try_pairs(tally, copy, folder)
-    try_kernel(tally, copy, folder)
-    wrong_rules.try_rules(tally, copy.folder, folder)
+    if build(tally, copy):
+        for part in (try_theorems, try_words, try_vectors, try_large, try_plans, try_pairs, try_kernel):
+            part(tally, copy, folder)
+        wrong_rules.try_rules(tally, copy.folder, folder)
 
 
 def main():

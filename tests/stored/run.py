@@ -4,6 +4,7 @@
 The files stdin, stdout, args (one word a line) and status stand beside the crate's src/. The last line is 'N passed, M failed'.
 """
 
+import itertools
 import pathlib
 import subprocess
 import sys
@@ -30,15 +31,9 @@ def try_program(tally, crate):
         ran = subprocess.run(words, input=stored(crate, "stdin"), capture_output=True, cwd=folder, timeout=120)
     wanted = int(stored(crate, "status") or 0)
     tally.check(f"{crate.name} ends with its status", ran.returncode == wanted, (ran.returncode, ran.stderr))
-    tally.check(f"{crate.name} prints what is stored", ran.stdout == stored(crate, "stdout"), first_difference(ran.stdout, stored(crate, "stdout")))
-
-
-def first_difference(printed, wanted):
-    """The first line that differs."""
-    for number, (one, other) in enumerate(zip(printed.split(b"\n"), wanted.split(b"\n")), 1):
-        if one != other:
-            return number, one, other
-    return len(printed), len(wanted)
+    printed, wanted = ran.stdout.split(b"\n"), stored(crate, "stdout").split(b"\n")
+    differs = next((pair for pair in itertools.zip_longest(printed, wanted) if pair[0] != pair[1]), None)
+    tally.check(f"{crate.name} prints what is stored", differs is None, differs)
 
 
 def main():

@@ -22,7 +22,7 @@ from edits import Edit, given, narrowed, read_edits
 from prover import Planted, Said
 from source import CLAUSE
 from sources import all_functions, functions_of, texts_of
-from tally import run_parts
+from tally import put, run_parts, samples
 from workspace import below, read_crates
 
 CRATE = "pocsag_text"
@@ -84,12 +84,6 @@ def test_clauses(tally, _):
                 tally.check(f"{crate.name}/{it.name}", not unfitting(it, texts), unfitting(it, texts))
 
 
-def sections(name):
-    """The texts of a file of samples by their paths."""
-    parts = re.split(r"^==== (.*)\n", (HERE / "selftest" / name).read_text(), flags=re.MULTILINE)
-    return dict(zip(parts[1::2], parts[2::2]))
-
-
 class Played:
     """A prover that is played: it refuses each body with `wrong` in it, and ends in silence at one with `broken`."""
 
@@ -122,12 +116,6 @@ def test_halving(tally, _):
     tally.check("played, fine", found["edit6"].told == "NOT REFUSED", found["edit6"])
 
 
-def put(top, sources):
-    for path, text in sources.items():
-        (top / path).parent.mkdir(parents=True, exist_ok=True)
-        (top / path).write_text(text)
-
-
 def verdicts_of(top, name, **more):
     crates = below(read_crates(top), name)
     return crates, run.Verdicts(crates[name], Basis(crates), crates[name].edits(top), **more)
@@ -135,7 +123,7 @@ def verdicts_of(top, name, **more):
 
 def test_sums(tally, top):
     """The sum of a verdict changes with each thing that it rests on, and with no other."""
-    put(top, sections("two_crates.txt"))
+    put(top, samples(HERE / "selftest/two_crates.txt"))
     before = verdicts_of(top, "high")[1].sums
     for row in (HERE / "selftest/changes.txt").read_text().splitlines()[1:]:
         wanted, name, path, old, new = row.replace("\\n", "\n").split(" | ")
@@ -207,7 +195,7 @@ def test_kept(tally, folder):
     tally.check("ten tenths are all, each of few crates", found.keys() == edits and all(1 <= len({*it}) < 9 for it in parts), parts)
 
 
-SMALL = sections("small.txt")
+SMALL = samples(HERE / "selftest/small.txt")
 OUTSIDE = [SMALL.pop(f"proofs/again_copy_7/{it}.antt") for it in ("Answers", "Invariants")]  # as proof files outside their cycle must be
 
 
