@@ -1,9 +1,9 @@
 #!/usr/bin/env python3
 """Counts what the crates of the repository hold: bench/proof/sizes.py [COMMIT]
 
-A line for each crate, and one for all, of the sources as they stand or as a commit has them: functions with a body, those
-of them that take more than five parameters, clauses (`requires` and `ensures`), lines of `src`, `specs` and `proofs`,
-the lines of `specs` and `proofs` that import, and `impl From`. The tests' crates are left out of the line for all.
+A line for each crate, and one for all, of the sources as they stand or as a commit has them: functions with a body, clauses
+(`requires` and `ensures`), lines of `src`, `specs` and `proofs`, the lines of `specs` and `proofs` that import, and
+`impl From`. The tests' crates are left out of the line for all.
 """
 
 import collections
@@ -17,12 +17,11 @@ import tarfile
 TOP = pathlib.Path(__file__).resolve().parents[2]
 OF_TESTS = {f"pocsag_{of}" for of in ("command_cases", "core_cases", "trial")}
 OF_TESTS |= {"pocsag_bench", "pocsag_cases"}  # in earlier commits alone
-COLUMNS = ("functions", "above five", "clauses", "src", "specs", "proofs", "imports", "From")
+COLUMNS = ("functions", "clauses", "src", "specs", "proofs", "imports", "From")
 HEAD = re.compile(r"^\s*(?:pub(?:\([^)]*\))? )?(?:const )?(?:unsafe )?(?:extern \"C\" )?fn (\w+)", re.MULTILINE)
 CLAUSE = re.compile(r"^\s*(?:requires|ensures)\b", re.MULTILINE)
 IMPORT = re.compile(r"^(?:pub )?use ", re.MULTILINE)
 FROM = re.compile(r"^impl\b.* From<", re.MULTILINE)
-CLOSED_BY = {"(": ")", "<": ">", "[": "]", "{": "}"}
 
 
 def sources_at(commit):
@@ -33,36 +32,6 @@ def sources_at(commit):
             return {item.name: files.extractfile(item).read().decode() for item in files if item.isfile()}
     listed = subprocess.run(["git", "ls-files", "crates"], cwd=TOP, check=True, stdout=subprocess.PIPE, text=True).stdout.split("\n")
     return {name: (TOP / name).read_text() for name in listed if name and (TOP / name).exists()}
-
-
-def parameters(text, start):
-    """How many parameters the function has whose name ends at `start`, `self` among them."""
-    place = text.index("(", end_of_generics(text, start))
-    depth, count, is_within = 0, 0, False
-    for letter in re.sub(r"->|=>", "  ", text[place:]):
-        if letter in CLOSED_BY:
-            depth += 1
-        elif letter in CLOSED_BY.values():
-            depth -= 1
-            if depth == 0:
-                return count + is_within
-        elif letter == "," and depth == 1:
-            count, is_within = count + 1, False
-            continue
-        is_within = is_within or depth > 0 and not letter.isspace() and letter != "("
-    return count
-
-
-def end_of_generics(text, start):
-    """The place behind the generic parameters that may stand there."""
-    if text[start] != "<":
-        return start
-    depth = 0
-    for place in range(start, len(text)):
-        depth += (text[place] == "<") - (text[place] == ">" and text[place - 1] not in "-=")
-        if depth == 0:
-            return place + 1
-    return start
 
 
 def has_body(text, start):
@@ -88,10 +57,7 @@ def count(sources):
             continue
         crate["clauses"] += len(CLAUSE.findall(text))
         crate["From"] += len(FROM.findall(text))
-        for head in HEAD.finditer(text):
-            if has_body(text, head.end()):
-                crate["functions"] += 1
-                crate["above five"] += parameters(text, head.end()) > 5
+        crate["functions"] += sum(has_body(text, head.end()) for head in HEAD.finditer(text))
     return counts
 
 

@@ -5,7 +5,6 @@ It takes the binary that the gate left in crates/pocsag_app/out. `tests/pictures
 """
 
 import csv
-import io
 import math
 import pathlib
 import subprocess
@@ -14,7 +13,7 @@ import tempfile
 
 TOP = pathlib.Path(__file__).resolve().parents[2]
 sys.path.append(str(TOP / "tests"))
-from codewords import IDLE, codewords_of, transmission
+from codewords import IDLE, address_at, codewords_of, pages_in, transmission
 from tally import PROGRAM
 
 HERE = pathlib.Path(__file__).resolve().parent
@@ -26,19 +25,9 @@ def run(*words):
     return subprocess.run([str(PROGRAM), *map(str, words)], capture_output=True, check=True, timeout=110).stdout
 
 
-def places(path):
-    """The rows of `show --list`: where each page of a transmission stands."""
-    rows = csv.DictReader(io.StringIO(run("show", path, "--list").decode("latin-1")))
-    found = []
-    for row in rows:
-        start = 16 * (int(row["batch"]) - 1) + int(row["slot"])
-        found.append((start, int(row["codewords"]), int(row["address"])))
-    return found
-
-
 def in_file_order(words, found, addresses):
-    """The codewords of the same pages in the order of the page file, each at the next slot of its frame."""
-    pages = {address: words[start : start + count] for start, count, address in found}
+    """The transmission of the same pages in the order of the page file, each at the next slot of its frame."""
+    pages = {address: words[start:end] for start, end, address in found}
     sent = []
     for address in addresses:
         while len(sent) % 16 // 2 != address % 8:
@@ -59,9 +48,9 @@ def spiral(start, end):
     return "M" + "L".join(point(at / 16, 80 + 40 * at / 16) for at in points)
 
 
-def told_page(start, count, address):
-    words = "1 codeword" if count == 1 else f"{count} codewords"
-    return f"address {address}, from boundary {start % 16} to boundary {(start + count) % 16}, {words}"
+def told_page(start, end, address):
+    words = "1 codeword" if end - start == 1 else f"{end - start} codewords"
+    return f"address {address}, from boundary {start % 16} to boundary {end % 16}, {words}"
 
 
 def legend_line(number, band, text):
@@ -96,12 +85,12 @@ def tour(found, total):
         lines.append(f'<path class="b" d="M{inner}L{outer}"/><text x="{x}" y="{float(y) + 4:.1f}">{boundary}</text>')
     at = 0
     legend = []
-    for number, (start, count, address) in enumerate(found):
+    for number, (start, end, address) in enumerate(found):
         if at < start:
             lines.append(f'<path class="i" d="{spiral(at, start)}"/>')
-        at = start + count
+        at = end
         band = f'class="p" style="stroke:hsl({137 * (number % 26) % 360},60%,55%)"'
-        told = told_page(start, count, address)
+        told = told_page(start, end, address)
         lines.append(f'<path {band} d="{spiral(start, at)}"><title>{told}</title></path>')
         legend.append(legend_line(number, band, told))
     if at < total:
@@ -115,7 +104,8 @@ def pictures():
     with tempfile.TemporaryDirectory() as folder:
         sent, cert, ordered = (pathlib.Path(folder) / name for name in ("sent", "cert", "ordered"))
         run("plan", ROUND, sent, cert)
-        words, found = codewords_of(sent.read_bytes()), places(sent)
+        words = codewords_of(sent.read_bytes())
+        found = [(start, end, address_at(words, start)) for start, end in pages_in(words)]
         with ROUND.open(newline="", encoding="latin-1") as file:
             addresses = [int(row["address"]) for row in csv.DictReader(file)]
         ordered.write_bytes(in_file_order(words, found, addresses))

@@ -7,8 +7,6 @@ time that 100 MB of noise takes. Of each page the state is wanted too, and of ca
 It takes the binary that the gate left in crates/pocsag_app/out. The last line is 'N passed, M failed'.
 """
 
-import csv
-import io
 import json
 import pathlib
 import random
@@ -18,8 +16,8 @@ import sys
 sys.dont_write_bytecode = True
 sys.path.insert(0, str(pathlib.Path(__file__).resolve().parents[1]))
 import codewords
-from codewords import PREAMBLE, digits, kind_and_message, letters, number_of
-from tally import IS_EMULATED, ONE_IN, TOO_LARGE, fault, make_huge, run, run_parts
+from codewords import PREAMBLE, digits, kind_and_message, letters, number_of, rows_of
+from tally import IS_EMULATED, ONE_IN, fault, run, run_parts
 
 SYNC, IDLE = (int.from_bytes(it, "big") for it in (codewords.SYNC, codewords.IDLE))
 ONES = 0xFFFFFFFF
@@ -273,7 +271,7 @@ def rows_in(listing):
     """The rows of a listing of a capture."""
     if not listing.startswith(HEADER):
         return listing
-    return list(csv.reader(io.StringIO(listing.decode("latin-1"), newline="")))[1:]
+    return rows_of(listing)[1:]
 
 
 def with_states(some, cut):
@@ -378,7 +376,8 @@ def try_forms(tally, folder, name, found):
             done = run([*words, "air.bin", "--capture", "--json", *option], folder)
             lines = [json.loads(line) for line in done.stdout.decode("latin-1").split("\n")[:-1]]
             due = [read_object(page, where, texts) for page, where in kept]
-            tally.check(f"{name} as JSON {texts} of {only}", (done.returncode, done.stderr) == (0, b"") and lines == due, (due, done))
+            holds = (done.returncode, done.stderr) == (0, b"") and done.stdout.isascii() and lines == due
+            tally.check(f"{name} as JSON {texts} of {only}", holds, (due, done))
             done = run([*words, "air.bin", "--capture", *option], folder)
             due = [read_row(page, texts) for page, _ in kept]
             tally.check(f"{name} as text {texts} of {only}", (done.returncode, rows_in(done.stdout)) == (0, due), (due, done))
@@ -528,13 +527,6 @@ def try_words(tally, folder):
         b'8,"function":0,"kind":"tone0","message":""', b'19,"function":3,"kind":"alpha","message":"ab"',
     ))
     tally.check("lines of JSON", (lines.returncode, lines.stdout) == (0, due), lines)
-    odd = "".join(map(chr, range(1, 128)))
-    (folder / "odd.bin").write_bytes(file_of(inverted("0" + bits_of(words_of([(19, 3, odd)])))))
-    lines = run(["hear", "19", "--capture", "odd.bin", "--json"], folder)
-    told = {"address": 19, "function": 3, "kind": "alpha", "message": odd, "state": "whole"}
-    due = told | {"transmission": 1, "inverted": True, "bit": 1}
-    holds = lines.stdout.count(b"\n") == 1 and lines.stdout.isascii() and json.loads(lines.stdout) == due
-    tally.check("each byte in JSON", lines.returncode == 0 and holds, lines)
     none = run(["decode", "--capture", "--json", "-"], folder)
     tally.check("no line of JSON", (none.returncode, none.stdout) == (0, b""), none)
     tally.check_done("without --capture", run(["decode", "air.bin"], folder), 1, b"", fault("the preamble is too short"))
@@ -542,20 +534,10 @@ def try_words(tally, folder):
     tally.check_done("no second transmission", none, 1, b"", fault("transmission 2 of 1: the capture has no such transmission"))
     first, named = run(["show", "air.bin", "--capture"], folder), run(["show", "air.bin", "--capture", "--nth", 1], folder)
     tally.check("the first without --nth", first.stdout == named.stdout == run(["show", "tx.bin"], folder).stdout, first)
-    for name, status, words in (
-        ("counted from 1", 1, ["show", "air.bin", "--capture", "--nth", "0"]),
-        ("rows behind the last", 1, ["show", "air.bin", "--capture", "--rows", "9"]),
-        ("--nth alone", 2, ["show", "tx.bin", "--nth", "1"]),
-        ("--capture and --repair", 2, ["decode", "air.bin", "--capture", "--repair"]),
-        ("no address", 2, ["hear", "air.bin", "--capture"]),
-    ):
-        done = run(words, folder)
-        tally.check(name, (done.returncode, done.stdout) == (status, b""), done)
+    for name, words in (("counted from 1", ["--nth", "0"]), ("rows behind the last", ["--rows", "9"])):
+        done = run(["show", "air.bin", "--capture", *words], folder)
+        tally.check(name, (done.returncode, done.stdout) == (1, b""), done)
     tally.check_done("a bad address", run(["hear", "2097152", "air.bin", "--capture"], folder), 1, b"", fault("bad address"))
-    make_huge(folder / "huge.bin")
-    tally.check_done("300 MB", run(["decode", "--capture", "huge.bin"], folder), 1, b"", TOO_LARGE)
-    (folder / "huge.bin").unlink()
-    tally.check_full("a full device", ["decode", "--capture", "air.bin"], folder)
 
 
 def try_speed(tally, folder):

@@ -1,13 +1,12 @@
 #!/usr/bin/env python3
-"""Runs `show` of the compiled program on transmissions: its text, its listing, its drawing, its faults, and memory and
-devices refused; and makes the pictures of docs/pictures again and compares them.
+"""Runs `show` of the compiled program on transmissions: its text, its listing, its drawing, and memory and devices
+refused; and makes the pictures of docs/pictures again and compares them.
 
 It takes the binary that the gate left in crates/pocsag_app/out. The last line is 'N passed, M failed'.
 """
 
 import bisect
-import csv
-import io
+import itertools
 import math
 import pathlib
 import random
@@ -17,9 +16,9 @@ import xml.etree.ElementTree as ElementTree
 
 sys.dont_write_bytecode = True
 sys.path.insert(0, str(pathlib.Path(__file__).resolve().parents[1]))
-from codewords import IDLE, ONES as MESSAGE, TONE, ZERO, address_word, codewords_of, pages_in, transmission
+from codewords import HEADER, IDLE, ONES as MESSAGE, TONE, ZERO, address_at, codewords_of, pages_in, rows_of, transmission
 from drawings import SVG, box, check_form
-from tally import PROGRAM, TOP, fault, module_at, run, run_parts
+from tally import TOP, fault, module_at, run, run_parts
 
 sys.path.insert(0, str(TOP / "docs/pictures"))
 import make
@@ -40,27 +39,13 @@ VISIONS = {
 }
 
 
-# Pairs of colours and their difference, from the test data of Sharma, Wu and Dalal, 2005.
-SHARMA = [
-    ((50.0, 2.6772, -79.7751), (50.0, 0.0, -82.7485), 2.0425),
-    ((50.0, 3.1571, -77.2803), (50.0, 0.0, -82.7485), 2.8615),
-    ((50.0, -1.0, 2.0), (50.0, 0.0, 0.0), 2.3669),
-    ((50.0, 2.5, 0.0), (73.0, 25.0, -18.0), 27.1492),
-    ((60.2574, -34.0099, 36.2677), (60.4626, -34.1751, 39.4387), 1.2644),
-    ((2.0776, 0.0795, -1.1350), (0.9033, -0.0636, -0.5514), 0.9082),
-]
-
-
 def millis(batches, rate):
     return -(-1000 * (576 + 544 * batches) // rate)
 
 
 def pages_of(words):
     """Where each page begins, behind which codeword it ends, and its number: how many pages have a smaller address."""
-    found = []
-    for start, end in pages_in(words):
-        address = (int.from_bytes(words[start], "big") >> 13 & 0x3FFFF) * 8 + start % 16 // 2
-        found.append((start, end, address))
+    found = [(start, end, address_at(words, start)) for start, end in pages_in(words)]
     ordered = sorted(address for _, _, address in found)
     return [(start, end, bisect.bisect_left(ordered, address)) for start, end, address in found]
 
@@ -121,25 +106,19 @@ def many_records(count):
 
 
 def check_list(tally, folder):
-    check_places(tally, folder, b'0,numeric,12345\n8,tone2,\n11,alpha,"a,b ""c"""\n')
-    check_places(tally, folder, many_records(1_000))
-
-
-def check_places(tally, folder, records):
-    page_file = folder / "pages.csv"
-    page_file.write_bytes(b"address,kind,message\n" + records)
-    tx = folder / "tx"
-    run(["plan", page_file, tx, folder / "cert"])
-    listed = list(csv.reader(io.StringIO(run(["show", tx, "--list"]).stdout.decode())))
-    decoded = list(csv.reader(io.StringIO(run(["decode", tx]).stdout.decode())))
-    tally.check("listing: header", listed[0] == ["batch", "frame", "slot", "codewords", *decoded[0]], listed)
-    tally.check("listing: the decoder's fields", [row[4:] for row in listed] == decoded, (listed, decoded))
-    words = codewords_of(tx.read_bytes())
-    for (start, end), row in zip(pages_in(words), listed[1:], strict=True):
-        batch, frame, slot = int(row[0]), int(row[1]), int(row[2])
-        tally.check(f"listing: place of {row[4]}", (16 * (batch - 1) + slot, slot // 2) == (start, frame), row)
-        tally.check(f"listing: frame of {row[4]}", int(row[4]) % 8 == frame, row)
-        tally.check(f"listing: codewords of {row[4]}", start + int(row[3]) == end, row)
+    """The places of the pages in the listing, beside the codewords, and the decoder's fields."""
+    page_file, tx = folder / "pages.csv", folder / "tx"
+    for records in (b'0,numeric,12345\n8,tone2,\n11,alpha,"a,b ""c"""\n', many_records(1_000)):
+        page_file.write_bytes(HEADER + records)
+        run(["plan", page_file, tx, folder / "cert"])
+        listed, decoded = (rows_of(run(words).stdout) for words in (["show", tx, "--list"], ["decode", tx]))
+        tally.check("listing: header", listed[0] == ["batch", "frame", "slot", "codewords", *decoded[0]], listed)
+        tally.check("listing: the decoder's fields", [row[4:] for row in listed] == decoded, (listed, decoded))
+        words = codewords_of(tx.read_bytes())
+        for (start, end), row in zip(pages_in(words), listed[1:], strict=True):
+            batch, frame, slot, length, address = map(int, row[:5])
+            due = (start, slot // 2, address % 8, end - start)
+            tally.check(f"listing: place of {address}", (16 * (batch - 1) + slot, frame, frame, length) == due, row)
 
 
 def shown_byte(byte):
@@ -239,8 +218,7 @@ def check_drawing(tally, name, text, words, sent, first=1, last=None):
 
 def fields_of(listing):
     """The address, the kind and the message of each record of a listing, in bytes."""
-    rows = csv.reader(io.StringIO(listing.decode("latin-1"), newline=""))
-    return [[field.encode("latin-1") for field in row] for row in list(rows)[1:]]
+    return [[field.encode("latin-1") for field in row] for row in rows_of(listing)[1:]]
 
 
 def check_svg(tally, folder):
@@ -258,14 +236,14 @@ def check_svg(tally, folder):
         tally.check(f"{name}: status", done.returncode == 0 and done.stderr == b"", done.stderr)
         check_drawing(tally, name, done.stdout, words, path)
     page_file = folder / "pages.csv"
-    page_file.write_bytes(b'address,kind,message\n11,alpha,"<b>&amp; ""x"" ]]> \x01\x7f"\n')
+    page_file.write_bytes(HEADER + b'11,alpha,"<b>&amp; ""x"" ]]> \x01\x7f"\n')
     run(["plan", page_file, path, folder / "cert"])
     text = run(["show", path, "--svg"]).stdout
     root = check_drawing(tally, "escaped", text, codewords_of(path.read_bytes()), path)
     titles = [node.text for node in root.iter(SVG + "title")]
     tally.check("escaped message", 'A: address 11, alpha: <b>&amp; "x" ]]> \u2401\u2421' in titles, titles)
     every = bytes(range(1, 128)).replace(b'"', b'""')
-    page_file.write_bytes(b'address,kind,message\n11,alpha,"%s"\n20,alpha,"\r\n\t"\n0,numeric,0123456789*U -][\n' % every)
+    page_file.write_bytes(HEADER + b'11,alpha,"%s"\n20,alpha,"\r\n\t"\n0,numeric,0123456789*U -][\n' % every)
     run(["plan", page_file, path, folder / "cert"])
     root = check_drawing(tally, "all characters", run(["show", path, "--svg"]).stdout, codewords_of(path.read_bytes()), path)
     titles = [node.text for node in root.iter(SVG + "title")]
@@ -293,24 +271,6 @@ def check_rows_wanted(tally, folder):
     cut = folder / "cut"
     cut.write_bytes(path.read_bytes()[:-1])
     tally.check_done("a cut transmission before its rows", run(["show", cut, "--rows", "41"]), 1, b"", fault("the transmission is cut short"))
-    tally.check_usage("rows and list", run(["show", path, "--rows", "2", "--list"]))
-
-
-def check_same_letters(tally, folder):
-    """A round in two orders: each page has one label and one hue in both drawings."""
-    chance, path = random.Random(5), folder / "tx"
-    seen = []
-    for _ in range(2):
-        shuffled = list(range(0, 8 * 60, 8))
-        chance.shuffle(shuffled)
-        words = []
-        for address in shuffled:
-            words += [IDLE] * (-len(words) % 16) + [address_word(address)] + [MESSAGE] * chance.randrange(1, 20)
-        path.write_bytes(transmission(words + [IDLE] * (-len(words) % 16)))
-        root = ElementTree.fromstring(run(["show", path, "--svg"]).stdout)
-        groups = [(it.findtext(SVG + "title"), it.get("class")) for it in root.findall(SVG + "g") if it.find(SVG + "title") is not None]
-        seen.append({title.split(",")[0]: hue for title, hue in groups})
-    tally.check("letters and hues by address", seen[0] == seen[1] and len(seen[0]) == 60, seen)
 
 
 def linear(part):
@@ -330,34 +290,9 @@ def lab_of(colour, vision):
     return 116 * y - 16, 500 * (x - y), 200 * (y - z)
 
 
-def ciede2000(one, other):
-    """The difference of two colours of CIELAB."""
-    (l1, a1, b1), (l2, a2, b2) = one, other
-    mean = (math.hypot(a1, b1) + math.hypot(a2, b2)) / 2
-    grey = 0.5 * (1 - math.sqrt(mean**7 / (mean**7 + 25**7)))
-    a1, a2 = (1 + grey) * a1, (1 + grey) * a2
-    c1, c2 = math.hypot(a1, b1), math.hypot(a2, b2)
-    h1, h2 = math.degrees(math.atan2(b1, a1)) % 360, math.degrees(math.atan2(b2, a2)) % 360
-    turn = 0 if c1 * c2 == 0 else (h2 - h1 + 180) % 360 - 180
-    hue = h1 + h2 if c1 * c2 == 0 else (h1 + turn / 2) % 360
-    lightness, chroma = (l1 + l2) / 2, (c1 + c2) / 2
-    t = 1 - 0.17 * cosine(hue - 30) + 0.24 * cosine(2 * hue) + 0.32 * cosine(3 * hue + 6) - 0.20 * cosine(4 * hue - 63)
-    sl = 1 + 0.015 * (lightness - 50) ** 2 / math.sqrt(20 + (lightness - 50) ** 2)
-    sc, sh = 1 + 0.045 * chroma, 1 + 0.015 * chroma * t
-    rotation = -2 * math.sqrt(chroma**7 / (chroma**7 + 25**7)) * math.sin(math.radians(60 * math.exp(-(((hue - 275) / 25) ** 2))))
-    dl, dc, dh = (l2 - l1) / sl, (c2 - c1) / sc, 2 * math.sqrt(c1 * c2) * math.sin(math.radians(turn / 2)) / sh
-    return math.sqrt(dl**2 + dc**2 + dh**2 + rotation * dc * dh)
-
-
-def cosine(degrees):
-    return math.cos(math.radians(degrees))
-
-
 def check_hues(tally, folder):
     """Hues that stand next to one another in the order of letters, and the dark part of each page beside each tint, are
-    at least 20 apart for each vision, in light and in dark; labels can be read."""
-    for one, other, due in SHARMA:
-        tally.check(f"CIEDE2000 of {one} and {other}", abs(ciede2000(one, other) - due) < 1e-4, ciede2000(one, other))
+    at least 23 apart (CIE 1976) for each vision, in light and in dark; labels can be read."""
     path = folder / "tx"
     path.write_bytes(transmission([TONE]))
     style = ElementTree.fromstring(run(["show", path, "--svg"]).stdout).findtext(SVG + "style")
@@ -369,10 +304,10 @@ def check_hues(tally, folder):
         tints, darks = [tints[hue] for hue in due], [darks[hue] for hue in due]
         for vision in VISIONS:
             seen, heads = [lab_of(it, vision) for it in tints], [lab_of(it, vision) for it in darks]
-            least = min(ciede2000(seen[at - 1], seen[at]) for at in range(HUES))
-            tally.check(f"{scheme}, {vision}: neighbours", least >= 20, least)
-            least = min(ciede2000(tint, head) for tint in seen for head in heads)
-            tally.check(f"{scheme}, {vision}: a page's first codeword beside any page", least >= 20, least)
+            least = min(math.dist(seen[at - 1], seen[at]) for at in range(HUES))
+            tally.check(f"{scheme}, {vision}: neighbours", least >= 23, least)
+            least = min(itertools.starmap(math.dist, itertools.product(seen, heads)))
+            tally.check(f"{scheme}, {vision}: a page's first codeword beside any page", least >= 23, least)
         least = min(contrast(ink, head) for head in darks)
         tally.check(f"{scheme}: labels on their ground", least >= 4.5, least)
 
@@ -388,50 +323,11 @@ def luminance(colour):
     return sum(weight * part for weight, part in zip((0.2126, 0.7152, 0.0722), parts))
 
 
-def check_faults(tally, folder):
-    path = folder / "tx"
-    good = transmission([TONE] + [IDLE] * 15)
-    for name, sent, told in (
-        ("cut", good[:139], "the transmission is cut short"),
-        ("short preamble", good[2:], "the preamble is too short"),
-        ("no batch", good[:72], "the transmission has no batch"),
-        ("wrong bit", good[:83] + bytes([good[83] ^ 1]) + good[84:], "codeword 1: not a codeword"),
-        ("orphan", transmission([MESSAGE] + [IDLE] * 15), "codeword 0: a message without an address"),
-        ("no synchronisation", good[:75] + b"\xd9" + good[76:], "batch 0: no synchronisation codeword"),
-    ):
-        path.write_bytes(sent)
-        for words in ([], ["--svg"], ["--list"]):
-            tally.check_done(f"{name} {words}", run(["show", path, *words]), 1, b"", fault(told))
-    path.write_bytes(good)
-    for words in ([folder / "none"], [folder], [], [path, path], [path, "--svg", "--list"], [path, "--png"]):
-        done, status = run(["show", *words]), 3 if words in ([folder / "none"], [folder]) else 2
-        tally.check(f"status of {words}", done.returncode == status and done.stdout == b"" and done.stderr != b"", done)
-    for words in ([], ["--svg"], ["--list"]):
-        tally.check_full(f"full device {words}", ["show", path, *words])
-
-
-def check_large_writes(tally, folder, faults, library):
-    """A transmission of many batches, each write of what shows it refused."""
-    path = folder / "large"
-    path.write_bytes(transmission(random_words(random.Random(12), 400)))
-    for asked in ([], ["--svg"], ["--list"]):
-        command = [str(PROGRAM), "show", str(path), *asked]
-        ample, _ = faults.run(command, library)
-
-        def judge(number, done):
-            holds = done.returncode == 3 and faults.CANNOT_WRITE.endswith(done.stderr)
-            holds = holds and ample.stdout.startswith(done.stdout) and done.stdout != ample.stdout
-            tally.check(f"write {number} refused of many batches {asked}", holds, (done.returncode, done.stderr))
-
-        count = faults.each_refusal(command, library, "WRITE", b"", faults.nothing, judge)
-        tally.check(f"some were refused of many batches {asked}", count > 0, count)
-
-
 def check_refusals(tally, folder):
-    """Each growth, each read and each write refused: the text with ample memory, or a part of it and the fault of what was refused."""
+    """Each growth, each read and each write refused: the text with ample memory, or a part of it and the fault of what was refused.
+    tests/faults has the same of many batches."""
     faults = module_at("refusals", "tests/faults/run.py")
     library = faults.build(folder)
-    check_large_writes(tally, folder, faults, library)
     words = [ZERO, *[MESSAGE] * 5, TONE, *[MESSAGE] * 15, ZERO, *[MESSAGE] * 7, IDLE, IDLE]
     for form in ([], ["--svg"], ["--list"]):
         faults.try_printing(tally, library, " ".join(["show", *form]), ["show", "tx", *form], {"tx": transmission(words)}, folder)
@@ -444,7 +340,7 @@ def check_pictures(tally, _folder):
 
 
 PARTS = (
-    check_text, check_list, check_svg, check_rows_wanted, check_same_letters, check_hues, check_faults, check_refusals, check_pictures,
+    check_text, check_list, check_svg, check_rows_wanted, check_hues, check_refusals, check_pictures,
 )  # fmt: skip
 
 if __name__ == "__main__":

@@ -9,8 +9,6 @@ import io
 import itertools
 import pathlib
 import random
-import resource
-import signal
 import struct
 import subprocess
 import sys
@@ -19,8 +17,8 @@ import wave
 sys.dont_write_bytecode = True
 sys.path.insert(0, str(pathlib.Path(__file__).resolve().parents[1]))
 import tally as shared
-from codewords import HEADER, IDLE, ONES, SYNC, TONE, transmission
-from tally import BAD_RATE, CANNOT_OPEN, CANNOT_WRITE, ENDS, PROGRAM, TOO_LARGE, fault, make_huge, run_parts, sampled
+from codewords import HEADER, SYNC, TONE, transmission
+from tally import BAD_RATE, CANNOT_WRITE, ENDS, PROGRAM, fault, run_parts, sampled, with_most_bytes
 
 RATES = (512, 1200, 2400)
 SAMPLES = (2_400, 8_000, 22_050, 44_100, 48_000, 96_000, 192_000)
@@ -87,23 +85,15 @@ def try_by_hand(tally, folder):
 
 
 def try_rounds(tally, folder):
-    """Each round at each rate and number of samples."""
+    """Each round at each rate, with numbers of samples in use and with some that no rate divides."""
+    chance = random.Random(20261126)
     for (name, records), end in sampled(itertools.product(ROUNDS.items(), ENDS)):
         sent = planned(folder, records, end)
-        for rate, a_second in itertools.product(RATES, {*SAMPLES}):
-            done = run(["tx.bin", "--rate", rate, "--samples", a_second], folder)
-            holds = (done.returncode, done.stderr) == (0, b"") and is_sound(done.stdout, samples_of(sent, rate, a_second), a_second)
-            tally.check(f"{name}, {end} end, {rate} bit/s, {a_second} samples", holds, (done.stderr, len(done.stdout)))
-
-
-def try_odd_numbers(tally, folder):
-    """Numbers of samples that no rate divides."""
-    chance = random.Random(20261126)
-    (folder / "tx.bin").write_bytes(SENT)
-    for rate in RATES:
-        for a_second in sampled([rate, rate + 1, 2 * rate - 1, 191_999, *(chance.randint(rate, 192_000) for _ in range(20))]):
-            done = run(["tx.bin", "--rate", rate, "--samples", a_second], folder)
-            tally.check(f"{rate} bit/s, {a_second} samples", is_sound(done.stdout, samples_of(SENT, rate, a_second), a_second), done.stderr)
+        for rate in RATES:
+            for a_second in {*SAMPLES, rate, rate + 1, 2 * rate - 1, 191_999, *(chance.randint(rate, 192_000) for _ in range(4))}:
+                done = run(["tx.bin", "--rate", rate, "--samples", a_second], folder)
+                holds = (done.returncode, done.stderr) == (0, b"") and is_sound(done.stdout, samples_of(sent, rate, a_second), a_second)
+                tally.check(f"{name}, {end} end, {rate} bit/s, {a_second} samples", holds, (done.stderr, len(done.stdout)))
 
 
 def try_options(tally, folder):
@@ -121,8 +111,8 @@ def try_options(tally, folder):
         tally.check(f"{length} bytes AA, {words}", holds, (done.stderr, len(done.stdout)))
 
 
-def try_words(tally, folder):
-    """Numbers that are refused before the file is opened, and words that are none."""
+def try_numbers(tally, folder):
+    """Numbers that are refused before the file is opened."""
     refused = [(BAD_RATE, ["--rate", rate]) for rate in (0, 1, 511, 513, 1_201, 4_294_967_295)]
     refused += [(BAD_SAMPLES, ["--samples", a_second]) for a_second in (0, 1, 1_199, 192_001, 4_294_967_295)]
     refused += [(BAD_SAMPLES, ["--rate", rate, "--samples", rate - 1]) for rate in RATES]
@@ -130,31 +120,6 @@ def try_words(tally, folder):
     refused += [(BAD_RATE, ["--rate", 9, "--samples", 0, "--preamble", 0]), (BAD_SAMPLES, ["--samples", 0, "--preamble", 0])]
     for told, words in refused:
         tally.check_done(f"refused {words}", run(["none.bin", *words], folder), 1, b"", told)
-    usage = [
-        [], ["a", "b"], ["a", "--rate"], ["a", "--rate", "fast"], ["a", "--rate", "-1"], ["a", "--samples", "4294967296"],
-        ["a", "--preamble", "x"], ["a", "--preamble"], ["a", "--tail", "1.5"], ["a", "--tail"], ["a", "--invert=yes"], ["a", "--repair"], ["a", "--rate", "512", "--rate", "512"],
-        ["a", "--end", "open"], ["a", "-"],
-    ]  # fmt: skip
-    for words in usage:
-        tally.check_usage(f"usage {words}", run(words, folder))
-
-
-def try_refused(tally, folder):
-    """Bytes that are no transmission have the decoder's fault, and files have theirs."""
-    first, rest = SENT[:72], SENT[72:]
-    none = [
-        b"", b"x", first[:71] + rest, first, SENT[:-1], SENT + SYNC, first + IDLE + rest[4:], first + SYNC + b"\x12\x34\x56\x78" + rest[8:],
-        first + SYNC + ONES + rest[8:],
-    ]  # fmt: skip
-    for bytes_ in none:
-        decoded = shared.run(["decode", "-"], folder, bytes_)
-        done = run(["-"], folder, bytes_)
-        tally.check_done(f"no transmission: {bytes_[68:].hex()[:40]}", done, 1, b"", decoded.stderr, decoded.returncode == 1)
-    for name in ("none.bin", "."):
-        tally.check_done(f"no file: {name}", run([name], folder), 3, b"", CANNOT_OPEN)
-    make_huge(folder / "huge.bin")
-    tally.check_done("a file of 300 MB", run(["huge.bin"], folder), 1, b"", TOO_LARGE)
-    (folder / "huge.bin").unlink()
 
 
 def try_lengths(tally, folder):
@@ -192,20 +157,14 @@ def try_failing_writes(tally, folder):
     """What was written before a write failed is a front of the sound."""
     (folder / "tx.bin").write_bytes(SENT)
     whole = run(["tx.bin"], folder).stdout
-    tally.check_full("a full device", ["wav", "tx.bin"], folder)
     for size in (0, 1, 43, 44, 45, 8_192, 100_001, len(whole) - 1, len(whole)):
-
-        def limit(size=size):
-            signal.signal(signal.SIGXFSZ, signal.SIG_IGN)
-            resource.setrlimit(resource.RLIMIT_FSIZE, (size, size))
-
         with open(folder / "out.wav", "wb") as out:
-            done = run(["tx.bin"], folder, stdout=out, preexec_fn=limit)
+            done = run(["tx.bin"], folder, stdout=out, **with_most_bytes(size))
         due = (0, None) if size == len(whole) else (3, None, CANNOT_WRITE)
         tally.check_done(f"a disk of {size} bytes", done, *due, also=(folder / "out.wav").read_bytes() == whole[:size])
 
 
-PARTS = (try_by_hand, try_rounds, try_odd_numbers, try_options, try_words, try_refused, try_lengths, try_pipes, try_failing_writes)
+PARTS = (try_by_hand, try_rounds, try_options, try_numbers, try_lengths, try_pipes, try_failing_writes)
 
 if __name__ == "__main__":
     sys.exit(run_parts(*PARTS))
