@@ -1,20 +1,9 @@
 -- A file whose first record is the header shows it in its front: each byte of a record, but for its line end, makes it longer, adds
 -- a field, or is one of two quotes around a field.
-use Rattle.std.proofs.Common.{◌≡◌, ℕ, zero, suc, ◌+◌, ◌*◌, ◌<◌, ◌≤◌, ◌==◌, ◌||◌, ◌&&◌, Bool, true, false, List, [], ◌∷◌, ◌++◌, length, get_or, min, take, drop, refl, sym, ap, ◌∙◌, arith}
-use Rattle.std.specs.Prelude.{Option, Some, None, Err, if◌then◌else◌, codes}
+use Rattle.pocsag_pages.proofs.Prelude.{◌≡◌, ℕ, zero, suc, ◌+◌, ◌*◌, ◌<◌, ◌≤◌, ◌==◌, ◌||◌, ◌&&◌, Bool, true, false, List, [], ◌∷◌, ◌++◌, length, get_or, min, take, drop, refl, sym, ap, ◌∙◌, arith, Option, Some, None, Err, if◌then◌else◌, codes, and_parts, false_from_ne_true, false≢true, drop_all, drop_more, length-append, take_all, take_min, bytes_eq-Decides, Read, field_after, fields_after, is_end, next_record, step, default_config, is_bom, records, records_from, records_next, strip_bom, Action, State, header_front, line_ends_first, starts_with_header, Row, is_header, rows_of, verdict_of_rows, queue_of_all_rows}
 use Rattle.std.specs.Str.{bytes_eq}
-use Rattle.std.proofs.lemmas.Bool.{and_parts, false_from_ne_true, false≢true}
-use Rattle.std.proofs.lemmas.List.{drop_all, drop_more, length-append, take_all, take_min}
-use Rattle.std.proofs.lemmas.Slice.Eq.{bytes_eq-Decides}
-use Rattle.csv.specs.Machine.{Read, field_after, fields_after, is_end, next_record, step}
-use Rattle.csv.specs.Reading.{default_config, is_bom, records, records_from, records_next, strip_bom}
-use Rattle.csv.specs.declared.parser.Action.{Action}
 use Rattle.csv.specs.declared.parser.Action.TheVariants as act
-use Rattle.csv.specs.declared.parser.State.{State}
 use Rattle.csv.specs.declared.parser.State.TheVariants as st
-use Rattle.pocsag_pages.specs.HeaderFronts.{header_front, line_ends_first, starts_with_header}
-use Rattle.pocsag_pages.specs.PageFile.{Row, is_header, rows_of, verdict_of_rows}
-use Rattle.pocsag_pages.specs.Queues.{queue_of_all_rows}
 use Rattle.pocsag_pages.specs.declared.fault.RoundFault.TheVariants as fault
 use Rattle.pocsag_pages.proofs.CsvRecords.{one_record}
 use Rattle.pocsag_pages.proofs.CsvSteps.{IsInside, StaysInside, bare_step, either, stays_inside}
@@ -323,12 +312,3 @@ front_found file end within e behind so_far =
     let none = line_ends_at file end false within e in
     let place : end + 64 ≡ 3 + line_ends_first (drop 3 file) + 64 = omega arith in
     take_min (end + 64) file ∙ ap (λ n. take n file) place
-
--- no such byte
-pub front_whole : (file : List ℕ) (end : ℕ) → length file ≤ end →
-    end + line_ends_first (drop end file) ≡ min 3 (length file) + line_ends_first (drop 3 file) → end ≤ length file →
-    file ≡ header_front file
-unfolding line_ends_first
-front_whole file end past so_far within =
-    let none : line_ends_first (drop end file) ≡ 0 = ap line_ends_first (drop_all end file past) in
-    sym (take_all (3 + line_ends_first (drop 3 file) + 64) file (omega arith))

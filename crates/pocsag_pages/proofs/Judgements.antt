@@ -1,22 +1,11 @@
 -- Judging records one at a time, against the pages so far.
-use Rattle.std.proofs.Common.{◌≡◌, ℕ, ◌+◌, ◌<◌, ◌≤◌, Bool, true, false, ◌⊎◌, inl, inr, List, [], ◌∷◌, ◌++◌, length, refl, sym, ap, ◌∙◌, arith}
-use Rattle.std.specs.Prelude.{Option, Some, None, Result, Ok, Err, IfOk, IfErr, if◌then◌else◌}
+use Rattle.pocsag_pages.proofs.Prelude.{◌≡◌, ℕ, ◌+◌, ◌<◌, ◌≤◌, Bool, true, false, ◌⊎◌, inl, inr, List, [], ◌∷◌, ◌++◌, length, refl, sym, ap, ◌∙◌, arith, Option, Some, None, Result, Ok, Err, IfOk, IfErr, if◌then◌else◌, cases_lt, append-nil, length-append, Page, RecordFault, WholeFault, RoundFault, unless_empty, Row, fault_after, fault_of_row, first_fault, is_header, numbered, page_of, pages_of, pages_unless, round_fault_of, round_of_rows, rows_of, verdict, verdict_of_rows, with_page, input_limit, is_above, not_above}
 use Rattle.std.proofs.Math.Seq.{append_snoc}
-use Rattle.std.proofs.lemmas.Bool.{cases_lt}
-use Rattle.std.proofs.lemmas.List.{append-nil, length-append}
-use Rattle.pocsag_pages.specs.declared.page.Page.{Page}
 use Rattle.pocsag_pages.specs.declared.fault.FieldFault.TheVariants as field
-use Rattle.pocsag_pages.specs.declared.fault.RecordFault.{RecordFault}
 use Rattle.pocsag_pages.specs.declared.fault.RecordFault.TheVariants as wrong
-use Rattle.pocsag_pages.specs.declared.fault.WholeFault.{WholeFault}
 use Rattle.pocsag_pages.specs.declared.fault.WholeFault.TheVariants as whole
-use Rattle.pocsag_pages.specs.declared.fault.RoundFault.{RoundFault}
 use Rattle.pocsag_pages.specs.declared.fault.RoundFault.TheVariants as fault
-use Rattle.pocsag_pages.specs.PageList.{unless_empty}
-use Rattle.pocsag_pages.specs.PageFile.{Row, fault_after, fault_of_row, first_fault, is_header, numbered, page_of, pages_of, pages_unless, round_fault_of, round_of_rows, rows_of, verdict, verdict_of_rows, with_page}
 use Rattle.pocsag_words.specs.Devices.{IsOfCut}
-use Rattle.pocsag_words.specs.Frame.{input_limit}
-use Rattle.pocsag_words.proofs.TruthValues.{is_above, not_above}
 
 -- the fault of record n + 1, or else what is said of the records after it
 abbrev pub or_later : Option RecordFault → ℕ → Result (List Page) RoundFault → Result (List Page) RoundFault

@@ -10,6 +10,7 @@ pub mod Lengths
 pub mod MarkedRounds
 pub mod NoQuotes
 pub mod PageLists
+pub mod Prelude
 pub mod QueueParts
 pub mod QueueRows
 pub mod QuoteFaults

@@ -1,24 +1,10 @@
 -- Judging the records of a queue one at a time.
-use Rattle.std.proofs.Common.{◌≡◌, ℕ, ◌+◌, ◌<◌, ◌≤◌, Bool, true, false, ◌⊎◌, inl, inr, List, [], ◌∷◌, ◌++◌, length, take, refl, sym, ap, ◌∙◌, arith, append_assoc}
-use Rattle.std.specs.Prelude.{Option, Some, None, Result, Ok, Err, if◌then◌else◌, nat_le, nat_lt}
-use Rattle.std.proofs.lemmas.Bool.{cases_lt, ltb-true}
-use Rattle.std.proofs.lemmas.Bool.Decides.{nat_tests}
-use Rattle.std.proofs.lemmas.List.{append-nil}
-use Rattle.pocsag_pages.specs.declared.page.Page.{Page}
-use Rattle.pocsag_pages.specs.declared.fault.RecordFault.{RecordFault}
-use Rattle.pocsag_pages.specs.declared.fault.WholeFault.{WholeFault}
+use Rattle.pocsag_pages.proofs.Prelude.{◌≡◌, ℕ, ◌+◌, ◌<◌, ◌≤◌, Bool, true, false, ◌⊎◌, inl, inr, List, [], ◌∷◌, ◌++◌, length, take, refl, sym, ap, ◌∙◌, arith, append_assoc, Option, Some, None, Result, Ok, Err, if◌then◌else◌, nat_lt, cases_lt, ltb-true, nat_tests, append-nil, Page, RecordFault, WholeFault, RoundFault, page_limit, or_else, unless_empty, Row, fault_after, is_header, numbered, numbered_if, page_of, pages_of, pages_unless, round_fault_of, rows_of, first_queue_fault, held_pages, queue_of_all_rows, queue_of_rows, queue_verdict, up_to_wide, input_limit, is_above, not_above}
+use Rattle.std.specs.Prelude.{nat_le}
 use Rattle.pocsag_pages.specs.declared.fault.WholeFault.TheVariants as whole
-use Rattle.pocsag_pages.specs.declared.fault.RoundFault.{RoundFault}
 use Rattle.pocsag_pages.specs.declared.fault.RoundFault.TheVariants as fault
-use Rattle.pocsag_pages.specs.Pages.{page_limit}
-use Rattle.pocsag_pages.specs.PageList.{or_else, unless_empty}
-use Rattle.pocsag_pages.specs.PageFile.{Row, fault_after, is_header, numbered, numbered_if, page_of, pages_of, pages_unless, round_fault_of, rows_of}
-use Rattle.pocsag_pages.specs.Queues.{first_queue_fault, held_pages, queue_of_all_rows, queue_of_rows, queue_verdict}
-use Rattle.pocsag_pages.specs.WideRecords.{up_to_wide}
 use Rattle.pocsag_pages.proofs.Judgements.{large_file, never_read, not_empty, not_later, or_later, pages_append}
 use Rattle.pocsag_pages.proofs.WideRecords.{cut_length, wide_header, wide_page}
-use Rattle.pocsag_words.specs.Frame.{input_limit}
-use Rattle.pocsag_words.proofs.TruthValues.{is_above, not_above}
 
 -- the queue of so many records with these pages, and of these records after them
 unfoldable pub queued : List Page → ℕ → List Row → Result (List Page) RoundFault

@@ -1,19 +1,10 @@
 -- Records of more than three fields: that only they are cut, and that the verdict stays.
-use Rattle.std.proofs.Common.{◌≡◌, ℕ, ◌+◌, ◌<◌, ◌≤◌, Bool, true, false, List, [], ◌∷◌, ◌++◌, length, length-take-le, take, refl, sym, ap, ◌∙◌, arith}
-use Rattle.std.specs.Prelude.{Some, Err, if◌then◌else◌, nat_lt}
-use Rattle.std.proofs.lemmas.Bool.{le-ltb, lt-ltb, ltb-true}
-use Rattle.std.proofs.lemmas.List.{length-append, take-append-le}
-use Rattle.csv.specs.Machine.{next_record, is_end, step, fields_after, field_after}
-use Rattle.csv.specs.Reading.{default_config, records_from, records_next}
-use Rattle.csv.specs.declared.parser.Action.{Action}
+use Rattle.pocsag_pages.proofs.Prelude.{◌≡◌, ℕ, ◌+◌, ◌<◌, ◌≤◌, Bool, true, false, List, [], ◌∷◌, ◌++◌, length, take, refl, sym, ap, ◌∙◌, arith, Some, Err, if◌then◌else◌, nat_lt, le-ltb, lt-ltb, ltb-true, length-append, take-append-le, next_record, is_end, step, fields_after, field_after, default_config, records_from, records_next, Action, State, Page, Row, fault_after, is_header, page_of, pages_of, verdict_of_rows, up_to_wide}
+use Rattle.std.proofs.Common.{length-take-le}
 use Rattle.csv.specs.declared.parser.Action.TheVariants as act
-use Rattle.csv.specs.declared.parser.State.{State}
 use Rattle.csv.specs.declared.parser.State.TheVariants as st
-use Rattle.pocsag_pages.specs.declared.page.Page.{Page}
 use Rattle.pocsag_pages.specs.declared.fault.RecordFault.TheVariants as wrong
 use Rattle.pocsag_pages.specs.declared.fault.RoundFault.TheVariants as fault
-use Rattle.pocsag_pages.specs.PageFile.{Row, fault_after, is_header, page_of, pages_of, verdict_of_rows}
-use Rattle.pocsag_pages.specs.WideRecords.{up_to_wide}
 use Rattle.pocsag_pages.proofs.CsvSteps.{IsInside, StaysInside, stays_inside}
 use Rattle.pocsag_pages.proofs.Judgements.{grown, or_later, judged}
 

@@ -65,16 +65,6 @@ fn queue_rows(alloc: Global, reader: &mut RowReader<'_>) -> Result<Vec<Page>, Ro
     }
 }
 
-// The queue of the bytes of a page file, or their first fault.
-fn queue_of(alloc: Global, bytes: &[u8]) -> Result<Vec<Page>, RoundFault>
-    ensures ok { IfOk result (λ q. queue_verdict bytes.now ≡ Ok q.items) }
-    ensures queue { IfOk result (λ q. IsQueue q.items) }
-    ensures err { IfErr result (λ e. (e ≡ RoundFault.OutOfMemory) ⊎ (queue_verdict bytes.now ≡ Err e)) }
-{
-    let mut reader = rows_behind_header(alloc, bytes)?;
-    queue_rows(alloc, &mut reader)
-}
-
 /// The pages of the bytes of a page file, or their first fault. Where pages may wait for earlier ones of their address, an
 /// address may come again; each record is judged all the same.
 pub fn held_pages(alloc: Global, may_wait: bool, bytes: &[u8]) -> Result<Vec<Page>, RoundFault>
@@ -84,7 +74,8 @@ pub fn held_pages(alloc: Global, may_wait: bool, bytes: &[u8]) -> Result<Vec<Pag
     ensures err { IfErr result (λ e. (e ≡ RoundFault.OutOfMemory) ⊎ (held_pages may_wait bytes.now ≡ Err e)) }
 {
     if may_wait {
-        return queue_of(alloc, bytes);
+        let mut reader = rows_behind_header(alloc, bytes)?;
+        return queue_rows(alloc, &mut reader);
     }
     match round_of(alloc, bytes) {
         Ok(round) => Ok(round.into_pages()),
@@ -146,7 +137,7 @@ pub fn first_pages(alloc: Global, queue: &[Page]) -> Result<Round, OutOfMemory>
     }
 }
 
-/// The pages of a queue that are left where the first page for each address of these is sent, in order.
+/// The pages of a queue that are left once the first page for each of these addresses is sent, in order.
 pub fn left_pages(alloc: Global, queue: Vec<Page>, sent: &[Page]) -> Result<Vec<Page>, OutOfMemory>
     ensures { IfOk result (λ left. left.items ≡ left_of sent.now queue.items) }
 {

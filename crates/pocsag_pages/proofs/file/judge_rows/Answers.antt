@@ -1,4 +1,4 @@
-use Rattle.std.proofs.Common.{◌∙◌, inl, inr, refl, arith}
+use Rattle.pocsag_pages.proofs.Prelude.{◌∙◌, inl, inr, refl, arith}
 use Rattle.pocsag_pages.proofs.Judgements.{judged, grown_end, grown_fault, grown_on, said_ok, said_err}
 use Rattle.pocsag_pages.proofs.file.judge_rows.Goals as goal
 

@@ -1,6 +1,4 @@
-use Rattle.std.proofs.Common.{◌≡◌, ◌-◌, ◌≤◌, length}
-use Rattle.pocsag_pages.specs.Pages.{page_limit}
-use Rattle.pocsag_pages.specs.PageFile.{round_of_rows}
+use Rattle.pocsag_pages.proofs.Prelude.{◌≡◌, ◌-◌, ◌≤◌, length, page_limit, round_of_rows}
 use Rattle.pocsag_pages.proofs.Judgements.{grown}
 use Rattle.pocsag_pages.proofs.file.judge_rows.Given as goal
 

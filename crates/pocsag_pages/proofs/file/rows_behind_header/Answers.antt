@@ -1,8 +1,4 @@
-use Rattle.std.proofs.Common.{◌≡◌, ◌∙◌, List, ℕ, arith, length, ◌≤◌, inr, sym, ap}
-use Rattle.pocsag_words.specs.Frame.{input_limit}
-use Rattle.pocsag_pages.specs.PageFile.{Row, rows_of, verdict, verdict_of_rows}
-use Rattle.pocsag_pages.specs.Queues.{queue_of_all_rows, queue_verdict}
-use Rattle.pocsag_pages.specs.WideRecords.{up_to_wide}
+use Rattle.pocsag_pages.proofs.Prelude.{◌≡◌, ◌∙◌, List, ℕ, arith, length, ◌≤◌, inr, sym, ap, input_limit, Row, rows_of, verdict, verdict_of_rows, queue_of_all_rows, queue_verdict, up_to_wide}
 use Rattle.pocsag_pages.proofs.HeaderFronts.{unheaded_queue, unheaded_round}
 use Rattle.pocsag_pages.proofs.Judgements.{after_header, bad_header, large_file, no_header, small_file}
 use Rattle.pocsag_pages.proofs.QueueRows.{after_queue_header, bad_queue_header, large_queue, no_queue_header, same_queue, small_queue}

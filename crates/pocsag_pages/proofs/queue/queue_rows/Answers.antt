@@ -1,8 +1,4 @@
-use Rattle.std.proofs.Common.{◌≡◌, ◌∙◌, ◌∷◌, [], ◌++◌, length, inl, inr, sym, ap, arith, rules}
-use Rattle.std.proofs.lemmas.List.{length-append}
-use Rattle.std.proofs.lemmas.List.Elements.{All-nil, All-push}
-use Rattle.std.specs.Prelude.{Err, None}
-use Rattle.pocsag_pages.specs.Pages.{page_fault_of}
+use Rattle.pocsag_pages.proofs.Prelude.{◌≡◌, ◌∙◌, ◌∷◌, [], ◌++◌, length, inl, inr, sym, ap, arith, rules, length-append, All-nil, All-push, Err, None, page_fault_of}
 use Rattle.pocsag_pages.proofs.QueueRows.{queue_judged, queued, queued_end, queued_fault, queued_on, no_queue, queue_room, some_queue}
 use Rattle.pocsag_pages.proofs.queue.queue_rows.Goals as goal
 

@@ -1,7 +1,4 @@
-use Rattle.std.proofs.Common.{◌≡◌, ◌-◌, ◌≤◌, length, All}
-use Rattle.std.specs.Prelude.{None}
-use Rattle.pocsag_pages.specs.Pages.{page_fault_of, page_limit}
-use Rattle.pocsag_pages.specs.Queues.{queue_of_rows}
+use Rattle.pocsag_pages.proofs.Prelude.{◌≡◌, ◌-◌, ◌≤◌, length, All, None, page_fault_of, page_limit, queue_of_rows}
 use Rattle.pocsag_pages.proofs.QueueRows.{queued}
 use Rattle.pocsag_pages.proofs.queue.queue_rows.Given as goal
 

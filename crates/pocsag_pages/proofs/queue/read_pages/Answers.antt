@@ -1,5 +1,5 @@
-use Rattle.std.proofs.Common.{Err, inl, inr, ap, ◌∙◌}
-use Rattle.std.proofs.lemmas.Result.{err_from_is_err_and}
+use Rattle.pocsag_pages.proofs.Prelude.{inl, inr, ap, ◌∙◌, err_from_is_err_and}
+use Rattle.std.proofs.Common.{Err}
 use Rattle.pocsag_pages.proofs.Judgements.{fault_of_whole}
 use Rattle.pocsag_pages.proofs.QueueRows.{held_never_read, held_unread}
 use Rattle.pocsag_pages.proofs.queue.read_pages.Goals as goal
