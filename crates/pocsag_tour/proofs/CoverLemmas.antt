@@ -1,10 +1,7 @@
 -- How many arcs leave a boundary and lead to it, by the loads of the slots before and after it.
-use Rattle.pocsag_tour.proofs.Prelude.{◌≡◌, ◌≢◌, ℕ, zero, suc, ◌+◌, ◌-◌, ◌%◌, ◌<◌, ◌≤◌, ◌==◌, Bool, true, false, cond, slice_index, refl, sym, ap, ◌∙◌, arith, eq-eqb, ne_eqb, Classes, load, start_of, finish_of, sum_below, arc_count, arc_from, arc_to, AreCounts, ins, IsBalanced, outs}
+use Rattle.pocsag_tour.proofs.Prelude.{◌≡◌, ◌≢◌, ℕ, zero, suc, ◌+◌, ◌-◌, ◌%◌, ◌<◌, ◌≤◌, ◌==◌, Bool, true, false, cond, slice_index, refl, sym, ap, ◌∙◌, arith, eq-eqb, ne_eqb, Classes, load, start_of, finish_of, sum_below, arc_count, arc_from, arc_to, AreCounts, ins, IsBalanced, outs, before, load_edge, sum_below-same, sum_below-add, sum_below-bump, sum_below-zero, is_above, not_above}
 use Rattle.pocsag_slots.specs.Edges.{ends_at, starts_at}
-use Rattle.pocsag_slots.proofs.EdgeLemmas.{before, load_edge}
-use Rattle.pocsag_slots.proofs.SumLemmas.{sum_below-same, sum_below-add, sum_below-bump, sum_below-zero}
 use Rattle.pocsag_tour.proofs.Geometry.{from_early, from_idle, from_late, to_early, to_idle, to_late}
-use Rattle.pocsag_words.proofs.TruthValues.{is_above, not_above}
 
 -- the counts by kind
 pub count_early : (k : Classes) (choice : ℕ → ℕ) (b c : ℕ) → c < 136 → arc_count k choice b c ≡ choice c
