@@ -1,34 +1,15 @@
 -- The page file of a round's pages is that round.
-use Rattle.std.proofs.Common.{◌≡◌, ℕ, zero, suc, ◌+◌, ◌*◌, ◌<◌, ◌≤◌, ◌==◌, true, false, inl, inr, List, [], ◌∷◌, ◌++◌, length, map, All, nat_eq, nat_le, refl, sym, ap, ◌∙◌, subst, arith, append_assoc, add-one, codes}
-use Rattle.std.specs.Prelude.{None, Ok}
-use Rattle.std.specs.List.{AllByRecursion, flat_map}
-use Rattle.std.specs.Fmt.{decimal}
-use Rattle.std.proofs.lemmas.Bool.{cases_Bool}
-use Rattle.std.proofs.lemmas.Bool.Decides.{nat_tests}
+use Rattle.pocsag_decode.proofs.Prelude.{◌≡◌, ℕ, zero, suc, ◌+◌, ◌*◌, ◌<◌, ◌≤◌, ◌==◌, true, false, inl, inr, List, [], ◌∷◌, ◌++◌, length, map, All, nat_eq, nat_le, refl, sym, ap, ◌∙◌, subst, arith, append_assoc, add-one, codes, None, Ok, AllByRecursion, flat_map, decimal, cases_Bool, nat_tests, append-nil, length-append, map-append, All-head, All-tail, default_writer, escaped, field_text, fields_text, is_blank, needs_quotes, row_text, alpha_payload, is_bad_byte, text_fault, alpha_bits, twenties, fault_none, unless_ok, Page, AreGood, IsRound, addresses_of, has_address, is_reserved, last_address, page_fault_of, fault_after, is_header, page_of, page_of_fields, pages_of, rows_of, verdict, unless_empty, queue_verdict, characters_spelled, digits_spelled, tone_spelled, header, kind_field, listing, message_field, record_of, IsSpellable, IsOfText, page_file, page_record, whole_message, characters, digits, silent}
 use Rattle.std.proofs.lemmas.Fmt.{length-decimal-le}
-use Rattle.std.proofs.lemmas.List.{append-nil, length-append, map-append}
-use Rattle.std.proofs.lemmas.List.Elements.{All-head, All-tail}
 use Rattle.std.proofs.lemmas.List.Sorted.{IsPermutation-middle}
 use Rattle.std.proofs.lemmas.Map.Keys.{IsDistinct-IsPermutation, IsDistinct-head}
 use Rattle.csv.specs.Machine.{next_record}
 use Rattle.csv.specs.Reading.{default_config, records_from, strip_bom}
-use Rattle.csv.specs.Writing.{default_writer, escaped, field_text, fields_text, is_blank, needs_quotes, row_text}
 use Rattle.csv.specs.declared.parser.State.TheVariants as st
 use Rattle.csv.proofs.RoundTrip.{read-write}
-use Rattle.pocsag_text.specs.Text.{alpha_payload, is_bad_byte, text_fault, alpha_bits, twenties}
-use Rattle.pocsag_text.proofs.Payloads.{fault_none, unless_ok}
-use Rattle.pocsag_pages.specs.declared.page.Page.{Page}
-use Rattle.pocsag_pages.specs.Pages.{AreGood, IsRound, addresses_of, has_address, is_reserved, last_address, page_fault_of}
-use Rattle.pocsag_pages.specs.PageFile.{fault_after, is_header, page_of, page_of_fields, pages_of, rows_of, verdict}
-use Rattle.pocsag_pages.specs.PageList.{unless_empty}
-use Rattle.pocsag_pages.specs.Queues.{queue_verdict}
 use Rattle.pocsag_pages.proofs.GoodPages.{good_page}
 use Rattle.pocsag_pages.proofs.Judgements.{after_header, grown, grown_end, grown_on, judged, small_file}
 use Rattle.pocsag_pages.proofs.QueueRows.{after_queue_header, queue_judged, queue_room, queued, queued_end, queued_on, small_queue, some_queue}
-use Rattle.pocsag_pages.proofs.Spelled.{characters_spelled, digits_spelled, tone_spelled}
-use Rattle.pocsag_decode.specs.Listing.{header, kind_field, listing, message_field, record_of}
-use Rattle.pocsag_decode.specs.PageFiles.{IsSpellable, IsOfText, page_file, page_record, whole_message}
-use Rattle.pocsag_decode.specs.PageFiles.IsOfText.{characters, digits, silent}
 use Rattle.pocsag_decode.proofs.ListedFields.{characters_listed}
 use Rattle.pocsag_decode.proofs.Respelled.{spaced_back}
 

@@ -1,21 +1,12 @@
 -- Each page that fields spell is spellable.
-use Rattle.std.proofs.Common.{◌≡◌, ℕ, ◌<◌, ◌==◌, Bool, true, false, cond, List, [], ◌∷◌, length, All, refl, subst, arith}
-use Rattle.std.specs.Prelude.{Option, Some, None, Result, Ok, Err, IfOk, codes}
+use Rattle.pocsag_decode.proofs.Prelude.{◌≡◌, ℕ, ◌<◌, ◌==◌, Bool, true, false, cond, List, [], ◌∷◌, length, All, refl, subst, arith, None, Ok, Err, IfOk, All-cons, All-nil, alpha_payload, numeric_payload, Page, ◌>>=◌, Row, address_of, fault_if, first_fault, function_of, is_header, kind_of_field, of_record, of_text, or_fault, page_of, page_of_fields, pages_of, pages_unless, payload_of, round_of_rows, verdict, verdict_of_rows, with_page, first_queue_fault, queue_of_all_rows, queue_of_rows, queue_verdict, unless_empty, is_reserved, IsSpellable, characters, digits, silent}
+use Rattle.std.specs.Prelude.{Option, Some, Result, codes}
 use Rattle.std.specs.Str.{bytes_eq}
-use Rattle.std.proofs.lemmas.List.Elements.{All-cons, All-nil}
 use Rattle.pocsag_text.specs.declared.fault.TextFault.{TextFault}
-use Rattle.pocsag_text.specs.Text.{alpha_payload, numeric_payload}
-use Rattle.pocsag_pages.specs.declared.page.Page.{Page}
 use Rattle.pocsag_pages.specs.declared.fault.FieldFault.{FieldFault}
 use Rattle.pocsag_pages.specs.declared.fault.FieldFault.TheVariants as field
 use Rattle.pocsag_pages.specs.declared.fault.RoundFault.{RoundFault}
 use Rattle.pocsag_pages.specs.declared.fault.RoundFault.TheVariants as fault
-use Rattle.pocsag_pages.specs.PageFile.{◌>>=◌, Row, address_of, fault_if, first_fault, function_of, is_header, kind_of_field, of_record, of_text, or_fault, page_of, page_of_fields, pages_of, pages_unless, payload_of, round_of_rows, verdict, verdict_of_rows, with_page}
-use Rattle.pocsag_pages.specs.Queues.{first_queue_fault, queue_of_all_rows, queue_of_rows, queue_verdict}
-use Rattle.pocsag_pages.specs.PageList.{unless_empty}
-use Rattle.pocsag_pages.specs.Pages.{is_reserved}
-use Rattle.pocsag_decode.specs.PageFiles.{IsSpellable}
-use Rattle.pocsag_decode.specs.PageFiles.IsOfText.{characters, digits, silent}
 
 -- what is left of the fields once the one before is read
 left : {A B : Type 0} (P : B → Type 0) (r : Result A FieldFault) (f : A → Result B FieldFault) → ((a : A) → IfOk (f a) P) → IfOk (r >>= f) P

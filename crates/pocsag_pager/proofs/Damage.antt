@@ -1,20 +1,13 @@
 -- A damaged transmission is heard as it was sent.
-use Rattle.pocsag_pager.proofs.Prelude.{◌≡◌, ◌≢◌, ℕ, ◌+◌, ◌*◌, ◌-◌, ◌/◌, ◌%◌, ◌<◌, ◌≤◌, Bool, true, false, cond, nat_eq, List, [], ◌∷◌, length, map, drop, filter, All, refl, sym, ap, ap₂, subst, ◌∙◌, inl, inr, arith, eqb-true, Option, Some, None, AllZip, cases_eq, ne_eqb, length-map, All-head, All-tail, IsCodeword, IsNear, Kind, Page, unsynced, words_of, AreApart, frame_at, IsMended, AreShown, is_ours, page_called, run_of, said, shown_from}
-use Rattle.std.proofs.Common.{eq-eqb, ◌↔◌}
-use Rattle.std.proofs.lemmas.Bool.{le-ltb}
+use Rattle.pocsag_pager.proofs.Prelude.{◌≡◌, ◌≢◌, ℕ, ◌+◌, ◌*◌, ◌-◌, ◌/◌, ◌%◌, ◌<◌, ◌≤◌, Bool, true, false, cond, nat_eq, List, [], ◌∷◌, length, map, drop, filter, All, refl, sym, ap, ap₂, subst, ◌∙◌, inl, inr, arith, eqb-true, Option, Some, None, AllZip, cases_eq, ne_eqb, length-map, All-head, All-tail, IsCodeword, IsNear, Kind, Page, unsynced, words_of, AreApart, frame_at, IsMended, AreShown, is_ours, page_called, run_of, said, shown_from, ◌↔◌, le-ltb, length-drop, kind_of, Idle, Address, Message, after_preamble, body_bytes, bytes_of, leading, sync_word, synced, IsLegalList, Reads, body_length, synced_count, synced_small, words_again}
+use Rattle.std.proofs.Common.{eq-eqb}
 use Rattle.std.proofs.lemmas.Bool.Decides.{nat_tests}
-use Rattle.std.proofs.lemmas.List.{length-drop}
-use Rattle.pocsag_words.specs.Kinds.{kind_of}
-use Rattle.pocsag_words.specs.declared.codeword.Kind.TheVariants.{Idle, Address, Message}
 use Rattle.pocsag_words.specs.declared.ending.End.{End}
-use Rattle.pocsag_pages.specs.Bytes.{after_preamble, body_bytes, bytes_of, leading, sync_word, synced}
 use Rattle.pocsag_pages.specs.Plain.{HasNoOrphan, items_of, pages_from}
-use Rattle.pocsag_pages.specs.Reading.{IsLegalList, Reads}
 use Rattle.pocsag_pager.specs.Damage.{IsDamaged}
 use Rattle.pocsag_pager.specs.Faults.{bytes_fault}
 use Rattle.pocsag_pager.proofs.Chosen.{calls, chosen}
 use Rattle.pocsag_pager.proofs.Mended.{mended_back}
-use Rattle.pocsag_pages.proofs.Lengths.{body_length, synced_count, synced_small, words_again}
 
 -- ---- the front of a transmission's bytes
 

@@ -1,15 +1,7 @@
 -- A batch that changes nothing: no page is open, and its frame of the address calls nobody.
-use Rattle.pocsag_pager.proofs.Prelude.{◌≡◌, ℕ, ◌+◌, ◌-◌, ◌*◌, ◌/◌, ◌%◌, ◌^◌, ◌<◌, ◌≤◌, All, Bool, true, false, nat_eq, drop, take, List, [], ◌∷◌, ◌++◌, length, refl, sym, ap, subst, ◌∙◌, inl, inr, arith, append_assoc, Option, None, from_be_bytes, w32, All-cons, All-head, All-nil, All-tail, Kind, Page, words_of, HaveEnded, IsHeardAs, next_open}
+use Rattle.pocsag_pager.proofs.Prelude.{◌≡◌, ℕ, ◌+◌, ◌-◌, ◌*◌, ◌/◌, ◌%◌, ◌^◌, ◌<◌, ◌≤◌, All, Bool, true, false, nat_eq, drop, take, List, [], ◌∷◌, ◌++◌, length, refl, sym, ap, subst, ◌∙◌, inl, inr, arith, append_assoc, Option, None, from_be_bytes, w32, All-cons, All-head, All-nil, All-tail, Kind, Page, words_of, HaveEnded, IsHeardAs, next_open, length-append, not, eq-eqb, false≢true, append-nil, drop-drop, length-drop, length-take, All-drop, All-take, IsOnlyNear, kind_of, words_long, State, Listening}
 use Rattle.std.specs.Bool.{OnFalse, OnTrue}
-use Rattle.std.proofs.Common.{Some, length-append, not}
-use Rattle.std.proofs.lemmas.Bool.{eq-eqb, false≢true}
-use Rattle.std.proofs.lemmas.List.{append-nil, drop-drop, length-drop, length-take}
-use Rattle.std.proofs.lemmas.List.Elements.{All-drop, All-take}
-use Rattle.pocsag_words.specs.Codeword.{IsOnlyNear}
-use Rattle.pocsag_words.specs.Kinds.{kind_of}
-use Rattle.pocsag_pages.proofs.Lengths.{words_long}
-use Rattle.pocsag_pager.specs.declared.pager.State.{State}
-use Rattle.pocsag_pager.specs.declared.pager.State.TheVariants.{Listening}
+use Rattle.std.proofs.Common.{Some}
 use Rattle.pocsag_pager.proofs.Hearings.{IsOpen, Known, pass_all, turn_ended, turn_open}
 use Rattle.pocsag_pager.proofs.Mended.{AreRepaired}
 use Rattle.pocsag_pager.proofs.Places.{ending_none, quiet_kind}

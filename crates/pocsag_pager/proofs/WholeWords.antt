@@ -1,8 +1,6 @@
 -- The words of bytes, taken four bytes at a time.
-use Rattle.pocsag_pager.proofs.Prelude.{◌≡◌, ℕ, zero, suc, ◌+◌, ◌-◌, ◌*◌, ◌/◌, ◌^◌, ◌<◌, ◌≤◌, All, drop, List, [], ◌∷◌, ◌++◌, length, get_or, take, map, refl, sym, ap, ap₂, subst, ◌∙◌, arith, append_assoc, Option, Some, None, from_be_bytes, w32, map-append, All-cons, All-nil, Page, words_of, AreShown, HaveEnded}
-use Rattle.std.proofs.Common.{take-add}
+use Rattle.pocsag_pager.proofs.Prelude.{◌≡◌, ℕ, zero, suc, ◌+◌, ◌-◌, ◌*◌, ◌/◌, ◌^◌, ◌<◌, ◌≤◌, All, drop, List, [], ◌∷◌, ◌++◌, length, get_or, take, map, refl, sym, ap, ap₂, subst, ◌∙◌, arith, append_assoc, Option, Some, None, from_be_bytes, w32, map-append, All-cons, All-nil, Page, words_of, AreShown, HaveEnded, take-add, take_more, length-take, take-append-drop}
 use Rattle.std.specs.Simd.{first_chunks}
-use Rattle.std.proofs.lemmas.List.{take_more, length-take, take-append-drop}
 
 pub chunk_words : (n : ℕ) (xs : List ℕ) → n ≡ length xs / 4 → map (from_be_bytes w32) (first_chunks 4 n xs) ≡ words_of xs
 chunk_words zero [] e = refl

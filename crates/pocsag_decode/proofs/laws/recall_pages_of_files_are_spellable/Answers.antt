@@ -1,5 +1,5 @@
 use Rattle.pocsag_decode.proofs.SpellablePages.{page_spellable, queue_spellable, round_spellable}
-use Rattle.pocsag_decode.proofs.laws.pages_of_files_are_spellable.Goals as goal
+use Rattle.pocsag_decode.proofs.laws.recall_pages_of_files_are_spellable.Goals as goal
 
 pub returns-clause-fields : goal.returns-clause-fields
 returns-clause-fields c = page_spellable
