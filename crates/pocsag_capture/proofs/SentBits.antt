@@ -1,46 +1,9 @@
 -- A capture that holds a sent transmission shows its pages.
-use Rattle.std.proofs.Common.{◌≡◌, ◌≢◌, ◌⊎◌, ℕ, zero, suc, lit<, ◌+◌, ◌-◌, ◌*◌, ◌/◌, ◌%◌, ◌^◌, ◌<◌, ◌≤◌, ◌==◌, if◌then◌else◌, List, [], ◌∷◌, ◌++◌, length, map, take, drop, get_or, All, Option, Some, Bool, true, false, bit_xor, count_ones, refl, sym, ap, ap₂, subst, ◌∙◌, inl, inr, arith, append_assoc, eq-eqb}
-use Rattle.std.specs.List.{AllZip, flat_map, range_with_len}
+use Rattle.pocsag_capture.proofs.Prelude.{◌≡◌, ◌≢◌, ◌⊎◌, ℕ, zero, suc, lit<, ◌+◌, ◌-◌, ◌*◌, ◌/◌, ◌%◌, ◌^◌, ◌<◌, ◌≤◌, ◌==◌, if◌then◌else◌, List, [], ◌∷◌, ◌++◌, length, map, take, drop, get_or, All, Option, Some, Bool, true, false, bit_xor, count_ones, refl, sym, ap, ap₂, subst, ◌∙◌, inl, inr, arith, append_assoc, eq-eqb, AllZip, flat_map, range_with_len, min-le_right, drop-append-add, get_or-append_seam, ones_le_self, cases_eq, cases_lt, ne_eqb, same_number_lists, drop_more, length-append, length-map, length-take-le, map-append, take-append-drop, get_or-map-range_with_len, length-map-range_with_len, All-cons, All-get_or, All-head, All-nil, All-tail, AllZip-get_or, AllZip-long, HasNoneNear, IsCodeword, IsNear, IsOnlyNear, check_of, columns, combine, kind_of, numbers_are_repaired_lem, Kind, Idle, Address, Message, high_first, high_number, length-high_first, length-flat_map-wide, Page, after_preamble, sync_word, synced, unsynced, words_of, HasNoOrphan, pages_from, EndsIdle, Reads, synced_count, unsynced_count, unsynced_more, reads_plainly, ReadsAs, stays_open, without_orphan, IsMended, said, mended_back, as_sent, capture_bits, word_on, AreCaptured, HasCaptured, without_orphans, lost_words, AreFound, HasFewLost, IsLikeSynchronised, IsQuiet, IsReception, IsSyncRun, IsSynchronised, all_batches, batches_in_front, counted, held_end, run_end, last_sync, nothing, passed, received, received_word, sent_at, Polarity, Upright, Inverted, Reception, Run}
 use Rattle.std.specs.Int.Bits.{xor_self}
-use Rattle.std.proofs.Math.Nat.{min-le_right}
-use Rattle.std.proofs.Math.Seq.{drop-append-add, get_or-append_seam}
-use Rattle.std.proofs.lemmas.Nat.{ones_le_self}
-use Rattle.std.proofs.lemmas.Bool.{cases_eq, cases_lt, ne_eqb}
-use Rattle.std.proofs.lemmas.Grind.{same_number_lists}
-use Rattle.std.proofs.lemmas.List.{drop_more, length-append, length-map, length-take-le, map-append, take-append-drop}
-use Rattle.std.proofs.lemmas.List.FromFn.{get_or-map-range_with_len, length-map-range_with_len}
-use Rattle.std.proofs.lemmas.List.Elements.{All-cons, All-get_or, All-head, All-nil, All-tail, AllZip-get_or}
-use Rattle.std.proofs.lemmas.Slice.Zip.{AllZip-long}
-use Rattle.pocsag_words.specs.Codeword.{HasNoneNear, IsCodeword, IsNear, IsOnlyNear}
-use Rattle.pocsag_words.specs.Columns.{check_of, columns, combine}
-use Rattle.pocsag_words.specs.Kinds.{kind_of}
 use Rattle.pocsag_words.proofs.BlockCode.{IsCodeword-from_low}
-use Rattle.pocsag_words.proofs.ErrorLemmas.{numbers_are_repaired_lem}
-use Rattle.pocsag_words.specs.declared.codeword.Kind.{Kind}
-use Rattle.pocsag_words.specs.declared.codeword.Kind.TheVariants.{Idle, Address, Message}
-use Rattle.pocsag_text.specs.Bits.{high_first, high_number}
-use Rattle.pocsag_text.proofs.BitLists.{length-high_first}
-use Rattle.pocsag_text.proofs.Cuts.{length-flat_map-wide}
-use Rattle.pocsag_pages.specs.declared.page.Page.{Page}
-use Rattle.pocsag_pages.specs.Bytes.{after_preamble, sync_word, synced, unsynced, words_of}
-use Rattle.pocsag_pages.specs.Plain.{HasNoOrphan, pages_from}
-use Rattle.pocsag_pages.specs.Reading.{EndsIdle, Reads}
-use Rattle.pocsag_pages.proofs.Lengths.{synced_count, unsynced_count, unsynced_more}
-use Rattle.pocsag_pages.proofs.Readings.{reads_plainly}
-use Rattle.pocsag_decode.specs.Faults.{ReadsAs}
-use Rattle.pocsag_decode.specs.OpenPages.{stays_open, without_orphan}
 use Rattle.pocsag_decode.proofs.SentBytes.{codewords_are}
-use Rattle.pocsag_pager.specs.Shown.{IsMended, said}
-use Rattle.pocsag_pager.proofs.Mended.{mended_back}
-use Rattle.pocsag_capture.specs.Bits.{as_sent, capture_bits, word_on}
-use Rattle.pocsag_capture.specs.CapturedPages.{AreCaptured, HasCaptured, without_orphans}
-use Rattle.pocsag_capture.specs.Lost.{lost_words}
-use Rattle.pocsag_capture.specs.Receptions.{AreFound, HasFewLost, IsLikeSynchronised, IsQuiet, IsReception, IsSyncRun, IsSynchronised, all_batches, batches_in_front, counted, held_end, run_end, last_sync, nothing, passed, received, received_word, sent_at}
 use Rattle.pocsag_capture.specs.Sent.{HoldsSent, NothingFollows, IsReceived, StandAmong}
-use Rattle.pocsag_capture.specs.declared.polarity.Polarity.{Polarity}
-use Rattle.pocsag_capture.specs.declared.polarity.Polarity.TheVariants.{Upright, Inverted}
-use Rattle.pocsag_capture.specs.declared.reception.Reception.{Reception}
-use Rattle.pocsag_capture.specs.declared.reception.Run.{Run}
 use Rattle.pocsag_capture.proofs.Joined.{no_orphan_any, no_orphan_join, pages_join, pages_shift, keeps_no_orphan}
 use Rattle.pocsag_capture.proofs.CorrectedWords.{synced_two}
 use Rattle.pocsag_capture.proofs.Extracts.{word_read, word_there}
