@@ -1,18 +1,8 @@
 -- What is refused is no edit of these pages, or memory was wanting.
-use Rattle.std.proofs.Common.{◌≡◌, ◌⊎◌, inl, inr, ℕ, zero, suc, ◌<◌, true, List, [], ◌∷◌, length, refl, sym, ap, ◌∙◌, subst, arith, slice_index_or}
-use Rattle.std.specs.Prelude.{Option, Some, None, Ok, Contains, nat_eq}
-use Rattle.std.proofs.lemmas.Bool.{or_right}
-use Rattle.pocsag_pages.specs.Pages.{has_address}
-use Rattle.pocsag_pages.specs.PageFile.{page_of_fields}
-use Rattle.pocsag_pages.specs.declared.page.Page.{Page}
-use Rattle.pocsag_pages.specs.declared.fault.FieldFault.{FieldFault}
-use Rattle.pocsag_plan.specs.OpenRound.{add_fault, fault_or_memory}
+use Rattle.pocsag_journal.proofs.Prelude.{◌≡◌, ◌⊎◌, inl, inr, ℕ, zero, suc, ◌<◌, true, List, [], ◌∷◌, length, refl, sym, ap, ◌∙◌, subst, arith, slice_index_or, Option, Some, None, Ok, Contains, or_right, has_address, page_of_fields, Page, FieldFault, add_fault, fault_or_memory, IsAdded, IsEditRefused, IsDone, IsReason, asked_by_line, wants_memory, Line, Refusal}
+use Rattle.std.specs.Prelude.{nat_eq}
 use Rattle.pocsag_plan.specs.declared.refusal.AddFault.{AddFault}
-use Rattle.pocsag_journal.specs.Edited.{IsAdded, IsEditRefused}
-use Rattle.pocsag_journal.specs.Runs.{IsDone, IsReason, asked_by_line, wants_memory}
-use Rattle.pocsag_journal.specs.declared.edits.Line.{Line}
 use Rattle.pocsag_journal.specs.declared.edits.Line.TheVariants as line
-use Rattle.pocsag_journal.specs.declared.refusal.Refusal.{Refusal}
 use Rattle.pocsag_journal.specs.declared.refusal.Refusal.TheVariants as refusal
 
 pub same_nat : (n : ℕ) → nat_eq n n ≡ true

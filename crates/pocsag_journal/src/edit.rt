@@ -1,6 +1,6 @@
 ghost use Rattle.std.specs.Prelude.{◌≡◌, IfErr, IfOk, OnErr, OnOk};
 ghost use Rattle.csv.specs.Records.{fields_of};
-ghost use Rattle.pocsag_journal.specs.Edited.{IsAddRefused, IsAdded, IsEditRefused, IsMade};
+ghost use Rattle.pocsag_journal.specs.Edited.{IsEditRefused, IsMade};
 ghost use Rattle.pocsag_journal.specs.Runs.{IsEdit, IsReasonFor, IsRefusedFor, sent_record};
 
 use crate::editable::Editable;
@@ -12,8 +12,8 @@ use pocsag_plan::{Book, NotThere};
 use pocsag_words::OutOfMemory;
 use std::alloc::Global;
 
-/// Makes the edit of the round that a record is. It is refused for want of memory, or where the record is no edit that
-/// these pages accept; the round is then as it was.
+/// Makes the edit of the round that a record is. It is refused if memory is refused, or if the record is no edit that
+/// these pages accept. The round is then as it was.
 pub fn edit_row(alloc: Global, book: &mut Book, row: &ByteRecord) -> Result<(), Refusal>
     ensures made { OnOk result (IsEdit (fields_of row.now) book.old book.new) }
     ensures refused { IfErr result (IsRefusedFor (fields_of row.now) book.old) }
@@ -56,7 +56,13 @@ pub(crate) fn edit<P: Editable>(alloc: Global, pages: &mut P, line: Line<'_>) ->
             address,
             kind,
             message,
-        } => add_fields(alloc, pages, address, kind, message),
+        } => match page_of_fields(alloc, address, kind, message) {
+            Ok(page) => match pages.put(page) {
+                Ok(()) => Ok(()),
+                Err(fault) => Err(Refusal::Add(fault)),
+            },
+            Err(fault) => Err(Refusal::Field(fault)),
+        },
         // What spells no address is that of no page.
         Line::Cancel { address: field } => {
             let Some(address) = parse_address(field) else {
@@ -80,26 +86,5 @@ pub(crate) fn edit<P: Editable>(alloc: Global, pages: &mut P, line: Line<'_>) ->
             Ok(())
         }
         _ => Err(Refusal::Unknown),
-    }
-}
-
-fn add_fields<P: Editable>(
-    alloc: Global,
-    pages: &mut P,
-    address: &[u8],
-    kind: &[u8],
-    message: &[u8],
-) -> Result<(), Refusal>
-    ensures made { OnOk result (IsAdded address.now kind.now message.now (P.pages pages.old) (P.pages pages.new)) }
-    ensures refused { IfErr result (IsAddRefused address.now kind.now message.now (P.pages pages.old)) }
-    ensures unchanged { OnErr result (P.pages pages.new ≡ P.pages pages.old) }
-{
-    let page = match page_of_fields(alloc, address, kind, message) {
-        Ok(page) => page,
-        Err(fault) => return Err(Refusal::Field(fault)),
-    };
-    match pages.put(page) {
-        Ok(()) => Ok(()),
-        Err(fault) => Err(Refusal::Add(fault)),
     }
 }

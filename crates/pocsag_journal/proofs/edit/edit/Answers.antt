@@ -1,5 +1,4 @@
-use Rattle.std.proofs.Common.{arith}
-use Rattle.pocsag_journal.specs.Edited.{IsSent}
+use Rattle.pocsag_journal.proofs.Prelude.{arith, IsSent}
 use Rattle.pocsag_journal.proofs.edit.edit.Goals as goal
 
 pub returns-in-Some-spelled_count-clause-made : goal.returns-in-Some-spelled_count-clause-made

@@ -1,10 +1,4 @@
-use Rattle.std.proofs.Common.{◌≡◌, ◌⊎◌, true, List, subst}
-use Rattle.std.specs.Prelude.{IfErr, Option, Result, Ok, Err}
-use Rattle.pocsag_pages.specs.declared.page.Page.{Page}
-use Rattle.pocsag_journal.specs.Edited.{IsEditRefused}
-use Rattle.pocsag_journal.specs.Runs.{Asked, IsDone, IsReason, asked_by_line, wants_memory}
-use Rattle.pocsag_journal.specs.declared.edits.Line.{Line}
-use Rattle.pocsag_journal.specs.declared.refusal.Refusal.{Refusal}
+use Rattle.pocsag_journal.proofs.Prelude.{◌≡◌, ◌⊎◌, true, List, subst, IfErr, Option, Result, Ok, Err, Page, IsEditRefused, Asked, IsDone, IsReason, asked_by_line, wants_memory, Line, Refusal}
 use Rattle.pocsag_journal.proofs.Refusals.{reason_asking, refused_asking}
 use Rattle.pocsag_journal.proofs.edit.edit_record.Goals as goal
 
