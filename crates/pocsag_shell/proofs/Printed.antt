@@ -1,8 +1,6 @@
 -- What a writer took of a text that was reported.
-use Rattle.std.proofs.Common.{◌≡◌, ℕ, ◌≤◌, List, ◌++◌, length, take, sym, ap, ◌∙◌, Result, Ok, Err, append_assoc, length-append, length-take, arith}
-use Rattle.std.proofs.lemmas.List.{take-append-le, take_all}
-use Rattle.std.specs.Result.{IsErr, OnErr, OnOk}
-use Rattle.pocsag_words.specs.Devices.{Delivers, TookPrefix}
+use Rattle.pocsag_shell.proofs.Prelude.{◌≡◌, ℕ, ◌≤◌, List, ◌++◌, length, take, sym, ap, ◌∙◌, Result, Ok, Err, length-append, length-take, arith, take-append-le, take_all, IsErr, OnErr, OnOk, Delivers, TookPrefix}
+use Rattle.std.proofs.Common.{append_assoc}
 
 took_whole : (before after printed : List ℕ) → after ≡ before ++ printed → TookPrefix before after printed
 took_whole before after printed whole = (

@@ -35,7 +35,8 @@ impl<'a> Context<'a> {
             if error.kind() == ErrorKind::OutOfMemory {
                 return FileFault::OutOfMemory;
             }
-            self.diagnostics.meet(role, error.raw_os_error());
+            self.diagnostics
+                .note_system_error(role, error.raw_os_error());
             FileFault::Device
         })
     }
@@ -46,7 +47,8 @@ impl<'a> Context<'a> {
         ensures fault { OnErr done (IsErrOf result FileFault.Write) }
     {
         done.map_err(|error| {
-            self.diagnostics.meet(role, error.raw_os_error());
+            self.diagnostics
+                .note_system_error(role, error.raw_os_error());
             FileFault::Write
         })
     }
@@ -61,8 +63,8 @@ impl<'a> Context<'a> {
         WriterSink::new(self.rt.stderr(), Role::Output, self.diagnostics)
     }
 
-    /// Keeps a note for `tell_more`, in place of an earlier one, if the user gave `--verbose`. It keeps none if memory
-    /// runs out.
+    /// Keeps a note for `print_more`, in place of an earlier one, if the user gave `--verbose`. It keeps none if
+    /// memory runs out.
     pub fn note<D: Display + Drop>(&self, text: D) {
         if self.diagnostics.is_asked() {
             let _ = self
@@ -111,7 +113,7 @@ impl<'a> Context<'a> {
         }
     }
 
-    /// Forgets which file the system refused, which is no fault of a command that did what it was asked.
+    /// Forgets which file the system refused, since a command that did what it was asked has no fault.
     pub fn forget_refused_call(&self) {
         let _ = self.diagnostics.take_refused_call();
     }

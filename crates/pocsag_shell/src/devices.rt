@@ -50,7 +50,8 @@ impl<'a, R: Read> Source for ReaderSource<'a, R> {
         match self.reader.read(buffer) {
             Ok(count) => Ok(count),
             Err(error) => {
-                self.diagnostics.meet(self.role, error.raw_os_error());
+                self.diagnostics
+                    .note_system_error(self.role, error.raw_os_error());
                 self.failures = self.failures.saturating_add(1);
                 Err(DeviceFault)
             }
@@ -95,8 +96,10 @@ impl<'a, W: Write> Sink for WriterSink<'a, W> {
         self.calls = self.calls.saturating_add(1);
         match self.writer.write(piece) {
             Ok(count) if count > 0 || piece.is_empty() => return Ok(count),
-            Ok(_) => self.diagnostics.meet(self.role, None),
-            Err(error) => self.diagnostics.meet(self.role, error.raw_os_error()),
+            Ok(_) => self.diagnostics.note_system_error(self.role, None),
+            Err(error) => self
+                .diagnostics
+                .note_system_error(self.role, error.raw_os_error()),
         }
         self.failures = self.failures.saturating_add(1);
         Err(DeviceFault)

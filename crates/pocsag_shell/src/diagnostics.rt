@@ -1,7 +1,7 @@
 use crate::role::Role;
 use std::cell::{Cell, RefCell};
 
-/// In place of the system's error number: the command itself refuses the file.
+/// This value in place of the system's error number means that the command itself refuses the file.
 pub(crate) const OWN_REFUSAL: i32 = 0;
 
 /// The same of a file that is too large.
@@ -36,12 +36,12 @@ impl Diagnostics {
     }
 
     /// Records that the system refused a call on a file or a stream.
-    pub fn meet(&self, role: Role, code: Option<i32>) {
+    pub fn note_system_error(&self, role: Role, code: Option<i32>) {
         self.refused_call.set(Some(RefusedCall { role, code }));
     }
 
     /// Records that the command refuses a file, unless the system refused a call before.
-    pub fn refuse(&self, role: Role) {
+    pub fn note_refusal(&self, role: Role) {
         let refused = RefusedCall {
             role,
             code: Some(OWN_REFUSAL),
@@ -52,7 +52,7 @@ impl Diagnostics {
 
     /// Records that a file is too large.
     pub fn refuse_large(&self, role: Role) {
-        self.meet(role, Some(OVER_LIMIT));
+        self.note_system_error(role, Some(OVER_LIMIT));
     }
 
     /// The last refused call. It is forgotten.

@@ -2,7 +2,8 @@ use std::fs::{self, File, OpenOptions};
 use std::io::{self, IsTerminal, Read, Stdin, Stdout, Write};
 
 /// Keeps the number of a closed standard stream from the files that the program opens, as long as what it returns is there. The
-/// stream stays one that cannot be used: where the program is to read it, it can only be written, and else only be read.
+/// stream stays one that cannot be used: one that the program would read can only be written, and one that it would write can
+/// only be read.
 pub(crate) fn hold_closed(rt: &HostRuntime, stream: &str, is_read: bool) -> Option<File> {
     if fs::metadata(rt, stream).is_ok() {
         return None;
