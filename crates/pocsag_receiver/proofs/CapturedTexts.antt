@@ -1,46 +1,18 @@
 -- What is listed of a capture, and why a command does not answer for one.
-use Rattle.std.proofs.Common.{◌≡◌, ℕ, ◌*◌, ◌≤◌, Bool, true, false, List, [], ◌∷◌, ◌++◌, length, map, Option, None, Result, refl, sym, ap, ap₂, subst, ◌∙◌, if◌then◌else◌}
-use Rattle.std.specs.Prelude.{IfNone, IfSome, Some, codes}
-use Rattle.std.proofs.lemmas.Grind.{flat_map-append}
-use Rattle.csv.specs.Writing.{fields_text, is_blank}
-use Rattle.std.specs.List.{flat_map}
-use Rattle.std.proofs.lemmas.List.{append-nil}
-use Rattle.std.proofs.lemmas.List.Elements.{All-weaker}
+use Rattle.pocsag_receiver.proofs.Prelude.{◌≡◌, ℕ, ◌*◌, ◌≤◌, Bool, true, false, List, [], ◌∷◌, ◌++◌, length, map, Option, None, Result, refl, sym, ap, ap₂, subst, ◌∙◌, if◌then◌else◌, IfNone, IfSome, codes, flat_map-append, fields_text, is_blank, flat_map, append-nil, All-weaker, input_limit, Page, unsynced, capture_bits, CapturedTransmission, IsCapturedTransmission, UncutStandWhole, pages_captured, ReceptionStats, Reception, IsFaultless, address_fault, printed_so, streams_as, printed_by, over_bytes, over_reader, IsStreamOf, Ran, ErrorStream, View, lists_capture, writing, captured_header, captured_line, captured_row, captured_text, is_picked, mark_of, picked_pages, picked_rows, row_line, row_record, AreRowsOf, ListsRows, form_of, names_in, row_in, asked_rows, ExplainsShowing, PageOrigin, ListForm, Row, ReceiverFault}
+use Rattle.std.specs.Prelude.{Some}
 use Rattle.pocsag_words.specs.declared.device.Sink.{Ghosts as Writer}
 use Rattle.pocsag_words.specs.declared.device.Source.{Ghosts as Reader}
-use Rattle.pocsag_words.specs.Frame.{input_limit}
-use Rattle.pocsag_pages.specs.declared.page.Page.{Page}
-use Rattle.pocsag_pages.specs.Bytes.{unsynced}
-use Rattle.pocsag_capture.specs.Bits.{capture_bits}
 use Rattle.pocsag_capture.proofs.SentBits.{shows_what_was_sent}
 use Rattle.pocsag_capture.specs.ExtractedBytes.{ExtractsOne}
-use Rattle.pocsag_capture.specs.PageEnds.{CapturedTransmission, IsCapturedTransmission, UncutStandWhole, pages_captured}
 use Rattle.pocsag_capture.specs.Receptions.{AreReceptions, received}
 use Rattle.pocsag_capture.specs.Sent.{HoldsSent}
 use Rattle.pocsag_capture.specs.Slips.{AreInStep}
-use Rattle.pocsag_capture.specs.declared.reception.ReceptionStats.{ReceptionStats}
-use Rattle.pocsag_capture.specs.declared.reception.Reception.{Reception}
 use Rattle.pocsag_capture.proofs.PageEnds.{transmissions_are_captured_lem, uncut_pages_stand}
-use Rattle.pocsag_decode.specs.Faults.{IsFaultless}
-use Rattle.pocsag_pager.specs.Faults.{address_fault}
-use Rattle.pocsag_shell.proofs.Readers.{printed_so, streams_as}
-use Rattle.pocsag_shell.specs.ErrorStreams.{printed_by}
-use Rattle.pocsag_shell.specs.Readers.{over_bytes, over_reader}
-use Rattle.pocsag_shell.specs.Runs.{IsStreamOf, Ran}
-use Rattle.pocsag_shell.specs.declared.error_stream.ErrorStream.{ErrorStream}
 use Rattle.pocsag_shell.specs.declared.fault.FileFault.TheVariants as file
-use Rattle.pocsag_show.specs.declared.view.View.{View}
 use Rattle.pocsag_receiver.specs.Captures.{ExplainsOne, IsCaptureListed, ListsAmong, ListsWhole}
-use Rattle.pocsag_receiver.specs.Works.{lists_capture, writing}
-use Rattle.pocsag_receiver.specs.CapturedForms.{captured_header, captured_line, captured_row, captured_text, is_picked, mark_of, picked_pages, picked_rows, row_line, row_record}
-use Rattle.pocsag_receiver.specs.Rows.{AreRowsOf, ListsRows, form_of, names_in, row_in, asked_rows}
-use Rattle.pocsag_receiver.specs.Views.{ExplainsShowing}
-use Rattle.pocsag_receiver.specs.declared.captured.Mark.{Mark}
-use Rattle.pocsag_receiver.specs.declared.captured.Picking.{Picking}
-use Rattle.pocsag_receiver.specs.declared.form.ListForm.{ListForm}
+use Rattle.pocsag_receiver.specs.declared.captured.CaptureOptions.{CaptureOptions}
 use Rattle.pocsag_receiver.specs.declared.form.ListForm.TheVariants as forms
-use Rattle.pocsag_receiver.specs.declared.form.Row.{Row}
-use Rattle.pocsag_receiver.specs.declared.fault.ReceiverFault.{ReceiverFault}
 use Rattle.pocsag_receiver.specs.declared.fault.ReceiverFault.TheVariants as fault
 
 pub show_explained : (view : View) (capture bytes : List ℕ) (nth : ℕ) (heard : List ReceptionStats) (e : ReceiverFault) → length capture ≤ input_limit
@@ -57,7 +29,7 @@ picked_one : (T : Row → List ℕ) (r : Row) (b : Bool) → flat_map T (if b th
 picked_one T r true = append-nil (T r)
 picked_one T r false = refl
 
-picked_text : (T : Row → List ℕ) (only : Option ℕ) (mark : Bool → Mark) (ps : List Page) (cuts : List Bool)
+picked_text : (T : Row → List ℕ) (only : Option ℕ) (mark : Bool → PageOrigin) (ps : List Page) (cuts : List Bool)
     → flat_map T (picked_rows only mark ps cuts) ≡ picked_pages only (λ is_cut p. T (record { page = p; mark = Some (mark is_cut) })) ps cuts
 picked_text T only mark [] cuts = refl
 picked_text T only mark (p ∷ ps) [] = refl
@@ -72,7 +44,7 @@ text_of_one : (b : Bool) (texts : List Bool) (only : Option ℕ) (c : CapturedTr
 text_of_one true texts only c = picked_text (row_line texts) only (mark_of c) c.pages c.cuts
 text_of_one false texts only c = picked_text (row_record texts) only (mark_of c) c.pages c.cuts
 
-text_of_all : (k : Picking) (cs : List CapturedTransmission)
+text_of_all : (k : CaptureOptions) (cs : List CapturedTransmission)
     → flat_map (row_in (form_of k)) (flat_map (asked_rows k.only) cs) ≡ flat_map (captured_text k) cs
 text_of_all k [] = refl
 text_of_all k (c ∷ cs) =
@@ -85,7 +57,7 @@ unfolding fields_text is_blank
 names_of_captures true texts = refl
 names_of_captures false texts = refl
 
-captured_listed : (capture : List ℕ) (k : Picking) (found : List Reception) (rows : List Row) (heard : List ReceptionStats)
+captured_listed : (capture : List ℕ) (k : CaptureOptions) (found : List Reception) (rows : List Row) (heard : List ReceptionStats)
     → IfSome k.only (λ a. address_fault a ≡ None) → AreReceptions (capture_bits capture) found
     → AreRowsOf (capture_bits capture) k.only 1 found rows heard
     → IsCaptureListed k heard capture (names_in (form_of k) (codes "address,kind,message,state" ++ 10 ∷ []) ++ flat_map (row_in (form_of k)) rows)
@@ -98,7 +70,7 @@ captured_listed capture k found rows heard address are t = record {
       ∙ ap (λ (l : List ℕ). captured_header k.is_json ++ l) (text_of_all k t.transmissions);
 }
 
-pub captured_streamed : {O : Type 0} (Out : Writer O) (capture : List ℕ) (k : Picking) (found items : List Reception) (heard : List ReceptionStats)
+pub captured_streamed : {O : Type 0} (Out : Writer O) (capture : List ℕ) (k : CaptureOptions) (found items : List Reception) (heard : List ReceptionStats)
     (form : ListForm) (before after : List Row → List ReceptionStats → Type 0) (out out' : O) (result : Result ℕ ReceiverFault)
     → length capture ≤ input_limit → IfSome k.only (λ a. address_fault a ≡ None) → AreReceptions (capture_bits capture) items → found ≡ items → form ≡ form_of k
     → ((rows : List Row) (told : List ReceptionStats) → before rows told → AreRowsOf (capture_bits capture) k.only 1 found rows told)
@@ -119,7 +91,7 @@ captured_streamed Out capture k found items heard form before after out out' res
 -- ---- a capture that was listed
 
 module _ {T O E : Type 0} (Tx : Reader T) {Out : Writer O} {Err' : Writer E} {tx tx' : T} {status : ℕ} {out out' : O}
-    {err err' : ErrorStream ReceiverFault E} (k : Picking) (heard : List ReceptionStats)
+    {err err' : ErrorStream ReceiverFault E} (k : CaptureOptions) (heard : List ReceptionStats)
     (ran : Ran (over_reader (lists_capture k heard) Tx Out tx tx') Out Err' status out out' err err') where
   pub captured_whole : Tx.is_known → Out.is_known → IfNone (printed_by err') (ListsWhole (Tx.held tx) k (Out.taken out) (Out.taken out'))
   captured_whole known on =

@@ -17,7 +17,7 @@ use Rattle.pocsag_receiver.specs.Faults.{fault_of_list}
 use Rattle.pocsag_receiver.specs.Works.{writing}
 use Rattle.pocsag_receiver.specs.declared.captured.Begun.{Begun}
 use Rattle.pocsag_receiver.specs.declared.captured.CaptureRows.{CaptureRows}
-use Rattle.pocsag_receiver.specs.declared.captured.Picking.{Picking}
+use Rattle.pocsag_receiver.specs.declared.captured.CaptureOptions.{CaptureOptions}
 use Rattle.pocsag_receiver.specs.declared.fault.ReceiverFault.{ReceiverFault}
 use Rattle.pocsag_receiver.specs.declared.form.ListForm.{ListForm}
 use Rattle.pocsag_receiver.specs.declared.form.ListForm.TheVariants as form
@@ -49,7 +49,7 @@ row_in (form.Texts texts) r = row_record texts r
 row_in (form.Json texts) r = row_line texts r
 
 -- The form in which a capture is listed.
-abbrev pub form_of : Picking → ListForm
+abbrev pub form_of : CaptureOptions → ListForm
 form_of k = if k.is_json then form.Json k.texts else form.Texts k.texts
 
 -- What stands in front of the rows: in CSV the record of these names.

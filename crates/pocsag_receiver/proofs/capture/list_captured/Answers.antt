@@ -1,6 +1,4 @@
-use Rattle.std.proofs.Common.{Ok, Err, inl, refl}
-use Rattle.std.proofs.lemmas.Result.{err_from_is_err_and}
-use Rattle.pocsag_receiver.specs.Faults.{fault_of_list}
+use Rattle.pocsag_receiver.proofs.Prelude.{Ok, Err, inl, refl, err_from_is_err_and, fault_of_list}
 use Rattle.pocsag_receiver.proofs.CapturedTexts.{captured_streamed}
 use Rattle.pocsag_receiver.proofs.Received.{passed_on}
 use Rattle.pocsag_receiver.proofs.capture.list_captured.Goals as goal
