@@ -4,7 +4,7 @@ use Rattle.pocsag_pages.specs.PageFile.{verdict}
 use Rattle.pocsag_pages.specs.declared.page.Page.{Page}
 use Rattle.pocsag_plan.specs.Frames.{frame_count, frames_of}
 use Rattle.pocsag_plan.specs.Plans.{IsPlanFor}
-use Rattle.pocsag_plan.specs.declared.bounded.Bounded.{Bounded}
+use Rattle.pocsag_plan.specs.declared.bounded.BoundedPlan.{BoundedPlan}
 use Rattle.pocsag_plan.specs.declared.frames.FrameRoom.{FrameRoom}
 use Rattle.pocsag_plan.specs.declared.search.Search.{Search}
 use Rattle.pocsag_c.specs.Reports.{IsAsked}
@@ -17,7 +17,7 @@ pub record HasFramesOf (file : List ℕ) (number limit always : ℕ) (info : Fra
   pub asked : IsAsked number limit always search
   pub round : List Page
   pub read : verdict file ≡ Ok round
-  pub bounded : Bounded
+  pub bounded : BoundedPlan
   pub plan_of : IsPlanFor search round bounded
   pub frames : info.frames ≡ frames_of round bounded.plan.steps.items
   pub batches : info.batches ≡ bounded.plan.batches

@@ -17,7 +17,7 @@ use Rattle.pocsag_plan.specs.Headline.{RoundHeadline}
 use Rattle.pocsag_plan.specs.Plans.{IsNoWorse}
 use Rattle.pocsag_plan.specs.Streams.{IsOfRound}
 use Rattle.pocsag_plan.specs.Verdicts.{ExplainsRound}
-use Rattle.pocsag_plan.specs.declared.bounded.Bounded.{Bounded}
+use Rattle.pocsag_plan.specs.declared.bounded.BoundedPlan.{BoundedPlan}
 use Rattle.pocsag_plan.specs.declared.fault.NoFront.TheVariants as unplanned
 use Rattle.pocsag_plan.specs.declared.fault.PlanFault.TheVariants as planning
 use Rattle.pocsag_plan.specs.declared.fault.StreamFault.TheVariants as stream
@@ -75,7 +75,7 @@ pub record IsFrontHeadline (file : List ℕ) (number : ℕ) (info : FrontInfo) (
 pub record IsNoWorseFront (file : List ℕ) (number limit : ℕ) (info : FrontInfo) : Type 0 where
   pub end : End
   pub same_end : number ≡ number_of_end end
-  pub bounded : Bounded
+  pub bounded : BoundedPlan
   pub batches : info.batches ≡ bounded.plan.batches
   pub bound : info.bound ≡ bounded.bound
   pub no_worse : IsOfRound file (λ round. IsNoWorse end (take info.pages round) limit bounded)

@@ -11,7 +11,7 @@ use Rattle.pocsag_plan.specs.BoundedHeadline.{BoundedHeadline}
 use Rattle.pocsag_plan.specs.Headline.{Headline}
 use Rattle.pocsag_plan.specs.Plans.{IsNoWorse}
 use Rattle.pocsag_plan.specs.Streams.{ExplainsStream, IsOfRound}
-use Rattle.pocsag_plan.specs.declared.bounded.Bounded.{Bounded}
+use Rattle.pocsag_plan.specs.declared.bounded.BoundedPlan.{BoundedPlan}
 use Rattle.pocsag_plan.specs.declared.fault.StreamFault.{StreamFault}
 use Rattle.pocsag_plan.specs.declared.search.OnLimit.{OnLimit}
 use Rattle.pocsag_c.specs.Answers.{IsDelivered, number_of_end}
@@ -74,7 +74,7 @@ no_plan place = record { pages = 0; codewords = 0; in_order = 0; batches = 0; bo
 pub record IsNoWorseTold (file : List ℕ) (number limit : ℕ) (info : PlanInfo) : Type 0 where
   pub end : End
   pub same_end : number ≡ number_of_end end
-  pub bounded : Bounded
+  pub bounded : BoundedPlan
   pub batches : info.batches ≡ bounded.plan.batches
   pub bound : info.bound ≡ bounded.bound
   pub no_worse : IsOfRound file (λ round. IsNoWorse end round limit bounded)

@@ -23,8 +23,8 @@ fn format_of(form: u32, depth: u32) -> Option<Format>
 }
 
 /// Judges a certificate for a page file as `pocsag_check` does, and puts the text that reports why fewer batches do not
-/// suffice, or which node does not hold, into a buffer: 10 where the buffer is too small. Then too `text_len` reports
-/// the length of the text. The form is 0 for words and 1 for JSON, and reports the nodes no deeper than `depth`.
+/// suffice, or which node does not hold, into a buffer: 10 where the buffer is too small. `text_len` reports the length
+/// of the text then too. The form is 0 for words and 1 for JSON; either reports the nodes no deeper than `depth`.
 #[unsafe(no_mangle)]
 pub extern "C" fn pocsag_explain(
     alloc: Global,
@@ -76,15 +76,12 @@ pub extern "C" fn pocsag_explain(
         is_shown: shown,
     };
     let mut told = GrowingSink::new(alloc);
-    match write_explanation(alloc, format, judged, &mut told) {
-        Ok(()) => {
-            *info = verdict.info;
-            if hand_out(told.into_bytes().as_slice(), text, text_len) {
-                u32::from(!shown)
-            } else {
-                10
-            }
-        }
-        Err(_) => 3,
+    let Ok(()) = write_explanation(alloc, format, judged, &mut told) else {
+        return 3;
+    };
+    *info = verdict.info;
+    match hand_out(told.into_bytes().as_slice(), 10, text, text_len) {
+        0 => u32::from(!shown),
+        small => small,
     }
 }

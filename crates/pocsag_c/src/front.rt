@@ -19,12 +19,14 @@ ghost use Rattle.pocsag_c.specs.Plans.{HasNoRoomForBoth, IsPlannedInto};
 ghost use Rattle.pocsag_c.specs.Statuses.{IsOfBytes, front_refusal, nowhere};
 
 use crate::buffer::hand_out;
-use crate::plan::{PlanTexts, end_of, hand_out_both, on_limit_of};
+use crate::plan::{PlanTexts, hand_out_both, search_of};
 use crate::refusal::{NOWHERE, Place, refused_front};
-use pocsag_decode::{page_files_are_read_back, pages_of_files_are_spellable, write_page_file};
+use pocsag_decode::{
+    recall_page_files_are_read_back, recall_pages_of_files_are_spellable, write_page_file,
+};
 use pocsag_pages::read_round;
 use pocsag_plan::{
-    Bounded, FrontPlan, NoFront, OnLimit, PlanFault, Search, StreamFault, UnsentFront,
+    BoundedPlan, FrontPlan, NoFront, OnLimit, PlanFault, Search, StreamFault, UnsentFront,
     is_node_limit, longest_front, send,
 };
 use pocsag_tree::{Certificate, write_text};
@@ -147,8 +149,8 @@ fn front_texts(
     ensures explained { IfErr result (ExplainsUnfronted pages.now search batches) }
     ensures unread { IfErr result (λ e. e ≢ UnsentFront.Stream (stream_fault.Round round_fault.ReadFault)) }
 {
-    page_files_are_read_back();
-    pages_of_files_are_spellable();
+    recall_page_files_are_read_back();
+    recall_pages_of_files_are_spellable();
     if !is_node_limit(search.limit) {
         return Err(UnsentFront::Stream(StreamFault::Plan(PlanFault::BadLimit)));
     }
@@ -156,7 +158,7 @@ fn front_texts(
         Ok(round) => round,
         Err(fault) => return Err(UnsentFront::Stream(StreamFault::Round(fault))),
     };
-    round.keeps_rules();
+    round.recall_rules();
     let front = match longest_front(alloc, round, batches, search) {
         Ok(front) => front,
         Err(NoFront::Plan(fault)) => return Err(UnsentFront::Stream(StreamFault::Plan(fault))),
@@ -213,14 +215,15 @@ fn hand_out_front(
     if status != 0 {
         return status;
     }
-    hand_out(others, rest, rest_len);
-    hand_out(beyond, why, why_len);
+    hand_out(others, 13, rest, rest_len);
+    hand_out(beyond, 14, why, why_len);
     0
 }
 
 /// Plans the longest front of a page file that so many batches carry, as `pocsag_plan` plans all of it, and puts the page
 /// file of the pages that are left, and the certificate of one page more, into two further buffers: 0, or 13 or 14 where
-/// that of the rest or of the certificate is too small; one of no byte is not wanted. 12 where not even the first page fits.
+/// that of the rest or of the certificate is too small; a buffer of 0 bytes means that its content is not wanted. 12 where
+/// not even the first page fits.
 #[unsafe(no_mangle)]
 pub extern "C" fn pocsag_plan_at_most(
     alloc: Global,
@@ -285,22 +288,12 @@ pub extern "C" fn pocsag_plan_at_most(
     *rest_len = 0;
     *why_len = 0;
     *info = NO_FRONT;
-    let Some(end) = end_of(end) else {
+    let Some(search) = search_of(limit, end, always) else {
         return 2;
     };
-    let on_limit = on_limit_of(always);
-    match front_texts(
-        alloc,
-        pages,
-        batches,
-        Search {
-            limit,
-            end,
-            on_limit,
-        },
-    ) {
+    match front_texts(alloc, pages, batches, search) {
         Ok(front) => {
-            let Bounded { plan, bound, .. } = &front.first.bounded;
+            let BoundedPlan { plan, bound, .. } = &front.first.bounded;
             *info = FrontInfo {
                 pages: plan.pages,
                 left: front.left,

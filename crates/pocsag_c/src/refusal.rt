@@ -13,7 +13,7 @@ use pocsag_show::ShowFault;
 use pocsag_tree::CertificateFault;
 use pocsag_wav::NoSound;
 
-/// Where a fault stands, and what a search knew; each number is 0 where it says nothing.
+/// Where a fault is, and what a search knew. A number that says nothing is 0.
 #[repr(C)]
 #[derive(Clone, Copy)]
 pub struct Place {
@@ -42,7 +42,7 @@ pub(crate) const NOWHERE: Place = Place {
 };
 
 // A refusal that has no place.
-fn plain(status: u32) -> StatusAt
+pub(crate) fn plain(status: u32) -> StatusAt
     ensures { result ≡ plain_refusal status }
 {
     StatusAt {
