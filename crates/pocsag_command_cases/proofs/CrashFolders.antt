@@ -1,14 +1,9 @@
 -- What a change does to a folder over memory.
-use Rattle.std.proofs.Common.{◌≡◌, ◌≢◌, ◌⊎◌, inl, inr, ⊎_elim, ℕ, ◌+◌, ◌≤◌, Bool, true, false, List, [], ◌∷◌, ◌++◌, length, take, bytes_eq, Option, None, Some, option_map, if◌then◌else◌, string_bytes, sym, ◌∙◌, ap, subst, arith, refl, length-append}
+use Rattle.pocsag_command_cases.proofs.Prelude.{◌≡◌, ◌≢◌, ◌⊎◌, inl, inr, ⊎_elim, ℕ, ◌+◌, ◌≤◌, Bool, true, false, List, [], ◌∷◌, ◌++◌, length, take, bytes_eq, Option, None, Some, option_map, if◌then◌else◌, string_bytes, sym, ◌∙◌, ap, subst, arith, refl, length-append, take-append-le, take_all, HaveOwnPaths, IsBack, IsGone, IsOnDisk, IsPut, IsSameBut, IsSameButTwo, IsStaged, Left, MayGo, MayMove, StepsBy, Stored, on_disk, place_of, staged_at, StagedFile, AreGone, ArePlaced, ArePlacesSame, AreTwo, FolderLeaves, FolderLeftSince, IsChanged, LeavesChanges, changed, folder_held, standing, stands_after, Change}
 use Rattle.std.proofs.lemmas.Bool.{false_from_ne_true}
-use Rattle.std.proofs.lemmas.List.{take-append-le, take_all}
 use Rattle.std.proofs.lemmas.Slice.Eq.{bytes_eq-Decides}
 use Rattle.std.specs.List.{AllByRecursion}
-use Rattle.pocsag_shell.specs.Folders.{HaveOwnPaths, IsBack, IsGone, IsOnDisk, IsPut, IsSameBut, IsSameButTwo, IsStaged, Left, MayGo, MayMove, StepsBy, Stored, on_disk, place_of, staged_at}
-use Rattle.pocsag_shell.specs.declared.staged_file.StagedFile.{StagedFile}
 use Rattle.pocsag_command_cases.proofs.Disks.{either_way}
-use Rattle.pocsag_command_cases.specs.CrashFolders.{AreGone, ArePlaced, ArePlacesSame, AreTwo, FolderLeaves, FolderLeftSince, IsChanged, LeavesChanges, changed, folder_held, standing, stands_after}
-use Rattle.pocsag_command_cases.specs.declared.crash_folder.Change.{Change}
 use Rattle.pocsag_command_cases.specs.declared.crash_folder.CrashFolder.{CrashFolder}
 
 stands_more : (changes : List Change) (change : Change) (before : Option (List ℕ)) (path : List ℕ) →

@@ -1,36 +1,10 @@
 -- The pages of a sent transmission are listed as whole.
-use Rattle.std.proofs.Common.{◌≡◌, ℕ, ◌+◌, ◌-◌, ◌*◌, ◌%◌, ◌<◌, ◌≤◌, List, [], ◌∷◌, ◌++◌, length, map, take, drop, All, Option, Some, None, Bool, false, refl, sym, ap, ap₂, subst, ◌∙◌, inl, inr, arith}
+use Rattle.pocsag_laws.proofs.Prelude.{◌≡◌, ℕ, ◌+◌, ◌-◌, ◌*◌, ◌%◌, ◌<◌, ◌≤◌, List, [], ◌∷◌, ◌++◌, length, map, take, drop, All, Bool, false, refl, sym, ap, ap₂, subst, ◌∙◌, inl, inr, arith, AllZip, cases_lt, lt-leb, length-map, map-append, take-append-drop, All-head, All-tail, length-map-range_with_len, AllZip-long, IsCodeword, IsNear, kind_of, Kind, Idle, Address, Message, Page, synced, unsynced, HasNoOrphan, pages_from, EndsIdle, Reads, unsynced_count, unsynced_more, reads_plainly, IsMended, said, capture_bits, AreCaptured, without_orphans, AreFound, HasFewLost, IsQuiet, IsReception, IsSyncRun, IsSynchronised, all_batches, counted, held_end, last_sync, nothing, passed, received, received_word, HoldsSent, Polarity, Reception, Run, WordsFit, capture_fits, as_many, plain_pages, IsOn, after_closed, batch_there, end_early, ends_closed, few_lost, least_batches, mended_again, on_run, open_after_all, own_place, placed_words, received_are, said_some, unsynced_shift, without_orphans_long, without_orphans_same, without_orphans_two, words_long, zip_split}
+use Rattle.std.proofs.Common.{Option, Some, None}
 use Rattle.std.specs.Prelude.{replicate}
-use Rattle.std.specs.List.{AllZip}
-use Rattle.std.proofs.lemmas.Bool.{cases_lt, lt-leb}
-use Rattle.std.proofs.lemmas.List.{length-map, map-append, take-append-drop}
-use Rattle.std.proofs.lemmas.List.Elements.{All-head, All-tail}
-use Rattle.std.proofs.lemmas.List.FromFn.{length-map-range_with_len}
-use Rattle.std.proofs.lemmas.Slice.Zip.{AllZip-long}
-use Rattle.pocsag_words.specs.Codeword.{IsCodeword, IsNear}
-use Rattle.pocsag_words.specs.Kinds.{kind_of}
-use Rattle.pocsag_words.specs.declared.codeword.Kind.{Kind}
-use Rattle.pocsag_words.specs.declared.codeword.Kind.TheVariants.{Idle, Address, Message}
-use Rattle.pocsag_pages.specs.declared.page.Page.{Page}
-use Rattle.pocsag_pages.specs.Bytes.{synced, unsynced}
-use Rattle.pocsag_pages.specs.Plain.{HasNoOrphan, pages_from}
-use Rattle.pocsag_pages.specs.Reading.{EndsIdle, Reads}
-use Rattle.pocsag_pages.proofs.Lengths.{unsynced_count, unsynced_more}
-use Rattle.pocsag_pages.proofs.Readings.{reads_plainly}
-use Rattle.pocsag_pager.specs.Shown.{IsMended, said}
-use Rattle.pocsag_capture.specs.Bits.{capture_bits}
-use Rattle.pocsag_capture.specs.CapturedPages.{AreCaptured, without_orphans}
 use Rattle.pocsag_capture.specs.Extracted.{ends_cut, page_cuts}
 use Rattle.pocsag_capture.specs.PageEnds.{AreCutsOf, CapturedTransmission, HasTransmissions, IsCapturedTransmission}
-use Rattle.pocsag_capture.specs.Receptions.{AreFound, HasFewLost, IsQuiet, IsReception, IsSyncRun, IsSynchronised, all_batches, counted, held_end, last_sync, nothing, passed, received, received_word}
-use Rattle.pocsag_capture.specs.Sent.{HoldsSent}
-use Rattle.pocsag_capture.specs.declared.polarity.Polarity.{Polarity}
-use Rattle.pocsag_capture.specs.declared.reception.Reception.{Reception}
-use Rattle.pocsag_capture.specs.declared.reception.Run.{Run}
 use Rattle.pocsag_capture.proofs.Joined.{no_orphan_any, no_orphan_join, pages_join, pages_shift}
-use Rattle.pocsag_capture.proofs.Once.{WordsFit, capture_fits}
-use Rattle.pocsag_capture.proofs.PageEnds.{as_many, plain_pages}
-use Rattle.pocsag_capture.proofs.SentBits.{IsOn, after_closed, batch_there, end_early, ends_closed, few_lost, least_batches, mended_again, on_run, open_after_all, own_place, placed_words, received_are, said_some, unsynced_shift, without_orphans_long, without_orphans_same, without_orphans_two, words_long, zip_split}
 use Rattle.pocsag_laws.specs.ListedWhole.{AreListedWhole}
 
 -- ---- which pages are cut, of words behind others

@@ -1,43 +1,11 @@
 -- A capture of transmissions and noise alone holds a reception of each and no others.
-use Rattle.std.proofs.Common.{◌≡◌, ◌≢◌, ◌⊎◌, ℕ, zero, suc, lit<, ◌+◌, ◌-◌, ◌*◌, ◌/◌, ◌%◌, ◌^◌, ◌<◌, ◌≤◌, List, [], ◌∷◌, ◌++◌, length, map, take, drop, get_or, All, Option, Some, Bool, true, false, bit_xor, count_ones, refl, sym, ap, ap₂, subst, ◌∙◌, inl, inr, arith, append_assoc, eq-eqb}
-use Rattle.std.specs.List.{AllZip, flat_map, range_with_len}
-use Rattle.std.proofs.Math.Nat.{min-eq_right}
-use Rattle.std.proofs.Math.Seq.{drop-append-add}
-use Rattle.std.proofs.lemmas.Bool.{cases_eq, cases_lt, ne_eqb}
-use Rattle.std.proofs.lemmas.Grind.{same_number_lists}
-use Rattle.std.proofs.lemmas.List.{get_or-append_right, length-append, length-drop, length-map, length-take-le, take-append-drop}
-use Rattle.std.proofs.lemmas.List.FromFn.{get_or-map-range_with_len, length-map-range_with_len}
-use Rattle.std.proofs.lemmas.List.Elements.{All-cons, All-get_or, All-head, All-nil, All-tail, AllZip-get_or}
-use Rattle.std.proofs.lemmas.Slice.Zip.{AllZip-long}
-use Rattle.pocsag_words.specs.Codeword.{HasNoneNear, IsCodeword, IsNear, IsOnlyNear}
-use Rattle.pocsag_words.specs.Columns.{check_of, columns, combine}
-use Rattle.pocsag_words.specs.Kinds.{kind_of}
+use Rattle.pocsag_laws.proofs.Prelude.{◌≡◌, ◌≢◌, ◌⊎◌, ℕ, zero, suc, lit<, ◌+◌, ◌-◌, ◌*◌, ◌/◌, ◌%◌, ◌^◌, ◌<◌, ◌≤◌, List, [], ◌∷◌, ◌++◌, length, map, take, drop, get_or, All, Bool, true, false, bit_xor, count_ones, refl, sym, ap, ap₂, subst, ◌∙◌, inl, inr, arith, append_assoc, eq-eqb, AllZip, flat_map, range_with_len, min-eq_right, drop-append-add, cases_eq, cases_lt, ne_eqb, same_number_lists, get_or-append_right, length-drop, length-map, length-take-le, take-append-drop, get_or-map-range_with_len, length-map-range_with_len, All-cons, All-get_or, All-head, All-nil, All-tail, AllZip-get_or, AllZip-long, HasNoneNear, IsCodeword, IsNear, IsOnlyNear, check_of, columns, combine, kind_of, numbers_are_repaired_lem, Kind, Idle, Address, Message, high_first, high_number, length-high_first, Page, sync_word, synced, unsynced, HasNoOrphan, Reads, synced_count, reads_plainly, IsMended, said, as_sent, capture_bits, word_on, AreCaptured, HasCaptured, without_orphans, AreFound, AreReceptions, HasFewLost, HasInFront, IsBeside, IsBridged, IsLikeSynchronised, IsOnAir, IsReception, IsSyncRun, IsSynchronised, SlipsInFront, all_batches, batches_in_front, counted, held_end, in_front_of, run_end, last_sync, nothing, passed, received, received_word, sent_at, NothingFollows, IsReceived, Polarity, Upright, Inverted, Reception, Run, word_cut, word_read, word_there, WordsFit, capture_fits, no_more, one_thing, same_polarity}
+use Rattle.std.proofs.Common.{Option, Some}
+use Rattle.std.proofs.lemmas.List.{length-append}
 use Rattle.pocsag_words.proofs.BlockCode.{IsCodeword-from_low}
-use Rattle.pocsag_words.proofs.ErrorLemmas.{numbers_are_repaired_lem}
-use Rattle.pocsag_words.specs.declared.codeword.Kind.{Kind}
-use Rattle.pocsag_words.specs.declared.codeword.Kind.TheVariants.{Idle, Address, Message}
-use Rattle.pocsag_text.specs.Bits.{high_first, high_number}
-use Rattle.pocsag_text.proofs.BitLists.{length-high_first}
 use Rattle.pocsag_text.proofs.Cuts.{length-flat_map-wide}
-use Rattle.pocsag_pages.specs.declared.page.Page.{Page}
-use Rattle.pocsag_pages.specs.Bytes.{sync_word, synced, unsynced}
-use Rattle.pocsag_pages.specs.Plain.{HasNoOrphan}
-use Rattle.pocsag_pages.specs.Reading.{Reads}
-use Rattle.pocsag_pages.proofs.Lengths.{synced_count}
-use Rattle.pocsag_pages.proofs.Readings.{reads_plainly}
-use Rattle.pocsag_pager.specs.Shown.{IsMended, said}
-use Rattle.pocsag_capture.specs.Bits.{as_sent, capture_bits, word_on}
-use Rattle.pocsag_capture.specs.CapturedPages.{AreCaptured, HasCaptured, without_orphans}
 use Rattle.pocsag_capture.specs.Lost.{lost_words, mended_errors}
-use Rattle.pocsag_capture.specs.Receptions.{AreFound, AreReceptions, HasFewLost, HasInFront, IsBeside, IsBridged, IsLikeSynchronised, IsOnAir, IsReception, IsSyncRun, IsSynchronised, SlipsInFront, all_batches, batches_in_front, counted, held_end, in_front_of, run_end, last_sync, nothing, passed, received, received_word, sent_at}
-use Rattle.pocsag_capture.specs.Sent.{NothingFollows, IsReceived}
-use Rattle.pocsag_capture.specs.declared.polarity.Polarity.{Polarity}
-use Rattle.pocsag_capture.specs.declared.polarity.Polarity.TheVariants.{Upright, Inverted}
-use Rattle.pocsag_capture.specs.declared.reception.Reception.{Reception}
-use Rattle.pocsag_capture.specs.declared.reception.Run.{Run}
-use Rattle.pocsag_capture.proofs.Extracts.{word_cut, word_read, word_there}
 use Rattle.pocsag_capture.proofs.InFront.{same_in_front}
-use Rattle.pocsag_capture.proofs.Once.{WordsFit, capture_fits, no_more, one_thing, same_polarity}
 use Rattle.pocsag_capture.proofs.CorrectedWords.{synced_two}
 use Rattle.pocsag_capture.proofs.Windows.{number_behind}
 use Rattle.pocsag_laws.specs.OnlySent.{HasManyLost, HasNoneInFront, HoldsNoOther, IsAlone, IsCaptureOf, IsNoise, noise, sent}

@@ -1,6 +1,5 @@
-use Rattle.pocsag_decode.proofs.PageRows.{read_back}
+use Rattle.pocsag_laws.proofs.Prelude.{read_back, round_spellable}
 use Rattle.pocsag_laws.proofs.FileRounds.{file_round}
-use Rattle.pocsag_decode.proofs.SpellablePages.{round_spellable}
 use Rattle.pocsag_laws.proofs.laws.verdicts_are_rounds.Goals as goal
 
 pub returns-clause-round : goal.returns-clause-round

@@ -1,4 +1,4 @@
-use Rattle.pocsag_slots.proofs.LeastLemmas.{load_over}
+use Rattle.pocsag_laws.proofs.Prelude.{load_over}
 use Rattle.pocsag_laws.proofs.tour.class_loads_add_up.Goals as goal
 
 pub returns : goal.returns

@@ -1,4 +1,4 @@
-use Rattle.pocsag_slots.proofs.Members.{set_taking}
+use Rattle.pocsag_laws.proofs.Prelude.{set_taking}
 use Rattle.pocsag_laws.proofs.tour.sets_take_members.Goals as goal
 
 pub returns : goal.returns
