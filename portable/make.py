@@ -19,7 +19,6 @@ import pathlib
 import shutil
 import subprocess
 import sys
-import tempfile
 
 sys.dont_write_bytecode = True
 HERE = pathlib.Path(os.path.realpath(__file__)).parent
@@ -37,14 +36,16 @@ class Missing(Exception):
     """A tool that is needed is not there, and which."""
 
 
+def version_of(command, package):
+    """What a tool prints of its version."""
+    if not shutil.which(command):
+        raise Missing(f"{command} is missing; on Debian: apt-get install {package}")
+    return subprocess.run([command, "--version"], check=True, capture_output=True, text=True).stdout
+
+
 def tools():
     """What makes the C of the module, as it names itself."""
-    found = []
-    for command, package in (("wasm-opt", "binaryen"), ("wasm2c", "wabt")):
-        if not shutil.which(command):
-            raise Missing(f"{command} is missing; on Debian: apt-get install {package}")
-        found.append(f"{command} {subprocess.run([command, '--version'], check=True, capture_output=True, text=True).stdout.split()[-1]}")
-    return ", ".join(found)
+    return ", ".join(f"{it} {version_of(it, package).split()[-1]}" for it, package in (("wasm-opt", "binaryen"), ("wasm2c", "wabt")))
 
 
 def web():
@@ -117,14 +118,15 @@ def program(name, *settings, of=None):
         return folder / "bin/pocsag"
 
 
-def main(words):
+def main(words, made=sources, usage=__doc__):
+    """Puts the files that a function gives into the folder that the words name."""
     if len(words) != 1 or words[0].startswith("-"):
-        print(__doc__, file=sys.stderr)
+        print(usage, file=sys.stderr)
         return 2
     try:
-        files = sources()
+        files = made()
     except (Missing, subprocess.CalledProcessError) as why:
-        print(f"make.py: {why}", file=sys.stderr)
+        print(f"{pathlib.Path(sys.argv[0]).name}: {why}", file=sys.stderr)
         return 1
     folder = pathlib.Path(words[0])
     folder.mkdir(parents=True, exist_ok=True)

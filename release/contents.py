@@ -6,7 +6,6 @@ import functools
 import hashlib
 import pathlib
 import re
-import shutil
 import subprocess
 import sys
 import tempfile
@@ -15,7 +14,7 @@ import objects
 import packages
 import products
 from packages import File
-from products import ARM, ARMHF, HERE, TOP, Missing, make, tree, workspace
+from products import ARM, ARMHF, HERE, TOP, make, tree, workspace
 import version
 
 DEBIAN = HERE / "debian"
@@ -180,9 +179,7 @@ def page():
 
 def optimizer():
     """What makes the module of the page, as it names itself."""
-    if not shutil.which("wasm-opt"):
-        raise Missing("wasm-opt is missing; on Debian: apt-get install binaryen")
-    return subprocess.run(["wasm-opt", "--version"], check=True, capture_output=True, text=True).stdout.strip()
+    return products.portable.version_of("wasm-opt", "binaryen").strip()
 
 
 def groups(page=None):

@@ -76,9 +76,7 @@ def linker_of(processor):
         raise Missing("the toolchain's command rt is none that is known to build for ARM64")
     lines = []
     for tool in (processor.compiler, f"{processor.tools}ld"):
-        if not shutil.which(tool):
-            raise Missing(f"{tool} is missing; on Debian: apt-get install {processor.package}")
-        lines.append(subprocess.run([tool, "--version"], check=True, capture_output=True, text=True).stdout.splitlines()[0])
+        lines.append(portable.version_of(tool, processor.package).splitlines()[0])
     if subprocess.run([processor.compiler, "-E", "c/memory.c"], cwd=HERE, capture_output=True).returncode:
         raise Missing(f"{processor.compiler} finds no C library; on Debian: apt-get install {processor.package}")
     return ", ".join(lines)
@@ -93,9 +91,7 @@ def compiler_of_armhf():
 
 def compiler_of_windows():
     """What makes the program for Windows of the module, as it names itself."""
-    if not shutil.which(MINGW):
-        raise Missing(f"{MINGW} is missing; on Debian: apt-get install gcc-mingw-w64-x86-64")
-    told = subprocess.run([MINGW, "--version"], check=True, capture_output=True, text=True).stdout
+    told = portable.version_of(MINGW, "gcc-mingw-w64-x86-64")
     return f"{portable.tools()}, {told.splitlines()[0]}"
 
 
