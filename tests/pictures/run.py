@@ -330,7 +330,7 @@ def check_refusals(tally, folder):
     library = faults.build(folder)
     words = [ZERO, *[MESSAGE] * 5, TONE, *[MESSAGE] * 15, ZERO, *[MESSAGE] * 7, IDLE, IDLE]
     for form in ([], ["--svg"], ["--list"]):
-        faults.try_printing(tally, library, " ".join(["show", *form]), ["show", "tx", *form], {"tx": transmission(words)}, folder)
+        faults.try_printing(tally, library, folder, ["show", "tx", *form], {"tx": transmission(words)})
 
 
 def check_pictures(tally, _folder):
