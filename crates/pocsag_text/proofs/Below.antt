@@ -1,6 +1,5 @@
 -- Tests of each number below another.
-use Rattle.std.proofs.Common.{◌≡◌, ℕ, zero, suc, ◌<◌, Bool, true, false, ◌&&◌, refl, arith, ⊎_elim, subst}
-use Rattle.std.proofs.lemmas.Bool.{and_parts, cases_lt}
+use Rattle.pocsag_text.proofs.Prelude.{◌≡◌, ℕ, zero, suc, ◌<◌, Bool, true, false, ◌&&◌, refl, arith, ⊎_elim, subst, and_parts, cases_lt}
 
 -- whether each number below n passes
 unfoldable pub all_below : ℕ → (ℕ → Bool) → Bool

@@ -1,10 +1,5 @@
 -- Lists of bits and the numbers that they make.
-use Rattle.std.proofs.Common.{◌≡◌, ℕ, zero, suc, ◌+◌, ◌*◌, ◌/◌, ◌%◌, ◌^◌, ◌<◌, List, [], ◌∷◌, ◌++◌, length, All, refl, sym, ap, ◌∙◌, arith, zero-add, add-one}
-use Rattle.std.proofs.Math.Nat.{pow-suc, mod-eq_of_lt}
-use Rattle.std.proofs.lemmas.Nat.{shr-shr, mod-pow-add, field_of, shr_high, mod_low}
-use Rattle.std.proofs.lemmas.List.{append-nil, append_assoc}
-use Rattle.std.proofs.lemmas.List.Elements.{All-nil, All-cons, All-head, All-tail}
-use Rattle.pocsag_text.specs.Bits.{low_first, high_first, low_number, high_number}
+use Rattle.pocsag_text.proofs.Prelude.{◌≡◌, ℕ, zero, suc, ◌+◌, ◌*◌, ◌/◌, ◌%◌, ◌^◌, ◌<◌, List, [], ◌∷◌, ◌++◌, length, All, refl, sym, ap, ◌∙◌, arith, zero-add, add-one, pow-suc, mod-eq_of_lt, shr-shr, mod-pow-add, field_of, shr_high, mod_low, append-nil, append_assoc, All-nil, All-cons, All-head, All-tail, low_first, high_first, low_number, high_number}
 
 -- each is 0 or 1
 abbrev pub AreBits : List ℕ → Type 0

@@ -1,10 +1,7 @@
 -- The codes of the numeric characters.
-use Rattle.std.proofs.Common.{◌≡◌, ◌≢◌, ℕ, ◌<◌, ◌≤◌, slice_index, Option, Some, None, unwrap_or, is_none, Bool, cond, eqb, ltb, not, ◌&&◌, ◌||◌, true, false, lit<, refl, ap, arith}
-use Rattle.std.proofs.lemmas.Bool.{eqb-true}
+use Rattle.pocsag_text.proofs.Prelude.{◌≡◌, ◌≢◌, ℕ, ◌<◌, ◌≤◌, slice_index, Option, Some, None, unwrap_or, is_none, Bool, cond, eqb, ltb, not, ◌&&◌, ◌||◌, true, false, lit<, refl, ap, arith, eqb-true, CODES, numeric_characters, code_of, code_or_space, character_of, is_bad_digit}
 use Rattle.std.proofs.lemmas.List.Quantifiers.{position-Some}
 use Rattle.pocsag_text.proofs.Below.{all_below, passes}
-use Rattle.pocsag_text.specs.declared.character.TheConstants.{CODES}
-use Rattle.pocsag_text.specs.Characters.{numeric_characters, code_of, code_or_space, character_of, is_bad_digit}
 
 -- whether there is this code
 is_code : Option ℕ → ℕ → Bool

@@ -1,9 +1,5 @@
 -- Lists that are cut in pieces, and joined of them.
-use Rattle.std.proofs.Common.{◌≡◌, ℕ, zero, suc, ◌+◌, ◌*◌, ◌<◌, ◌≤◌, List, [], ◌∷◌, ◌++◌, length, take, drop, All, refl, sym, ap, arith, zero-add}
-use Rattle.std.specs.List.{flat_map}
-use Rattle.std.proofs.lemmas.List.{append_assoc, length-append, length-drop, length-take-le, take-append-le, drop-append-le, take-append-drop, take_at, drop_at, nil_from_length}
-use Rattle.std.proofs.lemmas.List.Elements.{All-head, All-tail, All-take, All-drop}
-use Rattle.pocsag_text.specs.Bits.{cut}
+use Rattle.pocsag_text.proofs.Prelude.{◌≡◌, ℕ, zero, suc, ◌+◌, ◌*◌, ◌<◌, ◌≤◌, List, [], ◌∷◌, ◌++◌, length, take, drop, All, refl, sym, ap, arith, zero-add, flat_map, append_assoc, length-append, length-drop, length-take-le, take-append-le, drop-append-le, take-append-drop, take_at, drop_at, nil_from_length, All-head, All-tail, All-take, All-drop, cut}
 use Rattle.pocsag_text.proofs.BitLists.{AreBits}
 
 pub length-cut : (width : ℕ) (read : List ℕ → ℕ) (n : ℕ) (bits : List ℕ) → length (cut width read n bits) ≡ n

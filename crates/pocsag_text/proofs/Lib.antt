@@ -5,6 +5,7 @@ pub mod Cuts
 pub mod Mirrors
 pub mod Packs
 pub mod Payloads
+pub mod Prelude
 pub mod RoundTrips
 pub mod SevenItems
 pub mod Trims

@@ -1,11 +1,7 @@
 -- Codes with their bits reversed.
-use Rattle.std.proofs.Common.{◌≡◌, ℕ, ◌+◌, ◌-◌, ◌/◌, ◌^◌, ◌<◌, ◌≤◌, length, map, slice_index, ◌++◌, Bool, true, ◌&&◌, eqb, refl, ap, ◌∙◌, arith}
+use Rattle.pocsag_text.proofs.Prelude.{◌≡◌, ℕ, ◌+◌, ◌-◌, ◌/◌, ◌^◌, ◌<◌, ◌≤◌, length, map, slice_index, ◌++◌, Bool, true, ◌&&◌, eqb, refl, ap, ◌∙◌, arith, range_with_len, and_parts, eqb-true, low_first, high_first, low_number, high_number, REVERSED}
 use Rattle.std.specs.Int.{w8, reverse_bits, reverse_bits_onto}
-use Rattle.std.specs.List.{range_with_len}
-use Rattle.std.proofs.lemmas.Bool.{and_parts, eqb-true}
 use Rattle.std.proofs.lemmas.List.FromFn.{get_or-map-range_with_len}
-use Rattle.pocsag_text.specs.Bits.{low_first, high_first, low_number, high_number}
-use Rattle.pocsag_text.specs.declared.character.TheConstants.{REVERSED}
 use Rattle.pocsag_text.proofs.Below.{all_below, passes, and_left}
 use Rattle.pocsag_text.proofs.BitLists.{length-low_first, length-high_first, AreBits-low_first, AreBits-high_first, low_first-low_number, high_first-high_number, high_number-lt}
 

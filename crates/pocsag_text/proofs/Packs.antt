@@ -1,14 +1,5 @@
 -- What the packer's steps do to its bits.
-use Rattle.std.proofs.Common.{◌≡◌, ℕ, ◌+◌, ◌-◌, ◌*◌, ◌/◌, ◌%◌, ◌^◌, ◌<◌, ◌≤◌, List, [], ◌∷◌, ◌++◌, length, replicate, All, bit_or, bit_and, refl, sym, ap, ◌∙◌, arith}
-use Rattle.std.proofs.Math.Nat.{mul_comm}
-use Rattle.std.specs.List.{flat_map}
-use Rattle.std.proofs.lemmas.Nat.{pow-add, or_shifted, shl_whole, one_shl, and_mask, mul-add-lt, shr_below, mod_below, pow_pos}
-use Rattle.std.proofs.lemmas.List.{append_assoc, append-nil, length-append, flat_map_more, replicate_more}
-use Rattle.std.proofs.lemmas.List.Concat.{flat_map-append}
-use Rattle.std.proofs.lemmas.List.Elements.{All-push, All-weaker}
-use Rattle.pocsag_text.specs.Bits.{high_first, high_number, item_bits}
-use Rattle.pocsag_text.specs.Packers.{packed_bits, IsPacked}
-use Rattle.pocsag_text.specs.Text.{twenties}
+use Rattle.pocsag_text.proofs.Prelude.{◌≡◌, ℕ, ◌+◌, ◌-◌, ◌*◌, ◌/◌, ◌%◌, ◌^◌, ◌<◌, ◌≤◌, List, [], ◌∷◌, ◌++◌, length, replicate, All, bit_or, bit_and, refl, sym, ap, ◌∙◌, arith, mul_comm, flat_map, pow-add, or_shifted, shl_whole, one_shl, and_mask, mul-add-lt, shr_below, mod_below, pow_pos, append_assoc, append-nil, length-append, flat_map_more, replicate_more, flat_map-append, All-push, All-weaker, high_first, high_number, item_bits, packed_bits, IsPacked, twenties}
 use Rattle.pocsag_text.proofs.BitLists.{high_first-join, high_first-split, length-high_first, high_number-high_first}
 use Rattle.pocsag_text.proofs.Cuts.{cut-flat_map, length-flat_map-wide}
 

@@ -1,18 +1,9 @@
 -- When a text has a payload, and which one.
-use Rattle.std.proofs.Common.{◌≡◌, ◌≢◌, ℕ, zero, suc, ◌+◌, ◌*◌, ◌/◌, ◌%◌, ◌<◌, ◌≤◌, Bool, true, false, cond, eqb, ltb, List, ◌∷◌, ◌++◌, length, get_or, map, replicate, position, Option, Some, None, Ok, Err, All, refl, sym, ap, ◌∙◌, arith}
-use Rattle.std.specs.List.{flat_map, list_any, position_or_len}
-use Rattle.std.proofs.lemmas.Bool.{false_from_ne_true}
+use Rattle.pocsag_text.proofs.Prelude.{◌≡◌, ◌≢◌, ℕ, zero, suc, ◌+◌, ◌*◌, ◌/◌, ◌%◌, ◌<◌, ◌≤◌, Bool, true, false, cond, eqb, ltb, List, ◌∷◌, ◌++◌, length, get_or, map, replicate, position, Option, Some, None, Ok, Err, All, refl, sym, ap, ◌∙◌, arith, flat_map, list_any, position_or_len, false_from_ne_true, length-append, length-map, length-replicate, flat_map-append, All-from_get_or, All-weaker, list_any_at, low_first, code_or_space, is_bad_digit, fault_of, fault_of_place, text_fault, unless, short_of, twenties, is_bad_byte, numeric_bits, alpha_bits, numeric_payload, alpha_payload}
 use Rattle.std.proofs.lemmas.Bool.Decides.{nat_tests}
-use Rattle.std.proofs.lemmas.List.{length-append, length-map, length-replicate}
-use Rattle.std.proofs.lemmas.List.Concat.{flat_map-append}
-use Rattle.std.proofs.lemmas.List.Elements.{All-from_get_or, All-weaker}
-use Rattle.std.proofs.lemmas.List.Folds.{list_any_at}
 use Rattle.std.proofs.lemmas.List.Sums.{fails_before_first, position_or_len_is}
 use Rattle.pocsag_text.specs.declared.fault.TextFault.{TextFault}
 use Rattle.pocsag_text.specs.declared.fault.TextFault.TheVariants as fault
-use Rattle.pocsag_text.specs.Bits.{low_first}
-use Rattle.pocsag_text.specs.Characters.{code_or_space, is_bad_digit}
-use Rattle.pocsag_text.specs.Text.{fault_of, fault_of_place, text_fault, unless, short_of, twenties, is_bad_byte, numeric_bits, alpha_bits, numeric_payload, alpha_payload}
 use Rattle.pocsag_text.proofs.BitLists.{length-low_first}
 use Rattle.pocsag_text.proofs.Cuts.{length-cut, length-flat_map-wide}
 

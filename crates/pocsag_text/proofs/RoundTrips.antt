@@ -1,11 +1,5 @@
 -- A text that was packed comes back.
-use Rattle.std.proofs.Common.{◌≡◌, ◌≢◌, ℕ, zero, suc, ◌+◌, ◌*◌, ◌/◌, ◌%◌, ◌^◌, ◌<◌, List, [], ◌∷◌, ◌++◌, length, map, replicate, take, drop, Ok, All, false, refl, sym, ap, ◌∙◌, arith, lit<}
-use Rattle.std.specs.List.{flat_map}
-use Rattle.std.proofs.lemmas.List.{append-nil, map-append}
-use Rattle.std.proofs.lemmas.List.Elements.{All-nil, All-cons, All-head, All-tail, All-append, All-map, All-replicate, All-take, All-drop, All-weaker}
-use Rattle.pocsag_text.specs.Bits.{low_first, high_first, low_number, high_number, cut, item_bits}
-use Rattle.pocsag_text.specs.Characters.{code_or_space, character_of, is_bad_digit}
-use Rattle.pocsag_text.specs.Text.{text_fault, short_of, twenties, is_bad_byte, numeric_bits, alpha_bits, numeric_payload, alpha_payload, codes_of, numeric_text, alpha_text, trim_end}
+use Rattle.pocsag_text.proofs.Prelude.{◌≡◌, ◌≢◌, ℕ, zero, suc, ◌+◌, ◌*◌, ◌/◌, ◌%◌, ◌^◌, ◌<◌, List, [], ◌∷◌, ◌++◌, length, map, replicate, take, drop, Ok, All, false, refl, sym, ap, ◌∙◌, arith, lit<, flat_map, append-nil, map-append, All-nil, All-cons, All-head, All-tail, All-append, All-map, All-replicate, All-take, All-drop, All-weaker, low_first, high_first, low_number, high_number, cut, item_bits, code_or_space, character_of, is_bad_digit, text_fault, short_of, twenties, is_bad_byte, numeric_bits, alpha_bits, numeric_payload, alpha_payload, codes_of, numeric_text, alpha_text, trim_end}
 use Rattle.pocsag_text.proofs.BitLists.{AreBits, AreBits-low_first, length-low_first, high_first-high_number, code-back}
 use Rattle.pocsag_text.proofs.Codes.{character_of-code_or_space, code_or_space-lt, space_is}
 use Rattle.pocsag_text.proofs.Cuts.{cut-append, cut-flat_map, flat_map-cut, length-flat_map-wide}
@@ -59,7 +53,7 @@ cut-zeros width (suc n) bits h =
 
 -- the codes of an alphanumeric text's items
 codes_of-alpha : (text : List ℕ) → All (λ b. b < 128) text →
-    codes_of 7 (twenties (alpha_bits text))
+    codes_of 7 (item_bits (twenties (alpha_bits text)))
     ≡ text ++ cut 7 low_number (short_of 20 (7 * length text) / 7) (replicate (short_of 20 (7 * length text)) 0)
 unfolding codes_of alpha_bits
 codes_of-alpha text h =
@@ -90,7 +84,7 @@ nothing-more codes = append-nil codes
 
 -- the codes of a numeric text's items
 codes_of-numeric : (text : List ℕ) →
-    codes_of 4 (twenties (numeric_bits text)) ≡ map code_or_space text ++ replicate (short_of 5 (length text)) 12
+    codes_of 4 (item_bits (twenties (numeric_bits text))) ≡ map code_or_space text ++ replicate (short_of 5 (length text)) 12
 unfolding codes_of numeric_bits
 codes_of-numeric text =
     let fill : List ℕ = replicate (short_of 5 (length text)) 12 in

@@ -1,9 +1,5 @@
 -- Lists without what is unwanted at their end.
-use Rattle.std.proofs.Common.{◌≡◌, ◌≢◌, ℕ, ◌+◌, ◌-◌, ◌<◌, ◌≤◌, get_or, List, [], ◌∷◌, ◌++◌, length, take, All, eqb, true, false, refl, sym, ap, arith}
-use Rattle.std.proofs.lemmas.List.Elements.{All-nil, All-cons, All-head, All-tail}
-use Rattle.std.proofs.lemmas.List.{take_more}
-use Rattle.std.proofs.lemmas.Bool.{eq-eqb, ne_eqb}
-use Rattle.pocsag_text.specs.Text.{trim_end, trimmed_onto}
+use Rattle.pocsag_text.proofs.Prelude.{◌≡◌, ◌≢◌, ℕ, ◌+◌, ◌-◌, ◌<◌, ◌≤◌, get_or, List, [], ◌∷◌, ◌++◌, length, take, All, eqb, true, false, refl, sym, ap, arith, All-nil, All-cons, All-head, All-tail, take_more, eq-eqb, ne_eqb, trim_end, trimmed_onto}
 
 -- nothing but the unwanted
 trim_end-all : (c : ℕ) (zs : List ℕ) → All (λ z. z ≡ c) zs → trim_end c zs ≡ []

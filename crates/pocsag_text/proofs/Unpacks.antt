@@ -1,13 +1,5 @@
 -- What the unpacker's steps do to its bits.
-use Rattle.std.proofs.Common.{◌≡◌, ℕ, ◌+◌, ◌-◌, ◌*◌, ◌/◌, ◌%◌, ◌^◌, ◌<◌, ◌≤◌, List, [], ◌∷◌, ◌++◌, length, All, refl, sym, ap, ◌∙◌, arith}
-use Rattle.std.specs.List.{flat_map}
-use Rattle.std.proofs.lemmas.Nat.{shr_below, mod_below, pow_pos, div-mul-add}
-use Rattle.std.proofs.Math.Nat.{mul_comm}
-use Rattle.std.proofs.lemmas.List.{append_assoc, append-nil, length-append}
-use Rattle.std.proofs.lemmas.List.Concat.{flat_map-append}
-use Rattle.std.proofs.lemmas.List.Elements.{All-push, All-weaker}
-use Rattle.pocsag_text.specs.Bits.{low_first, high_first, low_number, cut}
-use Rattle.pocsag_text.specs.Packers.{unpacked_bits, IsUnpacked}
+use Rattle.pocsag_text.proofs.Prelude.{◌≡◌, ℕ, ◌+◌, ◌-◌, ◌*◌, ◌/◌, ◌%◌, ◌^◌, ◌<◌, ◌≤◌, List, [], ◌∷◌, ◌++◌, length, All, refl, sym, ap, ◌∙◌, arith, flat_map, shr_below, mod_below, pow_pos, div-mul-add, mul_comm, append_assoc, append-nil, length-append, flat_map-append, All-push, All-weaker, low_first, high_first, low_number, codes_of, unpacked_bits, IsUnpacked}
 use Rattle.pocsag_text.proofs.BitLists.{high_first-join, high_first-split, length-low_first, length-high_first, code-back}
 use Rattle.pocsag_text.proofs.Cuts.{cut-flat_map, length-flat_map-wide}
 use Rattle.pocsag_text.proofs.Packs.{held_with-lt}
@@ -81,8 +73,8 @@ next-lt width codes count held bits h enough =
 
 -- the codes are the bits cut in pieces
 pub codes-unpacked_bits : (width : ℕ) (codes : List ℕ) (count held : ℕ) → IsUnpacked width codes count held →
-    codes ≡ cut width low_number (length (unpacked_bits width codes count held) / width) (unpacked_bits width codes count held)
-unfolding unpacked_bits
+    codes ≡ codes_of width (unpacked_bits width codes count held)
+unfolding unpacked_bits codes_of
 codes-unpacked_bits width codes count held h =
     rw number (sym (cut-flat_map width low_number (low_first width) codes (high_first count held) (length-low_first width) back))
   where

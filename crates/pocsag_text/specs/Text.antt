@@ -76,15 +76,15 @@ unfoldable pub trim_end : ℕ → List ℕ → List ℕ
 trim_end c [] = []
 trim_end c (b ∷ rest) = trimmed_onto c b (trim_end c rest)
 
--- The codes of so many bits each, the lowest first, that the items hold, without an incomplete
+-- The codes of so many bits each, the lowest first, that the bits make, without an incomplete
 -- last one.
 unfoldable pub codes_of : ℕ → List ℕ → List ℕ
-codes_of width items = cut width low_number (length (item_bits items) / width) (item_bits items)
+codes_of width bits = cut width low_number (length bits / width) bits
 
 -- The text of a numeric payload: the characters of all its codes, without the spaces at its end.
 unfoldable pub numeric_text : List ℕ → List ℕ
-numeric_text items = trim_end space (map character_of (codes_of numeric_width items))
+numeric_text items = trim_end space (map character_of (codes_of numeric_width (item_bits items)))
 
 -- The text of an alphanumeric payload: all its codes, without the zeros at its end.
 unfoldable pub alpha_text : List ℕ → List ℕ
-alpha_text items = trim_end 0 (codes_of alpha_width items)
+alpha_text items = trim_end 0 (codes_of alpha_width (item_bits items))

@@ -9,7 +9,7 @@ pub const NUMERIC_WIDTH: u32 = 4;
 pub const ALPHA_WIDTH: u32 = 7;
 
 /// The numeric characters, each at the place of its code.
-const NUMERIC_CHARACTERS: [u8; 16] = *b"0123456789*U -][";
+pub const NUMERIC_CHARACTERS: [u8; 16] = *b"0123456789*U -][";
 
 /// What stands in the place of a code for a byte that is no numeric character.
 const NO_CODE: u8 = 16;
@@ -58,23 +58,6 @@ pub fn code_of(byte: u8) -> Option<u8>
 {
     let code = CODES[byte as usize];
     if code < NO_CODE { Some(code) } else { None }
-}
-
-/// The code of a byte, which is that of the space where it is no numeric character.
-pub fn code_or_space(byte: u8) -> u8
-    ensures code { result ≡ numeric.code_or_space byte }
-    ensures small { result < 16 }
-{
-    code_of(byte).unwrap_or(SPACE_CODE)
-}
-
-/// The numeric character of a code.
-#[tactic(auto, unfolding(crate::specs::Characters::numeric_characters))]
-pub fn character_of(code: u8) -> u8
-    requires { code < 16 }
-    ensures { result ≡ numeric.character_of code }
-{
-    NUMERIC_CHARACTERS[code as usize]
 }
 
 /// The lowest bits of a code, as many as its width says, in reversed order.

@@ -5,7 +5,7 @@ ghost use Rattle.pocsag_text.specs.Characters as numeric;
 ghost use Rattle.pocsag_text.specs.Text.{numeric_payload, alpha_payload, numeric_bits, alpha_bits, twenties, is_bad_byte, character_limit, item_limit, fault_of};
 
 use crate::CHARACTER_LIMIT;
-use crate::character::{ALPHA_WIDTH, NUMERIC_WIDTH, SPACE_CODE, code_of, code_or_space, mirrored};
+use crate::character::{ALPHA_WIDTH, NUMERIC_WIDTH, SPACE_CODE, code_of, mirrored};
 use crate::fault::TextFault;
 use crate::packer::{ITEM_WIDTH, Packer};
 use pocsag_words::OutOfMemory;
@@ -133,7 +133,7 @@ fn numeric_items(alloc: Global, text: &[u8]) -> Result<Vec<u32>, OutOfMemory>
     let items = Vec::with_capacity(alloc, text.len().div_ceil(ITEM_DIGITS))?;
     let mut packer = Packer::from_items(items);
     for byte in text {
-        packer.push(NUMERIC_WIDTH, code_or_space(*byte))?;
+        packer.push(NUMERIC_WIDTH, code_of(*byte).unwrap_or(SPACE_CODE))?;
     }
     let fill = (ITEM_DIGITS - text.len() % ITEM_DIGITS) % ITEM_DIGITS;
     packer.push_times(NUMERIC_WIDTH, SPACE_CODE, fill)?;

@@ -43,7 +43,7 @@ impl Packer {
         }
     }
 
-    /// Puts the lowest bits of a code behind the others, the lowest one first.
+    /// Appends the lowest bits of a code, the lowest one first.
     pub fn push(&mut self, width: u32, code: u8) -> Result<(), OutOfMemory>
         requires { IsCodeOf width code }
         ensures { OnOk result (self.new ≡ self.old ++ low_first width code) }
@@ -62,7 +62,7 @@ impl Packer {
         Ok(())
     }
 
-    /// Puts the lowest bits of a code behind the others so many times.
+    /// Appends the lowest bits of a code this many times.
     pub fn push_times(&mut self, width: u32, code: u8, times: usize) -> Result<(), OutOfMemory>
         requires { IsCodeOf width code }
         ensures { OnOk result

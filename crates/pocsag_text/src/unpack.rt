@@ -4,7 +4,7 @@ ghost use Rattle.pocsag_text.specs.Bits.{low_first, high_first, alpha_width, ite
 ghost use Rattle.pocsag_text.specs.Characters as numeric;
 ghost use Rattle.pocsag_text.specs.Text.{numeric_payload, alpha_payload, numeric_text, alpha_text, codes_of, trim_end};
 
-use crate::character::{ALPHA_WIDTH, NUMERIC_WIDTH, character_of, mirrored};
+use crate::character::{ALPHA_WIDTH, NUMERIC_CHARACTERS, NUMERIC_WIDTH, mirrored};
 use crate::unpacker::Unpacker;
 use pocsag_words::OutOfMemory;
 use std::alloc::Global;
@@ -19,7 +19,7 @@ pub fn unpack_numeric(alloc: Global, items: &[u32]) -> Result<Vec<u8>, OutOfMemo
         (λ v. (t : List ℕ) → numeric_payload t ≡ Ok items.now → v.items ≡ trim_end numeric.space t) }
     ensures allowed { IfOk result (λ v. All (λ c. IsSome (numeric.code_of c)) v.items) }
 {
-    let codes = codes_of::<NUMERIC_WIDTH>(alloc, items)?;
+    let codes = codes_of::<NUMERIC_WIDTH>(Vec::new(alloc), items)?;
     let mut text = characters_of(codes);
     let len = trimmed_len(&text, b' ');
     text.truncate(len);
@@ -42,15 +42,17 @@ pub fn unpack_alpha(alloc: Global, items: &[u32]) -> Result<Vec<u8>, OutOfMemory
     Ok(text)
 }
 
-/// The codes of W bits each that the items hold, without an incomplete last one.
-fn codes_of<const W: u32>(alloc: Global, items: &[u32]) -> Result<Vec<u8>, OutOfMemory>
+/// These codes of W bits each, and behind them those that the items hold, without an incomplete last one.
+fn codes_of<const W: u32>(codes: Vec<u8>, items: &[u32]) -> Result<Vec<u8>, OutOfMemory>
     requires wide { 0 < W }
     requires narrow { W ≤ 8 }
+    requires begun { All (λ code. code < 2 ^ W) codes.items }
     requires small { AreItems items.now }
-    ensures codes { IfOk result (λ v. v.items ≡ codes_of W items.now) }
+    ensures codes { IfOk result
+        (λ v. v.items ≡ codes_of W (flat_map (low_first W) codes.items ++ item_bits items.now)) }
     ensures small { IfOk result (λ v. All (λ code. code < 2 ^ W) v.items) }
 {
-    let mut unpacker = Unpacker::<W>::from_codes(Vec::new(alloc));
+    let mut unpacker = Unpacker::<W>::from_codes(codes);
     for item in items {
         unpacker = unpacker.with(*item)?;
     }
@@ -61,7 +63,7 @@ fn codes_of<const W: u32>(alloc: Global, items: &[u32]) -> Result<Vec<u8>, OutOf
 /// items at a time.
 fn alpha_codes(alloc: Global, items: &[u32]) -> Result<Vec<u8>, OutOfMemory>
     requires { AreItems items.now }
-    ensures codes { IfOk result (λ v. v.items ≡ codes_of alpha_width items.now) }
+    ensures codes { IfOk result (λ v. v.items ≡ codes_of alpha_width (item_bits items.now)) }
     ensures small { IfOk result (λ v. All (λ code. code < 128) v.items) }
 {
     let count = items.len() / 7 * 20 + items.len() % 7 * 20 / 7;
@@ -78,11 +80,7 @@ fn alpha_codes(alloc: Global, items: &[u32]) -> Result<Vec<u8>, OutOfMemory>
         codes.extend_from_slice(groups.as_flattened())?;
         rest = &rest[7..];
     }
-    let mut unpacker = Unpacker::<ALPHA_WIDTH>::from_codes(codes);
-    for item in rest {
-        unpacker = unpacker.with(*item)?;
-    }
-    Ok(unpacker.into_codes())
+    codes_of::<ALPHA_WIDTH>(codes, rest)
 }
 
 /// The four codes of 28 bits, of which the first bit is the highest.
@@ -99,13 +97,14 @@ fn codes_of_group(bits: u32) -> [u8; 4]
     ]
 }
 
-/// The numeric characters of the codes, in their room.
+/// The numeric characters of the codes, in the memory of the codes.
+#[tactic(auto, unfolding(crate::specs::Characters::numeric_characters))]
 fn characters_of(mut codes: Vec<u8>) -> Vec<u8>
     requires { All (λ code. code < 16) codes.items }
     ensures { result.items ≡ map numeric.character_of codes.items }
 {
     for code in codes.iter_mut() {
-        *code = character_of(*code);
+        *code = NUMERIC_CHARACTERS[*code as usize];
     }
     codes
 }

@@ -1,6 +1,7 @@
-ghost use Rattle.std.specs.Prelude.{◌≡◌, ℕ, ◌/◌, ◌^◌, ◌<◌, ◌≤◌, [], ◌++◌, length, All, IfOk};
+ghost use Rattle.std.specs.Prelude.{◌≡◌, ℕ, ◌^◌, ◌<◌, ◌≤◌, [], ◌++◌, All, IfOk};
 ghost use Rattle.std.specs.List.{flat_map};
-ghost use Rattle.pocsag_text.specs.Bits.{low_first, high_first, low_number, cut, item_width};
+ghost use Rattle.pocsag_text.specs.Bits.{low_first, high_first, item_width};
+ghost use Rattle.pocsag_text.specs.Text.{codes_of};
 
 use crate::character::mirrored;
 use crate::packer::ITEM_WIDTH;
@@ -61,7 +62,7 @@ impl<const W: u32> Unpacker<W> {
 
     /// The codes, without the bits that wait.
     pub fn into_codes(self) -> Vec<u8>
-        ensures codes { result.items ≡ cut W low_number (length self.entry / W) self.entry }
+        ensures codes { result.items ≡ codes_of W self.entry }
         ensures small { All (λ code. code < 2 ^ W) result.items }
     {
         self.codes

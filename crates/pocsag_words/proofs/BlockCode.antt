@@ -1,13 +1,6 @@
 -- *Codeword*, both ways: a number is a codeword exactly where its low 11 bits are the check bits of its data.
-use Rattle.std.proofs.Common.{◌≡◌, ℕ, zero, suc, ◌+◌, ◌*◌, ◌/◌, ◌%◌, ◌^◌, ◌<◌, ◌⊎◌, Bool, true, ltb, ◌&&◌, List, [], ◌∷◌, bit_xor, count_ones, map, replicate, refl, sym, ap, ap₂, ◌∙◌, inl, inr, subst, arith, zero-mul, one-mul, mul-zero}
-use Rattle.std.specs.Int.Bits.{xor_shifted}
-use Rattle.std.specs.Int.Count.{ones_step}
-use Rattle.std.proofs.Math.Nat.{pow-suc}
-use Rattle.std.proofs.lemmas.Nat.{xor_comm, xor_lt, pow_pos, ones_le_self}
-use Rattle.std.proofs.lemmas.Bool.{and_parts, ltb-true}
+use Rattle.pocsag_words.proofs.Prelude.{◌≡◌, ℕ, zero, suc, ◌+◌, ◌*◌, ◌/◌, ◌%◌, ◌^◌, ◌<◌, ◌⊎◌, Bool, true, ltb, ◌&&◌, List, [], ◌∷◌, bit_xor, count_ones, map, replicate, refl, sym, ap, ap₂, ◌∙◌, inl, inr, subst, arith, zero-mul, one-mul, mul-zero, xor_shifted, ones_step, pow-suc, xor_comm, xor_lt, pow_pos, ones_le_self, and_parts, ltb-true, generator, IsCodeword, combine, columns, check_of}
 use Rattle.pocsag_words.specs.Carryless.{carryless}
-use Rattle.pocsag_words.specs.Codeword.{generator, IsCodeword}
-use Rattle.pocsag_words.specs.Columns.{combine, columns, check_of}
 use Rattle.pocsag_words.proofs.Linear.{IsLinear-combine, IsLinear-mod, IsLinear-div, combine_image, bit_cases}
 
 -- a, and each number the double of the one before

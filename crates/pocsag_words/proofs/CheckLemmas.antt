@@ -1,10 +1,5 @@
 -- The sums of bits are 0 exactly where the syndrome is.
-use Rattle.std.proofs.Common.{◌≡◌, ℕ, ◌*◌, ◌/◌, ◌%◌, ◌^◌, ◌<◌, ◌↔◌, List, [], ◌∷◌, IsTrue, nat_eq, bit_xor, map, refl, sym, ap, ap₂, ◌∙◌, arith, eq-eqb, add-zero, zero-mul}
-use Rattle.std.proofs.lemmas.Bool.{eqb-true}
-use Rattle.std.proofs.lemmas.Nat.{xor_mod, xor_shr, xor_block, pow_pos}
-use Rattle.pocsag_words.specs.Checks.{moved, pair_of, spread_of, three_of, product_of, checks_of}
-use Rattle.pocsag_words.specs.Codeword.{IsCodeword}
-use Rattle.pocsag_words.specs.Columns.{combine, columns, check_of, syndrome_of}
+use Rattle.pocsag_words.proofs.Prelude.{◌≡◌, ℕ, ◌*◌, ◌/◌, ◌%◌, ◌^◌, ◌<◌, ◌↔◌, List, [], ◌∷◌, IsTrue, nat_eq, bit_xor, map, refl, sym, ap, ap₂, ◌∙◌, arith, eq-eqb, add-zero, zero-mul, eqb-true, xor_mod, xor_shr, xor_block, pow_pos, moved, pair_of, spread_of, three_of, product_of, checks_of, IsCodeword, combine, columns, check_of, syndrome_of}
 use Rattle.pocsag_words.proofs.Linear.{IsLinear, IsLinear-combine, combine_image, combine-zero, bit_cases, xor_turned, xor_scaled}
 use Rattle.pocsag_words.proofs.BlockCode.{doublings, combine_powers}
 use Rattle.pocsag_words.proofs.ErrorLemmas.{syndrome_of-xor, syndrome_of-codeword, syndrome_of-lt, IsCodeword-from_syndrome}

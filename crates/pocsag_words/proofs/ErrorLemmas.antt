@@ -1,13 +1,6 @@
 -- Errors of at most two bits are known by their syndromes.
-use Rattle.std.proofs.Common.{◌≡◌, ◌≢◌, ℕ, zero, suc, ◌+◌, ◌/◌, ◌%◌, ◌^◌, ◌<◌, ◌≤◌, Bool, true, eqb, ltb, leb, ◌&&◌, ◌||◌, List, [], ◌∷◌, length, slice_index, replicate, IsTrue, nat_eq, ◌↔◌, ◌⊎◌, bit_xor, count_ones, subst, refl, sym, ap, ap₂, ◌∙◌, inl, inr, arith, lit<}
-use Rattle.std.specs.Int.Bits.{xor_self}
-use Rattle.std.proofs.lemmas.Nat.{xor_mod, xor_shr, xor_lt, xor_comm, ones_le_self}
-use Rattle.std.specs.Int.Count.{ones_step}
-use Rattle.std.proofs.Math.Nat.{pow-suc}
-use Rattle.std.proofs.lemmas.Bool.{and_parts, or_cases, eqb-true, eq-eqb, leb-true, ltb-true, cases_eq, cases_lt}
-use Rattle.pocsag_words.specs.Codeword.{IsCodeword, IsOnlyNear, HasNoneNear}
-use Rattle.pocsag_words.specs.Columns.{combine, columns, check_of, syndrome_of}
-use Rattle.pocsag_words.specs.declared.correction.TheConstants.{ERRORS}
+use Rattle.pocsag_words.proofs.Prelude.{◌≡◌, ◌≢◌, ℕ, zero, suc, ◌+◌, ◌/◌, ◌%◌, ◌^◌, ◌<◌, ◌≤◌, Bool, true, eqb, ltb, leb, ◌&&◌, ◌||◌, List, [], ◌∷◌, length, slice_index, replicate, IsTrue, nat_eq, ◌↔◌, ◌⊎◌, bit_xor, count_ones, subst, refl, sym, ap, ap₂, ◌∙◌, inl, inr, arith, lit<, xor_self, xor_mod, xor_shr, xor_lt, xor_comm, ones_le_self, ones_step, pow-suc, and_parts, or_cases, eqb-true, leb-true, ltb-true, cases_eq, cases_lt, IsCodeword, IsOnlyNear, HasNoneNear, combine, columns, check_of, syndrome_of, ERRORS}
+use Rattle.std.proofs.lemmas.Bool.{eq-eqb}
 use Rattle.pocsag_words.proofs.Linear.{combine-xor, xor_turned, xor_cancel, same_from_xor}
 use Rattle.pocsag_words.proofs.BlockCode.{IsCodeword-low, IsCodeword-from_low, check_of-lt, combine_ones}
 use Rattle.pocsag_words.proofs.Sparse.{all_sparse, sparse, split}

@@ -1,9 +1,6 @@
 -- A codeword is known by its kind.
-use Rattle.std.proofs.Common.{◌≡◌, ◌≢◌, ℕ, ◌+◌, ◌*◌, ◌/◌, ◌%◌, ◌^◌, ◌<◌, ◌≤◌, ◌⊎◌, refl, sym, ap, ap₂, ◌∙◌, inl, inr, arith, eq-eqb, lit<}
-use Rattle.std.proofs.lemmas.Bool.{cases_eq, cases_lt, lt-ltb, le-ltb, ne_eqb}
+use Rattle.pocsag_words.proofs.Prelude.{◌≡◌, ◌≢◌, ℕ, ◌+◌, ◌*◌, ◌/◌, ◌%◌, ◌^◌, ◌<◌, ◌≤◌, ◌⊎◌, refl, sym, ap, ap₂, ◌∙◌, inl, inr, arith, eq-eqb, lit<, cases_eq, cases_lt, lt-ltb, le-ltb, ne_eqb, IsCodeword, combine, columns, check_of}
 use Rattle.pocsag_words.specs.declared.codeword.Kind.TheVariants.{Idle, Address, Message}
-use Rattle.pocsag_words.specs.Codeword.{IsCodeword}
-use Rattle.pocsag_words.specs.Columns.{combine, columns, check_of}
 use Rattle.pocsag_words.specs.Kinds.{idle_word, idle_bits, kind_of, address_kind}
 use Rattle.pocsag_words.proofs.BlockCode.{IsCodeword-encode, IsCodeword-from_low, check_of-lt, same_from_data}
 

@@ -1,12 +1,8 @@
 -- Vectors of eight lanes.
-use Rattle.std.proofs.Common.{◌≡◌, ℕ, ◌*◌, ◌%◌, ◌⊎◌, List, [], ◌∷◌, length, cond, eqb, Bool, map, drop, set, slice_index, IsTrue, ◌+◌, ◌≤◌, ◌<◌, ◌↔◌, bit_and, refl, sym, ap, ◌∙◌, subst, false, inl, inr, arith, length-drop}
-use Rattle.std.proofs.lemmas.Bool.{cases_eq}
+use Rattle.pocsag_words.proofs.Prelude.{◌≡◌, ℕ, ◌*◌, ◌%◌, ◌⊎◌, List, [], ◌∷◌, length, cond, eqb, Bool, map, drop, set, slice_index, IsTrue, ◌+◌, ◌≤◌, ◌<◌, ◌↔◌, bit_and, refl, sym, ap, ◌∙◌, subst, false, inl, inr, arith, length-drop, cases_eq, IsCodeword, TellFirst, and_mask}
 use Rattle.std.proofs.lemmas.List.{get_or-map, get_or-drop, get_or-set_same, get_or-set_other}
 use Rattle.std.proofs.lemmas.Simd.{length-chunk, get_or-chunk}
 use lib.Lanes.{top, chunk}
-use Rattle.pocsag_words.specs.Codeword.{IsCodeword}
-use Rattle.pocsag_words.specs.Flags.{TellFirst}
-use Rattle.std.proofs.lemmas.Nat.{and_mask}
 use Rattle.pocsag_words.proofs.Linear.{bit_cases}
 
 pub record IsEight (xs : List ℕ) : Type 0 where

@@ -4,6 +4,7 @@ pub mod ErrorLemmas
 pub mod KindLemmas
 pub mod LaneLemmas
 pub mod Linear
+pub mod Prelude
 pub mod Sparse
 pub mod Tables
 pub mod TruthValues

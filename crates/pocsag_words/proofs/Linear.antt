@@ -1,8 +1,5 @@
 -- Sums without carry are linear over two elements.
-use Rattle.std.proofs.Common.{◌≡◌, ℕ, ◌*◌, ◌/◌, ◌%◌, ◌^◌, ◌⊎◌, List, [], ◌∷◌, bit_xor, map, refl, sym, ap, ap₂, ◌∙◌, inl, inr, arith, zero-mul, one-mul}
-use Rattle.std.specs.Int.Bits.{xor_assoc, xor_self, xor_zero_r, xor_zero_l}
-use Rattle.std.proofs.lemmas.Nat.{xor_mod, xor_shr, xor_comm}
-use Rattle.pocsag_words.specs.Columns.{combine}
+use Rattle.pocsag_words.proofs.Prelude.{◌≡◌, ℕ, ◌*◌, ◌/◌, ◌%◌, ◌^◌, ◌⊎◌, List, [], ◌∷◌, bit_xor, map, refl, sym, ap, ap₂, ◌∙◌, inl, inr, arith, zero-mul, one-mul, xor_assoc, xor_self, xor_zero_r, xor_zero_l, xor_mod, xor_shr, xor_comm, combine}
 
 -- f takes sums without carry to sums without carry
 pub record IsLinear (f : ℕ → ℕ) : Type 0 where

@@ -1,9 +1,5 @@
 -- Numbers of few ones.
-use Rattle.std.proofs.Common.{◌≡◌, ℕ, zero, suc, ◌+◌, ◌*◌, ◌/◌, ◌^◌, ◌<◌, ◌≤◌, Bool, true, ◌&&◌, bit_xor, count_ones, ap, refl, ◌∙◌, inl, inr, arith, lit<}
-use Rattle.std.specs.Int.Count.{ones_step}
-use Rattle.std.proofs.Math.Nat.{pow-suc}
-use Rattle.std.proofs.lemmas.Bool.{and_parts}
-use Rattle.std.proofs.lemmas.Nat.{xor_block, ones_le_self, ones_cat}
+use Rattle.pocsag_words.proofs.Prelude.{◌≡◌, ℕ, zero, suc, ◌+◌, ◌*◌, ◌/◌, ◌^◌, ◌<◌, ◌≤◌, Bool, true, ◌&&◌, bit_xor, count_ones, ap, refl, ◌∙◌, inl, inr, arith, lit<, ones_step, pow-suc, and_parts, xor_block, ones_le_self, ones_cat}
 use Rattle.pocsag_words.proofs.Linear.{bit_cases}
 
 -- the test passes at each number of k bits with at most n ones

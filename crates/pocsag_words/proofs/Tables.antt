@@ -1,10 +1,7 @@
 -- The tables of check bits hold what their columns give.
-use Rattle.std.proofs.Common.{◌≡◌, ℕ, suc, ◌+◌, ◌*◌, ◌/◌, ◌%◌, ◌^◌, ◌<◌, List, [], ◌∷◌, ◌++◌, length, bit_xor, map, slice_index, refl, sym, ap, ap₂, ◌∙◌, arith, add-one}
+use Rattle.pocsag_words.proofs.Prelude.{◌≡◌, ℕ, suc, ◌+◌, ◌*◌, ◌/◌, ◌%◌, ◌^◌, ◌<◌, List, [], ◌∷◌, ◌++◌, length, bit_xor, map, slice_index, refl, sym, ap, ap₂, ◌∙◌, arith, add-one, xor_assoc, mod-pow-add, shr-shr, combine, columns, check_of}
 use Rattle.std.specs.List.{range_with_len}
-use Rattle.std.specs.Int.Bits.{xor_assoc}
-use Rattle.std.proofs.lemmas.Nat.{mod-pow-add, shr-shr}
 use Rattle.std.proofs.lemmas.List.FromFn.{get_or-map-range_with_len}
-use Rattle.pocsag_words.specs.Columns.{combine, columns, check_of}
 use Rattle.pocsag_words.specs.declared.checks.TheConstants.{LOW_CHECKS, MIDDLE_CHECKS, HIGH_CHECKS}
 
 -- columns take no bit past their number

@@ -1,5 +1,5 @@
 -- The truth values of comparisons and of what joins them.
-use Rattle.std.proofs.Common.{◌≡◌, ℕ, ◌<◌, ◌≤◌, Bool, true, false, ◌&&◌, ◌||◌, nat_lt, refl, arith}
+use Rattle.pocsag_words.proofs.Prelude.{◌≡◌, ℕ, ◌<◌, ◌≤◌, Bool, true, false, ◌&&◌, ◌||◌, nat_lt, refl, arith}
 use Rattle.std.proofs.lemmas.Bool.Decides.{nat_tests}
 
 pub not_above : (limit n : ℕ) → n ≤ limit → nat_lt limit n ≡ false

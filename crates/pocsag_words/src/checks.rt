@@ -61,8 +61,8 @@ pub(crate) fn check_bits(bits: u32) -> u32
 }
 
 #[inline(always)]
-fn entry(table: &[u32; 128], place: u32) -> u32
-    requires { place < 128 }
+pub(crate) fn entry<const N: usize>(table: &[u32; N], place: u32) -> u32
+    requires { place < N }
     ensures { result ≡ slice_index table.now place }
 {
     table[place as usize]

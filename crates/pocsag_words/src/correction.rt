@@ -1,8 +1,8 @@
 //! Repair of a number in which up to two bits are wrong.
-ghost use Rattle.std.specs.Prelude.{◌≡◌, ◌<◌, MatchOption, slice_index};
+ghost use Rattle.std.specs.Prelude.{MatchOption};
 ghost use Rattle.pocsag_words.specs.Codeword.{HasNoneNear, IsOnlyNear};
 
-use crate::checks::syndrome;
+use crate::checks::{entry, syndrome};
 use crate::codeword::Word;
 
 // Stands where no error of at most two bits has the syndrome.
@@ -154,18 +154,10 @@ const ERRORS: [u32; 2048] = [
 pub fn repair(number: u32) -> Option<Word>
     ensures { MatchOption result (HasNoneNear number) (IsOnlyNear number) }
 {
-    let error = error_at(&ERRORS, syndrome(number));
+    let error = entry(&ERRORS, syndrome(number));
     if error == FAR {
         None
     } else {
         Some(Word::new(number ^ error))
     }
-}
-
-#[inline(always)]
-fn error_at(errors: &[u32; 2048], syndrome: u32) -> u32
-    requires { syndrome < 2048 }
-    ensures { result ≡ slice_index errors.now syndrome }
-{
-    errors[syndrome as usize]
 }

@@ -8,8 +8,8 @@ use thiserror::Error;
 #[error("a device failed")]
 pub struct DeviceFault;
 
-/// A reader. `read` fills the front of the buffer and answers how many bytes it put there, which
-/// is 0 for a non-empty buffer only at the end.
+/// A reader. `read` fills the front of the buffer and returns how many bytes it put there, which is 0 for a non-empty
+/// buffer only at the end.
 pub trait Source {
     // Whether contracts know the bytes.
     ghost is_known: { Type 0 };
@@ -59,8 +59,8 @@ pub trait Source {
     }
 }
 
-/// A writer. `write` takes some bytes of the front of the piece, at least 1 of a non-empty piece,
-/// and answers how many.
+/// A writer. `write` takes some bytes of the front of the piece, at least 1 of a non-empty piece, and returns how
+/// many.
 pub trait Sink {
     // Whether contracts know the bytes.
     ghost is_known: { Type 0 };

@@ -1,5 +1,5 @@
 //! Checks of many numbers, eight at once.
-ghost use Rattle.std.specs.Prelude.{◌≡◌, ℕ, ◌+◌, ◌<◌, ◌≤◌, length, map, slice_index};
+ghost use Rattle.std.specs.Prelude.{◌≡◌, ◌+◌, ◌≤◌, length, map};
 ghost use Rattle.pocsag_words.specs.Checks.{checks_of};
 ghost use Rattle.pocsag_words.specs.Flags.{TellFirst, TellCodewords};
 
@@ -32,20 +32,10 @@ fn mark_block(numbers: &[u32], start: usize, flags: &mut [bool])
     requires before { TellFirst start numbers.now flags.old }
     ensures { TellFirst (start + LANES) numbers.now flags.new }
 {
-    let found = checks_at(numbers, start);
+    let found = checks(u32x8::from_slice(&numbers[start..])).to_array();
     for i in 0..LANES {
         flags[start + i] = found[i] == 0;
     }
-}
-
-// The sums of bits of the eight numbers from this place on.
-#[inline(always)]
-fn checks_at(numbers: &[u32], start: usize) -> [u32; LANES]
-    requires { start + LANES ≤ length numbers.now }
-    ensures each { (k : ℕ) → k < LANES → slice_index result k ≡ checks_of (slice_index numbers.now (start + k)) }
-    ensures lanes { length result ≡ LANES }
-{
-    checks(u32x8::from_slice(&numbers[start..])).to_array()
 }
 
 // Eleven sums of bits of each number, which are all 0 where it is a codeword and nowhere else: the

@@ -1,4 +1,4 @@
-use Rattle.std.proofs.Common.{arith}
+use Rattle.pocsag_text.proofs.Prelude.{arith}
 use Rattle.pocsag_text.proofs.Codes.{code_missing, code_there, in_table}
 use Rattle.pocsag_text.proofs.character.code_of.Goals as goal
 

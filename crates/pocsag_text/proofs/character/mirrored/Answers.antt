@@ -1,4 +1,4 @@
-use Rattle.std.proofs.Common.{arith}
+use Rattle.pocsag_text.proofs.Prelude.{arith}
 use Rattle.pocsag_text.proofs.Mirrors.{high_first-mirrored, low_first-mirrored, mirrored-lt, reversed}
 use Rattle.pocsag_text.proofs.character.mirrored.Goals as goal
 

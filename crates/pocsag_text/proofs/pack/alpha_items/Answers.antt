@@ -1,10 +1,4 @@
-use Rattle.std.proofs.Common.{◌<◌, ◌^◌, ℕ, ◌++◌, take, get_or, sym, ap, ◌∙◌}
-use Rattle.std.specs.List.{flat_map}
-use Rattle.std.proofs.lemmas.List.{append-nil, flat_map_more, take_all, take_more, take_rest}
-use Rattle.std.proofs.lemmas.List.Concat.{flat_map-append}
-use Rattle.std.proofs.lemmas.List.Elements.{All-append, All-drop}
-use Rattle.pocsag_text.specs.Bits.{high_first, low_first, item_bits}
-use Rattle.pocsag_text.specs.Text.{twenties}
+use Rattle.pocsag_text.proofs.Prelude.{◌<◌, ◌^◌, ℕ, ◌++◌, take, get_or, sym, ap, ◌∙◌, flat_map, append-nil, flat_map_more, take_all, take_more, take_rest, flat_map-append, All-append, All-drop, high_first, low_first, item_bits, twenties}
 use Rattle.pocsag_text.proofs.Payloads.{filled_alpha, whole_alpha}
 use Rattle.pocsag_text.proofs.SevenItems.{front_moved}
 use Rattle.pocsag_text.proofs.pack.alpha_items.Goals as goal

@@ -1,6 +1,4 @@
-use Rattle.std.proofs.Common.{◌≡◌, ◌<◌, ◌++◌, All, length, take}
-use Rattle.std.specs.List.{flat_map}
-use Rattle.pocsag_text.specs.Bits.{low_first, item_bits, AreItems}
+use Rattle.pocsag_text.proofs.Prelude.{◌≡◌, ◌<◌, ◌++◌, All, length, take, flat_map, low_first, item_bits, AreItems}
 use Rattle.pocsag_text.proofs.pack.alpha_items.Given as goal
 
 abbrev pub invariant-loop-rest : goal.invariant-loop-rest

@@ -1,5 +1,4 @@
-use Rattle.std.proofs.Common.{ap, ◌∙◌, arith}
-use Rattle.pocsag_text.specs.Bits.{high_first}
+use Rattle.pocsag_text.proofs.Prelude.{ap, ◌∙◌, arith, high_first}
 use Rattle.pocsag_text.proofs.SevenItems.{group_of_four}
 use Rattle.pocsag_text.proofs.pack.bits_of_four.Goals as goal
 

@@ -1,6 +1,4 @@
-use Rattle.std.proofs.Common.{◌≡◌, take}
-use Rattle.std.specs.List.{list_any}
-use Rattle.pocsag_text.specs.Text.{is_bad_byte}
+use Rattle.pocsag_text.proofs.Prelude.{◌≡◌, take, list_any, is_bad_byte}
 use Rattle.pocsag_text.proofs.pack.has_bad_byte.Given as goal
 
 abbrev pub invariant-loop-byte : goal.invariant-loop-byte

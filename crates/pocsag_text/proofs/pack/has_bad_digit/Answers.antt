@@ -1,6 +1,4 @@
-use Rattle.std.proofs.Common.{get_or, sym, arith}
-use Rattle.std.proofs.lemmas.List.Folds.{list_any_more}
-use Rattle.pocsag_text.specs.Characters.{is_bad_digit}
+use Rattle.pocsag_text.proofs.Prelude.{get_or, sym, arith, list_any_more, is_bad_digit}
 use Rattle.pocsag_text.proofs.Codes.{no_digit_compared}
 use Rattle.pocsag_text.proofs.pack.has_bad_digit.Goals as goal
 

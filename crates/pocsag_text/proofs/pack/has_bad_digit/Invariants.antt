@@ -1,6 +1,4 @@
-use Rattle.std.proofs.Common.{◌≡◌, take}
-use Rattle.std.specs.List.{list_any}
-use Rattle.pocsag_text.specs.Characters.{is_bad_digit}
+use Rattle.pocsag_text.proofs.Prelude.{◌≡◌, take, list_any, is_bad_digit}
 use Rattle.pocsag_text.proofs.pack.has_bad_digit.Given as goal
 
 abbrev pub invariant-loop-byte : goal.invariant-loop-byte

@@ -1,4 +1,4 @@
-use Rattle.std.proofs.Common.{Ok, refl, sym, ap, ◌∙◌, inr}
+use Rattle.pocsag_text.proofs.Prelude.{Ok, refl, sym, ap, ◌∙◌, inr}
 use Rattle.pocsag_text.proofs.Payloads.{as_fault, fault_none, fault_not_memory, numeric_payload-good, numeric_payload-bad, few_numeric}
 use Rattle.pocsag_text.proofs.pack.pack_numeric.Goals as goal
 

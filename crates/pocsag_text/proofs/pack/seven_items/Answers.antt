@@ -1,7 +1,4 @@
-use Rattle.std.proofs.Common.{◌≡◌, ℕ, drop, take, sym, ap, ◌∙◌}
-use Rattle.std.specs.List.{flat_map}
-use Rattle.std.proofs.lemmas.List.{take_rest}
-use Rattle.pocsag_text.specs.Bits.{high_first, low_first}
+use Rattle.pocsag_text.proofs.Prelude.{◌≡◌, ℕ, drop, take, sym, ap, ◌∙◌, flat_map, take_rest, high_first, low_first}
 use Rattle.pocsag_text.proofs.SevenItems.{seven_items_bits, seven_items_small, twenty_by_four}
 use Rattle.pocsag_text.proofs.pack.seven_items.Goals as goal
 

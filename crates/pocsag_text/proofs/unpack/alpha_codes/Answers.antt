@@ -1,10 +1,4 @@
-use Rattle.std.proofs.Common.{◌≡◌, ◌/◌, ◌<◌, ◌^◌, List, ℕ, length, ◌++◌, [], take, get_or, sym, ap, ◌∙◌}
-use Rattle.std.specs.List.{flat_map}
-use Rattle.std.proofs.lemmas.List.{append-nil, flat_map_more, take_all, take_more, take_rest}
-use Rattle.std.proofs.lemmas.List.Elements.{All-append, All-drop}
-use Rattle.std.proofs.lemmas.List.Concat.{flat_map-append}
-use Rattle.pocsag_text.specs.Bits.{high_first, low_first, low_number, cut, item_bits}
-use Rattle.pocsag_text.specs.Text.{codes_of}
+use Rattle.pocsag_text.proofs.Prelude.{◌≡◌, ◌/◌, ◌<◌, ◌^◌, List, ℕ, length, ◌++◌, [], take, get_or, sym, ap, ◌∙◌, flat_map, append-nil, flat_map_more, take_all, take_more, take_rest, All-append, All-drop, flat_map-append, high_first, low_first, low_number, cut, item_bits, codes_of}
 use Rattle.pocsag_text.proofs.SevenItems.{five_groups_small, front_moved, seven_taken}
 use Rattle.pocsag_text.proofs.unpack.alpha_codes.Goals as goal
 
@@ -35,25 +29,5 @@ loop-rest-preserved c =
       left = rw cut (All-drop (λ (item : ℕ). item < 2 ^ 20) 7 rest loop.invariant.left);
     })
 
-pub loop-item-init : goal.loop-item-init
-loop-item-init c = sym (append-nil c.from_codes-unpacker.result)
-
-pub loop-item-preserved : goal.loop-item-preserved
-loop-item-preserved c =
-    let rest = c.loop-rest.rest.now in
-    let i = c.loop-item.item-index in
-    c.in_ok-unpacker.ensures
-    ∙ ap (λ bits. bits ++ high_first 20 (get_or rest i 0)) c.loop-item.invariant
-    ∙ flat_map_more (high_first 20) c.from_codes-unpacker.result (take i rest) (get_or rest i 0)
-    ∙ ap (λ items. c.from_codes-unpacker.result ++ item_bits items) (sym (take_more rest i 0 c.loop-item-test.true))
-
 pub returns-clause-codes : goal.returns-clause-codes
-unfolding codes_of
-returns-clause-codes c =
-    let rest = c.loop-rest.rest.now in
-    let all =
-    c.loop-item.invariant
-    ∙ ap (λ items. c.from_codes-unpacker.result ++ item_bits items) (take_all c.loop-item.item-index rest c.loop-item-test.false)
-    ∙ ap (λ bits. bits ++ item_bits rest) c.from_codes-unpacker.ensures ∙ c.loop-rest.invariant.bits in
-    let P : List ℕ → List ℕ = λ b. cut 7 low_number (length b / 7) b in
-    c.into_codes.ensures.codes ∙ ap P all
+returns-clause-codes c = rw c.loop-rest.invariant.bits at c.codes_of.ensures.codes

@@ -1,6 +1,4 @@
-use Rattle.std.proofs.Common.{◌≡◌, ◌<◌, ◌++◌, All, length, take}
-use Rattle.std.specs.List.{flat_map}
-use Rattle.pocsag_text.specs.Bits.{low_first, item_bits, AreItems}
+use Rattle.pocsag_text.proofs.Prelude.{◌≡◌, ◌<◌, ◌++◌, All, length, flat_map, low_first, item_bits, AreItems}
 use Rattle.pocsag_text.proofs.unpack.alpha_codes.Given as goal
 
 abbrev pub invariant-loop-rest : goal.invariant-loop-rest
@@ -12,6 +10,3 @@ invariant-loop-rest l = record {
 
 abbrev pub decreases-loop-rest : goal.decreases-loop-rest
 decreases-loop-rest l = length l.rest
-
-abbrev pub invariant-loop-item : goal.invariant-loop-item
-invariant-loop-item l = l.unpacker ≡ l.initial.unpacker ++ item_bits (take l.item-index l.item-items)

@@ -1,5 +1,4 @@
-use Rattle.std.proofs.Common.{◌≡◌, ◌++◌, map, take, drop}
-use Rattle.pocsag_text.specs.Characters.{character_of}
+use Rattle.pocsag_text.proofs.Prelude.{◌≡◌, ◌++◌, map, take, drop, character_of}
 use Rattle.pocsag_text.proofs.unpack.characters_of.Given as goal
 
 abbrev pub invariant-loop-code : goal.invariant-loop-code

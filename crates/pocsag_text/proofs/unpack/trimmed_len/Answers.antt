@@ -1,4 +1,4 @@
-use Rattle.std.proofs.Common.{◌≡◌, sym, ◌∙◌, arith}
+use Rattle.pocsag_text.proofs.Prelude.{◌≡◌, sym, ◌∙◌, arith}
 use Rattle.pocsag_text.proofs.Trims.{trim_end-wanted, trim_end-unwanted, trim_end-nil}
 use Rattle.pocsag_text.proofs.unpack.trimmed_len.Goals as goal
 

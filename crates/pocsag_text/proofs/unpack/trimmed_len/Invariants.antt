@@ -1,5 +1,4 @@
-use Rattle.std.proofs.Common.{◌≡◌, ◌≤◌, length, take}
-use Rattle.pocsag_text.specs.Text.{trim_end}
+use Rattle.pocsag_text.proofs.Prelude.{◌≡◌, ◌≤◌, length, take, trim_end}
 use Rattle.pocsag_text.proofs.unpack.trimmed_len.Given as goal
 
 abbrev pub invariant-loop-len : goal.invariant-loop-len

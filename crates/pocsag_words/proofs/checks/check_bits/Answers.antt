@@ -1,5 +1,4 @@
-use Rattle.std.proofs.Common.{◌≡◌, ℕ, ◌<◌, bit_xor, subst, sym}
-use Rattle.pocsag_words.specs.Columns.{check_of}
+use Rattle.pocsag_words.proofs.Prelude.{◌≡◌, ℕ, ◌<◌, bit_xor, subst, sym, check_of}
 use Rattle.pocsag_words.proofs.BlockCode.{check_of-lt}
 use Rattle.pocsag_words.proofs.Tables.{check_of_tables}
 use Rattle.pocsag_words.proofs.checks.check_bits.Goals as goal

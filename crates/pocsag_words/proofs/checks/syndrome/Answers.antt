@@ -1,5 +1,4 @@
-use Rattle.std.proofs.Common.{◌≡◌, ℕ, ◌%◌, ◌<◌, bit_xor, ap, subst, sym}
-use Rattle.pocsag_words.specs.Columns.{syndrome_of}
+use Rattle.pocsag_words.proofs.Prelude.{◌≡◌, ℕ, ◌%◌, ◌<◌, bit_xor, ap, subst, sym, syndrome_of}
 use Rattle.pocsag_words.proofs.ErrorLemmas.{syndrome_of-lt}
 use Rattle.pocsag_words.proofs.checks.syndrome.Goals as goal
 

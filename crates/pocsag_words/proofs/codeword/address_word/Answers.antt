@@ -1,4 +1,4 @@
-use Rattle.std.proofs.Common.{◌≡◌, ◌+◌, ◌*◌, ◌/◌, arith}
+use Rattle.pocsag_words.proofs.Prelude.{◌≡◌, ◌+◌, ◌*◌, ◌/◌, arith}
 use Rattle.pocsag_words.proofs.KindLemmas.{kind_of-address}
 use Rattle.pocsag_words.proofs.codeword.address_word.Goals as goal
 

@@ -1,4 +1,4 @@
-use Rattle.std.proofs.Common.{arith}
+use Rattle.pocsag_words.proofs.Prelude.{arith}
 use Rattle.pocsag_words.proofs.BlockCode.{IsCodeword-encode, same_from_data}
 use Rattle.pocsag_words.proofs.codeword.encode.Goals as goal
 

@@ -1,4 +1,4 @@
-use Rattle.std.proofs.Common.{◌≡◌, ◌+◌, ◌≤◌, ◌++◌, length}
+use Rattle.pocsag_words.proofs.Prelude.{◌≡◌, ◌+◌, ◌≤◌, ◌++◌, length}
 use Rattle.pocsag_words.proofs.device.write_all.Given as goal
 
 -- what was taken so far, and what is left, are what is due, and a byte was taken by each call

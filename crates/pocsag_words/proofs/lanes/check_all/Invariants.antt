@@ -1,5 +1,4 @@
-use Rattle.std.proofs.Common.{◌-◌, ◌≤◌, length}
-use Rattle.pocsag_words.specs.Flags.{TellFirst}
+use Rattle.pocsag_words.proofs.Prelude.{◌-◌, ◌≤◌, length, TellFirst}
 use Rattle.pocsag_words.proofs.lanes.check_all.Given as goal
 
 abbrev pub invariant-loop-start : goal.invariant-loop-start

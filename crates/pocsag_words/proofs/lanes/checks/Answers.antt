@@ -1,4 +1,4 @@
-use Rattle.pocsag_words.specs.Checks.{moved, pair_of, spread_of, three_of, product_of, checks_of}
+use Rattle.pocsag_words.proofs.Prelude.{moved, pair_of, spread_of, three_of, product_of, checks_of}
 use Rattle.pocsag_words.proofs.LaneLemmas.{eight_lanes, turned}
 use Rattle.pocsag_words.proofs.lanes.checks.Goals as goal
 

@@ -1,5 +1,4 @@
-use Rattle.std.proofs.Common.{◌+◌}
-use Rattle.pocsag_words.specs.Flags.{TellFirst}
+use Rattle.pocsag_words.proofs.Prelude.{◌+◌, TellFirst}
 use Rattle.pocsag_words.proofs.lanes.mark_block.Given as goal
 
 abbrev pub invariant-loop-i : goal.invariant-loop-i

@@ -1,6 +1,4 @@
-use Rattle.std.proofs.lemmas.List.{append-nil}
-use Rattle.pocsag_text.specs.Packers.{packed_bits}
-use Rattle.pocsag_text.specs.Bits.{high_first, item_bits}
+use Rattle.pocsag_text.proofs.Prelude.{append-nil, packed_bits, high_first, item_bits}
 use Rattle.pocsag_text.proofs.packer.Packer.from_items.Goals as goal
 
 pub returns : goal.returns

@@ -1,5 +1,4 @@
-use Rattle.std.proofs.Common.{◌≡◌, ◌%◌, length}
-use Rattle.pocsag_text.specs.Packers.{packed_bits}
+use Rattle.pocsag_text.proofs.Prelude.{◌≡◌, ◌%◌, length, packed_bits}
 use Rattle.pocsag_text.proofs.Packs.{twenties-packed_bits}
 use Rattle.pocsag_text.proofs.packer.Packer.into_items.Goals as goal
 

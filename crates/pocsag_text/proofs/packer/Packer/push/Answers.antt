@@ -1,6 +1,4 @@
-use Rattle.std.proofs.Common.{◌≡◌, ◌+◌, ◌-◌, ◌*◌, ◌^◌, ◌%◌, ◌/◌, ◌<◌, ◌++◌, [], ◌∷◌, ap, ◌∙◌, arith}
-use Rattle.pocsag_text.specs.Bits.{high_first, low_first}
-use Rattle.pocsag_text.specs.Packers.{packed_bits}
+use Rattle.pocsag_text.proofs.Prelude.{◌≡◌, ◌+◌, ◌-◌, ◌*◌, ◌^◌, ◌%◌, ◌/◌, ◌<◌, ◌++◌, [], ◌∷◌, ap, ◌∙◌, arith, high_first, low_first, packed_bits}
 use Rattle.pocsag_text.proofs.Packs.{held_with, held_with-lt, lowest, packed_bits-more, packed_bits-push, IsPacked-more, IsPacked-push}
 use Rattle.pocsag_text.proofs.packer.Packer.push.Goals as goal
 

@@ -1,6 +1,4 @@
-use Rattle.std.proofs.Common.{sym}
-use Rattle.std.proofs.lemmas.List.{append-nil}
-use Rattle.pocsag_text.specs.Bits.{low_first}
+use Rattle.pocsag_text.proofs.Prelude.{sym, append-nil, low_first}
 use Rattle.pocsag_text.proofs.Packs.{times_more}
 use Rattle.pocsag_text.proofs.packer.Packer.push_times.Goals as goal
 

@@ -1,6 +1,4 @@
-use Rattle.std.proofs.Common.{◌≡◌, ◌++◌, replicate}
-use Rattle.std.specs.List.{flat_map}
-use Rattle.pocsag_text.specs.Bits.{low_first}
+use Rattle.pocsag_text.proofs.Prelude.{◌≡◌, ◌++◌, replicate, flat_map, low_first}
 use Rattle.pocsag_text.proofs.packer.Packer.push_times.Given as goal
 
 abbrev pub invariant-loop-time : goal.invariant-loop-time

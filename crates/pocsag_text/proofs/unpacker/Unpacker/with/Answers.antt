@@ -1,5 +1,4 @@
-use Rattle.std.proofs.Common.{◌-◌, ◌^◌, ◌<◌, ◌≤◌, lit≤, arith}
-use Rattle.std.proofs.Math.Nat.{pow-le-pow_right}
+use Rattle.pocsag_text.proofs.Prelude.{◌-◌, ◌^◌, ◌<◌, ◌≤◌, lit≤, arith, pow-le-pow_right}
 use Rattle.pocsag_text.proofs.Packs.{held_with, lowest}
 use Rattle.pocsag_text.proofs.Unpacks.{IsTaking-start, IsTaking-more, next-lt}
 use Rattle.pocsag_text.proofs.unpacker.Unpacker.with.Goals as goal

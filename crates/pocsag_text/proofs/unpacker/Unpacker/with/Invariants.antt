@@ -1,5 +1,4 @@
-use Rattle.std.proofs.Common.{◌++◌}
-use Rattle.pocsag_text.specs.Bits.{high_first}
+use Rattle.pocsag_text.proofs.Prelude.{◌++◌, high_first}
 use Rattle.pocsag_text.proofs.Unpacks.{IsTaking}
 use Rattle.pocsag_text.proofs.unpacker.Unpacker.with.Given as goal
 
