@@ -1,13 +1,8 @@
 -- Reading one record of csv, by the records that are left.
-use Rattle.std.proofs.Common.{◌≡◌, ℕ, zero, suc, ◌+◌, ◌<◌, Bool, true, false, ◌⊎◌, inl, inr, cond, List, [], ◌∷◌, ◌++◌, length, refl, sym, ap, ◌∙◌, arith, add-one}
-use Rattle.std.specs.Prelude.{Option, Some, None, IsSome}
-use Rattle.csv.specs.Machine.{Read, next_record, ends_at_end, is_end, step, fields_after, field_after}
-use Rattle.csv.specs.Reading.{default_config, records_from, records_next, pending_of, source_of, ReadsNext, NextIs}
+use Rattle.pocsag_pages.proofs.Prelude.{◌≡◌, ℕ, zero, suc, ◌+◌, ◌<◌, Bool, true, false, ◌⊎◌, inl, inr, cond, List, [], ◌∷◌, ◌++◌, length, refl, sym, ap, ◌∙◌, arith, add-one, Option, Some, None, IsSome, Read, next_record, ends_at_end, is_end, step, fields_after, field_after, default_config, records_from, records_next, pending_of, source_of, ReadsNext, NextIs, State, rows_known}
 use Rattle.csv.specs.declared.reader.Reader.{Reader}
 use Rattle.csv.specs.declared.parser.Config.{Config}
-use Rattle.csv.specs.declared.parser.State.{State}
 use Rattle.csv.specs.declared.parser.State.TheVariants as st
-use Rattle.pocsag_pages.specs.Rows.{rows_known}
 
 -- what is left after a record is shorter, or is the end
 abbrev LeavesLess : List ℕ → Read → Type 0

@@ -1,11 +1,6 @@
 -- How csv's machine steps through a text of the default dialect.
-use Rattle.std.proofs.Common.{◌≡◌, ℕ, ◌==◌, ◌||◌, Bool, true, false, refl}
-use Rattle.std.specs.Prelude.{if◌then◌else◌}
-use Rattle.csv.specs.Machine.{in_field, is_end, step}
-use Rattle.csv.specs.Reading.{default_config}
-use Rattle.csv.specs.declared.parser.Action.{Action}
+use Rattle.pocsag_pages.proofs.Prelude.{◌≡◌, ℕ, ◌==◌, ◌||◌, Bool, true, false, refl, if◌then◌else◌, in_field, is_end, step, default_config, Action, State}
 use Rattle.csv.specs.declared.parser.Action.TheVariants as act
-use Rattle.csv.specs.declared.parser.State.{State}
 use Rattle.csv.specs.declared.parser.State.TheVariants as st
 
 -- in a field

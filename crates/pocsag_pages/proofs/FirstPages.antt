@@ -1,12 +1,5 @@
 -- The first pages of a round are a round, and the others may stand in one.
-use Rattle.std.proofs.Common.{◌≡◌, ℕ, ◌+◌, ◌<◌, ◌≤◌, List, length, take, drop, nat_eq, arith, subst}
-use Rattle.std.specs.Prelude.{None}
-use Rattle.std.specs.List.{IsDistinct}
-use Rattle.std.proofs.lemmas.List.{drop-map, get_or-drop, get_or-take, length-drop, length-take, length-take-le, take-map}
-use Rattle.std.proofs.lemmas.List.Elements.{All-drop, All-take}
-use Rattle.std.proofs.lemmas.Map.Keys.{IsDistinct-from_apart, apart_from_distinct}
-use Rattle.pocsag_pages.specs.declared.page.Page.{Page}
-use Rattle.pocsag_pages.specs.Pages.{AreGood, IsRound, addresses_of, page_fault_of}
+use Rattle.pocsag_pages.proofs.Prelude.{◌≡◌, ℕ, ◌+◌, ◌<◌, ◌≤◌, List, length, take, drop, nat_eq, arith, subst, None, IsDistinct, drop-map, get_or-drop, get_or-take, length-drop, length-take, length-take-le, take-map, All-drop, All-take, IsDistinct-from_apart, apart_from_distinct, Page, AreGood, IsRound, addresses_of, page_fault_of}
 
 distinct_first : (n : ℕ) (ks : List ℕ) → IsDistinct nat_eq ks → IsDistinct nat_eq (take n ks)
 distinct_first n ks h = IsDistinct-from_apart nat_eq (take n ks) (λ i j d below within.

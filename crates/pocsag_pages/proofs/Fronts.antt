@@ -1,18 +1,9 @@
 -- A front of a text that has a wide record: up to that one its records are those of the text.
-use Rattle.std.proofs.Common.{◌≡◌, ℕ, zero, suc, ◌<◌, ◌≤◌, ◌==◌, ◌&&◌, Bool, true, false, List, [], ◌∷◌, ◌++◌, length, take, drop, refl, sym, ap, subst, ◌∙◌, arith}
-use Rattle.std.specs.Prelude.{if◌then◌else◌, nat_lt}
+use Rattle.pocsag_pages.proofs.Prelude.{◌≡◌, ℕ, zero, suc, ◌<◌, ◌≤◌, ◌==◌, ◌&&◌, Bool, true, false, List, [], ◌∷◌, ◌++◌, length, take, drop, refl, sym, ap, subst, ◌∙◌, arith, if◌then◌else◌, nat_lt, and_parts, eqb-true, false≢true, lt-ltb, ltb-true, length-append, length-take, take-append-drop, ends_at_end, next_record, step, default_config, is_bom, records, records_from, strip_bom, Action, State, Row, rows_of, has_wide, up_to_wide}
 use native.Mathlib.Decide.{dec_lt}
-use Rattle.std.proofs.lemmas.Bool.{and_parts, eqb-true, false≢true, lt-ltb, ltb-true}
-use Rattle.std.proofs.lemmas.List.{length-append, length-take, take-append-drop}
-use Rattle.csv.specs.Machine.{ends_at_end, next_record, step}
-use Rattle.csv.specs.Reading.{default_config, is_bom, records, records_from, strip_bom}
-use Rattle.csv.specs.declared.parser.Action.{Action}
 use Rattle.csv.specs.declared.parser.Action.TheVariants as act
-use Rattle.csv.specs.declared.parser.State.{State}
 use Rattle.csv.specs.declared.parser.State.TheVariants as st
 use Rattle.csv.proofs.ReadFacts.{strip-short}
-use Rattle.pocsag_pages.specs.PageFile.{Row, rows_of}
-use Rattle.pocsag_pages.specs.WideRecords.{has_wide, up_to_wide}
 use Rattle.pocsag_pages.proofs.CsvRecords.{no_more, one_record}
 use Rattle.pocsag_pages.proofs.CsvSteps.{IsInside, StartsField, StaysInside, starts_field, stays_inside}
 use Rattle.pocsag_pages.proofs.WideRecords.{cut_wide, on_byte, rows_at, rows_on, wide}

@@ -1,18 +1,8 @@
 -- What the absence of a fault says of a page, and of the pages of a round.
-use Rattle.std.proofs.Common.{◌≡◌, ◌≢◌, ℕ, ◌+◌, ◌^◌, ◌<◌, ◌≤◌, Bool, true, false, not, ◌||◌, ◌&&◌, ◌⊎◌, inl, inr, List, [], ◌∷◌, length, All, nat_eq, nat_lt, nat_le, refl, arith}
-use Rattle.std.specs.Prelude.{None}
-use Rattle.std.specs.List.{list_any}
-use Rattle.std.proofs.lemmas.Bool.Decides.{nat_tests}
+use Rattle.pocsag_pages.proofs.Prelude.{◌≡◌, ◌≢◌, ℕ, ◌+◌, ◌^◌, ◌<◌, ◌≤◌, Bool, true, false, not, ◌||◌, ◌&&◌, ◌⊎◌, inl, inr, List, [], ◌∷◌, length, All, nat_eq, nat_le, refl, arith, None, list_any, nat_tests, length-map, All-cons, All-nil, All-head, All-tail, apart_from_distinct, or_cases, or_parts, item_limit, Page, last_address, AreGood, IsGoodPage, addresses_of, is_bad_payload, page_fault_of, AreApart}
+use Rattle.std.proofs.Common.{nat_lt}
 use Rattle.std.proofs.Math.ListN.{get_or-map}
-use Rattle.std.proofs.lemmas.List.{length-map}
-use Rattle.std.proofs.lemmas.List.Elements.{All-cons, All-nil, All-head, All-tail}
-use Rattle.std.proofs.lemmas.Map.Keys.{apart_from_distinct}
 use Rattle.std.proofs.lemmas.Map.Steps.{length-le_from_distinct_below}
-use Rattle.std.proofs.lemmas.Bool.{or_cases, or_parts}
-use Rattle.pocsag_text.specs.Text.{item_limit}
-use Rattle.pocsag_pages.specs.declared.page.Page.{Page}
-use Rattle.pocsag_pages.specs.Pages.{last_address, AreGood, IsGoodPage, addresses_of, is_bad_payload, page_fault_of}
-use Rattle.pocsag_pages.specs.Reading.{AreApart}
 use Rattle.pocsag_text.proofs.Payloads.{none_from_cond}
 
 not_above : (limit n : ℕ) → nat_lt limit n ≡ false → n ≤ limit

@@ -1,21 +1,8 @@
 -- A round that grows by one page.
-use Rattle.std.proofs.Common.{◌≡◌, ℕ, Bool, true, false, not, cond, ◌||◌, List, [], ◌∷◌, ◌++◌, nat_eq, refl, sym, ap, ◌∙◌, arith}
+use Rattle.pocsag_pages.proofs.Prelude.{◌≡◌, ℕ, Bool, true, false, not, cond, ◌||◌, List, [], ◌∷◌, ◌++◌, nat_eq, refl, sym, ap, ◌∙◌, arith, BTreeSet, contains, Updates, nat_cmp, map-append, All-nil, All-push, list_any-append, nat_tests, IsDistinct-push, Page, AreGood, addresses_of, has_address, page_fault_of, IsRoundBuilder, None, not-false, not-true, or_false}
 use Rattle.std.specs.BTreeMap.{is_at}
-use Rattle.std.specs.BTreeSet.{BTreeSet, contains, Updates}
-use Rattle.std.specs.Ordering.{nat_cmp}
-use Rattle.std.proofs.lemmas.List.{map-append}
-use Rattle.std.proofs.lemmas.List.Elements.{All-nil, All-push}
-use Rattle.std.proofs.lemmas.List.Folds.{list_any-append}
 use Rattle.std.proofs.lemmas.Cmp.{nat_eq_equiv}
-use Rattle.std.proofs.lemmas.Bool.Decides.{nat_tests}
-use Rattle.std.proofs.lemmas.Map.Keys.{IsDistinct-push}
 use Rattle.std.proofs.lemmas.Map.Made.{IsDistinct-from_count}
-use Rattle.pocsag_pages.specs.declared.page.Page.{Page}
-use Rattle.pocsag_pages.specs.Pages.{AreGood, addresses_of, has_address, page_fault_of}
-use Rattle.pocsag_pages.specs.RoundBuilders.{IsRoundBuilder}
-use Rattle.std.specs.Prelude.{None}
-use Rattle.std.proofs.lemmas.Bool.{not-false, not-true}
-use Rattle.pocsag_words.proofs.TruthValues.{or_false}
 
 pub either : (b c : Bool) → cond b true c ≡ (c || b)
 either true true = refl

@@ -1,25 +1,11 @@
 -- A file whose first record is the header shows it in its front: each byte of a record, but for its line end, makes it longer, adds
 -- a field, or is one of two quotes around a field.
-use Rattle.std.proofs.Common.{◌≡◌, ℕ, zero, suc, ◌+◌, ◌*◌, ◌<◌, ◌≤◌, ◌==◌, ◌||◌, ◌&&◌, Bool, true, false, List, [], ◌∷◌, ◌++◌, length, get_or, min, take, drop, refl, sym, ap, ◌∙◌, arith}
-use Rattle.std.specs.Prelude.{Option, Some, None, Err, if◌then◌else◌, codes}
+use Rattle.pocsag_pages.proofs.Prelude.{if◌then◌else◌, ◌≡◌, ℕ, zero, suc, ◌+◌, ◌*◌, ◌<◌, ◌≤◌, ◌==◌, ◌||◌, ◌&&◌, Bool, true, false, List, [], ◌∷◌, ◌++◌, length, get_or, min, take, drop, refl, sym, ap, ◌∙◌, arith, Option, Some, None, codes, and_parts, false_from_ne_true, false≢true, drop_more, length-append, take_min, bytes_eq-Decides, Read, field_after, fields_after, is_end, next_record, step, default_config, is_bom, records, records_from, records_next, strip_bom, Action, State, header_front, line_ends_first, starts_with_header, Row, is_header, rows_of}
 use Rattle.std.specs.Str.{bytes_eq}
-use Rattle.std.proofs.lemmas.Bool.{and_parts, false_from_ne_true, false≢true}
-use Rattle.std.proofs.lemmas.List.{drop_all, drop_more, length-append, take_all, take_min}
-use Rattle.std.proofs.lemmas.Slice.Eq.{bytes_eq-Decides}
-use Rattle.csv.specs.Machine.{Read, field_after, fields_after, is_end, next_record, step}
-use Rattle.csv.specs.Reading.{default_config, is_bom, records, records_from, records_next, strip_bom}
-use Rattle.csv.specs.declared.parser.Action.{Action}
 use Rattle.csv.specs.declared.parser.Action.TheVariants as act
-use Rattle.csv.specs.declared.parser.State.{State}
 use Rattle.csv.specs.declared.parser.State.TheVariants as st
-use Rattle.pocsag_pages.specs.HeaderFronts.{header_front, line_ends_first, starts_with_header}
-use Rattle.pocsag_pages.specs.PageFile.{Row, is_header, rows_of, verdict_of_rows}
-use Rattle.pocsag_pages.specs.Queues.{queue_of_all_rows}
-use Rattle.pocsag_pages.specs.declared.fault.RoundFault.TheVariants as fault
 use Rattle.pocsag_pages.proofs.CsvRecords.{one_record}
 use Rattle.pocsag_pages.proofs.CsvSteps.{IsInside, StaysInside, bare_step, either, stays_inside}
-use Rattle.pocsag_pages.proofs.Judgements.{bad_header, no_header}
-use Rattle.pocsag_pages.proofs.QueueRows.{bad_queue_header, no_queue_header}
 
 -- the most bytes of fields but for the quotes that may stand around the next, each byte of a field counted twice since it may be a
 -- quote that is doubled
@@ -289,15 +275,6 @@ headed_front (x ∷ y ∷ z ∷ rest) h = rw (front_length (line_ends_first rest
 pub unheaded_front : (file : List ℕ) → starts_with_header (rows_of (header_front file)) ≡ false → starts_with_header (rows_of file) ≡ false
 unheaded_front file e = false_from_ne_true _ (λ h. false≢true (sym e ∙ headed_front file h))
 
--- a file without the header
-pub unheaded_round : (rows : List Row) → starts_with_header rows ≡ false → verdict_of_rows rows ≡ Err fault.BadHeader
-unheaded_round [] e = no_header
-unheaded_round (r ∷ rows) e = bad_header r rows e
-
-pub unheaded_queue : (rows : List Row) → starts_with_header rows ≡ false → queue_of_all_rows rows ≡ Err fault.BadHeader
-unheaded_queue [] e = no_queue_header
-unheaded_queue (r ∷ rows) e = bad_queue_header r rows e
-
 -- ---- where the front ends
 
 ends_at : (b : Bool) (c : ℕ) (rest : List ℕ) → ((c == 13) || (c == 10)) ≡ b →
@@ -323,12 +300,3 @@ front_found file end within e behind so_far =
     let none = line_ends_at file end false within e in
     let place : end + 64 ≡ 3 + line_ends_first (drop 3 file) + 64 = omega arith in
     take_min (end + 64) file ∙ ap (λ n. take n file) place
-
--- no such byte
-pub front_whole : (file : List ℕ) (end : ℕ) → length file ≤ end →
-    end + line_ends_first (drop end file) ≡ min 3 (length file) + line_ends_first (drop 3 file) → end ≤ length file →
-    file ≡ header_front file
-unfolding line_ends_first
-front_whole file end past so_far within =
-    let none : line_ends_first (drop end file) ≡ 0 = ap line_ends_first (drop_all end file past) in
-    sym (take_all (3 + line_ends_first (drop 3 file) + 64) file (omega arith))

@@ -1,12 +1,8 @@
 -- How many codewords and bytes a body has.
-use Rattle.std.proofs.Common.{◌≡◌, ◌≢◌, ℕ, lit<, ◌+◌, ◌*◌, ◌/◌, ◌%◌, ◌^◌, ◌<◌, List, [], ◌∷◌, ◌++◌, length, All, refl, ap, ap₂, ◌∙◌, inl, inr, arith, eq-eqb}
-use Rattle.std.specs.Int.{from_be_bytes, to_be_bytes, w32}
-use Rattle.std.specs.List.{flat_map}
-use Rattle.std.proofs.lemmas.Bool.{cases_eq, ne_eqb}
-use Rattle.std.proofs.lemmas.List.Elements.{All-nil, All-cons, All-head, All-tail}
+use Rattle.pocsag_pages.proofs.Prelude.{◌≡◌, ◌≢◌, ℕ, lit<, ◌+◌, ◌*◌, ◌/◌, ◌%◌, ◌^◌, ◌<◌, List, [], ◌∷◌, ◌++◌, length, All, refl, ap, ap₂, ◌∙◌, inl, inr, arith, from_be_bytes, to_be_bytes, w32, flat_map, cases_eq, ne_eqb, All-nil, All-cons, All-head, All-tail, sync_word, synced, unsynced, words_of}
+use Rattle.std.proofs.Common.{eq-eqb}
 use Rattle.std.proofs.lemmas.Nat.{from_be_bytes-to_be_bytes_4}
 use Rattle.pocsag_words.specs.Codeword.{IsCodeword}
-use Rattle.pocsag_pages.specs.Bytes.{sync_word, synced, unsynced, words_of}
 
 pub synced_count : (i : ℕ) (T : List ℕ) → length (synced i T) + (i + 15) / 16 ≡ length T + (i + length T + 15) / 16
 synced_count i [] = omega arith

@@ -10,8 +10,8 @@ pub mod Lengths
 pub mod MarkedRounds
 pub mod NoQuotes
 pub mod PageLists
+pub mod Prelude
 pub mod QueueParts
-pub mod QueueRows
 pub mod QuoteFaults
 pub mod QuoteStates
 pub mod QuoteWalks

@@ -1,17 +1,7 @@
 -- The addresses of a round that grows, marked by bits.
-use Rattle.std.proofs.Common.{◌≡◌, ◌≢◌, ℕ, ◌+◌, ◌*◌, ◌/◌, ◌%◌, ◌^◌, ◌<◌, ◌≤◌, true, false, ◌||◌, List, [], ◌∷◌, ◌++◌, length, drop, get_or, set, take, nat_eq, bit_or, bit_and, inl, inr, refl, sym, ap, ◌∙◌, arith}
-use Rattle.std.specs.Prelude.{None}
-use Rattle.std.specs.Int.{bit_at, w64}
+use Rattle.pocsag_pages.proofs.Prelude.{◌≡◌, ◌≢◌, ℕ, ◌+◌, ◌*◌, ◌/◌, ◌%◌, ◌^◌, ◌<◌, ◌≤◌, true, false, ◌||◌, List, [], ◌∷◌, ◌++◌, length, drop, get_or, set, take, nat_eq, bit_or, bit_and, inl, inr, refl, sym, ap, ◌∙◌, arith, None, bit_at, w64, cases_eq, cases_lt, eq-eqb, ne_eqb, get_or-set_same, get_or-set_other, get_or_past, drop_more, map-append, take-append-drop, take_more, list_any-append, list_any, Page, is_marked, addresses_of, has_address, IsMarkedRound}
 use Rattle.std.proofs.Math.Bool.{or-true, or_comm}
-use Rattle.std.proofs.lemmas.Bool.{cases_eq, cases_lt, eq-eqb, ne_eqb}
-use Rattle.std.proofs.lemmas.List.{get_or-set_same, get_or-set_other, get_or_past, drop_more, map-append, take-append-drop, take_more}
 use Rattle.std.proofs.lemmas.Nat.Bits.{bit_at-zero, bit_at_set_same, bit_at_set_other, shr_and_one}
-use Rattle.std.proofs.lemmas.List.Folds.{list_any-append}
-use Rattle.std.specs.List.{list_any}
-use Rattle.pocsag_pages.specs.declared.page.Page.{Page}
-use Rattle.pocsag_pages.specs.AddressMarks.{is_marked}
-use Rattle.pocsag_pages.specs.Pages.{addresses_of, has_address}
-use Rattle.pocsag_pages.specs.RoundBuilders.{IsMarkedRound}
 use Rattle.pocsag_pages.proofs.GrownRounds.{good_none, has_push}
 
 -- no address is marked at first

@@ -1,15 +1,7 @@
 -- A text without a quote is well quoted.
-use Rattle.std.proofs.Common.{◌≡◌, ◌⊎◌, inl, inr, ℕ, suc, ◌<◌, ◌==◌, true, false, List, [], ◌∷◌, ◌++◌, length, refl, sym, subst, append_assoc, arith}
-use Rattle.std.specs.Prelude.{Option, None, Some, is_some, slice_index}
+use Rattle.pocsag_pages.proofs.Prelude.{◌≡◌, ◌⊎◌, inl, inr, ℕ, suc, ◌<◌, ◌==◌, true, false, List, [], ◌∷◌, ◌++◌, length, refl, sym, subst, append_assoc, arith, Option, None, Some, is_some, slice_index, append-nil, cases_Bool, false_from_ne_true, QuotePlace, QuoteState, IsWellQuoted, ends_line, HasSeen, MayGoOn, bare_after, quote_state_after}
 use Rattle.memchr.specs.Find.{IsFirstByte, is_byte}
-use Rattle.std.proofs.lemmas.List.{append-nil}
-use Rattle.std.proofs.lemmas.Bool.{cases_Bool, false_from_ne_true}
-use Rattle.pocsag_pages.specs.declared.quote_place.QuotePlace.{QuotePlace}
-use Rattle.pocsag_pages.specs.declared.quote_state.QuoteState.{QuoteState}
 use Rattle.pocsag_pages.specs.declared.quote_state.QuoteState.TheVariants as at
-use Rattle.pocsag_pages.specs.Quotes.{IsWellQuoted, ends_line}
-use Rattle.pocsag_pages.specs.QuotePlaces.{HasSeen}
-use Rattle.pocsag_pages.specs.QuoteStates.{MayGoOn, bare_after, quote_state_after}
 use Rattle.pocsag_pages.proofs.QuoteWalks.{ended, gone_on, nothing_seen, well_quoted}
 
 -- no byte of it is a quote

@@ -1,16 +1,9 @@
 -- The first fault of a list of pages, one page at a time.
-use Rattle.std.proofs.Common.{◌≡◌, ℕ, suc, ◌+◌, ◌^◌, ◌<◌, ◌≤◌, true, false, List, [], ◌∷◌, ◌++◌, length, get_or, take, drop, refl, sym, ap, ◌∙◌, arith}
-use Rattle.std.specs.Prelude.{Some, None}
-use Rattle.std.proofs.lemmas.List.{take_more, drop_more, length-take}
-use Rattle.pocsag_pages.specs.declared.page.Page.{Page}
+use Rattle.pocsag_pages.proofs.Prelude.{◌≡◌, ℕ, suc, ◌+◌, ◌^◌, ◌<◌, ◌≤◌, true, false, List, [], ◌∷◌, ◌++◌, length, get_or, take, drop, refl, sym, ap, ◌∙◌, arith, Some, None, take_more, drop_more, length-take, Page, RoundFault, AreGood, has_address, page_fault_of, fault_of_next, first_page_fault, AreApart}
 use Rattle.pocsag_pages.specs.declared.fault.PageFault.{PageFault}
 use Rattle.pocsag_pages.specs.declared.fault.RecordFault.TheVariants as wrong
-use Rattle.pocsag_pages.specs.declared.fault.RoundFault.{RoundFault}
 use Rattle.pocsag_pages.specs.declared.fault.RoundFault.TheVariants as fault
-use Rattle.pocsag_pages.specs.Pages.{AreGood, has_address, page_fault_of}
-use Rattle.pocsag_pages.specs.PageList.{fault_of_next, first_page_fault}
 use Rattle.pocsag_pages.proofs.GoodPages.{few_pages}
-use Rattle.pocsag_pages.specs.Reading.{AreApart}
 
 -- the fault of the page p, which follows these, is the first; or else it is that of the rest
 module _ (before rest : List Page) (p : Page) where

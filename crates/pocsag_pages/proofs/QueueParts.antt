@@ -1,20 +1,7 @@
 -- The pages of a queue that are sent next, and those that are left.
-use Rattle.std.proofs.Common.{◌≡◌, ℕ, ◌+◌, ◌<◌, ◌≤◌, Bool, true, false, not, cond, ◌||◌, ◌&&◌, inl, inr, List, [], ◌∷◌, ◌++◌, length, take, drop, get_or, nat_eq, All, refl, sym, ap, ◌∙◌, arith, append_assoc}
-use Rattle.std.specs.Prelude.{Err, Ok}
-use Rattle.std.specs.BTreeSet.{BTreeSet, contains, Updates}
-use Rattle.std.specs.Ordering.{nat_cmp}
-use Rattle.std.proofs.lemmas.Bool.{cases_Bool}
-use Rattle.std.proofs.lemmas.Bool.Decides.{nat_tests}
-use Rattle.std.proofs.lemmas.List.{append-nil, drop_all, length-take, take-append-drop}
-use Rattle.std.proofs.lemmas.List.Elements.{All-cons, All-head, All-nil, All-tail}
-use Rattle.pocsag_pages.specs.declared.page.Page.{Page}
-use Rattle.pocsag_pages.specs.PageList.{unless_empty}
-use Rattle.pocsag_pages.specs.Pages.{has_address}
-use Rattle.pocsag_pages.specs.Queues.{firsts, firsts_after, is_sent, left_after, left_of, pages_for}
-use Rattle.pocsag_pages.specs.declared.fault.RoundFault.{RoundFault}
+use Rattle.pocsag_pages.proofs.Prelude.{◌≡◌, ℕ, ◌+◌, ◌<◌, ◌≤◌, Bool, true, false, not, cond, ◌||◌, ◌&&◌, inl, inr, List, [], ◌∷◌, ◌++◌, length, take, drop, get_or, nat_eq, All, refl, sym, ap, ◌∙◌, arith, append_assoc, Err, Ok, BTreeSet, contains, Updates, nat_cmp, cases_Bool, nat_tests, append-nil, drop_all, length-take, take-append-drop, All-cons, All-head, All-nil, All-tail, Page, unless_empty, has_address, firsts, firsts_after, is_sent, left_after, left_of, pages_for, RoundFault, or_false}
 use Rattle.pocsag_pages.proofs.GrownRounds.{has_push, same_test}
 use Rattle.pocsag_pages.proofs.PageLists.{left}
-use Rattle.pocsag_words.proofs.TruthValues.{or_false}
 
 -- the next step of the first pages
 module _ (before ps : List Page) (p : Page) where

@@ -1,14 +1,6 @@
 -- A text that is well quoted has no fault of quotes.
-use Rattle.std.proofs.Common.{◌≡◌, ◌⊎◌, inl, inr, ℕ, ◌==◌, true, false, cond, List, [], ◌∷◌, ◌++◌, map, refl, sym, ap, ◌∙◌, subst}
-use Rattle.std.proofs.lemmas.Bool.{cases_Bool, eqb-true}
-use Rattle.pocsag_pages.specs.declared.quote_place.QuotePlace.{QuotePlace}
-use Rattle.pocsag_pages.specs.declared.quote_state.QuoteState.{QuoteState}
+use Rattle.pocsag_pages.proofs.Prelude.{◌≡◌, ◌⊎◌, inl, inr, ℕ, ◌==◌, true, false, cond, List, [], ◌∷◌, ◌++◌, map, refl, sym, ap, ◌∙◌, subst, cases_Bool, eqb-true, QuotePlace, QuoteState, IsRowText, AreRecords, IsWellQuoted, ends_line, none, blank, more, HasSeen, MayEnd, MayGoOn, quote_state_after, quote_state_from}
 use Rattle.pocsag_pages.specs.declared.quote_state.QuoteState.TheVariants as at
-use Rattle.pocsag_pages.specs.RecordTexts.{IsRowText}
-use Rattle.pocsag_pages.specs.Quotes.{AreRecords, IsWellQuoted, ends_line}
-use Rattle.pocsag_pages.specs.Quotes.AreRecords.{none, blank, more}
-use Rattle.pocsag_pages.specs.QuotePlaces.{HasSeen}
-use Rattle.pocsag_pages.specs.QuoteStates.{MayEnd, MayGoOn, quote_state_after, quote_state_from}
 use Rattle.pocsag_pages.proofs.QuoteStates.{behind_comma, front_on, goes_on, may_go}
 use Rattle.pocsag_pages.proofs.RowTexts.{row_place}
 

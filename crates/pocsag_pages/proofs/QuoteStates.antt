@@ -1,20 +1,6 @@
 -- Where a line stands, and what its bytes are then the text of.
-use Rattle.std.proofs.Common.{◌≡◌, ◌≢◌, ℕ, ◌+◌, ◌<◌, ◌==◌, ◌&&◌, Bool, true, false, cond, arith, List, [], ◌∷◌, ◌++◌, length, drop, get_or, nat_eq, refl, sym, ap, ◌∙◌, subst, inl, inr, append_assoc}
-use Rattle.std.specs.List.{starts_with}
-use Rattle.std.proofs.lemmas.List.{append-nil, drop_more}
-use Rattle.std.proofs.lemmas.Bool.{cases_Bool, eqb-true, or_from, or_parts}
-use Rattle.std.proofs.lemmas.Bool.Decides.{nat_tests}
-use Rattle.csv.specs.Reading.{is_bom, strip_bom}
-use Rattle.csv.specs.Writing.{default_writer, escaped, needs_byte, needs_quotes, quoted}
-use Rattle.pocsag_pages.specs.declared.quote_state.QuoteState.{QuoteState}
+use Rattle.pocsag_pages.proofs.Prelude.{◌≡◌, ◌≢◌, ℕ, ◌+◌, ◌<◌, ◌==◌, ◌&&◌, Bool, true, false, cond, arith, List, [], ◌∷◌, ◌++◌, length, drop, get_or, nat_eq, refl, sym, ap, ◌∙◌, subst, inl, inr, append_assoc, starts_with, append-nil, drop_more, cases_Bool, eqb-true, or_from, or_parts, nat_tests, is_bom, strip_bom, default_writer, escaped, needs_byte, needs_quotes, quoted, QuoteState, MayEnd, MayGoOn, bare_after, unquoted_after, quote_state_after, quote_state_from, IsRecordFront, at_start, closed, opened, unquoted, IsFieldStart, IsFieldText, IsRowText, bare, between_quotes, last, before}
 use Rattle.pocsag_pages.specs.declared.quote_state.QuoteState.TheVariants as at
-use Rattle.pocsag_pages.specs.QuoteStates.{MayEnd, MayGoOn, bare_after, unquoted_after, quote_state_after, quote_state_from}
-use Rattle.pocsag_pages.specs.QuotePlaces.{IsRecordFront}
-use Rattle.pocsag_pages.specs.QuotePlaces.IsRecordFront.{at_start, closed, opened, unquoted}
-use Rattle.pocsag_pages.specs.Quotes.{IsFieldStart}
-use Rattle.pocsag_pages.specs.RecordTexts.{IsFieldText, IsRowText}
-use Rattle.pocsag_pages.specs.RecordTexts.IsFieldText.{bare, between_quotes}
-use Rattle.pocsag_pages.specs.RecordTexts.IsRowText.{last, before}
 
 pub one_byte : (q : QuoteState) (bytes : List ℕ) (i d : ℕ) → i < length bytes →
     quote_state_from q (drop i bytes) ≡ quote_state_from (quote_state_after q (get_or bytes i d)) (drop (i + 1) bytes)

@@ -1,16 +1,7 @@
 -- A walk over the quotes of a page file, one byte more.
 use mir.Val.{bool_byte}
-use Rattle.std.proofs.Common.{◌≡◌, ◌≢◌, inl, inr, ℕ, ◌+◌, ◌≤◌, Bool, true, false, not, nat_eq, List, [], ◌∷◌, ◌++◌, refl, sym, ap, ◌∙◌, subst, append_assoc, arith}
-use Rattle.std.proofs.lemmas.List.{append-nil}
-use Rattle.std.proofs.lemmas.Bool.{cases_Bool}
-use Rattle.pocsag_pages.specs.declared.quote_place.QuotePlace.{QuotePlace}
-use Rattle.pocsag_pages.specs.declared.quote_state.QuoteState.{QuoteState}
+use Rattle.pocsag_pages.proofs.Prelude.{◌≡◌, ◌≢◌, inl, inr, ℕ, ◌+◌, ◌≤◌, Bool, true, false, not, nat_eq, List, [], ◌∷◌, ◌++◌, refl, sym, ap, ◌∙◌, subst, append_assoc, arith, append-nil, cases_Bool, QuotePlace, QuoteState, AreRecords, IsLostIn, IsOpenFrom, IsWellQuoted, ends_line, line_behind, none, blank, more, HasSeen, IsRecordFront, is_empty, at_start, closed, opened, unquoted, MayGoOn, quote_state_after}
 use Rattle.pocsag_pages.specs.declared.quote_state.QuoteState.TheVariants as at
-use Rattle.pocsag_pages.specs.Quotes.{AreRecords, IsLostIn, IsOpenFrom, IsWellQuoted, ends_line, line_behind}
-use Rattle.pocsag_pages.specs.Quotes.AreRecords.{none, blank, more}
-use Rattle.pocsag_pages.specs.QuotePlaces.{HasSeen, IsRecordFront, is_empty}
-use Rattle.pocsag_pages.specs.QuotePlaces.IsRecordFront.{at_start, closed, opened, unquoted}
-use Rattle.pocsag_pages.specs.QuoteStates.{MayGoOn, quote_state_after}
 use Rattle.pocsag_pages.proofs.QuoteStates.{IsText, at_the_end, front_text, newer, next, one_more}
 use Rattle.pocsag_pages.proofs.Strays.{lost_here, turn}
 

@@ -1,9 +1,7 @@
 -- A reading is the pages of the address codewords in order, where no message codeword is an orphan.
-use Rattle.std.proofs.Common.{◌≡◌, ℕ, ◌+◌, List, [], ◌∷◌, ◌++◌, length, map, refl, sym, ap, subst, ◌∙◌, true, false, arith, add-zero}
+use Rattle.pocsag_pages.proofs.Prelude.{◌≡◌, ℕ, ◌+◌, List, [], ◌∷◌, ◌++◌, length, map, refl, sym, ap, subst, ◌∙◌, true, false, arith, add-zero, Page, Reads, at_end, past_idle, past_page, BeginsNoMessage}
 use Rattle.pocsag_words.specs.declared.codeword.Kind.{Kind}
 use Rattle.pocsag_words.specs.declared.codeword.Kind.TheVariants.{Idle, Address, Message}
-use Rattle.pocsag_pages.specs.declared.page.Page.{Page}
-use Rattle.pocsag_pages.specs.Reading.{Reads, at_end, past_idle, past_page, BeginsNoMessage}
 use Rattle.pocsag_pages.specs.Plain.{HasNoOrphan, items_of, pages_from}
 
 -- where no message codeword may stand first, none is an orphan after one either

@@ -1,16 +1,6 @@
 -- The page of a record breaks no rule.
-use Rattle.std.proofs.Common.{◌≡◌, ℕ, ◌^◌, ◌<◌, ◌≤◌, false, List, [], ◌∷◌, length, All, nat_le, refl, arith}
-use Rattle.std.specs.Prelude.{None}
-use Rattle.std.specs.List.{list_any}
-use Rattle.std.proofs.lemmas.Bool.Decides.{nat_tests}
-use Rattle.std.proofs.lemmas.List.Elements.{All-head, All-tail}
-use Rattle.pocsag_text.specs.Text.{item_limit}
-use Rattle.pocsag_pages.specs.declared.record.PageKind.{PageKind}
+use Rattle.pocsag_pages.proofs.Prelude.{◌≡◌, ℕ, ◌^◌, ◌<◌, ◌≤◌, false, List, [], ◌∷◌, length, All, nat_le, refl, arith, None, list_any, nat_tests, All-head, All-tail, item_limit, PageKind, last_address, is_bad_payload, is_reserved, page_fault_of, IsTone, function_of, not_above, and_false}
 use Rattle.pocsag_pages.specs.declared.record.PageKind.TheVariants as kind
-use Rattle.pocsag_pages.specs.Pages.{last_address, is_bad_payload, is_reserved, page_fault_of}
-use Rattle.pocsag_pages.specs.PageFile.{IsTone, function_of}
-use Rattle.pocsag_words.proofs.TruthValues.{not_above}
-use Rattle.pocsag_words.proofs.TruthValues.{and_false}
 
 below_mark : (limit n : ℕ) → n < limit → nat_le limit n ≡ false
 below_mark limit n h = grind (arith, nat_tests)

@@ -1,22 +1,9 @@
 -- What the text of a record reads as, and where it stands at its end.
-use Rattle.std.proofs.Common.{◌≡◌, ℕ, zero, suc, ◌==◌, false, List, [], ◌∷◌, ◌++◌, length, refl, sym, ap, ◌∙◌, subst, ◌⊎◌, inl, inr, append_assoc, add-one}
-use Rattle.std.specs.Prelude.{Some, None}
-use Rattle.pocsag_pages.specs.PageFile.{only_row}
-use Rattle.std.proofs.lemmas.List.{append-nil}
-use Rattle.std.proofs.lemmas.Bool.{cases_Bool, eqb-true, false_from_ne_true, or_parts}
-use Rattle.csv.specs.Machine.{next_record}
-use Rattle.csv.specs.Reading.{default_config, records, records_from}
-use Rattle.csv.specs.Writing.{default_writer, escaped, needs_byte, needs_quotes, quoted}
-use Rattle.csv.specs.declared.parser.State.{State}
+use Rattle.pocsag_pages.proofs.Prelude.{◌≡◌, ℕ, zero, suc, ◌==◌, false, List, [], ◌∷◌, ◌++◌, length, refl, sym, ap, ◌∙◌, subst, ◌⊎◌, inl, inr, append_assoc, add-one, Some, None, only_row, append-nil, cases_Bool, eqb-true, false_from_ne_true, or_parts, next_record, default_config, records, records_from, default_writer, escaped, needs_byte, needs_quotes, quoted, State, QuoteState, MayEnd, MayGoOn, bare_after, quote_state_after, quote_state_from, EndsInQuotes, HasNoRecord, IsFieldText, IsRowText, bare, between_quotes, last, before}
 use Rattle.csv.specs.declared.parser.State.TheVariants as st
 use Rattle.csv.proofs.RoundTrip.{plain-run, quoted-run, record-same, start-same}
-use Rattle.pocsag_pages.specs.declared.quote_state.QuoteState.{QuoteState}
 use Rattle.pocsag_pages.specs.declared.quote_state.QuoteState.TheVariants as at
-use Rattle.pocsag_pages.specs.QuoteStates.{MayEnd, MayGoOn, bare_after, quote_state_after, quote_state_from}
-use Rattle.pocsag_pages.specs.RecordTexts.{EndsInQuotes, HasNoRecord, IsFieldText, IsRowText}
 use Rattle.pocsag_pages.proofs.QuoteStates.{at_the_end, behind_comma, may_go, text_of}
-use Rattle.pocsag_pages.specs.RecordTexts.IsFieldText.{bare, between_quotes}
-use Rattle.pocsag_pages.specs.RecordTexts.IsRowText.{last, before}
 
 -- a byte that calls for no quotes is no comma and no quote
 plain_byte : (b : ℕ) → needs_byte default_writer b ≡ false → ((b == 44) ≡ false) × ((b == 34) ≡ false)

@@ -1,16 +1,8 @@
 -- Fields that spell a page.
-use Rattle.std.proofs.Common.{◌≡◌, ◌≢◌, ℕ, zero, suc, ◌+◌, ◌-◌, ◌*◌, ◌/◌, ◌%◌, ◌^◌, ◌<◌, ◌≤◌, true, false, List, [], ◌∷◌, ◌++◌, length, nat_le, refl, ap, ◌∙◌, inl, inr, arith}
-use Rattle.std.specs.Prelude.{Some, Ok, codes}
-use Rattle.std.specs.Char.{is_ascii_digit}
+use Rattle.pocsag_pages.proofs.Prelude.{◌≡◌, ◌≢◌, ℕ, zero, suc, ◌+◌, ◌-◌, ◌*◌, ◌/◌, ◌%◌, ◌^◌, ◌<◌, ◌≤◌, true, false, List, [], ◌∷◌, ◌++◌, length, nat_le, refl, ap, ◌∙◌, inl, inr, arith, Some, Ok, codes, is_ascii_digit, cases_Bool, ne_eqb, nat_tests, alpha_payload, numeric_payload, not_above, PageKind, is_reserved, last_address}
 use Rattle.std.specs.Fmt.{decimal}
-use Rattle.std.proofs.lemmas.Bool.{cases_Bool, ne_eqb}
-use Rattle.std.proofs.lemmas.Bool.Decides.{nat_tests}
 use Rattle.std.proofs.lemmas.Fmt.{decimal_by_steps, decimal_nonempty, length-decimal-le}
-use Rattle.pocsag_text.specs.Text.{alpha_payload, numeric_payload}
-use Rattle.pocsag_words.proofs.TruthValues.{not_above}
-use Rattle.pocsag_pages.specs.declared.record.PageKind.{PageKind}
 use Rattle.pocsag_pages.specs.declared.record.PageKind.TheVariants as kind
-use Rattle.pocsag_pages.specs.Pages.{is_reserved, last_address}
 use Rattle.pocsag_pages.specs.PageFile.{address_of, at_most, decimal as read_digits, function_of, kind_of_field, page_of_fields, payload_of}
 
 -- digits that are read, and one more

@@ -1,13 +1,6 @@
 -- Where a text is lost: at a quote, or at another byte.
-use Rattle.std.proofs.Common.{◌≡◌, ◌≢◌, ◌⊎◌, inl, inr, ℕ, ◌==◌, List, [], ◌∷◌, ◌++◌, refl, sym, ap, ◌∙◌, subst, append_assoc}
-use Rattle.std.proofs.lemmas.Bool.{eqb-true}
-use Rattle.csv.specs.Writing.{default_writer, escaped, needs_byte}
-use Rattle.pocsag_pages.specs.declared.quote_state.QuoteState.{QuoteState}
+use Rattle.pocsag_pages.proofs.Prelude.{◌≡◌, ◌≢◌, ◌⊎◌, inl, inr, ℕ, ◌==◌, List, [], ◌∷◌, ◌++◌, refl, sym, ap, ◌∙◌, subst, append_assoc, eqb-true, default_writer, escaped, needs_byte, QuoteState, IsRecordFront, at_start, closed, opened, unquoted, MayEnd, MayGoOn, bare_after, quote_state_after, quote_state_from, unquoted_after, HasStrayByte, HasStrayQuote, IsAtQuote, IsLostAt}
 use Rattle.pocsag_pages.specs.declared.quote_state.QuoteState.TheVariants as at
-use Rattle.pocsag_pages.specs.QuotePlaces.{IsRecordFront}
-use Rattle.pocsag_pages.specs.QuotePlaces.IsRecordFront.{at_start, closed, opened, unquoted}
-use Rattle.pocsag_pages.specs.QuoteStates.{MayEnd, MayGoOn, bare_after, quote_state_after, quote_state_from, unquoted_after}
-use Rattle.pocsag_pages.specs.RecordTexts.{HasStrayByte, HasStrayQuote, IsAtQuote, IsLostAt}
 use Rattle.pocsag_pages.proofs.QuoteStates.{at_the_end, behind, chosen, front_on, front_text, lost_behind, may_go, next, one_more}
 use Rattle.pocsag_pages.proofs.RowTexts.{no_row, row_place}
 

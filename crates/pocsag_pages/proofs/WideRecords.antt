@@ -1,19 +1,10 @@
 -- Records of more than three fields: that only they are cut, and that the verdict stays.
-use Rattle.std.proofs.Common.{◌≡◌, ℕ, ◌+◌, ◌<◌, ◌≤◌, Bool, true, false, List, [], ◌∷◌, ◌++◌, length, length-take-le, take, refl, sym, ap, ◌∙◌, arith}
-use Rattle.std.specs.Prelude.{Some, Err, if◌then◌else◌, nat_lt}
-use Rattle.std.proofs.lemmas.Bool.{le-ltb, lt-ltb, ltb-true}
-use Rattle.std.proofs.lemmas.List.{length-append, take-append-le}
-use Rattle.csv.specs.Machine.{next_record, is_end, step, fields_after, field_after}
-use Rattle.csv.specs.Reading.{default_config, records_from, records_next}
-use Rattle.csv.specs.declared.parser.Action.{Action}
+use Rattle.pocsag_pages.proofs.Prelude.{if◌then◌else◌, ◌≡◌, ℕ, ◌+◌, ◌<◌, ◌≤◌, Bool, true, false, List, [], ◌∷◌, ◌++◌, length, take, refl, sym, ap, ◌∙◌, arith, Some, Err, nat_lt, le-ltb, lt-ltb, ltb-true, length-append, take-append-le, next_record, is_end, step, fields_after, field_after, default_config, records_from, records_next, Action, State, Page, Row, fault_after, in_the_way, is_header, page_of, pages_of, pages_of_all_rows, up_to_wide}
+use Rattle.std.proofs.Common.{length-take-le}
 use Rattle.csv.specs.declared.parser.Action.TheVariants as act
-use Rattle.csv.specs.declared.parser.State.{State}
 use Rattle.csv.specs.declared.parser.State.TheVariants as st
-use Rattle.pocsag_pages.specs.declared.page.Page.{Page}
 use Rattle.pocsag_pages.specs.declared.fault.RecordFault.TheVariants as wrong
 use Rattle.pocsag_pages.specs.declared.fault.RoundFault.TheVariants as fault
-use Rattle.pocsag_pages.specs.PageFile.{Row, fault_after, is_header, page_of, pages_of, verdict_of_rows}
-use Rattle.pocsag_pages.specs.WideRecords.{up_to_wide}
 use Rattle.pocsag_pages.proofs.CsvSteps.{IsInside, StaysInside, stays_inside}
 use Rattle.pocsag_pages.proofs.Judgements.{grown, or_later, judged}
 
@@ -99,7 +90,7 @@ unfolding up_to_wide
 no_row rows e = rw e refl
 
 -- records up to a wide one have the verdict of all
-pub wide_page : (r : Row) → 3 < length r → page_of r ≡ Err wrong.FieldCount
+wide_page : (r : Row) → 3 < length r → page_of r ≡ Err wrong.FieldCount
 unfolding page_of
 wide_page [] h = absurd (omega arith)
 wide_page (a ∷ []) h = absurd (omega arith)
@@ -107,7 +98,7 @@ wide_page (a ∷ b ∷ []) h = absurd (omega arith)
 wide_page (a ∷ b ∷ c ∷ []) h = absurd (omega arith)
 wide_page (a ∷ b ∷ c ∷ d ∷ r) h = refl
 
-pub wide_header : (r : Row) → 3 < length r → is_header r ≡ false
+wide_header : (r : Row) → 3 < length r → is_header r ≡ false
 unfolding is_header
 wide_header [] h = absurd (omega arith)
 wide_header (a ∷ []) h = absurd (omega arith)
@@ -115,39 +106,41 @@ wide_header (a ∷ b ∷ []) h = absurd (omega arith)
 wide_header (a ∷ b ∷ c ∷ []) h = absurd (omega arith)
 wide_header (a ∷ b ∷ c ∷ d ∷ r) h = refl
 
-pub cut_length : (r : Row) → 3 < length r → length (take 3 r ++ [] ∷ []) ≡ 4
+cut_length : (r : Row) → 3 < length r → length (take 3 r ++ [] ∷ []) ≡ 4
 cut_length r h = omega (arith, length-append (take 3 r) ([] ∷ []), length-take-le 3 r (omega arith))
 
-grown_by : (b : Bool) (ps : List Page) (n : ℕ) (r : Row) (rows : List Row) → nat_lt 3 (length r) ≡ b →
-    ((qs : List Page) (m : ℕ) → grown qs m (up_to_wide rows) ≡ grown qs m rows) →
-    grown ps n (if b then (take 3 r ++ [] ∷ []) ∷ [] else r ∷ up_to_wide rows) ≡ grown ps n (r ∷ rows)
-unfolding grown
-grown_by true ps n r rows e later =
-    let more : 3 < length r = ltb-true 3 (length r) e in
-    let four = cut_length r more in
-    rw (wide_page r more, wide_page (take 3 r ++ [] ∷ []) (omega (arith, four))) refl
-grown_by false ps n r rows e later = ap (or_later (fault_after n ps (page_of r)) n) (later (ps ++ pages_of (r ∷ [])) (n + 1))
+module _ (may_wait : Bool) where
+  grown_by : (b : Bool) (ps : List Page) (n : ℕ) (r : Row) (rows : List Row) → nat_lt 3 (length r) ≡ b →
+      ((qs : List Page) (m : ℕ) → grown may_wait qs m (up_to_wide rows) ≡ grown may_wait qs m rows) →
+      grown may_wait ps n (if b then (take 3 r ++ [] ∷ []) ∷ [] else r ∷ up_to_wide rows) ≡ grown may_wait ps n (r ∷ rows)
+  unfolding grown
+  grown_by true ps n r rows e later =
+      let more : 3 < length r = ltb-true 3 (length r) e in
+      let four = cut_length r more in
+      rw (wide_page r more, wide_page (take 3 r ++ [] ∷ []) (omega (arith, four))) refl
+  grown_by false ps n r rows e later =
+      ap (or_later (fault_after n (in_the_way may_wait ps) (page_of r)) n) (later (ps ++ pages_of (r ∷ [])) (n + 1))
 
-same_grown : (ps : List Page) (n : ℕ) (rows : List Row) → grown ps n (up_to_wide rows) ≡ grown ps n rows
-unfolding up_to_wide
-same_grown ps n [] = refl
-same_grown ps n (r ∷ rows) = grown_by (nat_lt 3 (length r)) ps n r rows refl (λ qs m. same_grown qs m rows)
+  same_grown : (ps : List Page) (n : ℕ) (rows : List Row) → grown may_wait ps n (up_to_wide rows) ≡ grown may_wait ps n rows
+  unfolding up_to_wide
+  same_grown ps n [] = refl
+  same_grown ps n (r ∷ rows) = grown_by (nat_lt 3 (length r)) ps n r rows refl (λ qs m. same_grown qs m rows)
 
-verdict_by : (b : Bool) (r : Row) (rows : List Row) → nat_lt 3 (length r) ≡ b →
-    verdict_of_rows (if b then (take 3 r ++ [] ∷ []) ∷ [] else r ∷ up_to_wide rows) ≡ verdict_of_rows (r ∷ rows)
-unfolding verdict_of_rows
-verdict_by true r rows e =
-    let more : 3 < length r = ltb-true 3 (length r) e in
-    let four = cut_length r more in
-    rw (wide_header r more, wide_header (take 3 r ++ [] ∷ []) (omega (arith, four))) refl
-verdict_by false r rows e =
-    ap (λ v. if is_header r then v else Err fault.BadHeader)
-    (judged (up_to_wide rows) ∙ same_grown [] 0 rows ∙ sym (judged rows))
+  verdict_by : (b : Bool) (r : Row) (rows : List Row) → nat_lt 3 (length r) ≡ b →
+      pages_of_all_rows may_wait (if b then (take 3 r ++ [] ∷ []) ∷ [] else r ∷ up_to_wide rows) ≡ pages_of_all_rows may_wait (r ∷ rows)
+  unfolding pages_of_all_rows
+  verdict_by true r rows e =
+      let more : 3 < length r = ltb-true 3 (length r) e in
+      let four = cut_length r more in
+      rw (wide_header r more, wide_header (take 3 r ++ [] ∷ []) (omega (arith, four))) refl
+  verdict_by false r rows e =
+      ap (λ v. if is_header r then v else Err fault.BadHeader)
+      (judged may_wait (up_to_wide rows) ∙ same_grown [] 0 rows ∙ sym (judged may_wait rows))
 
-pub same_verdict : (rows : List Row) → verdict_of_rows (up_to_wide rows) ≡ verdict_of_rows rows
-unfolding up_to_wide
-same_verdict [] = refl
-same_verdict (r ∷ rows) = verdict_by (nat_lt 3 (length r)) r rows refl
+  pub same_verdict : (rows : List Row) → pages_of_all_rows may_wait (up_to_wide rows) ≡ pages_of_all_rows may_wait rows
+  unfolding up_to_wide
+  same_verdict [] = refl
+  same_verdict (r ∷ rows) = verdict_by (nat_lt 3 (length r)) r rows refl
 
 -- a record of more than three fields, cut
 pub wide_row : (rows later : List Row) (r longer : Row) → rows ≡ r ∷ later → 3 < length r → longer ≡ take 3 r ++ [] ∷ [] →

@@ -1,6 +1,6 @@
 -- *Verdict of a page file*: the round that a file holds, or its first fault (the format is this
 -- project's own).
-use Rattle.std.specs.Prelude.{◌==◌, ◌&&◌, ◌||◌, ℕ, ◌+◌, ◌-◌, ◌*◌, List, [], ◌∷◌, ◌++◌, length, Bool, false, nat_lt, nat_le, if◌then◌else◌, Option, Some, None, Result, Ok, Err, codes}
+use Rattle.std.specs.Prelude.{◌==◌, ◌&&◌, ◌||◌, ℕ, ◌+◌, ◌-◌, ◌*◌, List, [], ◌∷◌, ◌++◌, length, Bool, true, false, nat_lt, nat_le, if◌then◌else◌, Option, Some, None, Result, Ok, Err, codes}
 use Rattle.std.specs.Char.{is_ascii_digit}
 use Rattle.std.specs.Str.{bytes_eq}
 use Rattle.csv.specs.Reading.{default_config, records, strip_bom}
@@ -143,9 +143,14 @@ fault_after count earlier (Ok p) =
     if has_address earlier p.address then Some wrong.DuplicateAddress
     else if nat_le page_limit count then Some wrong.TooManyPages else None
 
+-- The earlier pages whose addresses are taken: where pages may wait for earlier ones of their address, those of none.
+abbrev pub in_the_way : (may_wait : Bool) → List Page → List Page
+in_the_way true earlier = []
+in_the_way false earlier = earlier
+
 -- The fault of a record after others.
-unfoldable pub fault_of_row : (before : List Row) → Row → Option RecordFault
-fault_of_row before r = fault_after (length before) (pages_of before) (page_of r)
+unfoldable pub fault_of_row : (may_wait : Bool) (before : List Row) → Row → Option RecordFault
+fault_of_row may_wait before r = fault_after (length before) (in_the_way may_wait (pages_of before)) (page_of r)
 
 -- The fault of the record of this number. Want of memory, which is reported of a packing alone, names no record.
 abbrev pub numbered : ℕ → RecordFault → RoundFault
@@ -157,29 +162,29 @@ numbered_if n None = None
 numbered_if n (Some e) = Some (numbered n e)
 
 -- The fault of the least record that has one, of records that follow these.
-unfoldable pub first_fault : (before rows : List Row) → Option RoundFault
-first_fault before [] = None
-first_fault before (r ∷ rows) =
-    or_else (numbered_if (length before + 1) (fault_of_row before r)) (first_fault (before ++ r ∷ []) rows)
+unfoldable pub first_fault : (may_wait : Bool) (before rows : List Row) → Option RoundFault
+first_fault may_wait before [] = None
+first_fault may_wait before (r ∷ rows) =
+    or_else (numbered_if (length before + 1) (fault_of_row may_wait before r)) (first_fault may_wait (before ++ r ∷ []) rows)
 
 -- The pages of records, by the first fault among these, if there is one.
 abbrev pub pages_unless : Option RoundFault → List Row → Result (List Page) RoundFault
 pages_unless (Some f) rows = Err f
 pages_unless None rows = unless_empty (pages_of rows)
 
--- The round of the records after the header, or their first fault.
-unfoldable pub round_of_rows : List Row → Result (List Page) RoundFault
-round_of_rows rows = pages_unless (first_fault [] rows) rows
+-- The pages of the records after the header, or their first fault.
+unfoldable pub pages_of_rows : (may_wait : Bool) → List Row → Result (List Page) RoundFault
+pages_of_rows may_wait rows = pages_unless (first_fault may_wait [] rows) rows
 
 -- The header, exactly.
 unfoldable pub is_header : Row → Bool
 is_header (a ∷ k ∷ m ∷ []) = bytes_eq a (codes "address") && bytes_eq k (codes "kind") && bytes_eq m (codes "message")
 is_header _ = false
 
--- The round of all the records of a file, of which the first is the header.
-unfoldable pub verdict_of_rows : List Row → Result (List Page) RoundFault
-verdict_of_rows [] = Err fault.BadHeader
-verdict_of_rows (header ∷ rows) = if is_header header then round_of_rows rows else Err fault.BadHeader
+-- The pages of all the records of a file, of which the first is the header.
+unfoldable pub pages_of_all_rows : (may_wait : Bool) → List Row → Result (List Page) RoundFault
+pages_of_all_rows may_wait [] = Err fault.BadHeader
+pages_of_all_rows may_wait (header ∷ rows) = if is_header header then pages_of_rows may_wait rows else Err fault.BadHeader
 
 -- The records that csv gives for the bytes.
 abbrev pub rows_of : List ℕ → List Row
@@ -191,6 +196,12 @@ only_row [] = None
 only_row (r ∷ []) = Some r
 only_row (r ∷ s ∷ rows) = None
 
+-- The pages that a page file holds, or its first fault. Where pages may wait for earlier ones of their address, an address may
+-- come again.
+unfoldable pub held_pages : (may_wait : Bool) → List ℕ → Result (List Page) RoundFault
+held_pages may_wait bytes =
+    if nat_lt input_limit (length bytes) then Err fault.TooLarge else pages_of_all_rows may_wait (rows_of bytes)
+
 -- *Verdict of a page file*.
-unfoldable pub verdict : List ℕ → Result (List Page) RoundFault
-verdict bytes = if nat_lt input_limit (length bytes) then Err fault.TooLarge else verdict_of_rows (rows_of bytes)
+abbrev pub verdict : List ℕ → Result (List Page) RoundFault
+verdict bytes = held_pages false bytes

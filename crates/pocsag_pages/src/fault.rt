@@ -147,7 +147,7 @@ impl From<WholeFault> for RoundFault {
     }
 }
 
-/// A quote that does not stand as CSV has it: its record, of which the header is number 0, and its line, from 1.
+/// A misplaced quote: its record, of which the header is number 0, and its line, from 1.
 #[derive(Clone, Copy, PartialEq, Eq, Debug, Error)]
 pub enum QuoteFault {
     /// The quote is still open at the end of the file.

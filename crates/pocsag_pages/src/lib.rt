@@ -25,12 +25,12 @@ mod whole;
 
 pub use csv_row::only_row;
 pub use fault::{FieldFault, PageFault, QuoteFault, RecordFault, RoundFault, WholeFault};
-pub use file::{FILE_LIMIT, read_round, round_of};
+pub use file::{FILE_LIMIT, held_pages, read_pages, read_round, round_of};
 pub use laws::{readings_are_plain, rounds_are_apart};
 pub use page::{LAST_ADDRESS, Page, Payload};
 pub use pocsag_words::{BATCH_BITS, PREAMBLE_BITS, SYNC_WORD};
 pub use preamble::preamble_len;
-pub use queue::{first_pages, held_pages, left_pages, read_pages};
+pub use queue::{first_pages, left_pages};
 pub use quote_state::{QuoteState, behind_mark};
 pub use quotes::quote_fault;
 pub use record::{page_of_fields, parse_address};

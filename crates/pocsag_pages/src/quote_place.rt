@@ -1,5 +1,5 @@
 ghost use Rattle.std.specs.Prelude.{◌≡◌, ℕ, ◌+◌, ◌^◌, ◌<◌, ◌≤◌, List, [], ◌∷◌, ◌++◌, IfErr, IfOk};
-ghost use Rattle.pocsag_pages.specs.Quotes.{HasQuoteFault, IsWellQuoted, ends_line};
+ghost use Rattle.pocsag_pages.specs.Quotes.{HasQuoteFault, IsWellQuoted};
 ghost use Rattle.pocsag_pages.specs.QuotePlaces.{HasSeen};
 
 use crate::fault::QuoteFault;
@@ -15,13 +15,6 @@ pub(crate) struct QuotePlace {
     pub(crate) line: usize,
     // The line in which the field at hand starts.
     pub(crate) opened: usize,
-}
-
-// Whether the byte ends a line.
-fn ends_line(byte: u8) -> bool
-    ensures { result ≡ ends_line byte }
-{
-    byte == b'\r' || byte == b'\n'
 }
 
 impl QuotePlace {
@@ -45,7 +38,8 @@ impl QuotePlace {
         } = self;
         match self.state.after(byte) {
             QuoteState::Broken | QuoteState::Ended => {
-                if ends_line(byte) {
+                let ends_line = (byte == b'\r') | (byte == b'\n');
+                if ends_line {
                     return Ok(QuotePlace {
                         state: QuoteState::Start,
                         is_blank: true,

@@ -5,7 +5,7 @@ ghost use Rattle.pocsag_pages.specs.QuoteStates.{quote_state_after};
 // The byte order mark, as UTF-8 has it.
 const MARK: &[u8] = b"\xef\xbb\xbf";
 
-/// Where a record of CSV stands after some of its bytes.
+/// The state of a CSV record after some of its bytes.
 #[derive(Clone, Copy)]
 pub enum QuoteState {
     /// Before the first byte of a field.
@@ -16,14 +16,14 @@ pub enum QuoteState {
     Open,
     /// After a quote that ends a field, unless another quote follows it.
     Closed,
-    /// Behind a quote that is out of place: inside a field, or before something that is no comma.
+    /// After a misplaced quote: one inside a field, or one before something other than a comma.
     Broken,
     /// Behind an end of a line, outside quotes.
     Ended,
 }
 
 impl QuoteState {
-    /// Where it stands after one byte more.
+    /// The state after one more byte.
     pub fn after(self, byte: u8) -> QuoteState
         ensures { result ≡ quote_state_after self byte }
     {
@@ -40,7 +40,7 @@ impl QuoteState {
     }
 }
 
-/// The bytes behind a byte order mark, where they begin with one.
+/// The bytes after a byte order mark, if they begin with one.
 pub fn behind_mark(bytes: &[u8]) -> &[u8]
     ensures { result.now ≡ strip_bom bytes.now }
 {

@@ -6,8 +6,8 @@ use crate::quote_place::QuotePlace;
 use crate::quote_state::{QuoteState, behind_mark};
 use memchr::memchr;
 
-/// The first quote of a page file that does not stand as CSV has it: one inside a field that begins without a quote, one
-/// that closes a field of which more follows, or one that is open at the end of the file.
+/// The first misplaced quote of a page file: one inside a field that begins without a quote, one that closes a field of
+/// which more follows, or one that is open at the end of the file.
 pub fn quote_fault(file: &[u8]) -> Option<QuoteFault>
     ensures none { result ≡ None ↔ IsWellQuoted (text_of_file file.now) }
     ensures fault { IfSome result (HasQuoteFault (text_of_file file.now)) }

@@ -114,18 +114,6 @@ fn parse_kind(field: &[u8]) -> Option<PageKind>
     }
 }
 
-impl PageKind {
-    fn function(self) -> u8
-        ensures { result ≡ function_of self }
-    {
-        match self {
-            PageKind::Tone(function) => function,
-            PageKind::Numeric => 0,
-            PageKind::Alpha => 3,
-        }
-    }
-}
-
 // The payload of a page's message.
 #[tactic(auto, unfolding(crate::specs::PageFile::payload_of))]
 fn pack_message(alloc: Global, kind: PageKind, message: &[u8]) -> Result<Payload, FieldFault>
@@ -178,9 +166,14 @@ pub fn page_of_fields(
         return Err(FieldFault::BadKind);
     };
     let payload = pack_message(alloc, kind, message)?;
+    let function = match kind {
+        PageKind::Tone(function) => function,
+        PageKind::Numeric => 0,
+        PageKind::Alpha => 3,
+    };
     Ok(Page {
         address,
-        function: kind.function(),
+        function,
         payload,
     })
 }

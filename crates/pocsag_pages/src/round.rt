@@ -36,7 +36,7 @@ impl Round {
     }
 
     /// Gives a proof what the type keeps, where the round stands behind a reference. A call costs nothing.
-    pub fn keeps_rules(&self)
+    pub fn recall_rules(&self)
         ensures { IsRound self.now }
     {
         // What a type keeps is known where its fields are looked at, and so in the methods of the type alone.

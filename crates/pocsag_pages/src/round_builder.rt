@@ -76,26 +76,18 @@ impl RoundBuilder {
             marks,
         } = self;
         pages.push(page)?;
-        if let Some(mut marks) = marks {
-            marks.set_mark(address);
-            return Ok(Some(RoundBuilder {
-                alloc,
-                pages,
-                marks: Some(marks),
-            }));
-        }
-        if pages.len() < MARKED_PAGES {
-            return Ok(Some(RoundBuilder {
-                alloc,
-                pages,
-                marks: None,
-            }));
-        }
-        let marks = AddressMarks::marking_all(alloc, pages.as_slice())?;
+        let marks = match marks {
+            Some(mut marks) => {
+                marks.set_mark(address);
+                Some(marks)
+            }
+            None if pages.len() < MARKED_PAGES => None,
+            None => Some(AddressMarks::marking_all(alloc, pages.as_slice())?),
+        };
         Ok(Some(RoundBuilder {
             alloc,
             pages,
-            marks: Some(marks),
+            marks,
         }))
     }
 

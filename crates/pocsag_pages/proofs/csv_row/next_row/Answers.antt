@@ -1,4 +1,4 @@
-use Rattle.pocsag_pages.specs.Rows.{bytes_left}
+use Rattle.pocsag_pages.proofs.Prelude.{bytes_left}
 use Rattle.pocsag_pages.proofs.CsvRecords.{rows_read, rows_over, unread_is}
 use Rattle.pocsag_pages.proofs.csv_row.next_row.Goals as goal
 

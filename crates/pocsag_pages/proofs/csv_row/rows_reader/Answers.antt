@@ -1,5 +1,4 @@
-use Rattle.std.proofs.Common.{refl}
-use Rattle.pocsag_pages.specs.Rows.{rows_known}
+use Rattle.pocsag_pages.proofs.Prelude.{refl, rows_known}
 use Rattle.pocsag_pages.proofs.csv_row.rows_reader.Goals as goal
 
 pub returns-clause-rows : goal.returns-clause-rows

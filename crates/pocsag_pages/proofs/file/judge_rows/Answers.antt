@@ -1,4 +1,4 @@
-use Rattle.std.proofs.Common.{◌∙◌, inl, inr, refl, arith}
+use Rattle.pocsag_pages.proofs.Prelude.{false, ◌∙◌, inl, inr, refl, arith}
 use Rattle.pocsag_pages.proofs.Judgements.{judged, grown_end, grown_fault, grown_on, said_ok, said_err}
 use Rattle.pocsag_pages.proofs.file.judge_rows.Goals as goal
 
@@ -6,21 +6,21 @@ pub loop-row-init : goal.loop-row-init
 loop-row-init c = rw c.new-builder.ensures (record {
   even = refl;
   few = omega arith;
-  rest = judged _;
+  rest = judged false _;
 })
 
 pub returns-then-not-found-clause-ok : goal.returns-then-not-found-clause-ok
 returns-then-not-found-clause-ok c =
     let over =
     c.loop-row.invariant.rest ∙ rw (c.in_ok-found.ensures.none c.if-not-found.true)
-    (grown_end c.loop-row.builder c.loop-row.earlier) in
+    (grown_end false c.loop-row.builder c.loop-row.earlier) in
     rw c.into_round.ensures (said_ok _ _ over)
 
 pub returns-then-not-found-clause-err : goal.returns-then-not-found-clause-err
 returns-then-not-found-clause-err c =
     let over =
     c.loop-row.invariant.rest ∙ rw (c.in_ok-found.ensures.none c.if-not-found.true)
-    (grown_end c.loop-row.builder c.loop-row.earlier) in
+    (grown_end false c.loop-row.builder c.loop-row.earlier) in
     rw c.into_round.ensures (said_err _ _ over)
 
 pub returns-in-Err-clause-err : goal.returns-in-Err-clause-err
@@ -31,7 +31,7 @@ returns-in-Err-clause-err c =
           inr
           (c.loop-row.invariant.rest
           ∙ rw (c.in_ok-found.ensures.found c.if-not-found.false, c.numbered.ensures)
-          (grown_fault c.loop-row.builder c.loop-row.earlier _ _ c.in-Err.fault f))
+          (grown_fault false c.loop-row.builder c.loop-row.earlier _ _ c.in-Err.fault f))
     ]
 
 pub loop-row-preserved : goal.loop-row-preserved
@@ -43,5 +43,5 @@ loop-row-preserved c =
       rest =
           c.loop-row.invariant.rest
           ∙ rw (c.in_ok-found.ensures.found c.if-not-found.false, judged_fine.longer)
-          (grown_on c.loop-row.builder c.loop-row.earlier _ _ judged_fine.fine);
+          (grown_on false c.loop-row.builder c.loop-row.earlier _ _ judged_fine.fine);
     }

@@ -1,6 +1,4 @@
-use Rattle.std.proofs.Common.{◌≡◌, ◌-◌, ◌≤◌, length}
-use Rattle.pocsag_pages.specs.Pages.{page_limit}
-use Rattle.pocsag_pages.specs.PageFile.{round_of_rows}
+use Rattle.pocsag_pages.proofs.Prelude.{◌≡◌, ◌-◌, ◌≤◌, false, length, page_limit, pages_of_rows}
 use Rattle.pocsag_pages.proofs.Judgements.{grown}
 use Rattle.pocsag_pages.proofs.file.judge_rows.Given as goal
 
@@ -9,7 +7,7 @@ abbrev pub invariant-loop-row : goal.invariant-loop-row
 invariant-loop-row l = record {
   even : length l.builder ≡ l.earlier;
   few : l.earlier ≤ page_limit;
-  rest : round_of_rows l.fn.reader ≡ grown l.builder l.earlier l.reader;
+  rest : pages_of_rows false l.fn.reader ≡ grown false l.builder l.earlier l.reader;
 }
 
 abbrev pub decreases-loop-row : goal.decreases-loop-row

@@ -1,54 +1,45 @@
-use Rattle.std.proofs.Common.{◌≡◌, ◌∙◌, List, ℕ, arith, length, ◌≤◌, inr, sym, ap}
-use Rattle.pocsag_words.specs.Frame.{input_limit}
-use Rattle.pocsag_pages.specs.PageFile.{Row, rows_of, verdict, verdict_of_rows}
-use Rattle.pocsag_pages.specs.Queues.{queue_of_all_rows, queue_verdict}
-use Rattle.pocsag_pages.specs.WideRecords.{up_to_wide}
-use Rattle.pocsag_pages.proofs.HeaderFronts.{unheaded_queue, unheaded_round}
-use Rattle.pocsag_pages.proofs.Judgements.{after_header, bad_header, large_file, no_header, small_file}
-use Rattle.pocsag_pages.proofs.QueueRows.{after_queue_header, bad_queue_header, large_queue, no_queue_header, same_queue, small_queue}
+use Rattle.pocsag_pages.proofs.Prelude.{◌≡◌, ◌∙◌, Bool, true, false, List, ℕ, arith, length, ◌≤◌, inr, refl, sym, ap, input_limit, Row, rows_of, held_pages, pages_of_all_rows, up_to_wide}
+use Rattle.pocsag_pages.proofs.Judgements.{after_header, large_file, no_header, small_file}
 use Rattle.pocsag_pages.proofs.WideRecords.{same_verdict}
 use Rattle.pocsag_pages.proofs.file.rows_behind_header.Goals as goal
 
--- both verdicts are those of the records that are read
-module _ (bytes : List ℕ) (rows read : List Row) (few : length bytes ≤ input_limit) (of : rows ≡ up_to_wide (rows_of bytes)) (is : rows ≡ read) where
-  round_read : verdict bytes ≡ verdict_of_rows read
-  round_read = small_file bytes few ∙ sym (same_verdict (rows_of bytes)) ∙ ap verdict_of_rows (sym of ∙ is)
-
-  queue_read : queue_verdict bytes ≡ queue_of_all_rows read
-  queue_read = small_queue bytes few ∙ sym (same_queue (rows_of bytes)) ∙ ap queue_of_all_rows (sym of ∙ is)
+-- the pages are those of the records that are read
+held_read : (may_wait : Bool) (bytes : List ℕ) (rows read : List Row) → length bytes ≤ input_limit → rows ≡ up_to_wide (rows_of bytes) →
+    rows ≡ read → held_pages may_wait bytes ≡ pages_of_all_rows may_wait read
+held_read may_wait bytes rows read few of is =
+    small_file may_wait bytes few ∙ sym (same_verdict may_wait (rows_of bytes)) ∙ ap (pages_of_all_rows may_wait) (sym of ∙ is)
 
 pub returns-then-bytes-gt-FILE_LIMIT-clause-err : goal.returns-then-bytes-gt-FILE_LIMIT-clause-err
-returns-then-bytes-gt-FILE_LIMIT-clause-err c = inr (large_file c.args.bytes.now (omega arith), large_queue c.args.bytes.now (omega arith))
+returns-then-bytes-gt-FILE_LIMIT-clause-err c =
+    let large = λ (w : Bool). large_file w c.args.bytes.now (omega arith) in
+    inr (large false, large true)
 
 pub returns-then-not-may_have-clause-err : goal.returns-then-not-may_have-clause-err
 returns-then-not-may_have-clause-err c =
     let bytes = c.args.bytes.now in
     let none = c.in_ok-may_have.ensures c.if-not-may_have.true in
-    inr (
-      small_file bytes (omega arith) ∙ unheaded_round (rows_of bytes) none,
-      small_queue bytes (omega arith) ∙ unheaded_queue (rows_of bytes) none,
-    )
+    let other = λ (w : Bool). small_file w bytes (omega arith) ∙ no_header w (rows_of bytes) none in
+    inr (other false, other true)
 
 pub returns-then-not-found-clause-err : goal.returns-then-not-found-clause-err
 returns-then-not-found-clause-err c =
     let none = c.in_ok-found.ensures.none c.if-not-found.true in
-    inr (round_read _ _ _ (omega arith) c.of-reader.ensures none ∙ no_header, queue_read _ _ _ (omega arith) c.of-reader.ensures none ∙ no_queue_header)
+    let other = λ (w : Bool). held_read w c.args.bytes.now _ _ (omega arith) c.of-reader.ensures none ∙ no_header w _ refl in
+    inr (other false, other true)
 
 pub returns-then-not-is_header_row-clause-err : goal.returns-then-not-is_header_row-clause-err
 returns-then-not-is_header_row-clause-err c =
     let found = c.in_ok-found.ensures.found c.if-not-found.false in
-    let other = sym c.is_header_row.ensures ∙ c.if-not-is_header_row.true in
-    inr (
-      round_read _ _ _ (omega arith) c.of-reader.ensures found ∙ bad_header _ _ other,
-      queue_read _ _ _ (omega arith) c.of-reader.ensures found ∙ bad_queue_header _ _ other,
-    )
+    let unlike = sym c.is_header_row.ensures ∙ c.if-not-is_header_row.true in
+    let other = λ (w : Bool). held_read w c.args.bytes.now _ _ (omega arith) c.of-reader.ensures found ∙ no_header w _ unlike in
+    inr (other false, other true)
 
 pub returns-clause-round : goal.returns-clause-round
 returns-clause-round c =
-    round_read _ _ _ (omega arith) c.of-reader.ensures (c.in_ok-found.ensures.found c.if-not-found.false)
-    ∙ after_header _ _ (sym c.is_header_row.ensures ∙ c.if-not-is_header_row.false)
+    held_read false _ _ _ (omega arith) c.of-reader.ensures (c.in_ok-found.ensures.found c.if-not-found.false)
+    ∙ after_header false _ _ (sym c.is_header_row.ensures ∙ c.if-not-is_header_row.false)
 
 pub returns-clause-queue : goal.returns-clause-queue
 returns-clause-queue c =
-    queue_read _ _ _ (omega arith) c.of-reader.ensures (c.in_ok-found.ensures.found c.if-not-found.false)
-    ∙ after_queue_header _ _ (sym c.is_header_row.ensures ∙ c.if-not-is_header_row.false)
+    held_read true _ _ _ (omega arith) c.of-reader.ensures (c.in_ok-found.ensures.found c.if-not-found.false)
+    ∙ after_header true _ _ (sym c.is_header_row.ensures ∙ c.if-not-is_header_row.false)

@@ -1,8 +1,5 @@
-use Rattle.std.proofs.Common.{[], ◌∷◌, ◌∙◌, length, length-append, inr, refl, ap, arith}
-use Rattle.std.specs.Prelude.{Ok}
-use Rattle.std.proofs.lemmas.Bool.{lt-leb}
-use Rattle.pocsag_pages.specs.Pages.{page_limit}
-use Rattle.pocsag_pages.specs.PageFile.{pages_of}
+use Rattle.pocsag_pages.proofs.Prelude.{[], ◌∷◌, ◌∙◌, length, inr, refl, ap, arith, Ok, lt-leb, page_limit, pages_of}
+use Rattle.std.proofs.Common.{length-append}
 use Rattle.pocsag_pages.proofs.file.with_row.Goals as goal
 
 pub returns-in-Ok-Some-clause-longer : goal.returns-in-Ok-Some-clause-longer

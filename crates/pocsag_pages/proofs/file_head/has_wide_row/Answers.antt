@@ -1,4 +1,4 @@
-use Rattle.std.proofs.Common.{arith}
+use Rattle.pocsag_pages.proofs.Prelude.{arith}
 use Rattle.pocsag_pages.proofs.Fronts.{wide_first, wide_later}
 use Rattle.pocsag_pages.proofs.file_head.has_wide_row.Goals as goal
 

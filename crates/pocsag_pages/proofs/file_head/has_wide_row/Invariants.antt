@@ -1,7 +1,4 @@
-use Rattle.std.proofs.Common.{◌≡◌, true}
-use Rattle.pocsag_pages.specs.PageFile.{rows_of}
-use Rattle.pocsag_pages.specs.Rows.{IsAtRecord, rows_left}
-use Rattle.pocsag_pages.specs.WideRecords.{has_wide}
+use Rattle.pocsag_pages.proofs.Prelude.{◌≡◌, true, rows_of, IsAtRecord, rows_left, has_wide}
 use Rattle.pocsag_pages.proofs.file_head.has_wide_row.Given as goal
 
 -- a wide record that is left is one of the text

@@ -1,4 +1,4 @@
-use Rattle.std.proofs.Common.{arith}
+use Rattle.pocsag_pages.proofs.Prelude.{arith}
 use Rattle.pocsag_pages.proofs.HeaderFronts.{front_found, line_end_more}
 use Rattle.pocsag_pages.proofs.header_front.header_front.Goals as goal
 

@@ -1,5 +1,4 @@
-use Rattle.std.proofs.Common.{◌≡◌, ◌+◌, drop, length, min}
-use Rattle.pocsag_pages.specs.HeaderFronts.{line_ends_first}
+use Rattle.pocsag_pages.proofs.Prelude.{◌≡◌, ◌+◌, drop, length, min, line_ends_first}
 use Rattle.pocsag_pages.proofs.header_front.header_front.Given as goal
 
 -- the line ends so far and those to come

@@ -1,6 +1,4 @@
-use Rattle.std.proofs.Common.{◌∙◌, sym, ap}
-use Rattle.pocsag_pages.specs.HeaderFronts.{starts_with_header}
-use Rattle.pocsag_pages.specs.PageFile.{rows_of}
+use Rattle.pocsag_pages.proofs.Prelude.{◌∙◌, sym, ap, starts_with_header, rows_of}
 use Rattle.pocsag_pages.proofs.HeaderFronts.{unheaded_front}
 use Rattle.pocsag_pages.proofs.header_front.may_have_header.Goals as goal
 

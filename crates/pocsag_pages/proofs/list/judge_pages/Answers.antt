@@ -1,8 +1,4 @@
-use Rattle.std.proofs.Common.{◌≡◌, ◌∙◌, ◌≤◌, sym, refl, inr, arith, take, length}
-use Rattle.std.specs.Prelude.{None}
-use Rattle.std.proofs.lemmas.List.{drop_all}
-use Rattle.pocsag_pages.specs.Pages.{page_fault_of}
-use Rattle.pocsag_pages.specs.PageList.{first_page_fault}
+use Rattle.pocsag_pages.proofs.Prelude.{◌≡◌, ◌∙◌, ◌≤◌, sym, refl, inr, arith, take, length, None, drop_all, page_fault_of, first_page_fault}
 use Rattle.pocsag_pages.proofs.GrownRounds.{builder_none, builder_push, was_new, was_there}
 use Rattle.pocsag_pages.proofs.PageLists.{fault_here, fault_later, taken, left, few, broken, again, fine}
 use Rattle.pocsag_pages.proofs.list.judge_pages.Goals as goal

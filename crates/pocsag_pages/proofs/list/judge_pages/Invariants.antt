@@ -1,6 +1,4 @@
-use Rattle.std.proofs.Common.{◌≡◌, [], take, drop}
-use Rattle.pocsag_pages.specs.RoundBuilders.{IsRoundBuilder}
-use Rattle.pocsag_pages.specs.PageList.{first_page_fault}
+use Rattle.pocsag_pages.proofs.Prelude.{◌≡◌, [], take, drop, IsRoundBuilder, first_page_fault}
 use Rattle.pocsag_pages.proofs.list.judge_pages.Given as goal
 
 -- the pages so far are a draft with these addresses, and the first fault is yet to come

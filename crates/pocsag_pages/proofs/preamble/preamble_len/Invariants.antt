@@ -1,5 +1,4 @@
-use Rattle.std.proofs.Common.{◌≡◌, ◌+◌, drop}
-use Rattle.pocsag_pages.specs.Bytes.{leading}
+use Rattle.pocsag_pages.proofs.Prelude.{◌≡◌, ◌+◌, drop, leading}
 use Rattle.pocsag_pages.proofs.preamble.preamble_len.Given as goal
 
 abbrev pub invariant-loop-count : goal.invariant-loop-count

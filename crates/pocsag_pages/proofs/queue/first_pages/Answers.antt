@@ -1,5 +1,4 @@
-use Rattle.std.proofs.Common.{◌≡◌, ◌∙◌, ◌∷◌, [], ◌++◌, length, sym, ap, arith}
-use Rattle.std.proofs.lemmas.List.{length-append}
+use Rattle.pocsag_pages.proofs.Prelude.{◌≡◌, ◌∙◌, ◌∷◌, [], ◌++◌, length, sym, ap, arith, length-append}
 use Rattle.pocsag_pages.proofs.QueueParts.{firsts_longer, firsts_over, firsts_same, never_empty, value_is}
 use Rattle.pocsag_pages.proofs.queue.first_pages.Goals as goal
 

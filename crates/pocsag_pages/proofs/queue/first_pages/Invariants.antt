@@ -1,5 +1,4 @@
-use Rattle.std.proofs.Common.{◌≡◌, ◌++◌, ◌≤◌, drop, length}
-use Rattle.pocsag_pages.specs.Queues.{firsts, firsts_after}
+use Rattle.pocsag_pages.proofs.Prelude.{◌≡◌, ◌++◌, ◌≤◌, drop, length, firsts, firsts_after}
 use Rattle.pocsag_pages.proofs.queue.first_pages.Given as goal
 
 -- the pages so far, and the first pages of the other addresses

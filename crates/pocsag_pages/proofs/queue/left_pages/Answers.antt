@@ -1,8 +1,4 @@
-use Rattle.std.proofs.Common.{◌≡◌, ◌∙◌, ◌∷◌, [], ◌++◌, List, length, sym, ap, append_assoc, arith}
-use Rattle.std.proofs.lemmas.List.{nil_from_length}
-use Rattle.std.specs.Vec.Iter.{into_iter_items}
-use Rattle.pocsag_pages.specs.declared.page.Page.{Page}
-use Rattle.pocsag_pages.specs.Queues.{left_after}
+use Rattle.pocsag_pages.proofs.Prelude.{◌≡◌, ◌∙◌, ◌∷◌, [], ◌++◌, List, length, sym, ap, append_assoc, arith, nil_from_length, into_iter_items, Page, left_after}
 use Rattle.pocsag_pages.proofs.QueueParts.{due_less, keeps_on, left_over, sends_on}
 use Rattle.pocsag_pages.proofs.queue.left_pages.Goals as goal
 

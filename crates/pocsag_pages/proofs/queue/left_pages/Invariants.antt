@@ -1,9 +1,4 @@
-use Rattle.std.proofs.Common.{◌≡◌, ℕ, ◌++◌, length, take}
-use Rattle.std.specs.BTreeSet.{contains}
-use Rattle.std.specs.Ordering.{nat_cmp}
-use Rattle.std.specs.Vec.Iter.{into_iter_items, into_iter_len}
-use Rattle.pocsag_pages.specs.Pages.{has_address}
-use Rattle.pocsag_pages.specs.Queues.{left_after, left_of}
+use Rattle.pocsag_pages.proofs.Prelude.{◌≡◌, ℕ, ◌++◌, length, take, contains, nat_cmp, into_iter_items, into_iter_len, has_address, left_after, left_of}
 use Rattle.pocsag_pages.proofs.QueueParts.{is_due}
 use Rattle.pocsag_pages.proofs.queue.left_pages.Given as goal
 

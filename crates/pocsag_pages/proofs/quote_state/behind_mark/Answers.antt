@@ -1,5 +1,4 @@
-use Rattle.std.proofs.Common.{◌≡◌, ◌-◌, length, drop, sym, ◌∙◌, arith}
-use Rattle.std.proofs.lemmas.List.{length-drop, take_all}
+use Rattle.pocsag_pages.proofs.Prelude.{◌≡◌, ◌-◌, length, drop, sym, ◌∙◌, arith, length-drop, take_all}
 use Rattle.pocsag_pages.proofs.QuoteStates.{marked, unmarked}
 use Rattle.pocsag_pages.proofs.quote_state.behind_mark.Goals as goal
 

@@ -1,7 +1,5 @@
-use Rattle.std.proofs.Common.{◌≡◌, ℕ, List, ◌∷◌, ◌++◌, ◌+◌, ◌<◌, take, drop, length, get_or, is_some, false, not, refl, sym, ap, ◌∙◌, subst, arith}
-use Rattle.std.proofs.lemmas.List.{drop_more, take-append-drop, take_all}
-use Rattle.pocsag_pages.specs.QuotePlaces.{HasSeen}
-use Rattle.pocsag_pages.specs.Quotes.{HasQuoteFault, IsWellQuoted}
+use Rattle.pocsag_pages.proofs.Prelude.{◌≡◌, ℕ, List, ◌∷◌, ◌++◌, ◌+◌, ◌<◌, take, drop, length, get_or, false, not, refl, sym, ap, ◌∙◌, subst, arith, drop_more, take-append-drop, take_all, HasSeen, HasQuoteFault, IsWellQuoted}
+use Rattle.std.proofs.Common.{is_some}
 use Rattle.pocsag_pages.proofs.NoQuotes.{no_quote_found}
 use Rattle.pocsag_pages.proofs.QuoteFaults.{open_is_not}
 use Rattle.pocsag_pages.proofs.QuoteWalks.{left_open, nothing_seen, well_quoted}

@@ -1,5 +1,4 @@
-use Rattle.std.proofs.Common.{◌≤◌, ◌+◌, take}
-use Rattle.pocsag_pages.specs.QuotePlaces.{HasSeen}
+use Rattle.pocsag_pages.proofs.Prelude.{◌≤◌, ◌+◌, take, HasSeen}
 use Rattle.pocsag_pages.proofs.quotes.quote_fault.Given as goal
 
 abbrev pub invariant-loop-byte : goal.invariant-loop-byte

@@ -1,10 +1,5 @@
-use Rattle.std.proofs.Common.{◌≡◌, ℕ, ◌+◌, ◌-◌, ◌*◌, ◌^◌, ◌<◌, ◌≤◌, true, false, List, ◌∷◌, get_or, refl, sym, ◌∙◌, arith, add-one}
-use Rattle.std.specs.Prelude.{None}
-use Rattle.std.specs.Char.{is_ascii_digit}
+use Rattle.pocsag_pages.proofs.Prelude.{◌≡◌, ℕ, ◌+◌, ◌-◌, ◌*◌, ◌^◌, ◌<◌, ◌≤◌, true, false, List, ◌∷◌, get_or, refl, sym, ◌∙◌, arith, add-one, None, is_ascii_digit, nat_tests, drop_more, drop_all, decimal}
 use Rattle.std.proofs.Math.Nat.{pow-suc, pow-le-pow_right}
-use Rattle.std.proofs.lemmas.Bool.Decides.{nat_tests}
-use Rattle.std.proofs.lemmas.List.{drop_more, drop_all}
-use Rattle.pocsag_pages.specs.PageFile.{decimal}
 use Rattle.pocsag_pages.proofs.record.parse_decimal.Goals as goal
 
 digit_small : (b : ℕ) → is_ascii_digit b ≡ true → b - 48 < 10

@@ -1,5 +1,4 @@
-use Rattle.std.proofs.Common.{◌≡◌, ◌<◌, ◌^◌, drop}
-use Rattle.pocsag_pages.specs.PageFile.{decimal}
+use Rattle.pocsag_pages.proofs.Prelude.{◌≡◌, ◌<◌, ◌^◌, drop, decimal}
 use Rattle.pocsag_pages.proofs.record.parse_decimal.Given as goal
 
 -- the value of all the digits is that of those that are left, after the value so far

@@ -1,7 +1,4 @@
-use Rattle.std.proofs.Common.{arith, refl}
-use Rattle.std.specs.Prelude.{codes}
-use Rattle.std.proofs.lemmas.Slice.Eq.{text_from_reads}
-use Rattle.pocsag_pages.specs.PageFile.{kind_of_field}
+use Rattle.pocsag_pages.proofs.Prelude.{arith, refl, codes, text_from_reads, kind_of_field}
 use Rattle.pocsag_pages.proofs.record.parse_kind.Goals as goal
 
 pub returns-in-numeric-clause-value : goal.returns-in-numeric-clause-value

@@ -1,7 +1,5 @@
-use Rattle.std.proofs.Common.{◌≡◌, ℕ, zero, suc, ◌<◌, List, [], ◌∷◌, length, sym, arith}
-use Rattle.std.specs.Prelude.{Option, Some, None, IsSome, option_map}
+use Rattle.pocsag_pages.proofs.Prelude.{◌≡◌, ℕ, zero, suc, ◌<◌, List, [], ◌∷◌, length, sym, arith, Option, Some, None, IsSome, option_map, fields_of, field_at}
 use Rattle.std.specs.Borrow.{Bor}
-use Rattle.csv.specs.Records.{fields_of, field_at}
 use Rattle.pocsag_pages.proofs.record.three_fields.Goals as goal
 
 has_field : (rows : List (List ℕ)) (i : ℕ) → i < length rows → field_at rows i ≡ None → ⊥

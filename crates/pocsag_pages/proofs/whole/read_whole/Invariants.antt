@@ -1,4 +1,4 @@
-use Rattle.std.proofs.Common.{◌≡◌, ◌+◌, ◌-◌, ◌≤◌, false, length, ◌++◌}
+use Rattle.pocsag_pages.proofs.Prelude.{◌≡◌, ◌+◌, ◌-◌, ◌≤◌, false, length, ◌++◌}
 use Rattle.pocsag_pages.proofs.whole.read_whole.Given as goal
 
 -- what was read so far, and what is still held, are what was held; each read so far gave a byte

@@ -1,4 +1,4 @@
-use Rattle.std.proofs.Common.{◌≤◌, ◌/◌, ◌∙◌, List, ℕ, get_or, length, ap, arith}
+use Rattle.pocsag_pages.proofs.Prelude.{◌≤◌, ◌/◌, ◌∙◌, List, ℕ, get_or, length, ap, arith}
 use Rattle.pocsag_pages.proofs.MarkedRounds.{word_found, word_past}
 use Rattle.pocsag_pages.proofs.address_marks.AddressMarks.has_mark.Goals as goal
 

@@ -1,7 +1,4 @@
-use Rattle.std.proofs.Common.{◌∙◌, ◌++◌, ◌∷◌, [], take, refl, sym, ap, arith}
-use Rattle.pocsag_pages.specs.declared.page.Page.{Page}
-use Rattle.std.proofs.lemmas.List.{take_all, take_more}
-use Rattle.pocsag_pages.specs.Pages.{has_address}
+use Rattle.pocsag_pages.proofs.Prelude.{◌∙◌, ◌++◌, ◌∷◌, [], take, refl, sym, ap, arith, Page, take_all, take_more, has_address}
 use Rattle.pocsag_pages.proofs.MarkedRounds.{marks_push, none_marked}
 use Rattle.pocsag_pages.proofs.address_marks.AddressMarks.marking_all.Goals as goal
 

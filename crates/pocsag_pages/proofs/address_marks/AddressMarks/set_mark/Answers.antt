@@ -1,5 +1,4 @@
-use Rattle.std.proofs.Common.{◌≡◌, ◌<◌, ◌/◌, ◌∙◌, get_or, length, arith}
-use Rattle.std.proofs.lemmas.List.{get_or_default}
+use Rattle.pocsag_pages.proofs.Prelude.{◌≡◌, ◌<◌, ◌/◌, ◌∙◌, get_or, length, arith, get_or_default}
 use Rattle.pocsag_pages.proofs.MarkedRounds.{one_marked}
 use Rattle.pocsag_pages.proofs.address_marks.AddressMarks.set_mark.Goals as goal
 

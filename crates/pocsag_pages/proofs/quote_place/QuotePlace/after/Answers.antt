@@ -1,8 +1,5 @@
-use Rattle.std.proofs.Common.{◌≡◌, ◌⊎◌, ◌+◌, inl, inr, sym, ◌∙◌, ap, subst, refl, arith, ◌++◌, ◌∷◌}
-use Rattle.pocsag_pages.specs.declared.quote_state.QuoteState.{QuoteState}
+use Rattle.pocsag_pages.proofs.Prelude.{◌≡◌, ◌⊎◌, ◌+◌, inl, inr, sym, ◌∙◌, ap, subst, refl, arith, ◌++◌, ◌∷◌, QuoteState, IsLostIn, MayGoOn}
 use Rattle.pocsag_pages.specs.declared.quote_state.QuoteState.TheVariants as at
-use Rattle.pocsag_pages.specs.Quotes.{IsLostIn}
-use Rattle.pocsag_pages.specs.QuoteStates.{MayGoOn}
 use Rattle.pocsag_pages.proofs.QuoteFaults.{lost_is_not}
 use Rattle.pocsag_pages.proofs.QuoteStates.{lost_behind}
 use Rattle.pocsag_pages.proofs.QuoteWalks.{ended, few_more, goes, gone_on, lost, opened_before}
@@ -14,13 +11,13 @@ dead r s is (inr e) on = subst MayGoOn (sym is ∙ e) on
 
 pub returns-then-ends_line-clause-place : goal.returns-then-ends_line-clause-place
 returns-then-ends_line-clause-place c = λ seen h.
-    ended c.args.self c.args.byte _ _ seen h (sym c.ends_line.ensures ∙ c.if-ends_line.true)
+    ended c.args.self c.args.byte _ _ seen h c.if-ends_line.true
     (lost_behind c.args.self.state c.args.byte (dead _ _ c.after.ensures c.in-Broken.is))
     (ap (λ n. c.args.self.number + n) c.from-then-ends_line.ensures) (ap (λ n. c.args.self.line + n) c.from.ensures)
 
 pub returns-then-byte-eq34 : goal.returns-then-byte-eq34
 returns-then-byte-eq34 c =
-    let no_end = sym c.ends_line.ensures ∙ c.if-ends_line.false in
+    let no_end = c.if-ends_line.false in
     let never = dead _ _ c.after.ensures c.in-Broken.is in
     record {
       place = tt;
@@ -34,7 +31,7 @@ returns-then-byte-eq34 c =
 
 pub returns-else-byte-eq34 : goal.returns-else-byte-eq34
 returns-else-byte-eq34 c =
-    let no_end = sym c.ends_line.ensures ∙ c.if-ends_line.false in
+    let no_end = c.if-ends_line.false in
     let never = dead _ _ c.after.ensures c.in-Broken.is in
     record {
       place = tt;

@@ -1,4 +1,4 @@
-use Rattle.std.proofs.Common.{◌≤◌, length, ap, arith}
+use Rattle.pocsag_pages.proofs.Prelude.{◌≤◌, length, ap, arith}
 use Rattle.pocsag_pages.proofs.FirstPages.{first_round}
 use Rattle.pocsag_pages.proofs.round.Round.split.Goals as goal
 

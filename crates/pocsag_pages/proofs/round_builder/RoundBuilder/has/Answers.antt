@@ -1,6 +1,4 @@
-use Rattle.std.proofs.Common.{◌∙◌, List, ap}
-use Rattle.pocsag_pages.specs.declared.page.Page.{Page}
-use Rattle.pocsag_pages.specs.Pages.{has_address}
+use Rattle.pocsag_pages.proofs.Prelude.{◌∙◌, List, ap, Page, has_address}
 use Rattle.pocsag_pages.proofs.MarkedRounds.{found_there, none_there}
 use Rattle.pocsag_pages.proofs.round_builder.RoundBuilder.has.Goals as goal
 

@@ -1,7 +1,5 @@
-use Rattle.std.proofs.Common.{◌<◌, ◌∙◌, length, sym, ap, arith}
+use Rattle.pocsag_pages.proofs.Prelude.{◌<◌, ◌∙◌, length, sym, ap, arith, fields_of, rows_ahead}
 use Rattle.csv.proofs.RecordFacts.{cut-length}
-use Rattle.csv.specs.Records.{fields_of}
-use Rattle.pocsag_pages.specs.Rows.{rows_ahead}
 use Rattle.pocsag_pages.proofs.WideRecords.{narrow_row, no_row, wide_row}
 use Rattle.pocsag_pages.proofs.row_reader.RowReader.read.Goals as goal
 

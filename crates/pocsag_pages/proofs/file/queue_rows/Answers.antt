@@ -1,27 +1,23 @@
-use Rattle.std.proofs.Common.{◌≡◌, ◌∙◌, ◌∷◌, [], ◌++◌, length, inl, inr, sym, ap, arith, rules}
-use Rattle.std.proofs.lemmas.List.{length-append}
-use Rattle.std.proofs.lemmas.List.Elements.{All-nil, All-push}
-use Rattle.std.specs.Prelude.{Err, None}
-use Rattle.pocsag_pages.specs.Pages.{page_fault_of}
-use Rattle.pocsag_pages.proofs.QueueRows.{queue_judged, queued, queued_end, queued_fault, queued_on, no_queue, queue_room, some_queue}
-use Rattle.pocsag_pages.proofs.queue.queue_rows.Goals as goal
+use Rattle.pocsag_pages.proofs.Prelude.{◌≡◌, ◌∙◌, ◌∷◌, [], ◌++◌, length, inl, inr, true, refl, sym, ap, arith, rules, length-append, All-nil, All-push, Err, None, page_fault_of}
+use Rattle.pocsag_pages.proofs.Judgements.{grown, grown_end, grown_fault, grown_on, is_room, judged, no_queue, one_page_of, some_queue}
+use Rattle.pocsag_pages.proofs.file.queue_rows.Goals as goal
 
 pub loop-row-init : goal.loop-row-init
 loop-row-init c = rw c.new-pages.ensures.items (record {
   few = omega arith;
   each = All-nil _;
-  rest = queue_judged _;
+  rest = judged true _;
 })
 
 pub returns-then-is_empty-clause-err : goal.returns-then-is_empty-clause-err
 returns-then-is_empty-clause-err c =
-    let over = c.loop-row.invariant.rest ∙ rw (c.in_ok-found.ensures.none c.if-not-found.true) (queued_end c.loop-row.pages.items (length c.loop-row.pages.items)) in
+    let over = c.loop-row.invariant.rest ∙ rw (c.in_ok-found.ensures.none c.if-not-found.true) (grown_end true c.loop-row.pages.items (length c.loop-row.pages.items)) in
     let none : length c.loop-row.pages.items ≡ 0 = search rules in
     inr (over ∙ no_queue c.loop-row.pages.items none)
 
 pub returns-then-not-found-clause-ok : goal.returns-then-not-found-clause-ok
 returns-then-not-found-clause-ok c =
-    let over = c.loop-row.invariant.rest ∙ rw (c.in_ok-found.ensures.none c.if-not-found.true) (queued_end c.loop-row.pages.items _) in
+    let over = c.loop-row.invariant.rest ∙ rw (c.in_ok-found.ensures.none c.if-not-found.true) (grown_end true c.loop-row.pages.items _) in
     over ∙ some_queue c.loop-row.pages.items (search rules)
 
 pub returns-in-Err-clause-err : goal.returns-in-Err-clause-err
@@ -33,7 +29,7 @@ returns-in-Err-clause-err c =
           inr
           (c.loop-row.invariant.rest
           ∙ rw (c.in_ok-found.ensures.found c.if-not-found.false)
-          (queued_fault c.loop-row.pages.items (length c.loop-row.pages.items) _ _ f.0 (rw long at f.1) ∙ ap Err (sym (rw long at f.2))))
+          (grown_fault true c.loop-row.pages.items (length c.loop-row.pages.items) _ _ f.0 (rw long at f.1) ∙ ap Err (sym (rw long at f.2))))
     ]
 
 pub loop-row-preserved : goal.loop-row-preserved
@@ -50,6 +46,6 @@ loop-row-preserved c =
       rest =
           c.loop-row.invariant.rest
           ∙ rw (c.in_ok-found.ensures.found c.if-not-found.false)
-          (queued_on ps (length ps) _ _ p fine.page (queue_room (length ps) p few)
-          ∙ ap (λ n. queued (ps ++ p ∷ []) n c.read.new.self) (sym (length-append ps (p ∷ []))));
+          (grown_on true ps (length ps) _ _ (rw fine.page (is_room (length ps) [] p refl few))
+          ∙ rw (one_page_of _ p fine.page) (ap (λ n. grown true (ps ++ p ∷ []) n c.read.new.self) (sym (length-append ps (p ∷ [])))));
     })
