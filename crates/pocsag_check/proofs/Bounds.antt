@@ -1,22 +1,16 @@
 -- An accepted tree bounds every transmission.
-use Rattle.pocsag_check.proofs.Prelude.{◌≡◌, ℕ, zero, suc, ◌+◌, ◌-◌, ◌%◌, ◌<◌, ◌≤◌, ◌==◌, Bool, true, false, List, [], ◌∷◌, ◌++◌, length, map, refl, sym, ap, subst, ◌∙◌, arith, slice_index, inl, inr, length-append, cases_lt, End, Page, BoundTree, Classes, Limits, Step, runs, AreClassesOf, IsAdmitted, load, limits_of_all, finish_of, IsTour, LastAs, LastIsIdle, LastIsWhole, Leads, idles, Accepts}
-use Rattle.std.proofs.Common.{◌*◌, replicate}
-use Rattle.std.proofs.lemmas.List.{append-nil, get_or-replicate, length-map}
+use Rattle.pocsag_check.proofs.Prelude.{◌≡◌, ℕ, zero, suc, ◌+◌, ◌-◌, ◌%◌, ◌<◌, ◌≤◌, ◌==◌, Bool, true, false, List, [], ◌∷◌, ◌++◌, length, map, refl, sym, ap, subst, ◌∙◌, arith, slice_index, inl, inr, length-append, cases_lt, End, Page, BoundTree, Classes, Limits, Step, runs, AreClassesOf, IsAdmitted, load, limits_of_all, finish_of, IsTour, LastAs, LastIsIdle, LastIsWhole, Leads, idles, Accepts, replicate, append-nil, get_or-replicate, length-map, arcs, early_in, run_length, class_of, covered_batches, covered_split, finish_is, AcceptsRoot, idle_behind, last_behind}
+use Rattle.std.proofs.Common.{◌*◌}
 use Rattle.pocsag_words.specs.declared.codeword.Kind.{Kind}
 use Rattle.pocsag_words.specs.declared.codeword.Kind.TheVariants.{Message}
 use Rattle.pocsag_words.specs.declared.ending.End.TheVariants as ends
 use Rattle.pocsag_pages.specs.Reading.{AreApart, IsLegalFor, Reads, at_end, past_idle, past_page, frame_at}
 use Rattle.pocsag_slots.specs.declared.step.Step.TheVariants.{Idle as Stay, Run}
-use Rattle.pocsag_slots.specs.Arcs.{arcs, early_in, run_length}
 use Rattle.pocsag_slots.specs.Cover.{covered}
-use Rattle.pocsag_slots.specs.Classes.{class_of}
-use Rattle.pocsag_slots.proofs.CoverLemmas.{covered_batches, covered_split, finish_is}
 use Rattle.pocsag_slots.proofs.ToursOfLists.{toured}
 use Rattle.pocsag_slots.proofs.Walks.{arcs_past_run, run_length_is}
-use Rattle.pocsag_check.specs.Acceptance.{AcceptsRoot}
 use Rattle.pocsag_check.specs.Fits.{busy, Fits}
 use Rattle.pocsag_check.proofs.Refuted.{refuted}
-use Rattle.pocsag_slots.proofs.Endings.{idle_behind, last_behind}
 
 busy_run : (items : List ℕ) (rest : List Kind) (i slot : ℕ) → slot < 16 →
     busy i (map Message items ++ rest) slot ≡ covered i (length items) slot + busy (i + length items) rest slot

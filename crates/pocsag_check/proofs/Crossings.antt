@@ -1,10 +1,6 @@
 -- A tour that starts inside a set of boundaries crosses it, or all its runs stay inside.
-use Rattle.pocsag_check.proofs.Prelude.{◌≡◌, ℕ, ◌+◌, ◌%◌, ◌<◌, ◌==◌, ◌&&◌, Bool, true, false, not, cond, List, [], ◌∷◌, refl, arith, ◌⊎◌, inl, inr, Step, runs, start_of, finish_of, holds, Leads, idles, idle_crosses, run_touches}
-use Rattle.std.proofs.Common.{eq-eqb}
-use Rattle.std.proofs.lemmas.Bool.{cases_Bool, eqb-true}
+use Rattle.pocsag_check.proofs.Prelude.{◌≡◌, ℕ, ◌+◌, ◌%◌, ◌<◌, ◌==◌, ◌&&◌, Bool, true, false, not, cond, List, [], ◌∷◌, refl, arith, ◌⊎◌, inl, inr, Step, runs, start_of, finish_of, holds, Leads, idles, idle_crosses, run_touches, eq-eqb, cases_Bool, eqb-true, run_crosses, finish_below}
 use Rattle.pocsag_slots.specs.declared.step.Step.TheVariants.{Idle as Stay, Run}
-use Rattle.pocsag_slots.specs.Ways.{run_crosses}
-use Rattle.pocsag_slots.proofs.CoverLemmas.{finish_below}
 
 -- some arc has exactly one end in the set
 pub data Crossed : ℕ → ℕ → List Step → Type 0 where

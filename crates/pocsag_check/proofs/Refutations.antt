@@ -1,9 +1,5 @@
 -- An accepted node is met by no tour.
-use Rattle.pocsag_check.proofs.Prelude.{◌≡◌, ℕ, ◌+◌, ◌-◌, ◌<◌, ◌≤◌, List, [], ◌∷◌, ap, arith, slice_index, ◌⊎◌, min, cases_lt, cases_eq, Classes, Limits, Way, IsAdmitted, load, narrowed_limits, limits_below, limits_from}
-use Rattle.std.proofs.Common.{slice_set, max}
-use Rattle.std.proofs.lemmas.List.{get_or-set_same, get_or-set_other, set_past}
-use Rattle.pocsag_slots.specs.declared.way.Way.TheVariants.{IdleIn, Early, Late}
-use Rattle.pocsag_slots.specs.Loads.{Overloads}
+use Rattle.pocsag_check.proofs.Prelude.{◌≡◌, ℕ, ◌+◌, ◌-◌, ◌<◌, ◌≤◌, List, [], ◌∷◌, ap, arith, slice_index, ◌⊎◌, min, cases_lt, cases_eq, Classes, Limits, Way, IsAdmitted, load, narrowed_limits, limits_below, limits_from, slice_set, max, get_or-set_same, get_or-set_other, set_past, IdleIn, Early, Late, Overloads}
 use Rattle.pocsag_slots.proofs.SumLemmas.{sum_over-le}
 
 -- what is at least n stays so where one place is changed to what is

@@ -1,10 +1,7 @@
 -- No tour of an admitted choice meets an accepted node.
-use Rattle.pocsag_check.proofs.Prelude.{◌≡◌, ℕ, ◌+◌, ◌%◌, ◌<◌, ◌&&◌, ◌||◌, Bool, true, false, cond, IsTrue, List, [], ◌∷◌, refl, arith, slice_index, ◌⊎◌, inl, inr, nat_lt, cases_lt, nat_tests, End, BoundTree, BoundTrees, overload, split, cut, close, unexamined, none, more, Classes, Limits, Step, Way, runs, IsAdmitted, finish_of, AsksForLast, IsTour, LastIsWhole, Leads, idles, run_touches, class_certain, ways_across, ways_to_close, narrowed_limits, limits_below, limits_from, Accepts, AcceptsEach}
+use Rattle.pocsag_check.proofs.Prelude.{◌≡◌, ℕ, ◌+◌, ◌%◌, ◌<◌, ◌&&◌, ◌||◌, Bool, true, false, cond, IsTrue, List, [], ◌∷◌, refl, arith, slice_index, ◌⊎◌, inl, inr, nat_lt, cases_lt, nat_tests, End, BoundTree, BoundTrees, overload, split, cut, close, unexamined, none, more, Classes, Limits, Step, Way, runs, IsAdmitted, finish_of, AsksForLast, IsTour, LastIsWhole, Leads, idles, run_touches, class_certain, ways_across, ways_to_close, narrowed_limits, limits_below, limits_from, Accepts, AcceptsEach, IdleIn, Late, finish_below, idles_last}
 use Rattle.pocsag_words.specs.declared.ending.End.TheVariants as ends
 use Rattle.pocsag_slots.specs.declared.step.Step.TheVariants.{Idle as Stay, Run}
-use Rattle.pocsag_slots.specs.declared.way.Way.TheVariants.{IdleIn, Late}
-use Rattle.pocsag_slots.proofs.CoverLemmas.{finish_below}
-use Rattle.pocsag_slots.proofs.Endings.{idles_last}
 use Rattle.pocsag_check.proofs.Crossings.{IsInside, crosses_or_stays}
 use Rattle.pocsag_check.proofs.Refutations.{AnyTaken, not_overloaded, admitted_below, admitted_from, admitted_narrowed}
 use Rattle.pocsag_check.proofs.WaysTaken.{taken_way}

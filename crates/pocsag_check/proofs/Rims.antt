@@ -1,7 +1,5 @@
 -- A set that holds boundary 0, and not all boundaries, is crossed by the idles of at least two slots.
-use Rattle.pocsag_check.proofs.Prelude.{◌≡◌, ◌⊎◌, ℕ, zero, suc, ◌+◌, ◌-◌, ◌%◌, ◌<◌, ◌≤◌, ◌||◌, Bool, true, false, not, IsTrue, List, length, refl, arith, inl, inr, length-append, cases_eq, Classes, Limits, start_of, finish_of, holds, joined_below, class_certain, idle_crosses, run_touches, slot_ways, ways_across}
-use Rattle.std.proofs.lemmas.Bool.{not-false, not-true, not_from_false}
-use Rattle.pocsag_slots.proofs.CoverLemmas.{finish_below, start_below}
+use Rattle.pocsag_check.proofs.Prelude.{◌≡◌, ◌⊎◌, ℕ, zero, suc, ◌+◌, ◌-◌, ◌%◌, ◌<◌, ◌≤◌, ◌||◌, Bool, true, false, not, IsTrue, List, length, refl, arith, inl, inr, length-append, cases_eq, Classes, Limits, start_of, finish_of, holds, joined_below, class_certain, idle_crosses, run_touches, slot_ways, ways_across, not-false, not-true, not_from_false, finish_below, start_below}
 use Rattle.pocsag_check.proofs.Crossings.{idle_leaves}
 use Rattle.pocsag_check.proofs.Refuted.{certain_is}
 

@@ -1,11 +1,7 @@
 -- The loop over the children of a node.
-use Rattle.pocsag_check.proofs.Prelude.{◌≡◌, ℕ, zero, suc, ◌+◌, ◌<◌, ◌≤◌, Bool, List, [], ◌∷◌, length, get_or, refl, sym, ap, ◌∙◌, arith, End, BoundTrees, none, more, children_count, bound_tree_of, Classes, Limits, Way, narrowed_limits, AcceptsEach, AcceptsWithin}
-use Rattle.std.proofs.Common.{drop, add-one}
+use Rattle.pocsag_check.proofs.Prelude.{◌≡◌, ℕ, zero, suc, ◌+◌, ◌<◌, ◌≤◌, Bool, List, [], ◌∷◌, length, get_or, refl, sym, ap, ◌∙◌, arith, End, BoundTrees, none, more, children_count, bound_tree_of, Classes, Limits, Way, narrowed_limits, AcceptsEach, AcceptsWithin, drop, add-one, drop_all, bounds_of, AcceptsEachWithin}
 use Rattle.std.proofs.Math.Seq.{drop-cons}
-use Rattle.std.proofs.lemmas.List.{drop_all}
 use Rattle.pocsag_tree.specs.declared.shape.Tree.{Tree}
-use Rattle.pocsag_tree.specs.Views.{bounds_of}
-use Rattle.pocsag_check.specs.Acceptance.{AcceptsEachWithin}
 use Rattle.pocsag_tree.proofs.Counts.{count_of_bounds}
 
 pub row_long : (u : Bool) (k : Classes) (end : End) (b : ℕ) (l : Limits) (ws : List Way) (ts : BoundTrees) → AcceptsEach u k end b l ws ts →

@@ -1,11 +1,8 @@
 -- An accepted tree can be written: each of its fields is in the range of versions PCB2 and PCB4.
-use Rattle.pocsag_check.proofs.Prelude.{◌≡◌, ℕ, ◌-◌, ◌<◌, ◌≤◌, Bool, false, List, [], ◌∷◌, length, nat_lt, refl, ap, arith, min, slice_index, End, BoundTree, BoundTrees, overload, split, cut, close, unexamined, none, more, children_count, Classes, Limits, Way, limits_of_all, AsksForLast, limits_below, limits_from, narrowed_limits, ways_across, ways_to_close, Accepts, AcceptsEach, IsAccepted}
-use Rattle.std.proofs.Common.{◌^◌}
+use Rattle.pocsag_check.proofs.Prelude.{◌≡◌, ℕ, ◌-◌, ◌<◌, ◌≤◌, Bool, false, List, [], ◌∷◌, length, nat_lt, refl, ap, arith, min, slice_index, End, BoundTree, BoundTrees, overload, split, cut, close, unexamined, none, more, children_count, Classes, Limits, Way, limits_of_all, AsksForLast, limits_below, limits_from, narrowed_limits, ways_across, ways_to_close, Accepts, AcceptsEach, IsAccepted, ◌^◌, all_nodes, all_nodes_in, closed_nodes, closed_nodes_in, IdleIn, Early, Late}
 use Rattle.pocsag_words.specs.declared.ending.End.TheVariants as ends
 use Rattle.pocsag_tree.specs.Limits.{most_nodes, second_ranges}
-use Rattle.pocsag_tree.specs.BoundTrees.{all_nodes, all_nodes_in, closed_nodes, closed_nodes_in}
 use Rattle.pocsag_tree.specs.CertificateText.{AreInRange, HasText, IsInRange}
-use Rattle.pocsag_slots.specs.declared.way.Way.TheVariants.{IdleIn, Early, Late}
 use Rattle.pocsag_slots.proofs.LoadLemmas.{count_few}
 use Rattle.pocsag_slots.proofs.Members.{held_some}
 use Rattle.pocsag_slots.proofs.WayLemmas.{classes_few, one_or_none}

@@ -1,8 +1,7 @@
 -- A round has one class table for an end.
-use Rattle.pocsag_check.proofs.Prelude.{◌≡◌, ℕ, ◌<◌, List, sym, ap, subst, ◌∙◌, End, Page, Classes, AreClassesOf}
+use Rattle.pocsag_check.proofs.Prelude.{◌≡◌, ℕ, ◌<◌, List, sym, ap, subst, ◌∙◌, End, Page, Classes, AreClassesOf, ext_get_or}
 use Rattle.std.proofs.Math.Bridge.{le_prop}
 use Rattle.std.proofs.Math.Nat.{ℕ_set}
-use Rattle.std.proofs.lemmas.List.{ext_get_or}
 use Rattle.pocsag_slots.specs.Tables.{AreTables}
 
 tables_prop : (count turns : List ℕ) → IsProp (AreTables count turns)

@@ -1,7 +1,5 @@
 -- A tour that crosses a set takes one of its ways.
-use Rattle.pocsag_check.proofs.Prelude.{◌≡◌, ℕ, zero, suc, ◌+◌, ◌<◌, ◌≤◌, true, false, cond, List, [], ◌∷◌, ◌++◌, arith, slice_index, inl, inr, nat_lt, cases_eq, cases_lt, nat_tests, End, Classes, Limits, Step, Way, runs, IsAdmitted, joined_below, IsTour, slot_ways, ways_across}
-use Rattle.pocsag_slots.specs.declared.way.Way.TheVariants.{Early, Late}
-use Rattle.pocsag_slots.specs.Ways.{early_open, late_open, class_ways}
+use Rattle.pocsag_check.proofs.Prelude.{◌≡◌, ℕ, zero, suc, ◌+◌, ◌<◌, ◌≤◌, true, false, cond, List, [], ◌∷◌, ◌++◌, arith, slice_index, inl, inr, nat_lt, cases_eq, cases_lt, nat_tests, End, Classes, Limits, Step, Way, runs, IsAdmitted, joined_below, IsTour, slot_ways, ways_across, Early, Late, early_open, late_open, class_ways}
 use Rattle.pocsag_check.proofs.Crossings.{Crossed, by_idle, by_run}
 use Rattle.pocsag_check.proofs.Refutations.{AnyTaken}
 

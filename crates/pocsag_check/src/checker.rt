@@ -1,7 +1,6 @@
 ghost use Rattle.std.specs.Prelude.{◌≡◌, ◌↔◌, ◌<◌, ◌≤◌, All, IsTrue, slice_index};
 ghost use Rattle.pocsag_slots.specs.Loads.{AreInOrder};
 ghost use Rattle.pocsag_slots.specs.Sums.{holds};
-ghost use Rattle.pocsag_slots.specs.Tours.{AsksForLast};
 ghost use Rattle.pocsag_slots.specs.Ways.{class_certain, limits_below, limits_from, MayTake, narrowed_limits, ways_across};
 ghost use Rattle.pocsag_tree.specs.Views.{bound_tree_of, bounds_of};
 ghost use Rattle.pocsag_check.specs.Acceptance.{AcceptsEachWithin, AcceptsWithin};
@@ -52,17 +51,8 @@ fn cuts(claim: &Claim, limits: &Limits, set: u16, class: u8) -> bool
     holds(set, 0) && is_certain(claim.classes, limits, set, class)
 }
 
-fn closes(claim: &Claim) -> bool
-    ensures { IsTrue result ↔ (AsksForLast claim.now.end × (1 ≤ claim.now.batches)) }
-{
-    match claim.end {
-        End::Open => false,
-        End::Closed | End::Idle => claim.batches >= 1,
-    }
-}
-
-/// Whether the node is accepted under the limits, at most this deep. It looks at nothing deeper. The
-/// limits are narrowed in place and put back behind each child, so that a level takes little of the stack.
+/// Whether the node is accepted under the limits, at most this deep. It looks at nothing deeper. The limits are
+/// narrowed in place and restored after each child, so that a level takes little of the stack.
 #[cycle(checking)]
 pub(crate) fn check_node(claim: &Claim, limits: &mut Limits, tree: &Tree, depth: u32) -> bool
     requires { AreInOrder claim.now.classes.now limits.old }
@@ -101,7 +91,7 @@ pub(crate) fn check_node(claim: &Claim, limits: &mut Limits, tree: &Tree, depth:
                 && check_cut(claim, limits, *set, children, depth - 1)
         }
         Tree::Close { children } => {
-            if !closes(claim) {
+            if claim.end == End::Open || claim.batches == 0 {
                 return false;
             }
             let out = ending_ways(claim.classes, claim.end, limits);

@@ -11,9 +11,8 @@ use pocsag_slots::{Classes, Limits, all_limits, classes_of};
 use pocsag_tree::{DEPTH_LIMIT, Tree};
 use pocsag_words::End;
 
-/// Whether the node shows that no transmission of so many batches, legal for the end, is within the
-/// limits. It takes any tree from anywhere, answers no for one deeper than 300, and looks at nothing
-/// below depth 301.
+/// Whether the node shows that no transmission of so many batches, legal for the end, is within the limits. It takes
+/// any tree from anywhere, returns false for one deeper than 300, and looks at nothing below depth 301.
 pub fn accepts(classes: &Classes, limits: &Limits, batches: u32, tree: &Tree, end: End) -> bool
     requires { AreInOrder classes.now limits.now }
     ensures { IsTrue result ↔
@@ -46,20 +45,20 @@ fn check_tree(round: &Round, batches: u32, tree: &Tree, end: End, takes_open: bo
     check_node(&claim, &mut limits, tree, DEPTH_LIMIT)
 }
 
-/// Whether the tree shows that fewer than so many batches do not suffice for the round and the end.
-/// It counts the classes of the round itself, takes any tree from anywhere, answers no for 0 batches
-/// and for a tree deeper than 300, and looks at nothing below depth 301.
+/// Whether the tree shows that fewer than so many batches do not suffice for the round and the end. It counts the
+/// classes of the round itself, takes any tree from anywhere, returns false for 0 batches and for a tree deeper than
+/// 300, and looks at nothing below depth 301.
 pub fn check(round: &Round, batches: u32, tree: &Tree, end: End) -> bool
     ensures accepted { IsTrue result ↔ IsAcceptedFor false end round.now batches (bound_tree_of tree.now) }
 
     // A yes is a bound over all lists of codewords.
     ensures bound { IsTrue result → (T : List ℕ) (n : ℕ) → IsLegalList end T n round.now → batches ≤ n }
 {
-    round.keeps_rules();
+    round.recall_rules();
     check_tree(round, batches, tree, end, false)
 }
 
-/// The same, where a node that was not examined is accepted in any place.
+/// The same, but a node that was not examined is accepted in any place.
 pub fn check_open(round: &Round, batches: u32, tree: &Tree, end: End) -> bool
     ensures { IsTrue result ↔ IsAcceptedFor true end round.now batches (bound_tree_of tree.now) }
 {

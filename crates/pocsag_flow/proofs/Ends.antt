@@ -1,18 +1,7 @@
 -- Where nothing leads out of a set of full slots, no choice within the limits loads it less; and what
 -- a way takes from the overload.
-use Rattle.std.proofs.Common.{◌≡◌, ◌≢◌, ℕ, ◌+◌, ◌-◌, ◌*◌, ◌<◌, ◌≤◌, Bool, cond, true, false, refl, sym, arith, inl, inr, slice_index}
-use Rattle.std.proofs.lemmas.Bool.{cases_eq, cases_lt}
-use Rattle.pocsag_slots.specs.declared.class.Classes.{Classes}
-use Rattle.pocsag_slots.specs.declared.limit.Limits.{Limits}
-use Rattle.pocsag_slots.specs.Loads.{AreInOrder, ClassLoadsAddUp, IsWithin, Overloads, class_load_over, load}
-use Rattle.pocsag_slots.specs.Classes.{finish_of, start_of}
-use Rattle.pocsag_slots.specs.Sums.{holds, sum_over}
+use Rattle.pocsag_flow.proofs.Prelude.{◌≡◌, ◌≢◌, ℕ, ◌+◌, ◌-◌, ◌*◌, ◌<◌, ◌≤◌, Bool, cond, true, false, refl, sym, arith, inl, inr, slice_index, cases_eq, cases_lt, Classes, Limits, AreInOrder, ClassLoadsAddUp, IsWithin, Overloads, class_load_over, load, finish_of, start_of, holds, sum_over, sum_below-le, Network, Progress, overload, StaysInside, IsStuck, Pushes, Relieves, same_slot}
 use Rattle.pocsag_slots.proofs.LoadLemmas.{load_few}
-use Rattle.pocsag_slots.proofs.SumLemmas.{sum_below-le}
-use Rattle.pocsag_flow.specs.declared.network.Network.{Network}
-use Rattle.pocsag_flow.specs.declared.network.Progress.{Progress}
-use Rattle.pocsag_flow.specs.Choices.{overload}
-use Rattle.pocsag_flow.specs.Search.{StaysInside, IsStuck, Pushes, Relieves, same_slot}
 use Rattle.pocsag_flow.proofs.FlowSums.{sum_below-lt}
 use Rattle.pocsag_flow.proofs.Steps.{same_slot_other, same_slot_same}
 use Rattle.pocsag_flow.proofs.Shifts.{class_load_over_shift, finish_low, in_set, start_low}

@@ -1,8 +1,5 @@
 -- Sums of which one term changes.
-use Rattle.std.proofs.Common.{◌≡◌, ◌≢◌, ℕ, zero, suc, ◌+◌, ◌<◌, ◌≤◌, sym, ap, arith, inl, inr}
-use Rattle.std.proofs.lemmas.Bool.{cases_eq}
-use Rattle.pocsag_slots.specs.Sums.{sum_below}
-use Rattle.pocsag_slots.proofs.SumLemmas.{sum_below-same, sum_below-le}
+use Rattle.pocsag_flow.proofs.Prelude.{◌≡◌, ◌≢◌, ℕ, zero, suc, ◌+◌, ◌<◌, ◌≤◌, sym, ap, arith, inl, inr, cases_eq, sum_below, sum_below-same, sum_below-le}
 
 pub sum_below-change : (n c x y : ℕ) (f g : ℕ → ℕ) → c < n → f c + x ≡ g c + y → ((k : ℕ) → k < n → k ≢ c → f k ≡ g k) →
     sum_below n f + x ≡ sum_below n g + y

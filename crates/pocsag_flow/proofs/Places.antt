@@ -1,12 +1,5 @@
 -- The classes whose early runs have an end at a slot, one after the other.
-use Rattle.std.proofs.Common.{◌≡◌, ◌≢◌, ℕ, ◌+◌, ◌-◌, ◌*◌, ◌/◌, ◌%◌, ◌<◌, ◌≤◌, true, false, refl, sym, ◌∙◌, arith, inl, inr, slice_index}
-use Rattle.std.proofs.lemmas.Bool.{cases_lt}
-use Rattle.std.proofs.lemmas.Bool.Decides.{nat_tests}
-use Rattle.pocsag_slots.specs.declared.limit.Limits.{Limits}
-use Rattle.pocsag_slots.specs.Classes.{class_frame, class_rest, finish_of, start_of}
-use Rattle.pocsag_flow.specs.declared.network.Network.{Network}
-use Rattle.pocsag_flow.specs.declared.network.Progress.{Progress}
-use Rattle.pocsag_flow.specs.Search.{EndsElsewhere, HasEndAt, LeadsInto, Leaves}
+use Rattle.pocsag_flow.proofs.Prelude.{◌≡◌, ◌≢◌, ℕ, ◌+◌, ◌-◌, ◌*◌, ◌/◌, ◌%◌, ◌<◌, ◌≤◌, true, false, refl, sym, ◌∙◌, arith, inl, inr, slice_index, cases_lt, nat_tests, Limits, class_frame, class_rest, finish_of, start_of, Network, Progress, EndsElsewhere, HasEndAt, LeadsInto, Leaves}
 
 -- where the classes before the bare ones start and end, and the bare ones
 pub start_full : (c : ℕ) → c < 128 → start_of c true ≡ 2 * (c / 16)

@@ -1,16 +1,8 @@
 -- A run that starts late in place of early takes load from the slot where it started and gives it to
 -- the slot where it ended.
-use Rattle.std.proofs.Common.{◌≡◌, ◌≢◌, ℕ, ◌+◌, ◌-◌, ◌*◌, ◌%◌, ◌<◌, ◌≤◌, cond, true, false, ap, arith, slice_index}
-use Rattle.std.proofs.lemmas.Bool.Decides.{nat_tests}
-use Rattle.pocsag_slots.specs.declared.class.Classes.{Classes}
+use Rattle.pocsag_flow.proofs.Prelude.{◌≡◌, ◌≢◌, ℕ, ◌+◌, ◌-◌, ◌*◌, ◌%◌, ◌<◌, ◌≤◌, cond, true, false, ap, arith, slice_index, nat_tests, Classes, class_load, class_load_over, load, class_frame, class_rest, finish_of, start_of, holds, sum_over, class_load_over_is, members_more, members_none, sum_over-add, sum_over-same, same_slot}
 use Rattle.pocsag_slots.specs.Cover.{covered}
-use Rattle.pocsag_slots.specs.Loads.{class_load, class_load_over, load}
-use Rattle.pocsag_slots.specs.Classes.{class_frame, class_rest, finish_of, start_of}
-use Rattle.pocsag_slots.specs.Sums.{holds, sum_over}
 use Rattle.pocsag_slots.proofs.CoverLemmas.{covered_split}
-use Rattle.pocsag_slots.proofs.LeastLemmas.{class_load_over_is, members_more, members_none}
-use Rattle.pocsag_slots.proofs.SumLemmas.{sum_over-add, sum_over-same}
-use Rattle.pocsag_flow.specs.Search.{same_slot}
 use Rattle.pocsag_flow.proofs.FlowSums.{sum_below-change}
 
 -- 1 where the set has the slot, else 0

@@ -1,15 +1,6 @@
 -- What the steps of the search for a way do, each by the steps inside it.
-use Rattle.std.proofs.Common.{◌≡◌, ◌≢◌, ℕ, ◌+◌, ◌-◌, ◌*◌, ◌<◌, ◌≤◌, ◌⊎◌, true, false, refl, sym, ap, ◌∙◌, arith, inl, inr, List, length, slice_index, slice_set, get_or-set_same, get_or-set_other, length-set}
-use Rattle.std.proofs.lemmas.Bool.{cases_eq, cases_lt}
-use Rattle.std.proofs.lemmas.Bool.Decides.{nat_tests}
+use Rattle.pocsag_flow.proofs.Prelude.{◌≡◌, ◌≢◌, ℕ, ◌+◌, ◌-◌, ◌*◌, ◌<◌, ◌≤◌, ◌⊎◌, true, false, refl, sym, ap, ◌∙◌, arith, inl, inr, List, length, slice_index, slice_set, get_or-set_same, get_or-set_other, length-set, cases_eq, cases_lt, nat_tests, Limits, IsWithin, load, finish_of, start_of, holds, Network, Progress, AreStuck, Includes, StaysInside, IsNetworkOf, IsOf, IsStuck, Keeps, LeadsInto, Leaves, Pushes, same_slot}
 use Rattle.std.proofs.lemmas.List.{set-get_or}
-use Rattle.pocsag_slots.specs.declared.limit.Limits.{Limits}
-use Rattle.pocsag_slots.specs.Loads.{IsWithin, load}
-use Rattle.pocsag_slots.specs.Classes.{finish_of, start_of}
-use Rattle.pocsag_slots.specs.Sums.{holds}
-use Rattle.pocsag_flow.specs.declared.network.Network.{Network}
-use Rattle.pocsag_flow.specs.declared.network.Progress.{Progress}
-use Rattle.pocsag_flow.specs.Search.{AreStuck, Includes, StaysInside, IsNetworkOf, IsOf, IsStuck, Keeps, LeadsInto, Leaves, Pushes, same_slot}
 use Rattle.pocsag_flow.proofs.Shifts.{Moves, load_moved}
 
 -- a slot outside the larger set is outside the smaller one
@@ -238,6 +229,10 @@ moved_early n before mid class most amount moved h network held out room fits p 
     (λ slot l. sym (load_moved n.classes.now (slice_index (slice_set mid.early class e)) (slice_index mid.early) class moved slot h l
     (omega (arith, here, kept, p.bounded, room, network.ordered.counted class h)) moves))
     (λ none. omega (arith, none))
+
+pub pushes_at : (n : Network) (before after : Progress) (slot at most moved : ℕ) → slot ≡ at → Pushes n before after at most moved →
+    Pushes n before after slot most moved
+pushes_at n before after slot at most moved is p = rw is p
 
 -- the loads of a switch from one slot to another
 pub shifted_is : (loads : List ℕ) (from to moved slot : ℕ) → from < length loads → to < length loads → to ≢ from →

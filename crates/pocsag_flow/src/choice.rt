@@ -1,6 +1,6 @@
 ghost use Rattle.std.specs.Prelude.{◌≡◌, ◌≢◌, ℕ, ◌+◌, ◌*◌, ◌^◌, ◌<◌, ◌≤◌, IfErr, IfNone, IfOk, IfSome, length, OnOk, slice_index};
 ghost use Rattle.pocsag_slots.specs.Loads.{AreInOrder, IsAdmitted, IsWithin, Overloads};
-ghost use Rattle.pocsag_tree.specs.CertificateText.{IsSet};
+ghost use Rattle.pocsag_slots.specs.Sums.{IsSet};
 ghost use Rattle.pocsag_flow.specs.Choices.{IsBelowLeast, overload, set_of};
 ghost use Rattle.pocsag_flow.specs.Search.{IsLoaded, same_slot};
 
@@ -23,8 +23,7 @@ pub fn choose(classes: &Classes, limits: &Limits) -> Result<Choice, ChooseFault>
     choose_within(classes, limits, &Choice { early: limits.hi })
 }
 
-/// The same. The given choice is a hint for speed: the nearer it is to one that is admitted, the sooner
-/// there is an answer.
+/// The same. The given choice is a hint for speed: the nearer it is to an admitted one, the sooner the call returns.
 pub fn choose_from(
     classes: &Classes,
     limits: &Limits,

@@ -1,5 +1,4 @@
 ghost use Rattle.std.specs.Prelude.{◌≡◌, ℕ, ◌<◌, ◌≤◌, false, true, slice_index};
-ghost use Rattle.pocsag_slots.specs.Classes.{finish_of, start_of};
 ghost use Rattle.pocsag_slots.specs.Sums.{holds};
 ghost use Rattle.pocsag_flow.specs.Search.{EndsElsewhere, HasEndAt, LeadsInto, MayPush, Pushes, StaysInside};
 
@@ -95,32 +94,16 @@ fn leave_straight(network: &Network, search: &mut Progress, slot: u8, most: u32)
     // the first class with an end at the slot: of frame 0, with the slot for its rest
     let mut number = slot;
     while number < CLASS_COUNT {
-        let moved = switch_straight(network, search, Class { number }, slot, most);
-        if moved > 0 {
-            return moved;
+        let class = Class { number };
+        if leads_to_room(network, class, slot) {
+            let moved = switch(network, search, class, slot, most);
+            if moved > 0 {
+                return moved;
+            }
         }
         number = next_at(slot, number);
     }
     0
-}
-
-#[cycle(push)]
-fn switch_straight(
-    network: &Network,
-    search: &mut Progress,
-    class: Class,
-    slot: u8,
-    most: u32,
-) -> u32
-    requires has_room { MayPush network.now search.old most }
-    requires reached { holds search.old.reached slot ≡ true }
-    ensures pushes { Pushes network.now search.old search.new slot most result }
-{
-    if leads_to_room(network, class, slot) {
-        switch(network, search, class, slot, most)
-    } else {
-        0
-    }
 }
 
 // Whether the slot is one end of the runs of the class, some of which may move, and the other end has
@@ -164,48 +147,22 @@ fn switch(network: &Network, search: &mut Progress, class: Class, slot: u8, most
     if slot == from {
         if network.limits.lo[class.number as usize] < early {
             if !holds(search.reached, to) {
-                return to_late(network, search, class, most);
+                let room = early - network.limits.lo[class.number as usize];
+                let moved = enter(network, search, to, most.min(room));
+                search.early[class.number as usize] -= moved;
+                return moved;
             }
         }
     }
     if slot == to {
         if early < network.limits.hi[class.number as usize] {
             if !holds(search.reached, from) {
-                return to_early(network, search, class, most);
+                let room = network.limits.hi[class.number as usize] - early;
+                let moved = enter(network, search, from, most.min(room));
+                search.early[class.number as usize] += moved;
+                return moved;
             }
         }
     }
     0
-}
-
-// Moves up to `most` runs of the class from early to late.
-#[cycle(push)]
-fn to_late(network: &Network, search: &mut Progress, class: Class, most: u32) -> u32
-    requires has_room { MayPush network.now search.old most }
-    requires reached { holds search.old.reached (start_of class.number true) ≡ true }
-    requires apart { holds search.old.reached (finish_of class.number true) ≡ false }
-    requires room { slice_index network.now.limits.now.lo class.number < slice_index search.old.early class.number }
-    ensures pushes { Pushes network.now search.old search.new (start_of class.number true) most result }
-    ensures reached { holds search.new.reached (finish_of class.number true) ≡ true }
-{
-    let room = search.early[class.number as usize] - network.limits.lo[class.number as usize];
-    let moved = enter(network, search, finish(class.number, true), most.min(room));
-    search.early[class.number as usize] -= moved;
-    moved
-}
-
-// Moves up to `most` runs of the class from late to early.
-#[cycle(push)]
-fn to_early(network: &Network, search: &mut Progress, class: Class, most: u32) -> u32
-    requires has_room { MayPush network.now search.old most }
-    requires reached { holds search.old.reached (finish_of class.number true) ≡ true }
-    requires apart { holds search.old.reached (start_of class.number true) ≡ false }
-    requires room { slice_index search.old.early class.number < slice_index network.now.limits.now.hi class.number }
-    ensures pushes { Pushes network.now search.old search.new (finish_of class.number true) most result }
-    ensures reached { holds search.new.reached (start_of class.number true) ≡ true }
-{
-    let room = network.limits.hi[class.number as usize] - search.early[class.number as usize];
-    let moved = enter(network, search, start(class.number, true), most.min(room));
-    search.early[class.number as usize] += moved;
-    moved
 }

@@ -1,7 +1,5 @@
 -- The class tables of a list of pages, and what they keep for a round.
-use Rattle.pocsag_slots.proofs.Prelude.{◌≡◌, ◌≢◌, ℕ, ◌+◌, ◌*◌, ◌/◌, ◌%◌, ◌<◌, ◌≤◌, ◌==◌, Bool, cond, List, [], ◌∷◌, All, length, take, refl, sym, ap, ◌∙◌, subst, arith, eq-eqb, slice_index, slice_index_or, slice_set, get_or-set_same, get_or-set_other, inl, inr, replicate, cases_eq, ne_eqb, nat_tests, get_or-replicate, All-head, All-tail, End, Page, page_length, class_of, class_of_page, class_rest, count_of, turns_of, sum_below}
-use Rattle.std.proofs.lemmas.List.{length-replicate, length-set}
-use Rattle.std.proofs.lemmas.List.Sums.{count_by-le-length, sum_by_more}
+use Rattle.pocsag_slots.proofs.Prelude.{◌≡◌, ◌≢◌, ℕ, ◌+◌, ◌*◌, ◌/◌, ◌%◌, ◌<◌, ◌≤◌, ◌==◌, Bool, cond, List, [], ◌∷◌, All, length, take, refl, sym, ap, ◌∙◌, subst, arith, eq-eqb, slice_index, slice_index_or, slice_set, get_or-set_same, get_or-set_other, inl, inr, replicate, cases_eq, ne_eqb, nat_tests, get_or-replicate, All-head, All-tail, End, Page, page_length, class_of, class_of_page, class_rest, count_of, turns_of, sum_below, length-replicate, length-set, count_by-le-length, sum_by_more}
 use Rattle.pocsag_words.specs.declared.ending.End.TheVariants as ends
 use Rattle.pocsag_slots.specs.Tables.{AreTables}
 use Rattle.pocsag_slots.proofs.CoverLemmas.{class_below, class_rest_is}

@@ -1,7 +1,6 @@
 -- The last arc of a transmission that ends whole, or in an idle.
-use Rattle.pocsag_slots.proofs.Prelude.{◌≡◌, ℕ, ◌+◌, ◌%◌, ◌<◌, ◌==◌, false, List, [], ◌∷◌, length, arith, nat_tests, Kind, End, EndsIdle, EndsWhole, EndsAs, frame_at, arcs, run_length, class_of, finish_of, Leads, idles, LastIsIdle, LastIsWhole, LastAs, Step}
+use Rattle.pocsag_slots.proofs.Prelude.{◌≡◌, ℕ, ◌+◌, ◌%◌, ◌<◌, ◌==◌, false, List, [], ◌∷◌, length, arith, nat_tests, Kind, End, EndsIdle, EndsWhole, EndsAs, frame_at, arcs, run_length, class_of, finish_of, Leads, idles, LastIsIdle, LastIsWhole, LastAs, Step, Idle, Address, Message}
 use Rattle.pocsag_slots.proofs.CoverLemmas.{finish_below}
-use Rattle.pocsag_words.specs.declared.codeword.Kind.TheVariants.{Idle, Address, Message}
 use Rattle.pocsag_words.specs.declared.ending.End.TheVariants as ends
 use Rattle.pocsag_slots.specs.declared.step.Step.TheVariants.{Idle as Stay, Run}
 

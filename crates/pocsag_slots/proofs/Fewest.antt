@@ -1,6 +1,5 @@
 -- What a legal transmission says of its count of batches.
-use Rattle.pocsag_slots.proofs.Prelude.{◌≡◌, ℕ, ◌<◌, ◌≤◌, List, All, map, sym, subst, arith, IsCodeword, kind_of, Kind, End, Page, AreApart, IsLegalFor, IsLegalList, Classes, Step, early_in, laid, AreClassesOf, IsChoice, load, IsTour}
-use Rattle.pocsag_slots.specs.Loads.{IsLeast}
+use Rattle.pocsag_slots.proofs.Prelude.{◌≡◌, ℕ, ◌<◌, ◌≤◌, List, All, map, sym, subst, arith, IsCodeword, kind_of, Kind, End, Page, AreApart, IsLegalFor, IsLegalList, Classes, Step, early_in, laid, AreClassesOf, IsChoice, load, IsTour, IsLeast}
 use Rattle.pocsag_slots.proofs.LaidSteps.{laid_legal}
 use Rattle.pocsag_slots.proofs.ToursOfLists.{toured}
 

@@ -1,7 +1,5 @@
 -- The codewords of a tour's steps, in order, are a legal transmission.
-use Rattle.pocsag_slots.proofs.Prelude.{◌≡◌, ℕ, ◌+◌, ◌*◌, ◌/◌, ◌%◌, ◌<◌, ◌≤◌, ◌==◌, Bool, true, false, cond, List, [], ◌∷◌, ◌++◌, length, map, refl, sym, ap, subst, ◌∙◌, arith, eq-eqb, inl, inr, length-append, ◌⊎◌, IsPermutation, cases_lt, eqb-true, ne_eqb, nil_from_length, nat_tests, sum_by-cons, IsPermutation-cons, IsPermutation-refl, IsPermutation-trans, Contains-permutation, length_permutation, sum_by-IsPermutation, Kind, End, Page, Reads, at_end, past_idle, past_page, BeginsNoMessage, EndsIdle, EndsWhole, EndsAs, IsLegalFor, frame_at, page_words, page_length, Classes, arcs, runs, run_length, covered, AreClassesOf, load, first_of, without_first, laid, class_of, class_of_page, class_frame, start_of, finish_of, count_of, Leads, idles, IsTour, LastIsIdle, LastIsWhole, LastAs, Step}
-use Rattle.std.proofs.lemmas.List.Elements.{All-contains_itself}
-use Rattle.pocsag_words.specs.declared.codeword.Kind.TheVariants.{Idle, Address, Message}
+use Rattle.pocsag_slots.proofs.Prelude.{◌≡◌, ℕ, ◌+◌, ◌*◌, ◌/◌, ◌%◌, ◌<◌, ◌≤◌, ◌==◌, Bool, true, false, cond, List, [], ◌∷◌, ◌++◌, length, map, refl, sym, ap, subst, ◌∙◌, arith, eq-eqb, inl, inr, length-append, ◌⊎◌, IsPermutation, cases_lt, eqb-true, ne_eqb, nil_from_length, nat_tests, sum_by-cons, IsPermutation-cons, IsPermutation-refl, IsPermutation-trans, Contains-permutation, length_permutation, sum_by-IsPermutation, Kind, End, Page, Reads, at_end, past_idle, past_page, BeginsNoMessage, EndsIdle, EndsWhole, EndsAs, IsLegalFor, frame_at, page_words, page_length, Classes, arcs, runs, run_length, covered, AreClassesOf, load, first_of, without_first, laid, class_of, class_of_page, class_frame, start_of, finish_of, count_of, Leads, idles, IsTour, LastIsIdle, LastIsWhole, LastAs, Step, All-contains_itself, Idle, Address, Message}
 use Rattle.pocsag_words.specs.declared.ending.End.TheVariants as ends
 use Rattle.pocsag_slots.specs.declared.step.Step.TheVariants.{Idle as Stay, Run}
 use Rattle.pocsag_slots.proofs.CoverLemmas.{class_below, class_frame_is, covered_is, finish_is}

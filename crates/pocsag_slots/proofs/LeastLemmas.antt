@@ -1,7 +1,5 @@
 -- The least load of a set of slots is attained class by class.
-use Rattle.pocsag_slots.proofs.Prelude.{◌≡◌, ℕ, ◌+◌, ◌-◌, ◌*◌, ◌%◌, ◌<◌, ◌≤◌, ◌==◌, true, false, cond, refl, ap, ◌∙◌, arith, slice_index, inl, inr, cases_lt, nat_tests, mul-le-mul_left, Classes, Limits, covered, AreInOrder, class_load, least_of_class, load, class_rest, start_of, holds, sum_below, sum_over}
-use Rattle.std.proofs.Common.{min, leb}
-use Rattle.pocsag_slots.specs.Loads.{IsLeastLoad, Overloads, class_load_over}
+use Rattle.pocsag_slots.proofs.Prelude.{◌≡◌, ℕ, ◌+◌, ◌-◌, ◌*◌, ◌%◌, ◌<◌, ◌≤◌, ◌==◌, true, false, cond, refl, ap, ◌∙◌, arith, slice_index, inl, inr, cases_lt, nat_tests, mul-le-mul_left, Classes, Limits, covered, AreInOrder, class_load, least_of_class, load, class_rest, start_of, holds, sum_below, sum_over, min, leb, IsLeastLoad, Overloads, class_load_over}
 use Rattle.pocsag_slots.proofs.CoverLemmas.{covered_split}
 use Rattle.pocsag_slots.proofs.LoadLemmas.{load_few, load_none}
 use Rattle.pocsag_slots.proofs.SumLemmas.{sum_over-most, sum_below-le, sum_below-same, sum_over-add, sum_over-at, sum_over-none, sum_over-same, sum_over-sum_below, sum_over-times}

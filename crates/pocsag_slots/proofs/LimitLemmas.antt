@@ -1,6 +1,5 @@
 -- Limits in order.
-use Rattle.pocsag_slots.proofs.Prelude.{◌≡◌, ℕ, arith, replicate, slice_index, get_or-replicate, Classes, AreInOrder}
-use Rattle.pocsag_slots.specs.Loads.{limits_of_all}
+use Rattle.pocsag_slots.proofs.Prelude.{◌≡◌, ℕ, arith, replicate, slice_index, get_or-replicate, Classes, AreInOrder, limits_of_all}
 
 pub all_ordered : (k : Classes) (batches : ℕ) → AreInOrder k (limits_of_all k batches)
 all_ordered k batches =

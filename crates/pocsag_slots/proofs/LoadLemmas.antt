@@ -1,6 +1,5 @@
 -- Loads of slots by the runs of a class, and their bounds.
-use Rattle.pocsag_slots.proofs.Prelude.{◌≡◌, ℕ, ◌+◌, ◌-◌, ◌*◌, ◌%◌, ◌<◌, ◌≤◌, true, false, cond, arith, slice_index, nat_tests, mul-le-mul_left, Classes, covered, IsChoice, class_load, load, class_rest, start_of, sum_below}
-use Rattle.std.proofs.Common.{ltb}
+use Rattle.pocsag_slots.proofs.Prelude.{◌≡◌, ℕ, ◌+◌, ◌-◌, ◌*◌, ◌%◌, ◌<◌, ◌≤◌, true, false, cond, arith, slice_index, nat_tests, mul-le-mul_left, Classes, covered, IsChoice, class_load, load, class_rest, start_of, sum_below, ltb}
 use Rattle.pocsag_slots.proofs.CoverLemmas.{covered_is}
 use Rattle.pocsag_slots.proofs.SumLemmas.{sum_below-le, sum_below-part, sum_below-times, term-le-sum_below}
 

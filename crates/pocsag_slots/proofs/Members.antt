@@ -1,12 +1,9 @@
 -- Members of a set that takes one more.
-use Rattle.pocsag_slots.proofs.Prelude.{◌≡◌, ◌≢◌, ◌∙◌, ℕ, ◌+◌, ◌*◌, ◌%◌, ◌^◌, ◌<◌, ◌≤◌, ◌==◌, true, false, ap, arith, inl, inr, bit_or, cases_eq, nat_tests, holds}
-use Rattle.std.proofs.Common.{w16, bit_and}
+use Rattle.pocsag_slots.proofs.Prelude.{◌≡◌, ◌≢◌, ◌∙◌, ℕ, ◌+◌, ◌*◌, ◌%◌, ◌^◌, ◌<◌, ◌≤◌, ◌==◌, true, false, ap, arith, inl, inr, bit_or, cases_eq, nat_tests, holds, w16, bit_and, or_lt, pow_pos, AddsMember, SetsTakeMembers}
 use Rattle.std.proofs.lemmas.Nat.Bits.{bit_at_set_same, bit_at_set_other, bit_at-zero, and_pow, bit_at-lt}
-use Rattle.std.proofs.lemmas.Nat.{or_lt, pow_pos}
 use Rattle.std.proofs.Math.Pow.{pow-lt}
 use Rattle.std.specs.Int.{bit_at}
 use Rattle.std.specs.Int.Bits.{or_add_and}
-use Rattle.pocsag_slots.specs.Sums.{AddsMember, SetsTakeMembers}
 
 holds_here : (set member : ℕ) → member < 16 → holds (bit_or set (1 * 2 ^ member % 65536)) member ≡ true
 unfolding holds

@@ -1,7 +1,5 @@
 -- The pages of a legal transmission are those of the round, in some order.
-use Rattle.pocsag_slots.proofs.Prelude.{◌≡◌, ℕ, zero, suc, ◌<◌, List, [], ◌∷◌, length, sym, ap, subst, arith, All, ◌⊎◌, inl, inr, IsPermutation, nil_from_length, IsPermutation-cons, IsPermutation-refl, IsPermutation-remove, IsPermutation-trans, Contains-permutation, length_permutation, Page, AreApart}
-use Rattle.std.proofs.Common.{get_or, Contains, remove}
-use Rattle.std.proofs.lemmas.List.Sorted.{IsPermutation-sym}
+use Rattle.pocsag_slots.proofs.Prelude.{◌≡◌, ℕ, zero, suc, ◌<◌, List, [], ◌∷◌, length, sym, ap, subst, arith, All, ◌⊎◌, inl, inr, IsPermutation, nil_from_length, IsPermutation-cons, IsPermutation-refl, IsPermutation-remove, IsPermutation-trans, Contains-permutation, length_permutation, Page, AreApart, get_or, Contains, remove, IsPermutation-sym}
 use Rattle.pocsag_pages.proofs.PageLists.{apart_rest}
 
 tail_or_head : (r x : Page) (xs : List Page) (m : ℕ) → m < length (r ∷ xs) → get_or (r ∷ xs) m x ≡ x → (r ≡ x) ⊎ Contains xs x

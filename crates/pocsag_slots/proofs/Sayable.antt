@@ -1,10 +1,5 @@
 -- Codewords that in order say what the steps of a tour lay out.
-use Rattle.pocsag_slots.proofs.Prelude.{◌≡◌, ℕ, ◌/◌, ◌^◌, ◌<◌, false, List, [], ◌∷◌, ◌++◌, map, ap, ◌∙◌, All, arith, refl, nat_tests, All-cons, All-head, All-nil, All-tail, IsCodeword, kind_of, Kind, End, Page, IsGoodPage, IsRound, IsLegalList, page_words, Classes, Step, first_of, without_first, laid, AreClassesOf, IsTour}
-use Rattle.std.proofs.lemmas.List.Sorted.{All-permutation}
-use Rattle.pocsag_words.specs.Kinds.{address_kind}
-use Rattle.pocsag_words.specs.declared.codeword.Kind.TheVariants.{Idle, Address, Message}
-use Rattle.pocsag_pages.specs.Pages.{is_reserved}
-use Rattle.pocsag_pages.proofs.GoodPages.{good_pages}
+use Rattle.pocsag_slots.proofs.Prelude.{◌≡◌, ℕ, ◌/◌, ◌^◌, ◌<◌, false, List, [], ◌∷◌, ◌++◌, map, ap, ◌∙◌, All, arith, refl, nat_tests, All-cons, All-head, All-nil, All-tail, IsCodeword, kind_of, Kind, End, Page, IsGoodPage, IsRound, IsLegalList, page_words, Classes, Step, first_of, without_first, laid, AreClassesOf, IsTour, All-permutation, address_kind, Idle, Address, Message, is_reserved, good_pages}
 use Rattle.pocsag_slots.specs.declared.step.Step.TheVariants.{Idle as Stay, Run}
 use Rattle.pocsag_slots.specs.Meanings.{IsSayable}
 use Rattle.pocsag_slots.proofs.Fewest.{laid_list_legal}

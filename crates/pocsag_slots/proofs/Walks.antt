@@ -1,8 +1,5 @@
 -- The arcs of a transmission lead along it, and cover its slots.
-use Rattle.pocsag_slots.proofs.Prelude.{◌≡◌, ℕ, suc, ◌+◌, ◌*◌, ◌/◌, ◌%◌, ◌<◌, ◌≤◌, ◌==◌, ◌&&◌, Bool, true, false, cond, List, [], ◌∷◌, ◌++◌, length, map, refl, sym, ap, subst, ◌∙◌, arith, length-append, eq-eqb, ne_eqb, sum_by-cons, Kind, End, Page, Reads, at_end, past_idle, past_page, BeginsNoMessage, frame_at, page_length, arcs, runs, run_length, covered, class_of, class_of_page, class_rest, start_of, finish_of, count_of, turns_of, sum_below, Leads, idles, Step}
-use Rattle.std.proofs.Common.{not, add-zero}
-use Rattle.std.proofs.lemmas.List.{length-map}
-use Rattle.pocsag_words.specs.declared.codeword.Kind.TheVariants.{Idle, Address, Message}
+use Rattle.pocsag_slots.proofs.Prelude.{◌≡◌, ℕ, suc, ◌+◌, ◌*◌, ◌/◌, ◌%◌, ◌<◌, ◌≤◌, ◌==◌, ◌&&◌, Bool, true, false, cond, List, [], ◌∷◌, ◌++◌, length, map, refl, sym, ap, subst, ◌∙◌, arith, length-append, eq-eqb, ne_eqb, sum_by-cons, Kind, End, Page, Reads, at_end, past_idle, past_page, BeginsNoMessage, frame_at, page_length, arcs, runs, run_length, covered, class_of, class_of_page, class_rest, start_of, finish_of, count_of, turns_of, sum_below, Leads, idles, Step, not, add-zero, length-map, Idle, Address, Message}
 use Rattle.pocsag_slots.specs.declared.step.Step.TheVariants.{Idle as Stay, Run}
 use Rattle.pocsag_slots.proofs.CoverLemmas.{class_below, class_rest_is, start_is, finish_is, covered_split, covered_turns}
 use Rattle.pocsag_slots.proofs.SumLemmas.{sum_below-zero, sum_below-bump}

@@ -1,11 +1,7 @@
 -- Lists of ways: how they grow, how long they are, and that their ways may be taken.
-use Rattle.pocsag_slots.proofs.Prelude.{◌≡◌, ℕ, zero, suc, ◌+◌, ◌*◌, ◌<◌, ◌≤◌, ◌&&◌, Bool, true, false, cond, List, [], ◌∷◌, ◌++◌, All, length, refl, arith, add-one, length-append, slice_index, nat_tests, All-cons, All-nil, Classes, Limits, joined_below, class_ways, slot_ways, ways_across}
-use Rattle.std.proofs.Common.{nat_lt, append_assoc}
-use Rattle.std.proofs.lemmas.List.Elements.{All-append}
-use Rattle.std.proofs.lemmas.Bool.{and_parts}
+use Rattle.pocsag_slots.proofs.Prelude.{◌≡◌, ℕ, zero, suc, ◌+◌, ◌*◌, ◌<◌, ◌≤◌, ◌&&◌, Bool, true, false, cond, List, [], ◌∷◌, ◌++◌, All, length, refl, arith, add-one, length-append, slice_index, nat_tests, All-cons, All-nil, Classes, Limits, joined_below, class_ways, slot_ways, ways_across, nat_lt, append_assoc, All-append, and_parts, MayTake, early_open, idle_crosses, late_open, run_crosses}
 use Rattle.pocsag_slots.specs.declared.way.Way.{Way}
 use Rattle.pocsag_slots.specs.declared.way.Way.TheVariants.{IdleIn, Early, Late}
-use Rattle.pocsag_slots.specs.Ways.{MayTake, early_open, idle_crosses, late_open, run_crosses}
 
 pub joined_none : {X : Type 0} (f : ℕ → List X) → joined_below 0 f ≡ []
 unfolding joined_below

@@ -1,5 +1,5 @@
 -- Sums and lists over the numbers below a number, and sets as numbers.
-use Rattle.std.specs.Prelude.{◌≡◌, ◌≢◌, ℕ, zero, suc, ◌+◌, ◌/◌, ◌%◌, ◌^◌, ◌<◌, ◌==◌, Bool, true, false, cond, List, [], ◌++◌}
+use Rattle.std.specs.Prelude.{◌≡◌, ◌≢◌, ℕ, zero, suc, ◌+◌, ◌/◌, ◌%◌, ◌^◌, ◌<◌, ◌≤◌, ◌==◌, Bool, true, false, cond, List, [], ◌++◌}
 use Rattle.pocsag_slots.specs.Classes.{slot_count}
 
 -- f 0 + .. + f (n - 1)
@@ -15,6 +15,10 @@ joined_below (suc n) f = joined_below n f ++ f n
 -- Whether a set, of slots or of boundaries, has a member: bit i of the number stands for member i.
 unfoldable pub holds : ℕ → ℕ → Bool
 holds set i = set / 2 ^ i % 2 == 1
+
+-- A set of slots or of boundaries that has a member.
+abbrev pub IsSet : ℕ → Type 0
+IsSet set = (1 ≤ set) × (set < 2 ^ 16)
 
 -- The larger set is the set with one member more.
 pub record AddsMember (set member larger : ℕ) : Type 0 where

@@ -119,25 +119,15 @@ pub fn least_load(classes: &Classes, limits: &Limits, set: u16) -> u64
     least
 }
 
-fn member_cap(limits: &Limits, set: u16, slot: u8) -> u64
-    requires { slot < 16 }
-    ensures value { result ≡ (if holds set slot then slice_index limits.now.cap slot else 0) }
-    ensures bound { result < 2 ^ 32 }
-{
-    if holds(set, slot) {
-        u64::from(limits.cap[slot as usize])
-    } else {
-        0
-    }
-}
-
 /// The caps of the slots of the set, added up.
 pub fn total_cap(limits: &Limits, set: u16) -> u64
     ensures { result ≡ sum_over set (slice_index limits.now.cap) }
 {
     let mut total = 0;
     for slot in 0..SLOT_COUNT {
-        total += member_cap(limits, set, slot);
+        if holds(set, slot) {
+            total += u64::from(limits.cap[slot as usize]);
+        }
     }
     total
 }

@@ -54,12 +54,3 @@ pub fn crosses(class: u8, early: bool, set: u16) -> bool
 {
     holds(set, start(class, early)) != holds(set, finish(class, early))
 }
-
-// Whether exactly one end of an idle in the slot is in the set of boundaries.
-#[tactic(auto, unfolding(crate::specs::Ways::idle_crosses))]
-pub(crate) fn idle_crosses(slot: u8, set: u16) -> bool
-    requires { slot < 16 }
-    ensures { result ≡ idle_crosses slot set }
-{
-    holds(set, slot) != holds(set, (slot + 1) % SLOT_COUNT)
-}

@@ -4,7 +4,7 @@ ghost use Rattle.pocsag_slots.specs.Ways.{class_certain, early_open, late_open, 
 
 use crate::class::{CLASS_COUNT, CLASSES, Class, Classes, SLOT_COUNT, SLOTS};
 use crate::limit::Limits;
-use crate::set::{crosses, idle_crosses, touches};
+use crate::set::{crosses, holds, touches};
 use arrayvec::ArrayVec;
 use pocsag_words::End;
 
@@ -87,7 +87,8 @@ pub fn ways(classes: &Classes, limits: &Limits, set: u16, _batches: u32) -> Arra
 {
     let mut found = ArrayVec::new();
     for slot in 0..SLOT_COUNT {
-        push_if(&mut found, idle_crosses(slot, set), Way::IdleIn(slot));
+        let across = holds(set, slot) != holds(set, (slot + 1) % SLOT_COUNT);
+        push_if(&mut found, across, Way::IdleIn(slot));
     }
     for number in 0..CLASS_COUNT {
         let class = Class { number };

@@ -1,7 +1,5 @@
 -- Sums of counts over the arcs of boundaries and of sets of boundaries.
-use Rattle.pocsag_tour.proofs.Prelude.{◌≡◌, ℕ, zero, suc, ◌+◌, ◌<◌, ◌≤◌, ◌==◌, Bool, true, false, cond, refl, sym, ◌∙◌, arith, eq-eqb, inl, inr, cases_eq, ne_eqb, holds, sum_below, arc_from, arc_to, outs, ins, IsBalanced, IsSpent, NoneEnters, NoneLeaves}
-use Rattle.pocsag_slots.specs.Sums.{sum_over}
-use Rattle.pocsag_slots.proofs.SumLemmas.{sum_below-same, sum_below-le, sum_below-bump, sum_below-zero, term-le-sum_below, sum_over-same, sum_over-add, sum_over-sum_below, chosen_none}
+use Rattle.pocsag_tour.proofs.Prelude.{◌≡◌, ℕ, zero, suc, ◌+◌, ◌<◌, ◌≤◌, ◌==◌, Bool, true, false, cond, refl, sym, ◌∙◌, arith, eq-eqb, inl, inr, cases_eq, ne_eqb, holds, sum_below, arc_from, arc_to, outs, ins, IsBalanced, IsSpent, NoneEnters, NoneLeaves, sum_over, sum_below-same, sum_below-le, sum_below-bump, sum_below-zero, term-le-sum_below, sum_over-same, sum_over-add, sum_over-sum_below, chosen_none}
 use Rattle.pocsag_tour.proofs.Geometry.{from_below, to_below}
 
 chosen : (b : Bool) (x : ℕ) → b ≡ true → cond b x 0 ≡ x

@@ -1,10 +1,7 @@
 -- How many arcs leave a boundary and lead to it, by the loads of the slots before and after it.
-use Rattle.pocsag_tour.proofs.Prelude.{◌≡◌, ◌≢◌, ℕ, zero, suc, ◌+◌, ◌-◌, ◌%◌, ◌<◌, ◌≤◌, ◌==◌, Bool, true, false, cond, slice_index, refl, sym, ap, ◌∙◌, arith, eq-eqb, ne_eqb, Classes, load, start_of, finish_of, sum_below, arc_count, arc_from, arc_to, AreCounts, ins, IsBalanced, outs}
+use Rattle.pocsag_tour.proofs.Prelude.{◌≡◌, ◌≢◌, ℕ, zero, suc, ◌+◌, ◌-◌, ◌%◌, ◌<◌, ◌≤◌, ◌==◌, Bool, true, false, cond, slice_index, refl, sym, ap, ◌∙◌, arith, eq-eqb, ne_eqb, Classes, load, start_of, finish_of, sum_below, arc_count, arc_from, arc_to, AreCounts, ins, IsBalanced, outs, before, load_edge, sum_below-same, sum_below-add, sum_below-bump, sum_below-zero, is_above, not_above}
 use Rattle.pocsag_slots.specs.Edges.{ends_at, starts_at}
-use Rattle.pocsag_slots.proofs.EdgeLemmas.{before, load_edge}
-use Rattle.pocsag_slots.proofs.SumLemmas.{sum_below-same, sum_below-add, sum_below-bump, sum_below-zero}
 use Rattle.pocsag_tour.proofs.Geometry.{from_early, from_idle, from_late, to_early, to_idle, to_late}
-use Rattle.pocsag_words.proofs.TruthValues.{is_above, not_above}
 
 -- the counts by kind
 pub count_early : (k : Classes) (choice : ℕ → ℕ) (b c : ℕ) → c < 136 → arc_count k choice b c ≡ choice c
@@ -45,53 +42,46 @@ sum_hit f p h others =
 term_is : (x y : ℕ) (t u : Bool) → x ≡ y → t ≡ u → cond t x 0 ≡ cond u y 0
 term_is x y t u e f = rw (e, f) refl
 
-pub outs_are : (k : Classes) (choice : ℕ → ℕ) (b : ℕ) (counts : ℕ → ℕ) → AreCounts k choice b counts → (p : ℕ) → p < 16 →
+-- the arcs that leave a boundary, or that lead to it: runs of each class, and the idles of one slot
+arcs_at : (k : Classes) (choice : ℕ → ℕ) (b : ℕ) (counts : ℕ → ℕ) → AreCounts k choice b counts →
+    (at : ℕ → ℕ) (of : ℕ → Bool → ℕ) (p slot : ℕ) → ((c : ℕ) → c < 136 → at c ≡ of c true) → ((c : ℕ) → c < 136 → at (136 + c) ≡ of c false) →
+    slot < 16 → at (272 + slot) ≡ p → ((s : ℕ) → s < 16 → s ≢ slot → at (272 + s) ≢ p) →
+    sum_below 288 (λ a. cond (at a == p) (counts a) 0)
+    ≡ sum_below 136 (λ c. cond (of c true == p) (choice c) 0 + cond (of c false == p) (slice_index k.count c - choice c) 0)
+    + (b - load k choice slot)
+arcs_at k choice b counts are at of p slot early late low idle others =
+    let f : ℕ → ℕ = λ (a : ℕ). cond (at a == p) (counts a) 0 in
+    let one : sum_below 288 f ≡ sum_below 272 f + sum_below 16 (λ s. f (272 + s)) = sum_split 16 272 f in
+    let two : sum_below 272 f ≡ sum_below 136 f + sum_below 136 (λ c. f (136 + c)) = sum_split 136 136 f in
+    let runs : sum_below 136 (λ c. cond (of c true == p) (choice c) 0 + cond (of c false == p) (slice_index k.count c - choice c) 0)
+    ≡ sum_below 136 f + sum_below 136 (λ c. f (136 + c)) =
+    sum_below-same 136 _ (λ c. f c + f (136 + c)) (λ c l.
+    let x : cond (of c true == p) (choice c) 0 ≡ cond (at c == p) (counts c) 0 =
+    term_is (choice c) (counts c) (of c true == p) (at c == p) (sym (are c (omega arith) ∙ count_early k choice b c l))
+    (ap (λ (m : ℕ). m == p) (sym (early c l))) in
+    let y : cond (of c false == p) (slice_index k.count c - choice c) 0 ≡ cond (at (136 + c) == p) (counts (136 + c)) 0 =
+    term_is (slice_index k.count c - choice c) (counts (136 + c)) (of c false == p) (at (136 + c) == p)
+    (sym (are (136 + c) (omega arith) ∙ count_late k choice b c l)) (ap (λ (m : ℕ). m == p) (sym (late c l))) in
+    omega arith)
+    ∙ sum_below-add 136 f (λ c. f (136 + c)) in
+    let stays : sum_below 16 (λ s. f (272 + s)) ≡ b - load k choice slot =
+    sum_hit (λ s. f (272 + s)) slot low (λ s l ne. (let t : (at (272 + s) == p) ≡ false = ne_eqb (at (272 + s)) p (others s l ne) in rw t refl))
+    ∙ (let t : (at (272 + slot) == p) ≡ true = eq-eqb (at (272 + slot)) p idle in
+    rw t (are (272 + slot) (omega arith) ∙ count_idle k choice b slot)) in
+    omega arith
+
+outs_are : (k : Classes) (choice : ℕ → ℕ) (b : ℕ) (counts : ℕ → ℕ) → AreCounts k choice b counts → (p : ℕ) → p < 16 →
     outs counts p ≡ sum_below 136 (starts_at k choice p) + (b - load k choice p)
 unfolding outs
 outs_are k choice b counts are p h =
-    let f : ℕ → ℕ = λ (a : ℕ). cond (arc_from a == p) (counts a) 0 in
-    let one : sum_below 288 f ≡ sum_below 272 f + sum_below 16 (λ s. f (272 + s)) = sum_split 16 272 f in
-    let two : sum_below 272 f ≡ sum_below 136 f + sum_below 136 (λ c. f (136 + c)) = sum_split 136 136 f in
-    let runs : sum_below 136 (starts_at k choice p) ≡ sum_below 136 f + sum_below 136 (λ c. f (136 + c)) =
-    sum_below-same 136 (starts_at k choice p) (λ c. f c + f (136 + c)) (λ c l.
-    let x : cond (start_of c true == p) (choice c) 0 ≡ cond (arc_from c == p) (counts c) 0 =
-    term_is (choice c) (counts c) (start_of c true == p) (arc_from c == p) (sym (are c (omega arith) ∙ count_early k choice b c l))
-    (ap (λ (m : ℕ). m == p) (sym (from_early c l))) in
-    let y : cond (start_of c false == p) (slice_index k.count c - choice c) 0 ≡ cond (arc_from (136 + c) == p) (counts (136 + c)) 0 =
-    term_is (slice_index k.count c - choice c) (counts (136 + c)) (start_of c false == p) (arc_from (136 + c) == p)
-    (sym (are (136 + c) (omega arith) ∙ count_late k choice b c l)) (ap (λ (m : ℕ). m == p) (sym (from_late c l))) in
-    omega arith)
-    ∙ sum_below-add 136 f (λ c. f (136 + c)) in
-    let idle : sum_below 16 (λ s. f (272 + s)) ≡ b - load k choice p =
-    sum_hit (λ s. f (272 + s)) p h (λ s l ne. (let t : (s == p) ≡ false = ne_eqb s p ne in rw (from_idle s, t) refl))
-    ∙ (let t : (p == p) ≡ true = eq-eqb p p refl in rw (from_idle p, t) (are (272 + p) (omega arith) ∙ count_idle k choice b p)) in
-    omega arith
+    arcs_at k choice b counts are arc_from start_of p p from_early from_late h (from_idle p) (λ s l ne e. ne (sym (from_idle s) ∙ e))
 
-pub ins_are : (k : Classes) (choice : ℕ → ℕ) (b : ℕ) (counts : ℕ → ℕ) → AreCounts k choice b counts → (p : ℕ) → p < 16 →
+ins_are : (k : Classes) (choice : ℕ → ℕ) (b : ℕ) (counts : ℕ → ℕ) → AreCounts k choice b counts → (p : ℕ) → p < 16 →
     ins counts p ≡ sum_below 136 (ends_at k choice p) + (b - load k choice (before p))
 unfolding ins
 ins_are k choice b counts are p h =
-    let f : ℕ → ℕ = λ (a : ℕ). cond (arc_to a == p) (counts a) 0 in
-    let one : sum_below 288 f ≡ sum_below 272 f + sum_below 16 (λ s. f (272 + s)) = sum_split 16 272 f in
-    let two : sum_below 272 f ≡ sum_below 136 f + sum_below 136 (λ c. f (136 + c)) = sum_split 136 136 f in
-    let runs : sum_below 136 (ends_at k choice p) ≡ sum_below 136 f + sum_below 136 (λ c. f (136 + c)) =
-    sum_below-same 136 (ends_at k choice p) (λ c. f c + f (136 + c)) (λ c l.
-    let x : cond (finish_of c true == p) (choice c) 0 ≡ cond (arc_to c == p) (counts c) 0 =
-    term_is (choice c) (counts c) (finish_of c true == p) (arc_to c == p) (sym (are c (omega arith) ∙ count_early k choice b c l))
-    (ap (λ (m : ℕ). m == p) (sym (to_early c l))) in
-    let y : cond (finish_of c false == p) (slice_index k.count c - choice c) 0 ≡ cond (arc_to (136 + c) == p) (counts (136 + c)) 0 =
-    term_is (slice_index k.count c - choice c) (counts (136 + c)) (finish_of c false == p) (arc_to (136 + c) == p)
-    (sym (are (136 + c) (omega arith) ∙ count_late k choice b c l)) (ap (λ (m : ℕ). m == p) (sym (to_late c l))) in
-    omega arith)
-    ∙ sum_below-add 136 f (λ c. f (136 + c)) in
-    let low : before p < 16 = omega arith in
-    let around : (before p + 1) % 16 ≡ p = omega arith in
-    let idle : sum_below 16 (λ s. f (272 + s)) ≡ b - load k choice (before p) =
-    sum_hit (λ s. f (272 + s)) (before p) low
-    (λ s l ne. (let t : ((s + 1) % 16 == p) ≡ false = ne_eqb ((s + 1) % 16) p (λ e. ne (omega arith)) in rw (to_idle s, t) refl))
-    ∙ (let t : ((before p + 1) % 16 == p) ≡ true = eq-eqb ((before p + 1) % 16) p around in
-    rw (to_idle (before p), t) (are (272 + before p) (omega arith) ∙ count_idle k choice b (before p))) in
-    omega arith
+    arcs_at k choice b counts are arc_to finish_of p (before p) to_early to_late (omega arith) (omega (arith, to_idle (before p)))
+    (λ s l ne e. ne (omega (arith, to_idle s, e)))
 
 -- as many arcs leave each boundary as lead to it
 pub balanced_start : (k : Classes) (choice : ℕ → ℕ) (b : ℕ) (counts : ℕ → ℕ) → AreCounts k choice b counts →

@@ -1,8 +1,6 @@
 -- That there is a way, without walking it: the sets of exits and the walk over plain numbers.
-use Rattle.pocsag_tour.proofs.Prelude.{◌≡◌, ◌≢◌, ℕ, zero, suc, ◌+◌, ◌-◌, ◌^◌, ◌<◌, ◌≤◌, ◌==◌, ◌&&◌, nat_lt, Bool, true, false, not, cond, List, [], ◌∷◌, ◌++◌, ◌⊎◌, refl, arith, eq-eqb, inl, inr, cases_eq, eqb-true, ne_eqb, nat_tests, End, Step, SetsTakeMembers, holds, sum_below, LastAs, AllLeadTo, arc_from, arc_to, IsBalanced, IsClosing, IsDeparture, IsEntering, IsSpent, IsWalk, IsWay, ExitsLeadToRoot, NoneEnters, step_of}
-use Rattle.std.proofs.lemmas.Bool.{and_parts, not-false, not-true}
+use Rattle.pocsag_tour.proofs.Prelude.{◌≡◌, ◌≢◌, ℕ, zero, suc, ◌+◌, ◌-◌, ◌^◌, ◌<◌, ◌≤◌, ◌==◌, ◌&&◌, nat_lt, Bool, true, false, not, cond, List, [], ◌∷◌, ◌++◌, ◌⊎◌, refl, arith, eq-eqb, inl, inr, cases_eq, eqb-true, ne_eqb, nat_tests, End, Step, SetsTakeMembers, holds, sum_below, LastAs, AllLeadTo, arc_from, arc_to, IsBalanced, IsClosing, IsDeparture, IsEntering, IsSpent, IsWalk, IsWay, ExitsLeadToRoot, NoneEnters, step_of, and_parts, not-false, not-true, AddsMember}
 use Rattle.pocsag_words.specs.declared.ending.End.TheVariants as ends
-use Rattle.pocsag_slots.specs.Sums.{AddsMember}
 use Rattle.pocsag_tour.proofs.ExitSets.{grown_keeps, led_more, led_start}
 use Rattle.pocsag_tour.proofs.Geometry.{from_below}
 use Rattle.pocsag_tour.proofs.Joined.{balanced_without, closed_way, joined_closed}

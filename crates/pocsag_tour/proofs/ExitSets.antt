@@ -1,8 +1,6 @@
 -- What sets of exits keep: each member is visited, and the last exits lead home.
-use Rattle.pocsag_tour.proofs.Prelude.{◌≡◌, ◌≢◌, ℕ, ◌<◌, true, false, List, length, slice_index, slice_set, get_or-set_same, get_or-set_other, refl, sym, subst, ◌∙◌, inl, inr, cases_eq, holds, arc_from, arc_to, IsEntering, IsExit, LeadsToRoot, at_root, by_exit, ExitsLeadToRoot, ◌+◌, ◌++◌, ◌∷◌, [], ◌⊎◌, arith}
+use Rattle.pocsag_tour.proofs.Prelude.{◌≡◌, ◌≢◌, ℕ, ◌<◌, true, false, List, length, slice_index, slice_set, get_or-set_same, get_or-set_other, refl, sym, subst, ◌∙◌, inl, inr, cases_eq, holds, arc_from, arc_to, IsEntering, IsExit, LeadsToRoot, at_root, by_exit, ExitsLeadToRoot, ◌+◌, ◌++◌, ◌∷◌, [], ◌⊎◌, arith, get_or_append_left, length-append, AreUsed, IsAmong}
 use Rattle.std.proofs.Math.Seq.{get_or-append_seam}
-use Rattle.std.proofs.lemmas.List.{get_or_append_left, length-append}
-use Rattle.pocsag_tour.specs.Moves.{AreUsed, IsAmong}
 use Rattle.pocsag_tour.proofs.Geometry.{to_below}
 
 -- the set of one member

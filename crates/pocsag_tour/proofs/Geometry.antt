@@ -1,8 +1,6 @@
 -- The arcs by number: where they lead, and that each has its kind at its boundary.
-use Rattle.pocsag_tour.proofs.Prelude.{◌≡◌, ℕ, ◌+◌, ◌-◌, ◌%◌, ◌<◌, nat_lt, Bool, true, false, cond, refl, subst, arith, nat_tests, class_frame, start_of, finish_of, arc_from, arc_to, arc_at, step_of}
+use Rattle.pocsag_tour.proofs.Prelude.{◌≡◌, ℕ, ◌+◌, ◌-◌, ◌%◌, ◌<◌, nat_lt, Bool, true, false, cond, refl, subst, arith, nat_tests, class_frame, start_of, finish_of, arc_from, arc_to, arc_at, step_of, finish_below, start_below, is_above, not_above}
 use Rattle.pocsag_slots.specs.declared.step.Step.TheVariants.{Idle as Stay, Run}
-use Rattle.pocsag_slots.proofs.CoverLemmas.{finish_below, start_below}
-use Rattle.pocsag_words.proofs.TruthValues.{is_above, not_above}
 
 pub from_early : (a : ℕ) → a < 136 → arc_from a ≡ start_of a true
 unfolding arc_from

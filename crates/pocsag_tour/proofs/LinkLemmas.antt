@@ -1,12 +1,8 @@
 -- Links between boundaries, and what they lead to.
-use Rattle.pocsag_tour.proofs.Prelude.{◌≡◌, ◌⊎◌, ℕ, ◌+◌, ◌%◌, ◌<◌, ◌≤◌, ◌==◌, Bool, true, false, List, length, slice_index, sym, ap, subst, ◌∙◌, arith, inl, inr, cases_eq, nat_tests, Classes, load, start_of, finish_of, holds, IsLed, AreReached, IsReached, runs_of}
-use Rattle.std.proofs.Common.{ltb, bit_or, max}
-use Rattle.std.proofs.lemmas.Bool.{lt-ltb, ltb-true}
+use Rattle.pocsag_tour.proofs.Prelude.{◌≡◌, ◌⊎◌, ℕ, ◌+◌, ◌%◌, ◌<◌, ◌≤◌, ◌==◌, Bool, true, false, List, length, slice_index, sym, ap, subst, ◌∙◌, arith, inl, inr, cases_eq, nat_tests, Classes, load, start_of, finish_of, holds, IsLed, AreReached, IsReached, runs_of, ltb, bit_or, max, lt-ltb, ltb-true, start_below, holds_none, AddsLink, AreLinked, at_start, by_link, Follows, HaveIdles, HaveRuns, IsLinked}
 use Rattle.std.proofs.lemmas.Nat.Bits.{bit_at_or, bit_at-lt}
 use Rattle.std.specs.Int.{bit_at}
-use Rattle.pocsag_slots.proofs.CoverLemmas.{start_below}
-use Rattle.pocsag_slots.proofs.Members.{holds_none}
-use Rattle.pocsag_tour.specs.Links.{AddsLink, AreLinked, at_start, by_idle, by_link, by_run, Follows, HaveIdles, HaveRuns, IsLinked}
+use Rattle.pocsag_tour.specs.Links.{by_idle, by_run}
 use Rattle.pocsag_tour.specs.Reached.{at_start as start, by_idle as on_idle, by_run as on_run}
 
 either_bit : (a b : ℕ) → a < 2 → b < 2 → (max a b == 1) ≡ true → ((a == 1) ≡ true) ⊎ ((b == 1) ≡ true)

@@ -1,12 +1,6 @@
 -- Segments of a walk: many steps that lead back are so many walks on.
-use Rattle.pocsag_tour.proofs.Prelude.{◌≡◌, ◌≢◌, ℕ, zero, suc, ◌+◌, ◌-◌, ◌<◌, ◌≤◌, ◌==◌, true, false, cond, List, [], ◌∷◌, ◌++◌, length, slice_index, slice_set, refl, sym, ap, ◌∙◌, subst, arith, inl, inr, get_or-set_same, get_or-set_other, cases_eq, Step, holds, sum_below, arc_at, arc_from, arc_to, IsDeparture, IsWalk, step_of}
-use Rattle.std.proofs.Common.{◌*◌, append_assoc, get_or, map, take}
-use Rattle.std.specs.List.{repeat}
-use Rattle.std.proofs.lemmas.List.{append-nil}
+use Rattle.pocsag_tour.proofs.Prelude.{◌≡◌, ◌≢◌, ℕ, zero, suc, ◌+◌, ◌-◌, ◌<◌, ◌≤◌, ◌==◌, true, false, cond, List, [], ◌∷◌, ◌++◌, length, slice_index, slice_set, refl, sym, ap, ◌∙◌, subst, arith, inl, inr, get_or-set_same, get_or-set_other, cases_eq, Step, holds, sum_below, arc_at, arc_from, arc_to, IsDeparture, IsWalk, step_of, ◌*◌, append_assoc, get_or, map, take, repeat, append-nil, AddsMember, sum_below-bump, sum_below-le, ArePassed, AreTaken, IsSegment, IsPath, often}
 use Rattle.std.proofs.lemmas.List.Sums.{sum_by-append, sum_by-cons, sum_by_more, sum_by_more_le}
-use Rattle.pocsag_slots.specs.Sums.{AddsMember}
-use Rattle.pocsag_slots.proofs.SumLemmas.{sum_below-bump, sum_below-le}
-use Rattle.pocsag_tour.specs.Segments.{ArePassed, AreTaken, IsSegment, IsPath, often}
 use Rattle.pocsag_tour.proofs.Joined.{cond_few}
 use Rattle.pocsag_tour.proofs.Walks.{IsLess, hit, less_le, no_hit, walk_on}
 

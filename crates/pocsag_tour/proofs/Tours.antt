@@ -1,14 +1,11 @@
 -- Ways over all arcs are tours, and what refusals say.
-use Rattle.pocsag_tour.proofs.Prelude.{◌≡◌, ℕ, ◌+◌, ◌-◌, ◌%◌, ◌<◌, ◌≤◌, Bool, true, false, not, cond, List, [], ◌∷◌, refl, sym, subst, ◌∙◌, arith, inl, inr, End, Classes, Step, IsChoice, load, class_frame, start_of, finish_of, holds, IsTour, LastAs, arc_count, arc_from, arc_to, AreCounts, IsClosing, IsWay, NoneEnters, NoneLeaves, RunsStart, Visited, by_arc, step_of, AreReached, IsReached, IsUnclosed, runs_of}
-use Rattle.std.proofs.lemmas.Bool.{cases_Bool}
+use Rattle.pocsag_tour.proofs.Prelude.{◌≡◌, ℕ, ◌+◌, ◌-◌, ◌%◌, ◌<◌, ◌≤◌, Bool, true, false, not, cond, List, [], ◌∷◌, refl, sym, subst, ◌∙◌, arith, inl, inr, End, Classes, Step, IsChoice, load, class_frame, start_of, finish_of, holds, IsTour, LastAs, arc_count, arc_from, arc_to, AreCounts, IsClosing, IsWay, NoneEnters, NoneLeaves, RunsStart, Visited, by_arc, step_of, AreReached, IsReached, IsUnclosed, runs_of, cases_Bool, AreCarried, class_rest, by_idle, by_run, IsRefused, LiesOutside, NoIdleCrosses, NoRunCrosses}
 use Rattle.pocsag_words.specs.declared.ending.End.TheVariants as ends
-use Rattle.pocsag_slots.specs.Loads.{AreCarried}
-use Rattle.pocsag_slots.specs.Classes.{class_rest}
 use Rattle.pocsag_slots.specs.Ways.{run_crosses, idle_crosses}
 use Rattle.pocsag_tour.specs.declared.fault.TourFault.{TourFault}
 use Rattle.pocsag_tour.specs.declared.fault.TourFault.TheVariants.{Apart, Unclosed, OutOfMemory}
 use Rattle.pocsag_tour.specs.Moves.{NoWay, at_start as visited_start}
-use Rattle.pocsag_tour.specs.Reached.{at_start, by_idle, by_run, IsRefused, LiesOutside, NoIdleCrosses, NoRunCrosses}
+use Rattle.pocsag_tour.specs.Reached.{at_start}
 use Rattle.pocsag_tour.proofs.CoverLemmas.{balanced_start, count_early, count_idle, count_late}
 use Rattle.pocsag_tour.proofs.Geometry.{by_kind, from_below, from_early, from_idle, from_late, step_idle, step_late, to_below, to_early, to_idle, to_late}
 use Rattle.pocsag_tour.proofs.Joined.{balance_enters}

@@ -1,10 +1,9 @@
 -- What a walk keeps, and that it ends as a way over all arcs.
-use Rattle.pocsag_tour.proofs.Prelude.{◌≡◌, ◌≢◌, ℕ, ◌+◌, ◌-◌, ◌%◌, ◌<◌, ◌≤◌, ◌==◌, ◌&&◌, Bool, true, false, not, cond, List, [], ◌∷◌, ◌++◌, length, slice_index, slice_set, refl, sym, ap, ◌∙◌, arith, eq-eqb, inl, inr, get_or-set_same, get_or-set_other, cases_eq, ne_eqb, Step, runs, finish_of, holds, sum_below, Leads, idles, AllLeadTo, arc_from, arc_to, LeadsToRoot, at_root, by_exit, ins, IsBalanced, IsDeparture, IsExit, IsSpent, IsWalk, IsWay, ExitsLeadToRoot, NoneEnters, outs, step_of, taken}
+use Rattle.pocsag_tour.proofs.Prelude.{◌≡◌, ◌≢◌, ℕ, ◌+◌, ◌-◌, ◌%◌, ◌<◌, ◌≤◌, ◌==◌, ◌&&◌, Bool, true, false, not, cond, List, [], ◌∷◌, ◌++◌, length, slice_index, slice_set, refl, sym, ap, ◌∙◌, arith, eq-eqb, inl, inr, get_or-set_same, get_or-set_other, cases_eq, ne_eqb, Step, finish_of, holds, sum_below, Leads, idles, AllLeadTo, arc_from, arc_to, LeadsToRoot, at_root, by_exit, ins, IsBalanced, IsDeparture, IsExit, IsSpent, IsWalk, IsWay, ExitsLeadToRoot, NoneEnters, outs, step_of, taken, sum_below-bump, and_false, and_true, is_above, not_above}
+use Rattle.pocsag_slots.specs.Arcs.{runs}
 use Rattle.pocsag_slots.specs.declared.step.Step.TheVariants.{Idle as Stay, Run}
-use Rattle.pocsag_slots.proofs.SumLemmas.{sum_below-bump}
 use Rattle.pocsag_tour.proofs.Balances.{flipped, in_term, outs_spent}
 use Rattle.pocsag_tour.proofs.Geometry.{by_kind, from_below, from_early, from_idle, from_late, step_early, step_idle, step_late, to_below, to_early, to_idle, to_late}
-use Rattle.pocsag_words.proofs.TruthValues.{and_false, and_true, is_above, not_above}
 
 -- one arc less of a kind
 pub record IsLess (a : ℕ) (left less : ℕ → ℕ) : Type 0 where

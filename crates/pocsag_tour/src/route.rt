@@ -2,7 +2,7 @@ ghost use Rattle.std.specs.Prelude.{◌≡◌, ◌∷◌, [], ◌<◌, ◌≤◌
 ghost use Rattle.pocsag_words.specs.declared.ending.End.{End};
 ghost use Rattle.pocsag_words.specs.declared.ending.End.TheVariants.{Closed};
 ghost use Rattle.pocsag_slots.specs.Loads.{AreCarried, IsChoice};
-ghost use Rattle.pocsag_slots.specs.Tours.{AsksForLast, IsTour, LastAs};
+ghost use Rattle.pocsag_slots.specs.Tours.{IsTour, LastAs};
 ghost use Rattle.pocsag_tour.specs.Moves.{AllLeadTo, IsBalanced, IsClosing, IsWay, NoWay, step_of};
 ghost use Rattle.pocsag_tour.specs.Reached.{IsRefused};
 
@@ -47,20 +47,9 @@ fn way(alloc: Global, counts: &[u32; 288], end: End) -> Result<Vec<Step>, TourFa
     ensures way { IfOk result (λ steps. IsWay (slice_index counts.now) 0 steps.items × LastAs end steps.items) }
     ensures refused { IfErr result (NoWay (slice_index counts.now) end) }
 {
-    match end {
-        End::Open => Ok(walk(alloc, counts, 0, steps_over(counts))?),
-        End::Closed | End::Idle => closing_way(alloc, counts, end),
+    if let End::Open = end {
+        return Ok(walk(alloc, counts, 0, steps_over(counts))?);
     }
-}
-
-// A way over all arcs that ends with a closing arc.
-fn closing_way(alloc: Global, counts: &[u32; 288], end: End) -> Result<Vec<Step>, TourFault>
-    requires asks { AsksForLast end }
-    requires balanced { IsBalanced (slice_index counts.now) 0 0 }
-    requires joined { AllLeadTo (slice_index counts.now) 0 }
-    ensures way { IfOk result (λ steps. IsWay (slice_index counts.now) 0 steps.items × LastAs end steps.items) }
-    ensures refused { IfErr result (NoWay (slice_index counts.now) end) }
-{
     match closing(counts, end) {
         Some(last) => Ok(way_with_last(alloc, counts, last)?),
         None => Err(TourFault::Unclosed),

@@ -58,19 +58,10 @@ fn departure(
     ensures none { IfNone result (IsSpent (slice_index left.now) boundary) }
     ensures passed { ArePassed (slice_index left.now) (slice_index exits.now) (slice_index kinds.new) }
 {
-    match detour(left, exits, kinds, boundary) {
-        Some(arc) => Some(arc),
-        None => last_exit(left, exits[boundary as usize], boundary),
+    if let Some(arc) = detour(left, exits, kinds, boundary) {
+        return Some(arc);
     }
-}
-
-// The last exit, where it is one of this boundary and left.
-fn last_exit(left: &[u32; 288], exit: usize, boundary: u8) -> Option<usize>
-    requires boundary { boundary < 16 }
-    requires exit { exit < 288 }
-    ensures found { IfSome result (λ a. (a ≡ exit) × (0 < slice_index left.now exit) × (arc_from exit ≡ boundary)) }
-    ensures none { IfNone result (arc_from exit ≡ boundary → slice_index left.now exit ≡ 0) }
-{
+    let exit = exits[boundary as usize];
     if begins(exit) == boundary {
         if left[exit] > 0 {
             return Some(exit);

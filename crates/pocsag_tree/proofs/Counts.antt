@@ -1,13 +1,10 @@
 -- What a tree's node is seen as, and the number of its children.
-use Rattle.pocsag_tree.proofs.Prelude.{◌≡◌, ℕ, ◌+◌, List, [], ◌∷◌, length, get_or, drop, ◌++◌, ◌<◌, add-one, refl, sym, ap, ◌∙◌, arith, Tree, BoundTree, split, cut, close, children_count, row, bound_tree_of, bounds_of}
-use Rattle.std.proofs.Common.{drop-cons}
+use Rattle.pocsag_tree.proofs.Prelude.{◌≡◌, ℕ, ◌+◌, List, [], ◌∷◌, length, get_or, drop, ◌++◌, ◌<◌, add-one, refl, sym, ap, ◌∙◌, arith, Tree, BoundTree, split, cut, close, children_count, row, bound_tree_of, bounds_of, drop-cons, node, split_head, cut_head, close_head, bound_step}
 use Rattle.std.specs.Global.{Vec, Box}
 use Rattle.pocsag_tree.specs.declared.shape.Tree.TheViews.{Split, Cut, Close}
 use Rattle.pocsag_tree.specs.declared.shape.Tree.TheVariants.{rolls-Split, rolls-Cut, rolls-Close}
 use Rattle.pocsag_tree.specs.declared.shape.Tree.TheOpen as layer
 use Rattle.pocsag_tree.specs.declared.shape.Tree.TheFolds.{fold-roll-Tree}
-use Rattle.pocsag_tree.specs.CertificateText.{node, split_head, cut_head, close_head}
-use Rattle.pocsag_tree.specs.Views.{bound_step}
 
 pub count_of_bounds : (ts : List Tree) → children_count (bounds_of ts) ≡ length ts
 count_of_bounds [] = refl

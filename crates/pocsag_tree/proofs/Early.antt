@@ -1,7 +1,6 @@
 -- Nodes that are judged before any byte of them, and nodes of which no byte is there.
-use Rattle.pocsag_tree.proofs.Prelude.{◌≡◌, ℕ, zero, suc, ◌-◌, ◌≤◌, ◌<◌, List, [], Result, Ok, Err, refl, arith, lt-ltb, le-ltb, Ranges, most_nodes, CertificateFault, Fails, Reader, small_at, large_at, split_at, node_at, tagged_at, row_at}
+use Rattle.pocsag_tree.proofs.Prelude.{◌≡◌, ℕ, zero, suc, ◌-◌, ◌≤◌, ◌<◌, List, [], Result, Ok, Err, refl, arith, lt-ltb, le-ltb, Ranges, most_nodes, CertificateFault, Tree, but_last, Fails, Reader, small_at, large_at, split_at, node_at, tagged_at, row_at, IsEarly, ReadsBy, node_then}
 use Rattle.pocsag_tree.specs.declared.refusals.CertificateFault.TheVariants as fault
-use Rattle.pocsag_tree.specs.Parser.{IsEarly}
 
 -- the fault of a node before any byte of it is what reading it gives, whatever its bytes
 pub node_is_early : (ranges : Ranges) (depth made : ℕ) (bytes : List ℕ) (e : CertificateFault) → IsEarly depth made e
@@ -27,6 +26,15 @@ node_stands ranges zero made bytes some few = absurd (omega arith)
 node_stands ranges (suc depth) made bytes some few =
     let left : suc depth - 1 ≡ depth = omega arith in
     rw (lt-ltb made most_nodes few, left) refl
+
+-- so does a step that reads it
+pub reads_tagged : (ranges : Ranges) (depth made : ℕ) (r : Result (Tree × ℕ) CertificateFault) (before after : List ℕ)
+    → (1 ≤ depth) × (made < most_nodes) → ReadsBy (tagged_at ranges (node_at ranges (depth - 1)) made) node_then r before after
+    → ReadsBy (node_at ranges depth made) node_then r before after
+reads_tagged ranges depth made r before after fine p = record {
+  shrinks = p.shrinks;
+  bytes = λ k le. rw (node_stands ranges depth made (but_last k before) fine.0 fine.1) (p.bytes k le);
+}
 
 -- a node that may stand here lacks its tag where there are no bytes
 pub node_ends : (ranges : Ranges) (depth made : ℕ) → 1 ≤ depth → made < most_nodes → node_at ranges depth made [] ≡ Err fault.Truncated

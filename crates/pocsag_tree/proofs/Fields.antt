@@ -1,8 +1,5 @@
 -- A field that is read is the field that was written, and what was written is read again.
-use Rattle.pocsag_tree.proofs.Prelude.{◌≡◌, ℕ, zero, suc, ◌+◌, ◌*◌, ◌^◌, ◌<◌, ◌≤◌, ◌⊎◌, inl, inr, Bool, true, false, cond, ltb, leb, List, [], ◌∷◌, ◌++◌, length, get_or, take, drop, Result, Ok, Err, refl, sym, ap, subst, ◌∙◌, arith, ◌&&◌, Width, w8, w16, w32, to_be_bytes, ltb-true, lt-ltb, le-leb, and_from, CertificateFault, ◌>>=◌, byte_at, number_at, small_at, large_at, long_number_at, batches_at}
-use Rattle.std.proofs.Common.{◌/◌, ◌%◌}
-use Rattle.std.specs.Int.{byte_len, from_be_bytes}
-use Rattle.std.proofs.lemmas.Bool.{leb-true, and_parts}
+use Rattle.pocsag_tree.proofs.Prelude.{◌≡◌, ℕ, zero, suc, ◌+◌, ◌*◌, ◌^◌, ◌<◌, ◌≤◌, ◌⊎◌, inl, inr, Bool, true, false, cond, ltb, leb, List, [], ◌∷◌, ◌++◌, length, get_or, take, drop, Result, Ok, Err, refl, sym, ap, subst, ◌∙◌, arith, ◌&&◌, Width, w8, w16, w32, to_be_bytes, ltb-true, lt-ltb, le-leb, and_from, CertificateFault, ◌>>=◌, byte_at, number_at, small_at, large_at, long_number_at, batches_at, ◌/◌, ◌%◌, byte_len, from_be_bytes, leb-true, and_parts}
 use Rattle.std.proofs.lemmas.Nat.{be_bytes_2, be_bytes_4}
 use Rattle.pocsag_tree.specs.declared.refusals.CertificateFault.TheVariants as fault
 

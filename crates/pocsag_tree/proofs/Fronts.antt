@@ -1,6 +1,5 @@
 -- All but the last bytes of a list.
-use Rattle.pocsag_tree.proofs.Prelude.{◌≡◌, ℕ, suc, ◌-◌, ◌≤◌, List, [], ◌∷◌, length, refl, arith, but_last}
-use Rattle.std.proofs.lemmas.List.{take_all}
+use Rattle.pocsag_tree.proofs.Prelude.{◌≡◌, ℕ, suc, ◌-◌, ◌≤◌, List, [], ◌∷◌, length, refl, arith, but_last, take_all}
 
 pub but_last_cons : (k b : ℕ) (bytes : List ℕ) → k ≤ length bytes → but_last k (b ∷ bytes) ≡ b ∷ but_last k bytes
 unfolding but_last

@@ -1,7 +1,7 @@
 -- Where reading leads: from one place of a certificate to a place with the same verdict.
-use Rattle.pocsag_tree.proofs.Prelude.{◌≡◌, ℕ, cond, leb, List, [], ◌∷◌, ◌++◌, replicate, Option, Some, None, Result, Ok, Err, refl, ap, ◌∙◌, ◌&&◌, Width, w8, w16, cond_both, Ranges, CertificateFault, Part, field, children, early_fault, Meets, short, wrong, right, ◌>>=◌, Read, byte_at, number_at, small_at, large_at}
+use Rattle.pocsag_tree.proofs.Prelude.{◌≡◌, ℕ, cond, leb, List, [], ◌∷◌, ◌++◌, replicate, Option, Some, None, Result, Ok, Err, refl, ap, ◌∙◌, ◌&&◌, Width, w8, w16, cond_both, Ranges, CertificateFault, Part, field, children, early_fault, Meets, short, wrong, right, ◌>>=◌, Read, byte_at, number_at, small_at, large_at, width_of, judged, nodes_with}
 use Rattle.pocsag_tree.specs.declared.refusals.CertificateFault.TheVariants as fault
-use Rattle.pocsag_tree.specs.Parts.{node, width_of, judged, nodes_with}
+use Rattle.pocsag_tree.specs.Parts.{node}
 use Rattle.pocsag_tree.proofs.Fields.{NumberIs, IsShort, byte_value, byte_is_short, number_value, number_short}
 
 -- a place in a certificate: the parts that are wanted, the nodes before it, and the bytes from it on

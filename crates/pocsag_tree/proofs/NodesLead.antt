@@ -1,7 +1,7 @@
 -- Where reading nodes leads.
-use Rattle.pocsag_tree.proofs.Prelude.{◌≡◌, ℕ, zero, suc, ◌+◌, ◌<◌, ◌≤◌, Bool, true, false, cond, eqb, ltb, List, ◌∷◌, ◌++◌, replicate, None, Result, Ok, Err, refl, arith, w8, w16, cond_both, ltb-true, lt-ltb, le-ltb, Ranges, greatest_depth, most_nodes, CertificateFault, BoundTree, Part, field, children, early_fault, early, ◌>>=◌, Read, Reader, byte_at, row_at, overload_at, split_at, cut_at, close_at, body_at, tagged_at, node_at}
+use Rattle.pocsag_tree.proofs.Prelude.{◌≡◌, ℕ, zero, suc, ◌+◌, ◌<◌, ◌≤◌, Bool, true, false, cond, eqb, ltb, List, ◌∷◌, ◌++◌, replicate, None, Result, Ok, Err, refl, arith, w8, w16, cond_both, ltb-true, lt-ltb, le-ltb, Ranges, greatest_depth, most_nodes, CertificateFault, BoundTree, Part, field, children, early_fault, early, ◌>>=◌, Read, Reader, byte_at, row_at, overload_at, split_at, cut_at, close_at, body_at, tagged_at, node_at, asked_by}
 use Rattle.pocsag_tree.specs.declared.refusals.CertificateFault.TheVariants as fault
-use Rattle.pocsag_tree.specs.Parts.{node, asked_by}
+use Rattle.pocsag_tree.specs.Parts.{node}
 use Rattle.pocsag_tree.proofs.Leads.{Leads, along, then_leads, right_part, wrong_part, short_part, ReadsNumber, one_byte, small_leads, large_leads, few_leads, many_leads, at, past}
 
 abbrev pub NodeLeads : Ranges → (depth : ℕ) → Reader → Type 0

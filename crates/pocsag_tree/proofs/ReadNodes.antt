@@ -1,8 +1,6 @@
 -- A node that is read so is spelled so.
-use Rattle.pocsag_tree.proofs.Prelude.{◌≡◌, ℕ, zero, suc, ◌+◌, ◌<◌, ◌≤◌, inl, inr, eqb, ltb, List, ◌∷◌, ◌++◌, Ok, refl, sym, ap, ◌∙◌, append_assoc, arith, w16, to_be_bytes, ltb-true, eqb-true, Ranges, most_nodes, BoundTree, BoundTrees, split, cut, close, unexamined, none, children_count, all_nodes, all_nodes_in, depth_of, deepest, IsInRange, AreInRange, row, Read, Reader, byte_at, small_at, large_at, row_at, overload_at, split_at, cut_at, close_at, body_at, tagged_at, node_at}
-use Rattle.std.proofs.lemmas.Bool.{ltb-false, eqb-false}
+use Rattle.pocsag_tree.proofs.Prelude.{◌≡◌, ℕ, zero, suc, ◌+◌, ◌<◌, ◌≤◌, inl, inr, eqb, ltb, List, ◌∷◌, ◌++◌, Ok, refl, sym, ap, ◌∙◌, append_assoc, arith, w16, to_be_bytes, ltb-true, eqb-true, Ranges, most_nodes, BoundTree, BoundTrees, split, cut, close, unexamined, none, children_count, all_nodes, all_nodes_in, depth_of, deepest, IsInRange, AreInRange, row, Read, Reader, byte_at, small_at, large_at, row_at, overload_at, split_at, cut_at, close_at, body_at, tagged_at, node_at, ltb-false, eqb-false, node}
 use Rattle.pocsag_tree.specs.declared.refusals.CertificateFault.TheVariants as fault
-use Rattle.pocsag_tree.specs.CertificateText.{node}
 use Rattle.pocsag_tree.proofs.Fields.{bind_ok, chosen, done, ok_is, byte_is, small_takes, large_takes}
 use Rattle.pocsag_tree.proofs.Fields.{guard_other, guard_then}
 use Rattle.pocsag_tree.proofs.SpelledNodes.{IsVersion, tag_of, behind, node-behind}

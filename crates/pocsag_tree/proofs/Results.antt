@@ -1,12 +1,8 @@
 -- What reading the whole of the bytes says of the answer.
-use Rattle.pocsag_tree.proofs.Prelude.{◌≡◌, ℕ, ◌⊎◌, inl, inr, List, [], ◌∷◌, ◌++◌, Some, None, Result, Ok, Err, refl, sym, ap, subst, ◌∙◌, End, CertificateFault, BoundTree, bound_tree_of, IsText, Fails, but_last, end_at, certificate_at, all_of}
-use Rattle.std.specs.Prelude.{IfOk, IfErr}
-use Rattle.std.proofs.lemmas.List.{append-nil}
+use Rattle.pocsag_tree.proofs.Prelude.{◌≡◌, ℕ, ◌⊎◌, inl, inr, List, [], ◌∷◌, ◌++◌, Some, None, Result, Ok, Err, refl, sym, ap, subst, ◌∙◌, End, CertificateFault, BoundTree, bound_tree_of, IsText, Fails, but_last, end_at, certificate_at, all_of, IfOk, IfErr, append-nil, HasFirst, Gives, IsWanting}
 use Rattle.pocsag_tree.specs.declared.shape.Certificate.{Certificate}
 use Rattle.pocsag_tree.specs.declared.refusals.CertificateFault.TheVariants as fault
-use Rattle.pocsag_tree.specs.Parts.{HasFirst}
 use Rattle.pocsag_tree.specs.Answers.{IsRefusal, AnswersTriple, AnswersFault, IsFault, HasNoFault}
-use Rattle.pocsag_tree.specs.Parser.{Gives, IsWanting}
 use Rattle.pocsag_tree.proofs.Fields.{bind_ok, ok_is}
 use Rattle.pocsag_tree.proofs.Fronts.{but_last_none}
 use Rattle.pocsag_tree.proofs.Rows.{fails_along}

@@ -1,8 +1,6 @@
 -- Reading one child after the other, as a loop does.
-use Rattle.pocsag_tree.proofs.Prelude.{◌≡◌, ℕ, suc, ◌-◌, ◌+◌, ◌≤◌, ◌<◌, max, List, [], ◌∷◌, ◌++◌, map, Result, Ok, Err, refl, sym, ap, ◌∙◌, arith, CertificateFault, Tree, BoundTree, BoundTrees, none, more, all_nodes, all_nodes_in, depth_of, deepest, bound_tree_of, bounds_of, but_last, length, ◌>>=◌, Fails, Read, Reader, row_at}
+use Rattle.pocsag_tree.proofs.Prelude.{◌≡◌, ℕ, suc, ◌-◌, ◌+◌, ◌≤◌, ◌<◌, max, List, [], ◌∷◌, ◌++◌, map, Result, Ok, Err, refl, sym, ap, ◌∙◌, arith, CertificateFault, Tree, BoundTree, BoundTrees, none, more, all_nodes, all_nodes_in, depth_of, deepest, bound_tree_of, bounds_of, but_last, length, ◌>>=◌, Fails, Read, Reader, row_at, ReadsBy, node_then, bounds_from}
 use Rattle.pocsag_tree.specs.declared.refusals.CertificateFault.TheVariants as fault
-use Rattle.pocsag_tree.specs.Parser.{ReadsBy, node_then}
-use Rattle.pocsag_tree.specs.Views.{bounds_from}
 
 -- the trees, and then the row
 abbrev pub before : List BoundTree → BoundTrees → BoundTrees

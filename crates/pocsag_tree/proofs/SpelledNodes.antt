@@ -1,8 +1,5 @@
 -- A node that is spelled so is read so.
-use Rattle.pocsag_tree.proofs.Prelude.{◌≡◌, ℕ, zero, suc, ◌+◌, ◌^◌, ◌<◌, ◌≤◌, false, ltb, List, [], ◌∷◌, ◌++◌, Result, Ok, refl, ap, ◌∙◌, append_assoc, add-one, arith, lit<, w16, to_be_bytes, lt-ltb, le-ltb, Ranges, first_ranges, second_ranges, most_nodes, CertificateFault, BoundTree, BoundTrees, split, cut, close, unexamined, none, more, children_count, all_nodes, all_nodes_in, depth_of, deepest, IsInRange, AreInRange, row, Read, Reader, small_at, large_at, row_at, overload_at, split_at, cut_at, close_at, body_at, tagged_at, node_at}
-use Rattle.std.proofs.Common.{lit≤}
-use Rattle.pocsag_tree.specs.BoundTrees.{overload}
-use Rattle.pocsag_tree.specs.CertificateText.{node}
+use Rattle.pocsag_tree.proofs.Prelude.{◌≡◌, ℕ, zero, suc, ◌+◌, ◌^◌, ◌<◌, ◌≤◌, false, ltb, List, [], ◌∷◌, ◌++◌, Result, Ok, refl, ap, ◌∙◌, append_assoc, add-one, arith, lit<, w16, to_be_bytes, lt-ltb, le-ltb, Ranges, first_ranges, second_ranges, most_nodes, CertificateFault, BoundTree, BoundTrees, split, cut, close, unexamined, none, more, children_count, all_nodes, all_nodes_in, depth_of, deepest, IsInRange, AreInRange, row, Read, Reader, small_at, large_at, row_at, overload_at, split_at, cut_at, close_at, body_at, tagged_at, node_at, lit≤, overload, node}
 use Rattle.pocsag_tree.proofs.Fields.{byte_again, small_again, large_again}
 
 -- the ranges fit the bytes of their fields, and there are no tags but those of nodes

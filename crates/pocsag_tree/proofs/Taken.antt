@@ -1,7 +1,5 @@
 -- What a writer took of a text that is written in pieces.
-use Rattle.pocsag_tree.proofs.Prelude.{◌≡◌, ℕ, ◌≤◌, List, ◌++◌, length, take, sym, ap, ◌∙◌, Result, Ok, Err, append_assoc, arith}
-use Rattle.std.proofs.Common.{length-append, length-take}
-use Rattle.std.proofs.lemmas.List.{take-append-le}
+use Rattle.pocsag_tree.proofs.Prelude.{◌≡◌, ℕ, ◌≤◌, List, ◌++◌, length, take, sym, ap, ◌∙◌, Result, Ok, Err, append_assoc, arith, length-append, length-take, take-append-le}
 use Rattle.std.specs.Result.{IsErrAnd}
 use Rattle.pocsag_words.specs.Devices.{Delivers, TookPrefix}
 

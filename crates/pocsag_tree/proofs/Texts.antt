@@ -1,9 +1,7 @@
 -- The two laws of *Certificate text*: what is read is spelled so, and what is spelled so is read.
-use Rattle.pocsag_tree.proofs.Prelude.{◌≡◌, ℕ, zero, suc, ◌<◌, ◌≤◌, ◌⊎◌, inl, inr, eqb, List, [], ◌∷◌, ◌++◌, Ok, refl, sym, ap, ◌∙◌, append_assoc, arith, lit<, w32, to_be_bytes, eqb-true, End, Ranges, first_ranges, second_ranges, greatest_depth, BoundTree, all_nodes, IsText, ◌>>=◌, Read, byte_at, small_at, node_at, mark_at, end_of, version_at, batches_at, certificate_at}
-use Rattle.std.proofs.lemmas.Bool.{eq-eqb}
+use Rattle.pocsag_tree.proofs.Prelude.{◌≡◌, ℕ, zero, suc, ◌<◌, ◌≤◌, ◌⊎◌, inl, inr, eqb, List, [], ◌∷◌, ◌++◌, Ok, refl, sym, ap, ◌∙◌, append_assoc, arith, lit<, w32, to_be_bytes, eqb-true, End, Ranges, first_ranges, second_ranges, greatest_depth, BoundTree, all_nodes, IsText, ◌>>=◌, Read, byte_at, small_at, node_at, mark_at, end_of, version_at, batches_at, certificate_at, eq-eqb, HasText, node, version_bytes, written_head, first_head, written_text, first_text}
 use Rattle.pocsag_words.specs.declared.ending.End.TheVariants as ends
 use Rattle.pocsag_tree.specs.declared.refusals.CertificateFault.TheVariants as fault
-use Rattle.pocsag_tree.specs.CertificateText.{HasText, node, version_bytes, written_head, first_head, written_text, first_text}
 use Rattle.pocsag_tree.proofs.Fields.{bind_ok, guard_ok, chosen, ok_is, byte_is, byte_again, small_takes, batches_takes, batches_again}
 use Rattle.pocsag_tree.proofs.SpelledNodes.{IsVersion, first_ranges-is, second_ranges-is, node_again}
 use Rattle.pocsag_tree.proofs.ReadNodes.{node_takes}

@@ -1,9 +1,8 @@
 -- The fault that reading meets is the first of the bytes from left to right, and there is only one.
-use Rattle.pocsag_tree.proofs.Prelude.{◌≡◌, ℕ, ◌-◌, ◌^◌, true, cond, eqb, leb, List, [], ◌∷◌, Option, Some, None, Result, Ok, Err, refl, sym, ◌∙◌, arith, w8, w32, cond_both, le-leb, and_from, End, Ranges, first_ranges, second_ranges, greatest_depth, CertificateFault, BoundTree, Part, field, Meets, early, short, wrong, right, ◌>>=◌, byte_at, small_at, mark_at, end_of, version_at, long_number_at, batches_at, end_at, certificate_at, all_of}
-use Rattle.std.proofs.lemmas.Bool.{and_left}
+use Rattle.pocsag_tree.proofs.Prelude.{◌≡◌, ℕ, ◌-◌, ◌^◌, true, cond, eqb, leb, List, [], ◌∷◌, Option, Some, None, Result, Ok, Err, refl, sym, ◌∙◌, arith, w8, w32, cond_both, le-leb, and_from, End, Ranges, first_ranges, second_ranges, greatest_depth, CertificateFault, BoundTree, Part, field, Meets, early, short, wrong, right, ◌>>=◌, byte_at, small_at, mark_at, end_of, version_at, long_number_at, batches_at, end_at, certificate_at, all_of, and_left, mark, version, whole, trailing, certificate}
 use Rattle.pocsag_words.specs.declared.ending.End.TheVariants as ends
 use Rattle.pocsag_tree.specs.declared.refusals.CertificateFault.TheVariants as fault
-use Rattle.pocsag_tree.specs.Parts.{mark, version, node, whole, trailing, certificate}
+use Rattle.pocsag_tree.specs.Parts.{node}
 use Rattle.pocsag_tree.proofs.Fields.{ok_is, IsShort, FourIs, long_number_is, long_number_short}
 use Rattle.pocsag_tree.proofs.Leads.{Place, Leads, along, then_leads, right_part, wrong_part, short_part, ReadsNumber, one_byte, small_leads, at}
 use Rattle.pocsag_tree.proofs.NodesLead.{node_leads}

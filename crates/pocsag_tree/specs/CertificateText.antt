@@ -8,16 +8,12 @@ use Rattle.pocsag_tree.specs.declared.limits.Ranges.{Ranges}
 use Rattle.pocsag_tree.specs.Limits.{first_ranges, second_ranges, greatest_depth, most_nodes}
 use Rattle.pocsag_tree.specs.BoundTrees.{BoundTree, BoundTrees, overload, split, cut, close, unexamined, none, more, children_count, all_nodes, depth_of}
 
--- A set of 16 members that is not empty.
-abbrev pub IsSet : ℕ → Type 0
-IsSet set = (1 ≤ set) × (set < 2 ^ 16)
-
 abbrev mutual
   -- Each field of the tree is in the range that the version gives it.
   pub IsInRange : Ranges → BoundTree → Type 0
-  IsInRange r (overload set) = IsSet set
+  IsInRange r (overload set) = (1 ≤ set) × (set < 2 ^ 16)
   IsInRange r (split class m below above) = (class ≤ r.class) × (1 ≤ m) × (m ≤ r.m) × IsInRange r below × IsInRange r above
-  IsInRange r (cut set needed children) = IsSet set × (needed ≤ r.class) × (2 ≤ children_count children)
+  IsInRange r (cut set needed children) = ((1 ≤ set) × (set < 2 ^ 16)) × (needed ≤ r.class) × (2 ≤ children_count children)
       × (children_count children ≤ r.children) × AreInRange r children
   IsInRange r (close children) = (4 ≤ r.tag) × (1 ≤ children_count children) × (children_count children ≤ 2) × AreInRange r children
   IsInRange r unexamined = Unit {0}

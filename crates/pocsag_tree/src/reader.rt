@@ -1,4 +1,4 @@
-ghost use Rattle.std.specs.Prelude.{◌≡◌, ℕ, ◌+◌, ◌<◌, ◌≤◌, List, [], ◌∷◌, length, Err, IfOk, IfErr, OnOk, OnErr, IsErrOf, MatchOption};
+ghost use Rattle.std.specs.Prelude.{◌≡◌, ℕ, ◌+◌, ◌<◌, ◌≤◌, [], ◌∷◌, length, Err, IfOk, IfErr, OnOk, OnErr, IsErrOf, MatchOption};
 ghost use Rattle.pocsag_words.specs.declared.ending.End.{End};
 ghost use Rattle.pocsag_words.specs.Devices.{HasFailed};
 ghost use Rattle.pocsag_tree.specs.Limits.{greatest_depth, most_nodes};
@@ -9,7 +9,7 @@ ghost use Rattle.pocsag_tree.specs.Parts.{HasFirst};
 ghost use Rattle.pocsag_tree.specs.Answers.{AnswersTriple, AnswersFault, IsFault, HasNoFault, given_before};
 ghost use Rattle.pocsag_tree.specs.declared.refusals.CertificateFault.{CertificateFault};
 ghost use Rattle.pocsag_tree.specs.declared.refusals.CertificateFault.TheVariants as fault;
-ghost use Rattle.pocsag_tree.specs.Parser.{Gives, ReadsBy, IsNodeRead, IsBodyRead, IsRowRead, IsWanting, but_last, number_then, node_then, failed_after, byte_at, number_at, small_at, large_at, row_at, overload_at, split_at, cut_at, close_at, body_at, tagged_at, node_at, mark_at, version_at, long_number_at, batches_at, end_at, end_of, certificate_at, all_of, IsEarly};
+ghost use Rattle.pocsag_tree.specs.Parser.{Gives, ReadsBy, IsNodeRead, IsBodyRead, IsRowRead, IsWanting, but_last, number_then, node_then, failed_after, byte_at, number_at, small_at, large_at, row_at, overload_at, split_at, cut_at, close_at, body_at, node_at, mark_at, version_at, long_number_at, batches_at, end_at, certificate_at, all_of, IsEarly};
 
 use crate::limits::{DEPTH_LIMIT, FIRST_VERSION, NODE_LIMIT, Ranges, SECOND_VERSION};
 use crate::refusals::CertificateFault;
@@ -102,13 +102,6 @@ fn mark<S: Source>(wanted: u8, source: &mut S) -> Result<(), CertificateFault>
     }
 }
 
-// The end by its byte in PCB2.
-fn end_from(byte: u8) -> End
-    ensures { result ≡ end_of byte }
-{
-    if byte == 0 { End::Open } else { End::Closed }
-}
-
 // The ranges of the version, and the end.
 #[tactic(auto, unfolding(crate::specs::Parser::version_at))]
 fn version<S: Source>(source: &mut S) -> Result<(Ranges, End), CertificateFault>
@@ -119,32 +112,24 @@ fn version<S: Source>(source: &mut S) -> Result<(Ranges, End), CertificateFault>
     match next_byte(source)? {
         0x31 => Ok((FIRST_VERSION, End::Open)),
         0x32 => {
-            let end = small(0, 1, source)?;
-            Ok((SECOND_VERSION, end_from(end)))
+            let closed = small(0, 1, source)? == 1;
+            let end = if closed { End::Closed } else { End::Open };
+            Ok((SECOND_VERSION, end))
         }
         0x34 => Ok((SECOND_VERSION, End::Idle)),
         _ => Err(CertificateFault::Version),
     }
 }
 
-// A number of four bytes.
-#[tactic(auto, unfolding(crate::specs::Parser::long_number_at))]
-fn read_u32<S: Source>(source: &mut S) -> Result<u32, CertificateFault>
-    ensures failures { S.failures source.new ≡ failed_after result (S.failures source.old) }
-    ensures reads { S.is_known → ReadsBy long_number_at number_then result
-        (S.held source.old) (S.held source.new) }
-{
-    let high = next_number(source)?;
-    let low = next_number(source)?;
-    Ok(u32::from(high) * 65536 + u32::from(low))
-}
-
-#[tactic(auto, unfolding(crate::specs::Parser::batches_at))]
+// A number of four bytes, which is not 0.
+#[tactic(auto, unfolding(crate::specs::Parser::batches_at, crate::specs::Parser::long_number_at))]
 fn batches<S: Source>(source: &mut S) -> Result<u32, CertificateFault>
     ensures failures { S.failures source.new ≡ failed_after result (S.failures source.old) }
     ensures reads { S.is_known → ReadsBy batches_at number_then result (S.held source.old) (S.held source.new) }
 {
-    let number = read_u32(source)?;
+    let high = next_number(source)?;
+    let low = next_number(source)?;
+    let number = u32::from(high) * 65536 + u32::from(low);
     if 1 <= number {
         Ok(number)
     } else {
@@ -203,32 +188,15 @@ fn node<S: Source>(
         (S.held source.old) (S.held source.new) }
 {
     wanted(depth, made)?;
-    tagged(builder, depth - 1, made, source)
-}
-
-#[cycle(node)]
-#[tactic(auto, unfolding(crate::specs::Parser::tagged_at))]
-fn tagged<S: Source>(
-    builder: Builder,
-    depth: u32,
-    made: u32,
-    source: &mut S,
-) -> Result<(Tree, u32), CertificateFault>
-    requires { made < most_nodes }
-    ensures counts { IfOk result (λ x. IsNodeRead (depth + 1) made (bound_tree_of x.0) x.1) }
-    ensures failures { S.failures source.new ≡ failed_after result (S.failures source.old) }
-    ensures reads { S.is_known → ReadsBy (tagged_at builder.ranges (node_at builder.ranges depth) made) node_then result
-        (S.held source.old) (S.held source.new) }
-{
     let tag = next_byte(source)?;
     if tag > builder.ranges.tag {
         return Err(CertificateFault::BadTag);
     }
-    body(builder, tag, depth, made + 1, source)
+    body(builder, tag, depth - 1, made + 1, source)
 }
 
 #[cycle(node)]
-#[tactic(auto, unfolding(crate::specs::Parser::body_at))]
+#[tactic(auto, unfolding(crate::specs::Parser::body_at, crate::specs::Parser::overload_at))]
 fn body<S: Source>(
     builder: Builder,
     tag: u8,
@@ -244,24 +212,15 @@ fn body<S: Source>(
         (S.held source.old) (S.held source.new) }
 {
     match tag {
-        0 => overload(made, source),
+        0 => {
+            let set = large(1, u16::MAX, source)?;
+            Ok((Tree::Overload(set), made))
+        }
         1 => split(builder, depth, made, source),
         2 => cut(builder, depth, made, source),
         3 => Ok((Tree::Open, made)),
         _ => close(builder, depth, made, source),
     }
-}
-
-#[tactic(auto, unfolding(crate::specs::Parser::overload_at))]
-fn overload<S: Source>(made: u32, source: &mut S) -> Result<(Tree, u32), CertificateFault>
-    requires { made ≤ most_nodes }
-    ensures counts { IfOk result (λ x. IsBodyRead 0 made (bound_tree_of x.0) x.1) }
-    ensures failures { S.failures source.new ≡ failed_after result (S.failures source.old) }
-    ensures reads { S.is_known → ReadsBy (overload_at made) node_then result
-        (S.held source.old) (S.held source.new) }
-{
-    let set = large(1, u16::MAX, source)?;
-    Ok((Tree::Overload(set), made))
 }
 
 // Room for the children of a `Split`.
@@ -420,10 +379,10 @@ fn all<S: Source>(alloc: Global, source: &mut S) -> Result<Certificate, Certific
 
 /// Reads a certificate, in version PCB1, PCB2 or PCB4, up to the end of the input.
 ///
-/// The fault is the first from left to right. It reads no node deeper than `DEPTH_LIMIT` and no
-/// more than `NODE_LIMIT` nodes, whatever the bytes are. It takes one byte in each read, so a reader
-/// of a file is to be buffered. Time and memory are linear in the bytes read, beside room for at
-/// most `DEPTH_LIMIT` unfinished lists of children.
+/// The fault is the first from left to right. It reads no node deeper than `DEPTH_LIMIT` and no more than
+/// `NODE_LIMIT` nodes, whatever the bytes are. It takes one byte in each read, so a reader of a file must be
+/// buffered. Time and memory are linear in the bytes read, beside room for at most `DEPTH_LIMIT` unfinished lists of
+/// children.
 pub fn read_certificate<S: Source>(
     alloc: Global,
     reader: &mut S,

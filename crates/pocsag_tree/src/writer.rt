@@ -1,36 +1,14 @@
-ghost use Rattle.std.specs.Prelude.{◌≡◌, ℕ, ◌+◌, ◌<◌, ◌≤◌, ◌↔◌, length, IsTrue, IsSome, IfSome, IsErrOf};
+ghost use Rattle.std.specs.Prelude.{◌≡◌, ◌+◌, ◌<◌, ◌≤◌, ◌↔◌, IsSome, IfSome, IsErrOf};
 ghost use Rattle.pocsag_words.specs.Devices.{CountsFailures, Delivers, HasFailed};
 ghost use Rattle.pocsag_tree.specs.Limits.{most_nodes, second_ranges};
-ghost use Rattle.pocsag_tree.specs.BoundTrees.{all_nodes, all_nodes_in, depth_of, deepest, children_count};
+ghost use Rattle.pocsag_tree.specs.BoundTrees.{all_nodes, all_nodes_in, depth_of, deepest};
 ghost use Rattle.pocsag_tree.specs.Views.{bound_tree_of, bounds_of};
-ghost use Rattle.pocsag_tree.specs.CertificateText.{IsInRange, AreInRange, HasText, IsSet, split_head, cut_head, close_head, node, row, written_head, written_text};
+ghost use Rattle.pocsag_tree.specs.CertificateText.{IsInRange, AreInRange, HasText, node, row, written_head, written_text};
 
 use crate::limits::{DEPTH_LIMIT, NODE_LIMIT, SECOND_VERSION};
 use crate::refusals::TreeWriteFault;
 use crate::shape::Tree;
 use pocsag_words::{DeviceFault, End, Sink, write_all};
-
-fn are_split_fields(class: u8, m: u16) -> bool
-    ensures { IsTrue result ↔ ((class ≤ second_ranges.class) × (1 ≤ m) × (m ≤ second_ranges.m)) }
-{
-    class <= SECOND_VERSION.class && 1 <= m && m <= SECOND_VERSION.m
-}
-
-fn are_cut_fields(set: u16, needed: u8, children: usize) -> bool
-    ensures { IsTrue result ↔ ((1 ≤ set) × (needed ≤ second_ranges.class)
-        × (2 ≤ children) × (children ≤ second_ranges.children)) }
-{
-    1 <= set
-        && needed <= SECOND_VERSION.class
-        && 2 <= children
-        && children <= usize::from(SECOND_VERSION.children)
-}
-
-fn is_close_count(children: usize) -> bool
-    ensures { IsTrue result ↔ ((1 ≤ children) × (children ≤ 2)) }
-{
-    1 <= children && children <= 2
-}
 
 // How many nodes there are with those of the tree, where the tree has a text: every field in its
 // range, no node deeper than this, and not too many nodes. It looks at no node that is deeper.
@@ -73,7 +51,7 @@ fn measured_node(tree: &Tree, depth: u32, nodes: u32) -> Option<u32>
             below,
             from,
         } => {
-            if !are_split_fields(*class, *m) {
+            if *class > SECOND_VERSION.class || *m == 0 || *m > SECOND_VERSION.m {
                 return None;
             }
             match measured(below, depth, nodes) {
@@ -86,13 +64,16 @@ fn measured_node(tree: &Tree, depth: u32, nodes: u32) -> Option<u32>
             needed,
             children,
         } => {
-            if !are_cut_fields(*set, *needed, children.len()) {
+            if *set == 0 || *needed > SECOND_VERSION.class {
+                return None;
+            }
+            if children.len() < 2 || children.len() > usize::from(SECOND_VERSION.children) {
                 return None;
             }
             measured_row(children, depth, nodes)
         }
         Tree::Close { children } => {
-            if !is_close_count(children.len()) {
+            if children.len() == 0 || children.len() > 2 {
                 return None;
             }
             measured_row(children, depth, nodes)
@@ -117,40 +98,6 @@ fn measured_row(trees: &[Tree], depth: u32, nodes: u32) -> Option<u32>
         }
     }
     Some(reached)
-}
-
-fn write_split_head<S: Sink>(class: u8, m: u16, writer: &mut S) -> Result<(), DeviceFault>
-    ensures delivers { S.is_known → Delivers result (S.taken writer.old) (S.taken writer.new)
-        (split_head class m) }
-    ensures failures { CountsFailures result (S.failures writer.old) (S.failures writer.new) }
-{
-    let m = m.to_be_bytes();
-    write_all(writer, &[1, class, m[0], m[1]])
-}
-
-fn write_cut_head<S: Sink>(
-    set: u16,
-    needed: u8,
-    children: usize,
-    writer: &mut S,
-) -> Result<(), DeviceFault>
-    requires { children ≤ second_ranges.children }
-    ensures delivers { S.is_known → Delivers result (S.taken writer.old) (S.taken writer.new)
-        (cut_head set needed children) }
-    ensures failures { CountsFailures result (S.failures writer.old) (S.failures writer.new) }
-{
-    let set = set.to_be_bytes();
-    let count = (children as u16).to_be_bytes();
-    write_all(writer, &[2, set[0], set[1], needed, count[0], count[1]])
-}
-
-fn write_close_head<S: Sink>(children: usize, writer: &mut S) -> Result<(), DeviceFault>
-    requires { children ≤ 2 }
-    ensures delivers { S.is_known → Delivers result (S.taken writer.old) (S.taken writer.new)
-        (close_head children) }
-    ensures failures { CountsFailures result (S.failures writer.old) (S.failures writer.new) }
-{
-    write_all(writer, &[4, children as u8])
 }
 
 fn write_head<S: Sink>(end: End, batches: u32, writer: &mut S) -> Result<(), DeviceFault>
@@ -200,7 +147,8 @@ fn write_node<S: Sink>(tree: &Tree, writer: &mut S) -> Result<(), DeviceFault>
             below,
             from,
         } => {
-            write_split_head(*class, *m, writer)?;
+            let m = m.to_be_bytes();
+            write_all(writer, &[1, *class, m[0], m[1]])?;
             write_node(below, writer)?;
             write_node(from, writer)
         }
@@ -209,12 +157,14 @@ fn write_node<S: Sink>(tree: &Tree, writer: &mut S) -> Result<(), DeviceFault>
             needed,
             children,
         } => {
-            write_cut_head(*set, *needed, children.len(), writer)?;
+            let set = set.to_be_bytes();
+            let count = (children.len() as u16).to_be_bytes();
+            write_all(writer, &[2, set[0], set[1], *needed, count[0], count[1]])?;
             write_row(children, writer)
         }
         Tree::Open => write_all(writer, &[3]),
         Tree::Close { children } => {
-            write_close_head(children.len(), writer)?;
+            write_all(writer, &[4, children.len() as u8])?;
             write_row(children, writer)
         }
     }
@@ -250,22 +200,13 @@ pub fn write_text<S: Sink>(
     write_node(tree, writer)
 }
 
-fn has_text(batches: u32, tree: &Tree) -> bool
-    ensures { IsTrue result ↔ HasText second_ranges batches (bound_tree_of tree.now) }
-{
-    if batches == 0 {
-        return false;
-    }
-    measured(tree, DEPTH_LIMIT, 0).is_some()
-}
-
 /// Writes the certificate of the end, the number of batches and the tree: in version PCB4 for the idle
 /// end, and in PCB2 for the others.
 ///
-/// `BadTree` where they have none: no batches, a field outside its range, a depth above
-/// `DEPTH_LIMIT`, or more than `NODE_LIMIT` nodes; then nothing is written. After `WriteFault` a
-/// prefix of the certificate stands. It looks at no node below depth 301, and takes no memory. It
-/// writes in pieces of a few bytes, so a writer to a file is to be buffered.
+/// `BadTree` where they have none: no batches, a field outside its range, a depth above `DEPTH_LIMIT`, or more than
+/// `NODE_LIMIT` nodes; then nothing is written. After `WriteFault` a prefix of the certificate stands. It looks at no
+/// node below depth 301, and takes no memory. It writes in pieces of a few bytes, so a writer to a file must be
+/// buffered.
 pub fn write_certificate<S: Sink>(
     end: End,
     batches: u32,
@@ -286,7 +227,7 @@ pub fn write_certificate<S: Sink>(
     ensures failed { IsErrOf result TreeWriteFault.WriteFault
         → HasFailed (S.failures writer.old) (S.failures writer.new) }
 {
-    if !has_text(batches, tree) {
+    if batches == 0 || measured(tree, DEPTH_LIMIT, 0).is_none() {
         return Err(TreeWriteFault::BadTree);
     }
     match write_text(end, batches, tree, writer) {

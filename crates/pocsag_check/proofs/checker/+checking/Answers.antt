@@ -1,8 +1,5 @@
-use Rattle.pocsag_check.proofs.Prelude.{◌≡◌, ◌∙◌, ◌<◌, refl, arith, length, get_or, IsTrue, Way, narrowed_limits, bound_tree_of, AcceptsWithin}
-use Rattle.std.proofs.lemmas.List.{set-get_or, set-set}
+use Rattle.pocsag_check.proofs.Prelude.{◌≡◌, ◌∙◌, ◌<◌, refl, arith, length, get_or, IsTrue, Way, narrowed_limits, bound_tree_of, AcceptsWithin, set-get_or, set-set, MayTake, IdleIn}
 use Rattle.std.proofs.lemmas.List.Elements.{All-get_or}
-use Rattle.pocsag_slots.specs.Ways.{MayTake}
-use Rattle.pocsag_slots.specs.declared.way.Way.TheVariants.{IdleIn}
 use Rattle.pocsag_check.proofs.RowChecks.{as_long, one_first, one_more, none_left, way_at}
 use Rattle.pocsag_check.proofs.checker.+checking.Goals as goal
 

@@ -8,4 +8,4 @@ pub returns-clause-bound : goal.returns-clause-bound
 returns-clause-bound c = λ yes T n legal.
     let a = c.check_tree.ensures.0 yes in
     bounded a.table c.args.end c.args.round.now (map kind_of T) c.args.batches n _
-    (apart_pages c.args.round.now c.keeps_rules.ensures.good) a.counted a.accepted.root legal.1
+    (apart_pages c.args.round.now c.recall_rules.ensures.good) a.counted a.accepted.root legal.1

@@ -1,6 +1,4 @@
-use Rattle.std.proofs.Common.{slice_index}
-use Rattle.pocsag_flow.specs.Choices.{overload}
-use Rattle.pocsag_flow.specs.Search.{IsLoaded}
+use Rattle.pocsag_flow.proofs.Prelude.{slice_index, overload, IsLoaded}
 use Rattle.pocsag_flow.proofs.choice.choose_within.Given as goal
 
 abbrev pub invariant-loop-slot : goal.invariant-loop-slot

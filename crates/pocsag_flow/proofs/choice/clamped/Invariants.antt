@@ -1,4 +1,4 @@
-use Rattle.std.proofs.Common.{◌≡◌, ℕ, ◌<◌, ◌≤◌, length, slice_index}
+use Rattle.pocsag_flow.proofs.Prelude.{◌≡◌, ℕ, ◌<◌, ◌≤◌, length, slice_index}
 use Rattle.pocsag_flow.proofs.choice.clamped.Given as goal
 
 abbrev pub invariant-loop-class : goal.invariant-loop-class

@@ -1,9 +1,6 @@
-use Rattle.std.proofs.Common.{◌≡◌, ◌-◌, ◌<◌, arith, refl, slice_index}
-use Rattle.pocsag_flow.specs.declared.network.Network.{Network}
-use Rattle.pocsag_flow.specs.declared.network.Progress.{Progress}
+use Rattle.pocsag_flow.proofs.Prelude.{◌≡◌, ◌-◌, ◌<◌, arith, refl, slice_index, Network, Progress, load_over}
 use Rattle.pocsag_slots.proofs.Members.{held_some}
 use Rattle.pocsag_flow.proofs.Ends.{given_few, overload_less, shut_overloads}
-use Rattle.pocsag_slots.proofs.LeastLemmas.{load_over}
 use Rattle.pocsag_flow.proofs.choice.move_load.Goals as goal
 
 pub returns-then-moved-eq0-clause-overloads : goal.returns-then-moved-eq0-clause-overloads

@@ -1,4 +1,4 @@
-use Rattle.std.proofs.Common.{ℕ, ◌<◌, ◌≤◌, slice_index}
+use Rattle.pocsag_flow.proofs.Prelude.{ℕ, ◌<◌, ◌≤◌, slice_index}
 use Rattle.pocsag_flow.proofs.choice.overfull.Given as goal
 
 abbrev pub invariant-loop-slot : goal.invariant-loop-slot

@@ -1,4 +1,4 @@
-use Rattle.std.proofs.Common.{arith}
+use Rattle.pocsag_flow.proofs.Prelude.{arith}
 use Rattle.pocsag_flow.proofs.Steps.{shifted_is}
 use Rattle.pocsag_flow.proofs.choice.shifted.Goals as goal
 

@@ -1,21 +1,11 @@
-use Rattle.std.proofs.Common.{◌+◌, ◌-◌, ◌*◌, ◌<◌, ◌≤◌}
-use Rattle.pocsag_flow.specs.Search.{HasEndAt, Leaves}
+use Rattle.pocsag_flow.proofs.Prelude.{◌+◌, ◌-◌, ◌*◌, ◌<◌, ◌≤◌, HasEndAt, Leaves}
 use Rattle.pocsag_flow.proofs.way.+push.Given as goal
 
 abbrev pub decreases-enter : goal.decreases-enter
 decreases-enter l = 6 * (65536 - l.search.now.reached)
 
-abbrev pub decreases-to_late : goal.decreases-to_late
-decreases-to_late l = 6 * (65536 - l.search.now.reached) + 1
-
-abbrev pub decreases-to_early : goal.decreases-to_early
-decreases-to_early l = 6 * (65536 - l.search.now.reached) + 1
-
 abbrev pub decreases-switch : goal.decreases-switch
 decreases-switch l = 6 * (65536 - l.search.now.reached) + 2
-
-abbrev pub decreases-switch_straight : goal.decreases-switch_straight
-decreases-switch_straight l = 6 * (65536 - l.search.now.reached) + 3
 
 abbrev pub decreases-leave_straight : goal.decreases-leave_straight
 decreases-leave_straight l = 6 * (65536 - l.search.now.reached) + 4

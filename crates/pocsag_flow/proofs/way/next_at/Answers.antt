@@ -1,5 +1,4 @@
-use Rattle.std.proofs.Common.{◌≡◌, ◌+◌, ◌/◌, ◌%◌, true, sym, ◌∙◌, arith}
-use Rattle.pocsag_slots.specs.Classes.{start_of}
+use Rattle.pocsag_flow.proofs.Prelude.{◌≡◌, ◌+◌, ◌/◌, ◌%◌, true, sym, ◌∙◌, arith, start_of}
 use Rattle.pocsag_flow.proofs.Places.{at_bare, at_other, at_own, frame_full, none_behind, none_other, none_to_bare, rest_full}
 use Rattle.pocsag_flow.proofs.way.next_at.Goals as goal
 use Rattle.pocsag_flow.proofs.way.next_at.Goals.{else-start-slot-via-then-start-slot+else-rest-lt-RESTS, else-start-slot-via-else-start-slot}

@@ -1,8 +1,5 @@
-use Rattle.pocsag_slots.proofs.Prelude.{◌≡◌, ◌≤◌, ◌<◌, ℕ, ◌+◌, List, All, arith, length, take, sym, ap, ◌∙◌, subst, slice_index, slice_index_or, End, Page, IsGoodPage, IsRound}
-use Rattle.std.proofs.lemmas.List.{length-take}
+use Rattle.pocsag_slots.proofs.Prelude.{◌≡◌, ◌≤◌, ◌<◌, ℕ, ◌+◌, List, All, arith, length, take, sym, ap, ◌∙◌, subst, slice_index, slice_index_or, End, Page, IsGoodPage, IsRound, length-take, All-get_or, All-take, All-weaker, good_pages}
 use Rattle.std.proofs.Math.Seq.{take-length}
-use Rattle.std.proofs.lemmas.List.Elements.{All-get_or, All-take, All-weaker}
-use Rattle.pocsag_pages.proofs.GoodPages.{good_pages}
 use Rattle.pocsag_slots.proofs.CountLemmas.{AreCounted, IsShort, count_bare, count_most, more_counted, none_counted, tables_of, tables_sum, turns_most}
 use Rattle.pocsag_slots.proofs.count.classes_of.Goals as goal
 

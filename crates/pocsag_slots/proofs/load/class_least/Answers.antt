@@ -1,6 +1,4 @@
-use Rattle.pocsag_slots.proofs.Prelude.{◌≡◌, ℕ, ◌+◌, ◌-◌, ◌*◌, ◌^◌, ◌<◌, ◌≤◌, ◌⊎◌, inl, inr, arith, sym, slice_index, Classes, Limits, AreInOrder}
-use Rattle.std.proofs.Common.{Fits, min, w64}
-use Rattle.std.proofs.lemmas.Nat.{mul-le}
+use Rattle.pocsag_slots.proofs.Prelude.{◌≡◌, ℕ, ◌+◌, ◌-◌, ◌*◌, ◌^◌, ◌<◌, ◌≤◌, ◌⊎◌, inl, inr, arith, sym, slice_index, Classes, Limits, AreInOrder, Fits, min, w64, mul-le}
 use Rattle.pocsag_slots.proofs.LeastLemmas.{least_none, least_of_class_is}
 use Rattle.pocsag_slots.proofs.LoadLemmas.{count_few}
 use Rattle.pocsag_slots.proofs.load.class_least.Goals as goal

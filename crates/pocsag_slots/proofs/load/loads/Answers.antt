@@ -1,5 +1,5 @@
-use Rattle.pocsag_slots.proofs.Prelude.{◌≡◌, ◌≢◌, ◌<◌, ◌+◌, ◌-◌, ◌∙◌, ℕ, arith, get_or-set_other, get_or-set_same, List, length, slice_index, slice_set, Classes, load}
-use Rattle.std.proofs.Common.{below_more, length-set}
+use Rattle.pocsag_slots.proofs.Prelude.{◌≡◌, ◌≢◌, ◌<◌, ◌+◌, ◌-◌, ◌∙◌, ℕ, arith, get_or-set_other, get_or-set_same, List, length, slice_index, slice_set, Classes, load, below_more}
+use Rattle.std.proofs.Common.{length-set}
 use Rattle.pocsag_slots.proofs.EdgeLemmas.{load_step}
 use Rattle.pocsag_slots.proofs.LoadLemmas.{load_few}
 use Rattle.pocsag_slots.proofs.load.loads.Goals as goal

@@ -1,4 +1,4 @@
-use Rattle.std.proofs.lemmas.Bool.{lt-ltb, ltb-true}
+use Rattle.pocsag_slots.proofs.Prelude.{lt-ltb, ltb-true}
 use Rattle.pocsag_slots.proofs.LeastLemmas.{overload_is}
 use Rattle.pocsag_slots.proofs.load.overloads.Goals as goal
 

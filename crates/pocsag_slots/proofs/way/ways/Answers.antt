@@ -1,5 +1,4 @@
-use Rattle.pocsag_slots.proofs.Prelude.{◌≡◌, arith, sym, ◌∙◌, ways_across}
-use Rattle.std.proofs.Common.{append-nil}
+use Rattle.pocsag_slots.proofs.Prelude.{◌≡◌, arith, sym, ◌∙◌, ways_across, append-nil, rules, idle_crosses}
 use Rattle.pocsag_slots.proofs.WayLemmas.{class_added, classes_few, early_few, joined_none, slot_added, slots_few, ways_allowed}
 use Rattle.pocsag_slots.proofs.way.ways.Goals as goal
 
@@ -10,9 +9,10 @@ pub push_if-requires : goal.push_if-requires
 push_if-requires c = omega (arith, slots_few c.args.set c.loop-slot.slot c.loop-slot.found.items c.loop-slot.invariant)
 
 pub loop-slot-preserved : goal.loop-slot-preserved
+unfolding idle_crosses
 loop-slot-preserved c =
-    slot_added c.args.set c.loop-slot.slot c.idle_crosses.result c.loop-slot.found.items c.push_if.new.ways.items
-    c.idle_crosses.ensures c.loop-slot.invariant c.push_if.ensures
+    slot_added c.args.set c.loop-slot.slot _ c.loop-slot.found.items c.push_if.new.ways.items
+    (search rules) c.loop-slot.invariant c.push_if.ensures
 
 pub loop-number-init : goal.loop-number-init
 loop-number-init c =

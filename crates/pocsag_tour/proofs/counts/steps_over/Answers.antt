@@ -1,6 +1,4 @@
-use Rattle.pocsag_tour.proofs.Prelude.{◌≡◌, arith, sym, slice_index}
-use Rattle.std.proofs.Common.{rules}
-use Rattle.pocsag_slots.proofs.SumLemmas.{sum_below_more, sum_below_none}
+use Rattle.pocsag_tour.proofs.Prelude.{◌≡◌, arith, sym, slice_index, rules, sum_below_more, sum_below_none}
 use Rattle.pocsag_tour.proofs.counts.steps_over.Goals as goal
 
 pub loop-arc-init : goal.loop-arc-init

@@ -1,5 +1,4 @@
-use Rattle.pocsag_tour.proofs.Prelude.{◌≡◌, ◌^◌, ◌≤◌, slice_index, sum_below}
-use Rattle.std.proofs.Common.{◌*◌}
+use Rattle.pocsag_tour.proofs.Prelude.{◌≡◌, ◌^◌, ◌≤◌, slice_index, sum_below, ◌*◌}
 use Rattle.pocsag_tour.proofs.counts.steps_over.Given as goal
 
 abbrev pub invariant-loop-arc : goal.invariant-loop-arc

@@ -1,5 +1,4 @@
-use Rattle.pocsag_tour.proofs.Prelude.{arith, [], ◌∷◌}
-use Rattle.std.proofs.lemmas.List.{length-append}
+use Rattle.pocsag_tour.proofs.Prelude.{arith, [], ◌∷◌, length-append}
 use Rattle.pocsag_tour.proofs.ExitSets.{used_first, used_found, used_passed}
 use Rattle.pocsag_tour.proofs.exits.used_arcs.Goals as goal
 use Rattle.pocsag_tour.proofs.exits.used_arcs.Goals.{then-counts-arc-gt0, else-counts-arc-gt0}

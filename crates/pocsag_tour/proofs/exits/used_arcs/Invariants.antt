@@ -1,5 +1,4 @@
-use Rattle.pocsag_tour.proofs.Prelude.{◌≤◌, length, slice_index}
-use Rattle.pocsag_tour.specs.Moves.{AreUsed}
+use Rattle.pocsag_tour.proofs.Prelude.{◌≤◌, length, slice_index, AreUsed}
 use Rattle.pocsag_tour.proofs.exits.used_arcs.Given as goal
 
 abbrev pub invariant-loop-arc : goal.invariant-loop-arc

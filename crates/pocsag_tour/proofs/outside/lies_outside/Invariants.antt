@@ -1,5 +1,4 @@
-use Rattle.pocsag_tour.proofs.Prelude.{ℕ, ◌<◌, Bool, slice_index}
-use Rattle.pocsag_tour.specs.Reached.{HasRunOutside}
+use Rattle.pocsag_tour.proofs.Prelude.{ℕ, ◌<◌, Bool, slice_index, HasRunOutside}
 use Rattle.pocsag_tour.proofs.outside.lies_outside.Given as goal
 
 abbrev pub invariant-loop-class : goal.invariant-loop-class

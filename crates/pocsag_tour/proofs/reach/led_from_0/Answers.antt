@@ -1,5 +1,4 @@
-use Rattle.pocsag_tour.proofs.Prelude.{refl, subst, sym, slice_index, IsLed}
-use Rattle.pocsag_tour.specs.Links.{at_start}
+use Rattle.pocsag_tour.proofs.Prelude.{refl, subst, sym, slice_index, IsLed, at_start}
 use Rattle.pocsag_tour.proofs.ExitSets.{lone}
 use Rattle.pocsag_tour.proofs.reach.led_from_0.Goals as goal
 

@@ -1,5 +1,4 @@
-use Rattle.pocsag_tour.proofs.Prelude.{slice_index}
-use Rattle.std.proofs.Common.{IsTrue, Result, Ok, Err, IfOk, IfErr}
+use Rattle.pocsag_tour.proofs.Prelude.{slice_index, IsTrue, Result, Ok, Err, IfOk, IfErr}
 use Rattle.pocsag_tour.proofs.CoverLemmas.{balanced_start}
 use Rattle.pocsag_tour.proofs.Joined.{joined_open}
 use Rattle.pocsag_tour.proofs.Tours.{reached_closed, reached_members, reached_start, refused, runs_start, tour_of}

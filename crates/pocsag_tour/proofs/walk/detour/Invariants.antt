@@ -1,5 +1,4 @@
-use Rattle.pocsag_tour.proofs.Prelude.{slice_index}
-use Rattle.pocsag_tour.specs.Segments.{ArePassed, IsPassed}
+use Rattle.pocsag_tour.proofs.Prelude.{slice_index, ArePassed, IsPassed}
 use Rattle.pocsag_tour.proofs.walk.detour.Given as goal
 
 abbrev pub invariant-loop-kind : goal.invariant-loop-kind

@@ -1,6 +1,4 @@
-use Rattle.pocsag_tour.proofs.Prelude.{◌≡◌, ◌++◌, ◌∙◌, ℕ, [], ◌∷◌, ap, arith, false, true, length, refl, slice_index, sym, arc_to, holds}
-use Rattle.pocsag_slots.proofs.Members.{holds_none}
-use Rattle.pocsag_tour.specs.Segments.{IsPath, often}
+use Rattle.pocsag_tour.proofs.Prelude.{◌≡◌, ◌++◌, ◌∙◌, ℕ, [], ◌∷◌, ap, arith, false, true, length, refl, slice_index, sym, arc_to, holds, holds_none, IsPath, often}
 use Rattle.pocsag_tour.proofs.Segments.{enough_push, often_none, once_push, path_push}
 use Rattle.pocsag_tour.proofs.walk.segment_from.Goals as goal
 

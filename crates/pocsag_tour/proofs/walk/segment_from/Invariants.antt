@@ -1,6 +1,4 @@
-use Rattle.pocsag_tour.proofs.Prelude.{◌≡◌, ℕ, ◌<◌, ◌≤◌, true, cond, length, slice_index, arc_from, holds}
-use Rattle.std.proofs.Common.{◌*◌}
-use Rattle.pocsag_tour.specs.Segments.{ArePassed, IsPath, often}
+use Rattle.pocsag_tour.proofs.Prelude.{◌≡◌, ℕ, ◌<◌, ◌≤◌, true, cond, length, slice_index, arc_from, holds, ◌*◌, ArePassed, IsPath, often}
 use Rattle.pocsag_tour.proofs.walk.segment_from.Given as goal
 
 abbrev pub invariant-arcs : goal.invariant-arcs

@@ -1,5 +1,4 @@
-use Rattle.pocsag_tour.proofs.Prelude.{◌≡◌, length, step_of}
-use Rattle.std.proofs.Common.{map, take}
+use Rattle.pocsag_tour.proofs.Prelude.{◌≡◌, length, step_of, map, take}
 use Rattle.pocsag_tour.proofs.walk.steps_of_batch.Given as goal
 
 abbrev pub invariant-loop-place : goal.invariant-loop-place

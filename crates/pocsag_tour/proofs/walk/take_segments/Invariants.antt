@@ -1,6 +1,4 @@
-use Rattle.pocsag_tour.proofs.Prelude.{slice_index}
-use Rattle.std.proofs.Common.{take}
-use Rattle.pocsag_tour.specs.Segments.{AreTaken}
+use Rattle.pocsag_tour.proofs.Prelude.{slice_index, take, AreTaken}
 use Rattle.pocsag_tour.proofs.walk.take_segments.Given as goal
 
 abbrev pub invariant-loop-arc : goal.invariant-loop-arc

@@ -1,7 +1,4 @@
-use Rattle.pocsag_tour.proofs.Prelude.{◌≡◌, ◌==◌, ◌∙◌, eq-eqb, eqb-true, sym, true, ◌++◌, ℕ, [], ◌∷◌, arith, length, slice_index, ◌<◌, step_of}
-use Rattle.std.proofs.Common.{map}
-use Rattle.std.specs.List.{repeat}
-use Rattle.pocsag_tour.specs.Segments.{AreTaken}
+use Rattle.pocsag_tour.proofs.Prelude.{◌≡◌, ◌==◌, ◌∙◌, eq-eqb, eqb-true, sym, true, ◌++◌, ℕ, [], ◌∷◌, arith, length, slice_index, ◌<◌, step_of, map, repeat, AreTaken}
 use Rattle.pocsag_tour.proofs.Segments.{laps_less, laps_on, passed_less, path_known}
 use Rattle.pocsag_tour.proofs.Walks.{walk_end, walk_start}
 use Rattle.pocsag_tour.proofs.walk.walk.Goals as goal

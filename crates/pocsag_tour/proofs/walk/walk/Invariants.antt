@@ -1,5 +1,4 @@
-use Rattle.pocsag_tour.proofs.Prelude.{slice_index, sum_below, IsWalk}
-use Rattle.pocsag_tour.specs.Segments.{ArePassed}
+use Rattle.pocsag_tour.proofs.Prelude.{slice_index, sum_below, IsWalk, ArePassed}
 use Rattle.pocsag_tour.proofs.walk.walk.Given as goal
 
 abbrev pub invariant-segments : goal.invariant-segments

@@ -1,6 +1,4 @@
-use Rattle.pocsag_tour.proofs.Prelude.{◌≡◌, ◌++◌, ap, ◌∙◌, step_of}
-use Rattle.std.proofs.Common.{append_assoc, map}
-use Rattle.std.specs.List.{repeat}
+use Rattle.pocsag_tour.proofs.Prelude.{◌≡◌, ◌++◌, ap, ◌∙◌, step_of, append_assoc, map, repeat}
 use Rattle.pocsag_tour.proofs.Segments.{repeat_more}
 use Rattle.pocsag_tour.proofs.walk.write_segments.Goals as goal
 

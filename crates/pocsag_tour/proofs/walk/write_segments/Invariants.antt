@@ -1,6 +1,4 @@
-use Rattle.pocsag_tour.proofs.Prelude.{◌≡◌, ◌++◌, step_of}
-use Rattle.std.proofs.Common.{map}
-use Rattle.std.specs.List.{repeat}
+use Rattle.pocsag_tour.proofs.Prelude.{◌≡◌, ◌++◌, step_of, map, repeat}
 use Rattle.pocsag_tour.proofs.walk.write_segments.Given as goal
 
 abbrev pub invariant-segments : goal.invariant-segments

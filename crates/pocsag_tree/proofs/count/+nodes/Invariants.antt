@@ -1,5 +1,4 @@
-use Rattle.pocsag_tree.proofs.Prelude.{◌≡◌, ◌+◌, ◌≤◌, drop, min, greatest_count, bounds_of}
-use Rattle.pocsag_tree.specs.BoundTrees.{closed_nodes_in}
+use Rattle.pocsag_tree.proofs.Prelude.{◌≡◌, ◌+◌, ◌≤◌, drop, min, greatest_count, bounds_of, closed_nodes_in}
 use Rattle.pocsag_tree.proofs.count.+nodes.Given as goal
 
 -- the sum so far and the nodes of the trees that are left are the nodes of all the trees

@@ -1,23 +1,30 @@
-use Rattle.pocsag_tree.proofs.Prelude.{◌≡◌, ◌∷◌, [], ◌++◌, ◌≤◌, ℕ, List, length, map, refl, arith, err_from_is_err_and, all_nodes_in, deepest, bound_tree_of, bounds_of, but_last, close_at, cut_at, node_at, split_at}
-use Rattle.std.proofs.Common.{rules}
-use Rattle.std.proofs.lemmas.List.{map_push}
+use Rattle.pocsag_tree.proofs.Prelude.{◌≡◌, ◌∷◌, [], ◌++◌, ◌≤◌, ℕ, List, length, map, refl, arith, lt-ltb, le-ltb, err_from_is_err_and, all_nodes_in, deepest, bound_tree_of, bounds_of, but_last, close_at, cut_at, node_at, split_at, tagged_at, rules, map_push}
 use Rattle.pocsag_tree.specs.declared.refusals.CertificateFault.TheVariants as fault
 use Rattle.pocsag_tree.proofs.Counts.{bound_tree_of-close, bound_tree_of-cut, split_seen}
-use Rattle.pocsag_tree.proofs.Early.{node_is_early, node_stands, node_ends, told, row_is_early, row_ends_early, split_fails}
+use Rattle.pocsag_tree.proofs.Early.{node_is_early, reads_tagged, node_ends, told, row_is_early, row_ends_early, split_fails}
 use Rattle.pocsag_tree.proofs.Fronts.{but_last_all}
 use Rattle.pocsag_tree.proofs.Rows.{reads_on, reads_no_further, reads_tree, row_starts, row_goes_on, row_ends, row_is_done, nodes-push, deepest-push}
 use Rattle.pocsag_tree.proofs.reader.+node.Goals as goal
 
+pub node-returns-in_err-tag-clause-reads : goal.node-returns-in_err-tag-clause-reads
+unfolding tagged_at
+node-returns-in_err-tag-clause-reads g t c = λ is_known.
+    let p = err_from_is_err_and c.from_residual-in_err-tag.result c.from_residual-in_err-tag.ensures.1 in
+    rw (p.1, p.2) (reads_tagged _ _ _ _ _ _ c.in_ok-wanted.ensures.fine (reads_no_further _ _ _ _ _ _ _ (c.in_err-tag.ensures.reads is_known)))
+
+pub node-returns-then-tag-builder-clause-reads : goal.node-returns-then-tag-builder-clause-reads
+unfolding tagged_at
+node-returns-then-tag-builder-clause-reads g t c = λ is_known.
+    let over = lt-ltb c.args.builder.ranges.tag c.in_ok-tag.tag c.if-tag-builder.true in
+    reads_tagged _ _ _ _ _ _ c.in_ok-wanted.ensures.fine (reads_on _ _ _ _ _ _ _ _ _ (c.in_ok-tag.ensures.reads is_known)
+    (record { shrinks = omega arith; bytes = λ k le. rw over refl }))
+
 pub node-returns-clause-reads : goal.node-returns-clause-reads
+unfolding tagged_at
 node-returns-clause-reads g t c = λ is_known.
-    let fine = c.in_ok-wanted.ensures.fine in
-    let read = c.tagged.ensures.reads is_known in
-    record {
-      shrinks = read.shrinks;
-      bytes = λ k le.
-          let held : List ℕ = but_last k (g.S.Source.held c.args.source.now) in
-          rw (node_stands c.args.builder.ranges c.args.depth c.args.made held fine.0 fine.1) (read.bytes k le);
-    }
+    let within = le-ltb c.args.builder.ranges.tag c.in_ok-tag.tag c.if-tag-builder.false in
+    reads_tagged _ _ _ _ _ _ c.in_ok-wanted.ensures.fine (reads_on _ _ _ _ _ _ _ _ _ (c.in_ok-tag.ensures.reads is_known)
+    (record { shrinks = (c.body.ensures.reads is_known).shrinks; bytes = λ k le. rw within ((c.body.ensures.reads is_known).bytes k le) }))
 
 -- ---- a row
 

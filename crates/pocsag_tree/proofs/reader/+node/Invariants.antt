@@ -1,6 +1,4 @@
-use Rattle.pocsag_tree.proofs.Prelude.{◌≡◌, ◌+◌, ◌-◌, ◌*◌, ◌≤◌, ℕ, length, map, bound_tree_of, bounds_of, but_last, row_at, node_at}
-use Rattle.std.proofs.Common.{vec_len, vec_capacity}
-use Rattle.pocsag_tree.specs.Parser.{IsRowRead}
+use Rattle.pocsag_tree.proofs.Prelude.{◌≡◌, ◌+◌, ◌-◌, ◌*◌, ◌≤◌, ℕ, length, map, bound_tree_of, bounds_of, but_last, row_at, node_at, vec_len, vec_capacity, IsRowRead}
 use Rattle.pocsag_tree.proofs.Rows.{with_front}
 use Rattle.pocsag_tree.proofs.reader.+node.Given as goal
 
@@ -21,9 +19,6 @@ decreases-close g l = 6 * l.depth + 2
 
 abbrev pub decreases-body : goal.decreases-body
 decreases-body g l = 6 * l.depth + 3
-
-abbrev pub decreases-tagged : goal.decreases-tagged
-decreases-tagged g l = 6 * l.depth + 4
 
 -- the children so far, and the reading of those that are left, are the reading of the row
 abbrev pub invariant-row-loop : goal.invariant-row-loop

@@ -1,5 +1,4 @@
-use Rattle.pocsag_tree.proofs.Prelude.{◌≡◌, ℕ, ◌≤◌, List, [], length, Err, refl, ap, arith, err_from_is_err_and, but_last}
-use Rattle.std.proofs.Common.{rules}
+use Rattle.pocsag_tree.proofs.Prelude.{◌≡◌, ℕ, ◌≤◌, List, [], length, Err, refl, ap, arith, err_from_is_err_and, but_last, rules}
 use Rattle.pocsag_tree.specs.declared.refusals.CertificateFault.TheVariants as fault
 use Rattle.pocsag_tree.proofs.Fronts.{but_last_all, but_last_none}
 use Rattle.pocsag_tree.proofs.Results.{all_ends, all_reads, all_stops}

@@ -1,5 +1,4 @@
-use Rattle.pocsag_tree.proofs.Prelude.{◌≡◌, ◌+◌, ◌*◌, ◌≤◌, drop, most_nodes, second_ranges, all_nodes_in, deepest, bounds_of, AreInRange}
-use Rattle.std.specs.Prelude.{◌↔◌}
+use Rattle.pocsag_tree.proofs.Prelude.{◌≡◌, ◌+◌, ◌*◌, ◌≤◌, drop, most_nodes, second_ranges, all_nodes_in, deepest, bounds_of, AreInRange, ◌↔◌}
 use Rattle.pocsag_tree.proofs.writer.+measured.Given as goal
 
 abbrev pub decreases-measured : goal.decreases-measured
