@@ -1,11 +1,6 @@
 -- Queues of places in one list: a place put in front, and the first place taken.
-use Rattle.pocsag_batch.proofs.Prelude.{◌≡◌, ℕ, zero, suc, ◌+◌, ◌<◌, ◌==◌, Bool, true, false, cond, List, [], ◌∷◌, All, length, refl, get_or, sym, ap, ◌∙◌, subst, arith, inl, inr, slice_index, slice_set, filter, range_with_len, cases_eq, get_or_default, length-set, All-head, End, Page, Links, AreChains, class_at, page_at, places_of}
-use Rattle.std.proofs.Common.{get_or-set_same, get_or-set_other}
-use Rattle.std.proofs.lemmas.Bool.{eqb-true}
+use Rattle.pocsag_batch.proofs.Prelude.{◌≡◌, ℕ, zero, suc, ◌+◌, ◌<◌, ◌==◌, Bool, true, false, cond, List, [], ◌∷◌, All, length, refl, get_or, sym, ap, ◌∙◌, subst, arith, inl, inr, slice_index, slice_set, filter, range_with_len, cases_eq, get_or_default, length-set, All-head, End, Page, Links, AreChains, class_at, page_at, places_of, get_or-set_same, get_or-set_other, eqb-true, filter_passes, class_of_page, IsChain}
 use Rattle.std.proofs.lemmas.Grind.{get_or-set_at}
-use Rattle.std.proofs.lemmas.List.Elements.{filter_passes}
-use Rattle.pocsag_slots.specs.Classes.{class_of_page}
-use Rattle.pocsag_batch.specs.Chains.{IsChain}
 use Rattle.pocsag_batch.proofs.ClassLists.{class_left, of_class_in, of_class_out, others_left, without}
 use Rattle.pocsag_slots.proofs.CountLemmas.{page_class_below}
 

@@ -1,7 +1,5 @@
 -- Lists by the classes of their elements: the elements of one class, and the list without the first of them.
-use Rattle.pocsag_batch.proofs.Prelude.{◌≡◌, ℕ, ◌==◌, cond, List, [], ◌∷◌, length, map, drop, get_or, refl, sym, ap, ◌∙◌, arith, eq-eqb, inl, inr, filter, cases_eq, ne_eqb}
-use Rattle.std.specs.Prelude.{IsPermutation}
-use Rattle.std.proofs.lemmas.List.Sorted.{IsPermutation-cons, IsPermutation-refl, IsPermutation-remove, IsPermutation-sym, IsPermutation-trans}
+use Rattle.pocsag_batch.proofs.Prelude.{◌≡◌, ℕ, ◌==◌, cond, List, [], ◌∷◌, length, map, drop, get_or, refl, sym, ap, ◌∙◌, arith, eq-eqb, inl, inr, filter, cases_eq, ne_eqb, IsPermutation, IsPermutation-cons, IsPermutation-refl, IsPermutation-remove, IsPermutation-sym, IsPermutation-trans}
 
 pub first_same : {X : Type 0} (x y : X) (xs ys : List X) → x ∷ xs ≡ y ∷ ys → x ≡ y
 first_same x y xs ys e = ap (λ v. get_or v 0 x) e

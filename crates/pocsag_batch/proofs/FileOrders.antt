@@ -1,9 +1,5 @@
 -- File order: that it is legal, that there is one, and no other.
-use Rattle.pocsag_batch.proofs.Prelude.{◌≡◌, ℕ, zero, suc, ◌+◌, ◌-◌, ◌*◌, ◌/◌, ◌%◌, ◌<◌, ◌≤◌, List, [], ◌∷◌, ◌++◌, length, map, replicate, refl, sym, ap, subst, ◌∙◌, arith, inl, inr, cases_eq, length-map, length-replicate, Kind, Page, page_words, page_length, IsLegalFor, IsLeastFrom, IsInFrame, IsWhole, InOrder, at_end, past_page, IsFileOrder}
-use Rattle.std.proofs.Common.{length-append}
-use Rattle.std.proofs.lemmas.List.Elements.{All-contains_itself}
-use Rattle.pocsag_words.specs.declared.codeword.Kind.TheVariants.{Idle, Message}
-use Rattle.pocsag_words.specs.declared.ending.End.TheVariants.{Open}
+use Rattle.pocsag_batch.proofs.Prelude.{◌≡◌, ℕ, zero, suc, ◌+◌, ◌-◌, ◌*◌, ◌/◌, ◌%◌, ◌<◌, ◌≤◌, List, [], ◌∷◌, ◌++◌, length, map, replicate, refl, sym, ap, subst, ◌∙◌, arith, inl, inr, cases_eq, length-map, length-replicate, Kind, Page, page_words, page_length, IsLegalFor, IsLeastFrom, IsInFrame, IsWhole, InOrder, at_end, past_page, IsFileOrder, length-append, All-contains_itself, Idle, Message, Open}
 use Rattle.pocsag_pages.specs.Reading.{Reads, at_end as no_words, past_idle, past_page as page_read, BeginsNoMessage, frame_at}
 use Rattle.pocsag_pages.proofs.Readings.{reads_at}
 

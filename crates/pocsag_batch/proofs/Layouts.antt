@@ -1,9 +1,5 @@
 -- The loop that lays a round in file order, and the batches of a legal list.
-use Rattle.pocsag_batch.proofs.Prelude.{◌≡◌, ℕ, ◌+◌, ◌*◌, ◌/◌, ◌%◌, ◌^◌, ◌<◌, ◌≤◌, List, [], ◌∷◌, ◌++◌, length, map, replicate, drop, refl, ap, ◌∙◌, arith, append_assoc, drop_all, length-map, length-replicate, kind_of, Kind, End, Page, page_words, page_length, IsLegalFor, IsLeastFrom, IsInFrame, IsWhole, InOrder, at_end, past_page, IsFileOrder}
-use Rattle.std.proofs.Common.{length-append}
-use Rattle.pocsag_words.specs.declared.codeword.Kind.TheVariants.{Idle}
-use Rattle.pocsag_words.specs.declared.ending.End.TheVariants.{Open}
-use Rattle.pocsag_pages.specs.Reading.{IsLegalList}
+use Rattle.pocsag_batch.proofs.Prelude.{◌≡◌, ℕ, ◌+◌, ◌*◌, ◌/◌, ◌%◌, ◌^◌, ◌<◌, ◌≤◌, List, [], ◌∷◌, ◌++◌, length, map, replicate, drop, refl, ap, ◌∙◌, arith, append_assoc, drop_all, length-map, length-replicate, kind_of, Kind, End, Page, page_words, page_length, IsLegalFor, IsLeastFrom, IsInFrame, IsWhole, InOrder, at_end, past_page, IsFileOrder, length-append, Idle, Open, IsLegalList}
 use Rattle.pocsag_batch.specs.WordLists.{AreBatches}
 use Rattle.pocsag_batch.proofs.FileOrders.{page_words_long, whole_in_order, some_words, legal_in_order}
 

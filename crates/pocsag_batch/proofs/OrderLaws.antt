@@ -1,8 +1,6 @@
 -- A layout's order is the only one, and the codewords by it are those of the steps.
-use Rattle.pocsag_batch.proofs.Prelude.{◌≡◌, ℕ, ◌==◌, Bool, true, false, cond, List, [], ◌∷◌, ◌++◌, map, refl, sym, ap, ◌∙◌, eq-eqb, inl, inr, cases_eq, ne_eqb, End, Page, page_words, Step, laid, all_places, class_at, page_at, places_of, run_classes, laid_by, IsOrder}
-use Rattle.pocsag_words.specs.declared.codeword.Kind.TheVariants.{Idle}
+use Rattle.pocsag_batch.proofs.Prelude.{◌≡◌, ℕ, ◌==◌, Bool, true, false, cond, List, [], ◌∷◌, ◌++◌, map, refl, sym, ap, ◌∙◌, eq-eqb, inl, inr, cases_eq, ne_eqb, End, Page, page_words, Step, laid, all_places, class_at, page_at, places_of, run_classes, laid_by, IsOrder, Idle, first_of, without_first}
 use Rattle.pocsag_slots.specs.declared.step.Step.TheVariants.{Idle as Stay, Run}
-use Rattle.pocsag_slots.specs.Layout.{first_of, without_first}
 use Rattle.pocsag_batch.proofs.ClassLists.{AreAlike, alike_same, alike_without, first_same, never_none, of_class_in, of_class_out, rest_same, without}
 use Rattle.pocsag_batch.proofs.Places.{pages_placed}
 

@@ -1,10 +1,6 @@
 -- The loop of `order_of`: each run takes the first place of its class that is left, and then the places are an order.
-use Rattle.pocsag_batch.proofs.Prelude.{◌≡◌, ℕ, ◌+◌, ◌<◌, ◌==◌, Bool, true, false, cond, List, [], ◌∷◌, ◌++◌, All, length, map, refl, sym, ap, ◌∙◌, arith, eq-eqb, inl, inr, slice_index, slice_set, append_assoc, cases_eq, ne_eqb, append-nil, nil_from_length, All-head, All-tail, End, Page, Step, runs, IsTourFor, Links, AreChains, all_places, class_at, places_of, run_classes, HavePlaces, IsOrder}
-use Rattle.std.proofs.lemmas.List.{map_push}
-use Rattle.std.proofs.lemmas.List.Elements.{filter-append}
-use Rattle.std.proofs.lemmas.List.Sorted.{All-permutation}
+use Rattle.pocsag_batch.proofs.Prelude.{◌≡◌, ℕ, ◌+◌, ◌<◌, ◌==◌, Bool, true, false, cond, List, [], ◌∷◌, ◌++◌, All, length, map, refl, sym, ap, ◌∙◌, arith, eq-eqb, inl, inr, slice_index, slice_set, append_assoc, cases_eq, ne_eqb, append-nil, nil_from_length, All-head, All-tail, End, Page, Step, runs, IsTourFor, Links, AreChains, all_places, class_at, places_of, run_classes, HavePlaces, IsOrder, map_push, filter-append, All-permutation, first_runs}
 use Rattle.pocsag_slots.specs.declared.step.Step.TheVariants.{Idle as Stay, Run}
-use Rattle.pocsag_slots.proofs.LaidSteps.{first_runs}
 use Rattle.pocsag_batch.proofs.Chains.{Takes, chains_left, takes_from}
 use Rattle.pocsag_batch.proofs.ClassLists.{alike_permuted, class_left, never_none, of_class, of_class_in, of_class_out, others_left, rest_same, without}
 use Rattle.pocsag_batch.proofs.Places.{all_within, tour_serves}

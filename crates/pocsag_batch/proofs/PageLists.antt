@@ -1,6 +1,5 @@
 -- The pages of a round one after another.
-use Rattle.pocsag_batch.proofs.Prelude.{◌≡◌, ℕ, ◌<◌, List, length, get_or, All-get_or, Page, IsRound, IsGoodPage}
-use Rattle.pocsag_pages.proofs.GoodPages.{good_pages}
+use Rattle.pocsag_batch.proofs.Prelude.{◌≡◌, ℕ, ◌<◌, List, length, get_or, All-get_or, Page, IsRound, IsGoodPage, good_pages}
 
 pub good_at : (R : List Page) (k : ℕ) (p : Page) → IsRound R → k < length R → p ≡ get_or R k p → IsGoodPage p
 good_at R k p r h is =

@@ -1,8 +1,6 @@
 -- The places of a round: their pages, and how many of them are of a class.
-use Rattle.pocsag_batch.proofs.Prelude.{◌≡◌, ℕ, ◌+◌, ◌<◌, ◌==◌, Bool, true, false, cond, List, [], ◌∷◌, All, length, map, get_or, refl, sym, ap, ◌∙◌, arith, range_with_len, End, Page, Step, runs, IsTourFor, all_places, class_at, page_at, places_of}
+use Rattle.pocsag_batch.proofs.Prelude.{◌≡◌, ℕ, ◌+◌, ◌<◌, ◌==◌, Bool, true, false, cond, List, [], ◌∷◌, All, length, map, get_or, refl, sym, ap, ◌∙◌, arith, range_with_len, End, Page, Step, runs, IsTourFor, all_places, class_at, page_at, places_of, count_of, served_tour}
 use Rattle.std.proofs.lemmas.List.FromFn.{fill_by_all, get_or-range_with_len, length-range_with_len}
-use Rattle.pocsag_slots.specs.Classes.{count_of}
-use Rattle.pocsag_slots.proofs.LaidSteps.{served_tour}
 use Rattle.pocsag_slots.proofs.Walks.{count_of-cons}
 
 pub all_within : (n : ℕ) → All (λ k. k < n) (range_with_len 0 n)

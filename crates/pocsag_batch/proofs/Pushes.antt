@@ -1,6 +1,5 @@
 -- What a push adds to the kinds of a list of codewords.
-use Rattle.pocsag_batch.proofs.Prelude.{◌≡◌, ℕ, ◌+◌, ◌<◌, List, [], ◌∷◌, ◌++◌, length, map, take, get_or, ap, ◌∙◌, append_assoc, kind_of, Kind}
-use Rattle.std.proofs.lemmas.List.{map-append, take_more}
+use Rattle.pocsag_batch.proofs.Prelude.{◌≡◌, ℕ, ◌+◌, ◌<◌, List, [], ◌∷◌, ◌++◌, length, map, take, get_or, ap, ◌∙◌, append_assoc, kind_of, Kind, map-append, take_more}
 
 -- one codeword more of a kind
 pub pushed : (ws vs : List ℕ) (w : ℕ) (k : Kind) → vs ≡ ws ++ w ∷ [] → kind_of w ≡ k → map kind_of vs ≡ map kind_of ws ++ k ∷ []

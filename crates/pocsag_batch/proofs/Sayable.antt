@@ -1,9 +1,7 @@
 -- Codewords that in order say what a layout says.
-use Rattle.pocsag_batch.proofs.Prelude.{◌≡◌, ℕ, ◌^◌, ◌<◌, List, [], ◌∷◌, ◌++◌, length, map, subst, All, Kind, Page, IsGoodPage, Step, HavePlaces, laid_by, page_at}
-use Rattle.pocsag_words.specs.declared.codeword.Kind.TheVariants.{Message}
+use Rattle.pocsag_batch.proofs.Prelude.{◌≡◌, ℕ, ◌^◌, ◌<◌, List, [], ◌∷◌, ◌++◌, length, map, subst, All, Kind, Page, IsGoodPage, Step, HavePlaces, laid_by, page_at, Message, HaveCodewords, idle_sayable, items_sayable, none_sayable, page_sayable}
 use Rattle.pocsag_slots.specs.Meanings.{IsSayable}
 use Rattle.pocsag_slots.specs.declared.step.Step.TheVariants.{Idle as Stay, Run}
-use Rattle.pocsag_slots.proofs.Sayable.{HaveCodewords, idle_sayable, items_sayable, none_sayable, page_sayable}
 
 laid_sayable : HaveCodewords → (R : List Page) (order : List ℕ) (steps : List Step) → All IsGoodPage R → HavePlaces (length R) order steps →
     IsSayable (laid_by R order steps)

@@ -1,11 +1,7 @@
 -- A transmission on its way through a piece.
-use Rattle.pocsag_batch.proofs.Prelude.{◌≡◌, ℕ, suc, ◌+◌, ◌%◌, ◌<◌, ◌≤◌, ◌==◌, Bool, true, false, cond, List, [], ◌∷◌, ◌++◌, length, replicate, refl, sym, ap, ◌∙◌, arith, append_assoc, append-nil, bytes_of, body_from}
+use Rattle.pocsag_batch.proofs.Prelude.{◌≡◌, ℕ, suc, ◌+◌, ◌%◌, ◌<◌, ◌≤◌, ◌==◌, Bool, true, false, cond, List, [], ◌∷◌, ◌++◌, length, replicate, refl, sym, ap, ◌∙◌, arith, append_assoc, append-nil, bytes_of, body_from, if◌then◌else◌, flat_map, sync_word, synced, slot_bytes}
 use Rattle.std.proofs.lemmas.List.{length-append}
-use Rattle.std.specs.Prelude.{if◌then◌else◌}
-use Rattle.std.specs.List.{flat_map}
 use Rattle.std.specs.Int.{to_be_bytes, w32}
-use Rattle.pocsag_pages.specs.Bytes.{sync_word, synced}
-use Rattle.pocsag_batch.specs.SlotBytes.{slot_bytes}
 
 -- what was taken and the piece are the transmission of the codewords that came
 pub record IsSent (is_known : Type 0) (before taken piece came : List ℕ) : Type 0 where

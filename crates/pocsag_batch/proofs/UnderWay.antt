@@ -1,9 +1,6 @@
 -- The codewords that an iterator gave, of those that it had to give.
-use Rattle.pocsag_batch.proofs.Prelude.{◌≡◌, ℕ, ◌%◌, ◌≤◌, List, [], ◌∷◌, ◌++◌, length, map, take, refl, sym, ap, ◌∙◌, All, arith, append_assoc, All-head, All-tail, YieldsList, IsCodeword, kind_of, Kind, bytes_of, body_from}
-use Rattle.std.proofs.lemmas.List.{length-append, length-take, take-append-le}
-use Rattle.std.proofs.lemmas.Iterator.{items_from_drains}
-use Rattle.std.specs.Iterator.{AlwaysYields, Drains, Yields}
-use Rattle.std.specs.Prelude.{Option}
+use Rattle.pocsag_batch.proofs.Prelude.{◌≡◌, ℕ, ◌%◌, ◌≤◌, List, [], ◌∷◌, ◌++◌, length, map, take, refl, sym, ap, ◌∙◌, All, arith, append_assoc, All-head, All-tail, YieldsList, IsCodeword, kind_of, Kind, bytes_of, body_from, length-take, take-append-le, items_from_drains, AlwaysYields, Drains, Yields, Option}
+use Rattle.std.proofs.lemmas.List.{length-append}
 use Rattle.pocsag_words.specs.Devices.{CallsPerByte, TookPrefix}
 use Rattle.pocsag_batch.specs.Meanings.{IsSayable, Say, SendsPart}
 use Rattle.pocsag_batch.proofs.Sent.{bytes_append}

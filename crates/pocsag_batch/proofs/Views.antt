@@ -1,9 +1,6 @@
 -- What the iterator over a layout has left.
-use Rattle.pocsag_batch.proofs.Prelude.{◌≡◌, ℕ, ◌-◌, ◌/◌, ◌<◌, Bool, List, [], ◌∷◌, ◌++◌, length, map, refl, take, drop, get_or, sym, ap, ◌∙◌, All, get_or_default, nil_from_length, All-get_or, kind_of, address_kind, Kind, Page, IsGoodPage, page_words, Step, HavePlaces, laid_by, page_at}
-use Rattle.std.proofs.lemmas.List.{take_rest}
-use Rattle.pocsag_words.specs.declared.codeword.Kind.TheVariants.{Address, Message}
+use Rattle.pocsag_batch.proofs.Prelude.{◌≡◌, ℕ, ◌-◌, ◌/◌, ◌<◌, Bool, List, [], ◌∷◌, ◌++◌, length, map, refl, take, drop, get_or, sym, ap, ◌∙◌, All, get_or_default, nil_from_length, All-get_or, kind_of, address_kind, Kind, Page, IsGoodPage, page_words, Step, HavePlaces, laid_by, page_at, take_rest, Address, Message, kind_unreserved}
 use Rattle.pocsag_slots.specs.declared.step.Step.TheVariants.{Run}
-use Rattle.pocsag_slots.proofs.Sayable.{kind_unreserved}
 
 page_is : (R : List Page) (k : ℕ) (p : Page) → k < length R → p ≡ get_or R k p → page_at R k ≡ p
 page_is R k p within is = get_or_default R k _ p within ∙ sym is

@@ -58,7 +58,7 @@ pub fn write_slots<S: Sink>(slots: Slots<'_>, sink: &mut S) -> Result<(), WriteF
         × CallsPerByte (S.calls sink.old) (S.calls sink.new) (bytes_of words) }
     ensures failures { CountsFailures result (S.failures sink.old) (S.failures sink.new) }
 {
-    slots.are_sayable();
+    slots.recall_sayable();
     match write_words(slots, sink) {
         Ok(()) => Ok(()),
         Err(_) => Err(WriteFault),

@@ -97,7 +97,7 @@ fn make_room<S: Sink>(piece: &mut Piece, sink: &mut S) -> Result<(), DeviceFault
     Ok(())
 }
 
-/// Puts the codeword of a slot behind the piece, which is written first where it is full.
+/// Appends the codeword of a slot to the piece. A full piece is written first.
 pub(crate) fn put_word<S: Sink>(
     piece: &mut Piece,
     sink: &mut S,

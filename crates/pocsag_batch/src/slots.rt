@@ -10,9 +10,9 @@ use pocsag_slots::Step;
 use pocsag_words::{Word, address_word, message_word};
 use std::marker::Model;
 
-/// An iterator over the codewords of a tour's layout, synchronisation codewords not among them: for an
-/// idle step the idle codeword, for a run the codewords of its page. It takes no memory. In contracts it
-/// is the list of what the codewords that are left say.
+/// An iterator over the codewords of a tour's layout, synchronisation codewords not among them: for an idle step the
+/// idle codeword, for a run the codewords of its page. It takes no memory. Contracts see it as the list of what the
+/// remaining codewords say.
 #[derive(Drop)]
 pub struct Slots<'a> {
     pages: &'a [Page],
@@ -53,7 +53,7 @@ impl<'a> Slots<'a> {
     }
 
     // There are codewords that say this, by the types of pages and rounds.
-    pub(crate) fn are_sayable(&self)
+    pub(crate) fn recall_sayable(&self)
         ensures { IsSayable self.now }
     {
         // A look inside makes known what the type keeps.

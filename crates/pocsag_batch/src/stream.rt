@@ -25,8 +25,8 @@ pub enum FirstFault {
     WriteFault,
 }
 
-/// Reads a page file up to its end, writes its round in file order with the open end, and answers how
-/// many batches that are. Nothing is written before the round is read and laid out.
+/// Reads a page file up to its end, writes its round in file order with the open end, and returns the number of
+/// batches. Nothing is written before the round is read and laid out.
 pub fn first_stream<S: Source, T: Sink>(
     alloc: Global,
     source: &mut S,

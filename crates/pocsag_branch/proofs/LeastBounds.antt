@@ -1,23 +1,10 @@
 -- The least number of batches: what a set of slots needs, and that a choice which is admitted needs no more.
-use Rattle.std.proofs.Common.{◌≡◌, ℕ, ◌+◌, ◌-◌, ◌*◌, ◌/◌, ◌%◌, ◌<◌, ◌≤◌, ◌==◌, min, true, false, cond, ap, ◌∙◌, arith, slice_index, replicate, inl, inr}
+use Rattle.pocsag_branch.proofs.Prelude.{◌≡◌, ℕ, ◌+◌, ◌-◌, ◌*◌, ◌/◌, ◌%◌, ◌<◌, ◌≤◌, ◌==◌, min, true, false, cond, ap, ◌∙◌, arith, slice_index, replicate, inl, inr, cases_eq, cases_lt, nat_tests, get_or-replicate, Classes, IsAdmitted, IsChoice, IsLeast, IsLeastLoad, IsWithin, Overloads, class_load, limits_of_all, load, class_rest, start_of, IsSet, holds, sum_over, covered_by, load_few, rest_below, sum_over-le, sum_over-same, sum_over-times, term-le-sum_below, start_below, RefusesOneLess, HasPage}
 use Rattle.std.proofs.Math.Nat.{mul-le-mul_left}
-use Rattle.std.proofs.lemmas.Bool.{cases_eq, cases_lt}
-use Rattle.std.proofs.lemmas.Bool.Decides.{nat_tests}
 use Rattle.std.proofs.lemmas.Grind.{div_ceil_times}
-use Rattle.std.proofs.lemmas.List.{get_or-replicate}
 use Rattle.std.proofs.lemmas.Nat.Bits.{bit_at_ones}
-use Rattle.pocsag_slots.specs.declared.class.Classes.{Classes}
 use Rattle.pocsag_slots.specs.Cover.{covered}
-use Rattle.pocsag_slots.specs.Loads.{IsAdmitted, IsChoice, IsLeast, IsLeastLoad, IsWithin, Overloads, class_load, limits_of_all, load}
-use Rattle.pocsag_slots.specs.Classes.{class_rest, start_of}
-use Rattle.pocsag_slots.specs.Sums.{holds, sum_over}
 use Rattle.pocsag_slots.proofs.LeastLemmas.{overload_is}
-use Rattle.pocsag_slots.proofs.LoadLemmas.{covered_by, load_few, rest_below}
-use Rattle.pocsag_slots.proofs.SumLemmas.{sum_over-le, sum_over-same, sum_over-times, term-le-sum_below}
-use Rattle.pocsag_tree.specs.CertificateText.{IsSet}
-use Rattle.pocsag_slots.proofs.CoverLemmas.{start_below}
-use Rattle.pocsag_branch.specs.Shape.{RefusesOneLess}
-use Rattle.pocsag_branch.specs.Found.{HasPage}
 
 -- how many members a set has
 abbrev members : ℕ → ℕ

@@ -1,25 +1,8 @@
 -- A node over the row of its children, and one child more.
-use Rattle.std.proofs.Common.{◌≡◌, ℕ, ◌+◌, ◌<◌, ◌≤◌, ◌^◌, Bool, true, false, IsTrue, List, [], ◌∷◌, ◌++◌, take, get_or, length, refl, sym, ap, ◌∙◌, arith, append_assoc}
-use Rattle.std.proofs.lemmas.List.{append-nil, take_more}
-use Rattle.pocsag_words.specs.declared.ending.End.{End}
-use Rattle.pocsag_slots.specs.declared.class.Classes.{Classes}
-use Rattle.pocsag_slots.specs.declared.limit.Limits.{Limits}
-use Rattle.pocsag_slots.specs.declared.way.Way.{Way}
-use Rattle.pocsag_slots.specs.Sums.{holds}
-use Rattle.pocsag_slots.specs.Tours.{AsksForLast}
-use Rattle.pocsag_slots.specs.Ways.{class_certain, limits_below, limits_from, narrowed_limits, ways_across, ways_to_close}
+use Rattle.pocsag_branch.proofs.Prelude.{◌≡◌, ℕ, ◌+◌, ◌<◌, ◌≤◌, ◌^◌, Bool, true, false, IsTrue, List, [], ◌∷◌, ◌++◌, take, get_or, length, refl, sym, ap, ◌∙◌, arith, append_assoc, append-nil, take_more, End, Classes, Limits, Way, holds, AsksForLast, class_certain, limits_below, limits_from, narrowed_limits, ways_across, ways_to_close, Tree, BoundTree, BoundTrees, cut, close, split, none, more, closed_nodes, closed_nodes_in, deepest, depth_of, bound_tree_of, bounds_of, Accepts, AcceptsEach, AcceptsWithin, Task, AreExamined, AreRefuted, IsExamined, IsRefuted, opens, opens_in, AdmitApart, AdmitSplit, AdmitUnclosed, AreShaped, IsShaped, IsSplitPoint, undecided}
 use Rattle.std.specs.Global.{Vec}
-use Rattle.pocsag_tree.specs.declared.shape.Tree.{Tree}
 use Rattle.pocsag_tree.specs.declared.shape.Tree.TheViews.{Cut, Close}
-use Rattle.pocsag_tree.specs.BoundTrees.{BoundTree, BoundTrees, cut, close, split, none, more, closed_nodes, closed_nodes_in, deepest, depth_of}
-use Rattle.pocsag_tree.specs.Views.{bound_tree_of, bounds_of}
 use Rattle.pocsag_tree.proofs.Counts.{bound_tree_of-cut, bound_tree_of-close}
-use Rattle.pocsag_check.specs.Acceptance.{Accepts, AcceptsEach, AcceptsWithin}
-use Rattle.pocsag_branch.specs.declared.task.Task.{Task}
-use Rattle.pocsag_branch.specs.Examined.{AreExamined, AreRefuted, IsExamined, IsRefuted}
-use Rattle.pocsag_branch.specs.Marks.{opens, opens_in}
-use Rattle.pocsag_branch.specs.Shape.{AdmitApart, AdmitSplit, AdmitUnclosed, AreShaped, IsShaped}
-use Rattle.pocsag_branch.specs.Undecided.{IsSplitPoint, undecided}
 use Rattle.pocsag_branch.proofs.NodeRows.{fills_join, fills_node}
 
 -- a row with one tree more

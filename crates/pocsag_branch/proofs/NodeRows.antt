@@ -1,8 +1,5 @@
 -- Nodes that were made one after another until the limit.
-use Rattle.std.proofs.Common.{◌≡◌, ℕ, suc, ◌+◌, Bool, true, false, List, ◌∷◌, ◌++◌, replicate, sym, ap, ◌∙◌, arith, append_assoc, inl, inr}
-use Rattle.std.proofs.lemmas.Bool.{cases_eq}
-use Rattle.std.proofs.lemmas.List.{append-nil, replicate-append-replicate}
-use Rattle.pocsag_branch.specs.Examined.{Fills}
+use Rattle.pocsag_branch.proofs.Prelude.{◌≡◌, ℕ, suc, ◌+◌, Bool, true, false, List, ◌∷◌, ◌++◌, replicate, sym, ap, ◌∙◌, arith, append_assoc, inl, inr, cases_eq, append-nil, replicate-append-replicate, Fills}
 
 pub fills_node : (limit made after : ℕ) (marks : List Bool) → Fills limit (made + 1) after marks → Fills limit made after (false ∷ marks)
 fills_node limit made after marks f =

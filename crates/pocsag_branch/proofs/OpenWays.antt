@@ -1,19 +1,7 @@
 -- Where an admitted choice is apart, no way out of what it reaches is decided, and no split either.
-use Rattle.std.proofs.Common.{◌≡◌, ℕ, ◌-◌, ◌<◌, ◌≤◌, ◌&&◌, ◌||◌, nat_lt, Bool, true, false, cond, [], ◌∷◌, All, refl, arith, slice_index, inl, inr}
-use Rattle.std.proofs.lemmas.Bool.{and_parts, cases_eq, cases_lt, lt-ltb, ltb-false, ltb-true}
-use Rattle.std.proofs.lemmas.List.Elements.{All-append, All-cons, All-nil}
-use Rattle.pocsag_words.specs.declared.ending.End.{End}
+use Rattle.pocsag_branch.proofs.Prelude.{◌≡◌, ℕ, ◌-◌, ◌<◌, ◌≤◌, ◌&&◌, ◌||◌, nat_lt, Bool, true, false, cond, [], ◌∷◌, All, refl, arith, slice_index, inl, inr, and_parts, cases_eq, cases_lt, lt-ltb, ltb-false, ltb-true, All-append, All-cons, All-nil, End, Classes, Limits, IdleIn, Early, Late, IsAdmitted, load, joined_below, class_certain, class_ways, early_open, idle_crosses, late_open, run_crosses, run_touches, slot_ways, ways_across, ways_to_close, HasRunOutside, IsApart, IsUnclosed, runs_of, NoneCertain, SplitsAt, at_one, at_count, AreNodeLimits, Falls, IsSplitPoint}
 use Rattle.pocsag_words.specs.declared.ending.End.TheVariants as ends
-use Rattle.pocsag_slots.specs.declared.class.Classes.{Classes}
-use Rattle.pocsag_slots.specs.declared.limit.Limits.{Limits}
-use Rattle.pocsag_slots.specs.declared.way.Way.TheVariants.{IdleIn, Early, Late}
-use Rattle.pocsag_slots.specs.Loads.{IsAdmitted, load}
-use Rattle.pocsag_slots.specs.Sums.{joined_below}
-use Rattle.pocsag_slots.specs.Ways.{class_certain, class_ways, early_open, idle_crosses, late_open, run_crosses, run_touches, slot_ways, ways_across, ways_to_close}
 use Rattle.pocsag_slots.proofs.WayLemmas.{All-joined_below, All-one_or_none}
-use Rattle.pocsag_tour.specs.Reached.{HasRunOutside, IsApart, IsUnclosed, runs_of}
-use Rattle.pocsag_branch.specs.Shape.{NoneCertain, SplitsAt, at_one, at_count}
-use Rattle.pocsag_branch.specs.Undecided.{AreNodeLimits, Falls, IsSplitPoint}
 use Rattle.pocsag_branch.proofs.Settled.{early_falls, idle_falls, late_falls, splits_at_count, splits_at_one}
 
 never_both : (b : Bool) → b ≡ true → b ≡ false → ⊥

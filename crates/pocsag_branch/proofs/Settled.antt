@@ -1,15 +1,5 @@
 -- Which ways and splits settle a question that the limits of a node leave open.
-use Rattle.std.proofs.Common.{◌≡◌, ◌≢◌, ℕ, ◌+◌, ◌-◌, ◌<◌, ◌≤◌, min, max, length, sym, ap, arith, slice_index, slice_set, get_or-set_same, get_or-set_other}
-use Rattle.std.proofs.lemmas.Bool.Decides.{nat_tests}
-use Rattle.pocsag_slots.specs.declared.class.Classes.{Classes}
-use Rattle.pocsag_slots.specs.declared.limit.Limits.{Limits}
-use Rattle.pocsag_slots.specs.declared.way.Way.{Way}
-use Rattle.pocsag_slots.specs.declared.way.Way.TheVariants.{IdleIn, Early, Late}
-use Rattle.pocsag_slots.specs.Sums.{sum_below}
-use Rattle.pocsag_slots.specs.Ways.{MayTake}
-use Rattle.pocsag_slots.proofs.SumLemmas.{sum_below-bump}
-use Rattle.pocsag_branch.specs.FreeNode.{IsUndecidedWay}
-use Rattle.pocsag_branch.specs.Undecided.{AreNodeLimits, Falls, IsSplitPoint, class_left, slot_left, undecided}
+use Rattle.pocsag_branch.proofs.Prelude.{◌≡◌, ◌≢◌, ℕ, ◌+◌, ◌-◌, ◌<◌, ◌≤◌, min, max, length, sym, ap, arith, slice_index, slice_set, get_or-set_same, get_or-set_other, nat_tests, Classes, Limits, Way, IdleIn, Early, Late, sum_below, MayTake, sum_below-bump, IsUndecidedWay, AreNodeLimits, Falls, IsSplitPoint, class_left, slot_left, undecided}
 
 sum_below-fall : (n k : ℕ) (f g : ℕ → ℕ) → k < n → g k < f k → ((j : ℕ) → j < n → j ≢ k → g j ≡ f j) → sum_below n g < sum_below n f
 sum_below-fall n k f g h less others =

@@ -1,39 +1,13 @@
 -- What a tree says where the search ends.
-use Rattle.std.proofs.Common.{All, ◌≡◌, ℕ, zero, suc, ◌+◌, ◌-◌, ◌%◌, ◌<◌, ◌≤◌, ◌||◌, Bool, true, false, List, [], ◌∷◌, ◌++◌, map, replicate, refl, sym, ap, ◌∙◌, arith, slice_index, inl, inr}
-use Rattle.std.proofs.lemmas.Bool.{cases_eq, or_parts}
-use Rattle.std.proofs.lemmas.Bool.Decides.{nat_tests}
-use Rattle.std.proofs.lemmas.List.{append-nil, get_or-replicate, length-replicate}
+use Rattle.pocsag_branch.proofs.Prelude.{All, ◌≡◌, ℕ, zero, suc, ◌+◌, ◌-◌, ◌%◌, ◌<◌, ◌≤◌, ◌||◌, Bool, true, false, List, [], ◌∷◌, ◌++◌, map, replicate, refl, sym, ap, ◌∙◌, arith, slice_index, inl, inr, cases_eq, or_parts, nat_tests, append-nil, get_or-replicate, length-replicate, End, Classes, Limits, Way, IsAdmitted, IsChoice, IsLeast, limits_of_all, load, start_of, holds, IsTour, limits_below, limits_from, narrowed_limits, ways_across, ways_to_close, sum_below-most, BoundTree, BoundTrees, overload, split, cut, close, unexamined, none, more, closed_nodes, closed_nodes_in, bound_tree_of, bound_step, Overload, rolls-Overload, Accepts, AcceptsEach, IsAccepted, IsApart, IsReached, at_start, by_idle, IsUnclosed, start_below, Task, IsExamined, IsRefuted, IsTreeOf, IsBound, IsFreeTree, has_open, have_open, opens, opens_in, IsOneOverload, RefusesOneLess, AreNodeLimits, Falls, class_left, slot_left, undecided}
 use Rattle.pocsag_words.specs.Kinds.{kind_of}
-use Rattle.pocsag_words.specs.declared.ending.End.{End}
-use Rattle.pocsag_slots.specs.declared.class.Classes.{Classes}
-use Rattle.pocsag_slots.specs.declared.limit.Limits.{Limits}
 use Rattle.pocsag_slots.specs.declared.step.Step.{Step}
-use Rattle.pocsag_slots.specs.declared.way.Way.{Way}
-use Rattle.pocsag_slots.specs.Loads.{IsAdmitted, IsChoice, IsLeast, limits_of_all, load}
-use Rattle.pocsag_slots.specs.Classes.{start_of}
-use Rattle.pocsag_slots.specs.Sums.{holds}
-use Rattle.pocsag_slots.specs.Tours.{IsTour}
-use Rattle.pocsag_slots.specs.Ways.{limits_below, limits_from, narrowed_limits, ways_across, ways_to_close}
 use Rattle.pocsag_slots.proofs.Fewest.{fewest}
 use Rattle.pocsag_slots.proofs.LimitLemmas.{all_ordered}
-use Rattle.pocsag_slots.proofs.SumLemmas.{sum_below-most}
-use Rattle.pocsag_tree.specs.BoundTrees.{BoundTree, BoundTrees, overload, split, cut, close, unexamined, none, more, closed_nodes, closed_nodes_in}
-use Rattle.pocsag_tree.specs.Views.{bound_tree_of, bound_step}
-use Rattle.pocsag_tree.specs.declared.shape.Tree.TheVariants.{Overload, rolls-Overload}
 use Rattle.pocsag_tree.specs.declared.shape.Tree.TheOpen as layer
 use Rattle.pocsag_tree.specs.declared.shape.Tree.TheFolds.{fold-roll-Tree}
-use Rattle.pocsag_check.specs.Acceptance.{Accepts, AcceptsEach, IsAccepted}
 use Rattle.pocsag_check.proofs.Bounds.{bounded}
-use Rattle.pocsag_tour.specs.Reached.{IsApart, IsReached, at_start, by_idle, IsUnclosed}
-use Rattle.pocsag_slots.proofs.CoverLemmas.{start_below}
 use Rattle.pocsag_branch.proofs.OpenWays.{closing_ways_fall}
-use Rattle.pocsag_branch.specs.declared.task.Task.{Task}
-use Rattle.pocsag_branch.specs.Examined.{IsExamined, IsRefuted, IsTreeOf}
-use Rattle.pocsag_branch.specs.Found.{IsBound}
-use Rattle.pocsag_branch.specs.FreeNode.{IsFreeTree}
-use Rattle.pocsag_branch.specs.Marks.{has_open, have_open, opens, opens_in}
-use Rattle.pocsag_branch.specs.Shape.{IsOneOverload, RefusesOneLess}
-use Rattle.pocsag_branch.specs.Undecided.{AreNodeLimits, Falls, class_left, slot_left, undecided}
 
 -- at most 288 questions are open
 class_left_few : (lo hi count : ℕ) → class_left lo hi count ≤ 2

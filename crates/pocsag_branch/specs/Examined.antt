@@ -5,11 +5,11 @@ use Rattle.pocsag_slots.specs.declared.class.Classes.{Classes}
 use Rattle.pocsag_slots.specs.declared.limit.Limits.{Limits}
 use Rattle.pocsag_slots.specs.declared.way.Way.{Way}
 use Rattle.pocsag_slots.specs.Loads.{IsChoice, Overloads, limits_of_all}
+use Rattle.pocsag_slots.specs.Sums.{IsSet}
 use Rattle.pocsag_slots.specs.Tours.{AsksForLast, IsTour}
 use Rattle.pocsag_slots.specs.Ways.{class_certain, ways_across, ways_to_close}
 use Rattle.pocsag_tree.specs.BoundTrees.{BoundTree, BoundTrees, closed_nodes, closed_nodes_in, depth_of, deepest}
 use Rattle.pocsag_tree.specs.Views.{bound_tree_of, bounds_of}
-use Rattle.pocsag_tree.specs.CertificateText.{IsSet}
 use Rattle.pocsag_check.specs.Acceptance.{Accepts, AcceptsEach}
 use Rattle.pocsag_tour.specs.Reached.{IsApart, IsUnclosed}
 use Rattle.pocsag_branch.specs.declared.node.Children.{Children}

@@ -7,9 +7,9 @@ use Rattle.pocsag_slots.specs.declared.class.Classes.{Classes}
 use Rattle.pocsag_slots.specs.declared.limit.Limits.{Limits}
 use Rattle.pocsag_slots.specs.declared.way.Way.{Way}
 use Rattle.pocsag_slots.specs.Loads.{IsAdmitted, Overloads, limits_of_all}
+use Rattle.pocsag_slots.specs.Sums.{IsSet}
 use Rattle.pocsag_slots.specs.Ways.{class_certain, ways_across, ways_to_close, narrowed_limits, limits_below, limits_from}
 use Rattle.pocsag_tour.specs.Reached.{HasRunOutside, IsApart, IsUnclosed}
-use Rattle.pocsag_tree.specs.CertificateText.{IsSet}
 
 -- No class is certain for the set.
 abbrev pub NoneCertain : Classes → Limits → ℕ → Type 0

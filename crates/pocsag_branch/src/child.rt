@@ -1,5 +1,5 @@
-ghost use Rattle.std.specs.Prelude.{◌≡◌, ◌<◌, All, IsTrue, IfOk, IfSome, IfNone};
-ghost use Rattle.pocsag_slots.specs.Ways.{class_certain, limits_below, limits_from, MayTake, narrowed_limits, ways_across, ways_to_close};
+ghost use Rattle.std.specs.Prelude.{◌≡◌, ◌<◌, IsTrue, IfOk, IfSome, IfNone};
+ghost use Rattle.pocsag_slots.specs.Ways.{class_certain, limits_below, limits_from, MayTake, narrowed_limits};
 ghost use Rattle.pocsag_tree.specs.BoundTrees.{split};
 ghost use Rattle.pocsag_tree.specs.Views.{bound_tree_of};
 ghost use Rattle.pocsag_branch.specs.Shape.{NoneCertain};
@@ -7,10 +7,7 @@ ghost use Rattle.pocsag_branch.specs.Undecided.{Falls, IsSplitPoint, undecided};
 
 use crate::boundaries::BoundarySet;
 use crate::node::Node;
-use arrayvec::ArrayVec;
-use pocsag_slots::{
-    CLASSES, Class, Way, below_split, ending_ways, from_split, is_certain, narrow, ways,
-};
+use pocsag_slots::{CLASSES, Class, Way, below_split, from_split, is_certain, narrow};
 use pocsag_tree::Tree;
 use std::alloc::{AllocError, AllocFailed, Global};
 
@@ -109,30 +106,6 @@ pub(crate) fn split_tree(
         below,
         from,
     })
-}
-
-// The ways out of the set, each of which settles an open question.
-#[inline(never)]
-pub(crate) fn ways_out(node: &Node<'_>, set: BoundarySet) -> ArrayVec<Way, 288>
-    requires { All (Falls node.now.classes.now node.now.task.batches node.now.limits)
-        (ways_across node.now.classes.now node.now.limits set.members) }
-    ensures items { result.items ≡ ways_across node.now.classes.now node.now.limits set.members }
-    ensures allowed { All (MayTake node.now.classes.now node.now.limits) result.items }
-    ensures fall { All (Falls node.now.classes.now node.now.task.batches node.now.limits) result.items }
-{
-    ways(node.classes, &node.limits, set.members, node.task.batches)
-}
-
-// The ways to close, each of which settles an open question.
-#[inline(never)]
-pub(crate) fn ways_to_end(node: &Node<'_>) -> ArrayVec<Way, 2>
-    requires { All (Falls node.now.classes.now node.now.task.batches node.now.limits)
-        (ways_to_close node.now.classes.now node.now.task.end node.now.limits) }
-    ensures items { result.items ≡ ways_to_close node.now.classes.now node.now.task.end node.now.limits }
-    ensures allowed { All (MayTake node.now.classes.now node.now.limits) result.items }
-    ensures fall { All (Falls node.now.classes.now node.now.task.batches node.now.limits) result.items }
-{
-    ending_ways(node.classes, node.task.end, &node.limits)
 }
 
 // The first class that is certain for the set.

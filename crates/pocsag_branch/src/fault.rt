@@ -5,7 +5,7 @@ use pocsag_tree::Tree;
 use std::alloc::AllocError;
 use thiserror::Error;
 
-/// So many nodes did not decide between `least` batches and `found`, one more.
+/// This many nodes did not decide between `least` batches and `found`, one more.
 #[derive(Debug, Drop, Error)]
 #[error("search limit reached: at least {least} batches, {found} would do")]
 pub struct SearchLimit {
@@ -15,7 +15,7 @@ pub struct SearchLimit {
     pub tree: Tree,
 }
 
-/// Why the search gave no answer.
+/// Why the search returned no result.
 #[derive(Debug, Drop, Error)]
 pub enum SearchFault {
     #[error(transparent)]

@@ -1,6 +1,5 @@
 ghost use Rattle.std.specs.Prelude.{◌<◌, false, IfErr, IfOk, slice_index};
-ghost use Rattle.pocsag_slots.specs.Loads.{IsAdmitted, IsChoice};
-ghost use Rattle.pocsag_slots.specs.Tours.{IsTour};
+ghost use Rattle.pocsag_slots.specs.Loads.{IsAdmitted};
 ghost use Rattle.pocsag_tour.specs.Reached.{IsApart};
 ghost use Rattle.pocsag_branch.specs.Examined.{IsNodeKind, IsStop, IsNoTour, IsNodeAs};
 ghost use Rattle.pocsag_branch.specs.Shape.{NoneCertain};
@@ -11,7 +10,7 @@ use crate::local_search::improved_choice;
 use crate::node::Node;
 use crate::task::{Answer, NoTour, NodeKind, Stop};
 use pocsag_flow::{ChooseFault, choose};
-use pocsag_slots::{CLASSES, Choice, Class, Step};
+use pocsag_slots::{CLASSES, Choice, Class};
 use pocsag_tour::{TourFault, has_run_outside, tour};
 use std::alloc::Global;
 
@@ -58,27 +57,16 @@ pub(crate) fn why_no_tour(alloc: Global, node: &Node<'_>, choice: &Choice) -> Re
         node.task.batches,
         node.task.end,
     ) {
-        Ok(steps) => Err(stop_with_tour(alloc, node, choice, steps)),
+        Ok(steps) => {
+            let answer = Answer {
+                choice: *choice,
+                steps,
+            };
+            Err(Stop::Met(Box::new(alloc, answer)?))
+        }
         Err(TourFault::Apart(members)) => Ok(NoTour::Apart(BoundarySet { members })),
         Err(TourFault::Unclosed) => Ok(NoTour::Unclosed),
         Err(TourFault::OutOfMemory) => Err(Stop::OutOfMemory),
-    }
-}
-
-// The tour that was found.
-fn stop_with_tour(alloc: Global, node: &Node<'_>, choice: &Choice, steps: Vec<Step>) -> Stop
-    requires choice { IsChoice node.now.classes.now (slice_index choice.now.early) }
-    requires tour { IsTour node.now.classes.now node.now.task.end
-        (slice_index choice.now.early) node.now.task.batches steps.items }
-    ensures { IsStop node.now.classes.now node.now.task result }
-{
-    let answer = Answer {
-        choice: *choice,
-        steps,
-    };
-    match Box::new(alloc, answer) {
-        Ok(answer) => Stop::Met(answer),
-        Err(_) => Stop::OutOfMemory,
     }
 }
 

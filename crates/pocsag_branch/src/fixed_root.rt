@@ -1,7 +1,7 @@
 ghost use Rattle.std.specs.Prelude.{◌≡◌, ◌<◌, true, IfErr, IfOk, IfSome, slice_index};
 ghost use Rattle.pocsag_slots.specs.Loads.{IsAdmitted, limits_of_all};
 ghost use Rattle.pocsag_tree.specs.Views.{bound_tree_of};
-ghost use Rattle.pocsag_branch.specs.Examined.{IsExamined, IsStop, IsTreeOf};
+ghost use Rattle.pocsag_branch.specs.Examined.{IsStop, IsTreeOf};
 
 use crate::fixed_kinds::kind_for;
 use crate::free_root::stop_at_tour;
@@ -55,23 +55,11 @@ pub(crate) fn fixed_tree(alloc: Global, classes: &Classes, task: Task) -> Result
         task,
         limits: all_limits(classes, task.batches),
     };
-    let met = choice_for_open_end(alloc, classes, task)?;
-    let (tree, _) = root_with(alloc, &root, met)?;
-    Ok(tree)
-}
-
-// The tree of the root: where a choice has a tour for the open end, of the form that stands for it there.
-fn root_with(alloc: Global, root: &Node<'_>, met: Option<Choice>) -> Result<(Tree, u32), Stop>
-    requires { IfSome met (λ choice. IsAdmitted root.now.classes.now root.now.limits (slice_index choice.early)) }
-    ensures node { IfOk result
-        (λ x. IsExamined root.now.classes.now root.now.task root.now.limits 0 x.1 (bound_tree_of x.0)) }
-    ensures stop { IfErr result (IsStop root.now.classes.now root.now.task) }
-{
-    match met {
-        Some(choice) => {
-            let kind = kind_for(alloc, root, &choice)?;
-            tree_of_kind(alloc, root, kind, 0)
-        }
-        None => node_tree(alloc, root, 0),
+    if let Some(choice) = choice_for_open_end(alloc, classes, task)? {
+        let kind = kind_for(alloc, &root, &choice)?;
+        let (tree, _) = tree_of_kind(alloc, &root, kind, 0)?;
+        return Ok(tree);
     }
+    let (tree, _) = node_tree(alloc, &root, 0)?;
+    Ok(tree)
 }

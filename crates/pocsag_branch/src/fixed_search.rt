@@ -1,7 +1,4 @@
-ghost use Rattle.std.specs.Prelude.{◌+◌, ◌≤◌, IfErr, IfOk, slice_index};
-ghost use Rattle.pocsag_slots.specs.Loads.{IsAdmitted, IsLeast, limits_of_all};
-ghost use Rattle.pocsag_tree.specs.Views.{bound_tree_of};
-ghost use Rattle.pocsag_branch.specs.Examined.{greatest_least, IsTreeOf};
+ghost use Rattle.std.specs.Prelude.{◌+◌, IfErr, IfOk};
 ghost use Rattle.pocsag_branch.specs.Found.{HasPage, IsFound, IsNodeLimit, IsSearchFault};
 
 use crate::answer::Found;
@@ -11,13 +8,12 @@ use crate::least::least_of;
 use crate::outcome::{found_at_least, tour_of_one_more};
 use crate::task::{Stop, Task};
 use crate::unfinished::is_unfinished;
-use pocsag_slots::{Choice, Classes};
-use pocsag_tree::Tree;
+use pocsag_slots::Classes;
 use pocsag_words::End;
 use std::alloc::Global;
 
-/// The fewest batches of a transmission of these classes for the end, with a tour and the tree that
-/// refutes one batch less. `SearchLimit` where so many nodes, 1 to 1,000,000, do not decide it.
+/// The fewest batches of a transmission of these classes for the end, with a tour and the tree that refutes one batch
+/// less. Returns `SearchLimit` if the limit of nodes, 1 to 1,000,000, does not suffice to decide it.
 ///
 /// It goes at most 289 nodes deep.
 pub fn search(
@@ -40,7 +36,22 @@ pub fn search(
         second: false,
     };
     match fixed_tree(alloc, classes, task) {
-        Ok(tree) => found_or_limit(alloc, classes, task, &least.choice, tree),
+        Ok(tree) => {
+            if is_unfinished(&tree) {
+                return Err(SearchFault::SearchLimit(SearchLimit {
+                    least: least.batches,
+                    found: least.batches + 1,
+                    tree,
+                }));
+            }
+            let steps = tour_of_one_more(alloc, classes, &least.choice, least.batches, end)?;
+            Ok(Found {
+                batches: least.batches + 1,
+                choice: least.choice,
+                steps,
+                tree,
+            })
+        }
         Err(Stop::Met(answer)) => Ok(found_at_least(
             classes,
             task,
@@ -50,37 +61,4 @@ pub fn search(
         Err(Stop::Limit) => unreachable!(),
         Err(Stop::OutOfMemory) => Err(SearchFault::OutOfMemory),
     }
-}
-
-// What is found where the tree leaves no tour with the least number of batches, for which the choice is
-// admitted; or that the limit was reached.
-fn found_or_limit(
-    alloc: Global,
-    classes: &Classes,
-    task: Task,
-    choice: &Choice,
-    tree: Tree,
-) -> Result<Found, SearchFault>
-    requires least { IsLeast classes.now task.batches }
-    requires small { task.batches ≤ greatest_least }
-    requires admitted { IsAdmitted classes.now (limits_of_all classes.now task.batches)
-        (slice_index choice.now.early) }
-    requires tree { IsTreeOf classes.now task (bound_tree_of tree) }
-    ensures found { IfOk result (IsFound classes.now task.end task.limit) }
-    ensures fault { IfErr result (IsSearchFault classes.now task.end task.limit) }
-{
-    if is_unfinished(&tree) {
-        return Err(SearchFault::SearchLimit(SearchLimit {
-            least: task.batches,
-            found: task.batches + 1,
-            tree,
-        }));
-    }
-    let steps = tour_of_one_more(alloc, classes, choice, task.batches, task.end)?;
-    Ok(Found {
-        batches: task.batches + 1,
-        choice: *choice,
-        steps,
-        tree,
-    })
 }

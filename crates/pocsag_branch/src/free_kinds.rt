@@ -20,19 +20,12 @@ pub(crate) fn free_kind(alloc: Global, node: &Node<'_>) -> Result<NodeKind, Stop
     ensures kind { IfOk result (IsNodeKind node.now.classes.now node.now.task node.now.limits) }
     ensures stop { IfErr result (IsStop node.now.classes.now node.now.task) }
 {
-    match choose(node.classes, &node.limits) {
-        Ok(choice) => free_kind_for(alloc, node, &choice),
-        Err(ChooseFault::Overload(set)) => Ok(NodeKind::Overload(set)),
-    }
-}
-
-fn free_kind_for(alloc: Global, node: &Node<'_>, choice: &Choice) -> Result<NodeKind, Stop>
-    requires { IsAdmitted node.now.classes.now node.now.limits (slice_index choice.now.early) }
-    ensures kind { IfOk result (IsNodeKind node.now.classes.now node.now.task node.now.limits) }
-    ensures stop { IfErr result (IsStop node.now.classes.now node.now.task) }
-{
-    match why_no_tour(alloc, node, choice)? {
-        NoTour::Apart(set) => Ok(free_kind_at(node, choice, set)),
+    let choice = match choose(node.classes, &node.limits) {
+        Ok(choice) => choice,
+        Err(ChooseFault::Overload(set)) => return Ok(NodeKind::Overload(set)),
+    };
+    match why_no_tour(alloc, node, &choice)? {
+        NoTour::Apart(set) => Ok(free_kind_at(node, &choice, set)),
         NoTour::Unclosed => Ok(NodeKind::Close),
     }
 }
@@ -59,22 +52,15 @@ fn split_first(node: &Node<'_>, kind: NodeKind) -> NodeKind
     ensures { IsNodeKind node.now.classes.now node.now.task node.now.limits result }
 {
     match kind {
-        NodeKind::Cut { set, .. } => match undecided_run(node, set) {
-            Some(split) => split,
-            None => kind,
-        },
+        NodeKind::Cut { set, .. } => {
+            let out = ways(node.classes, &node.limits, set.members, node.task.batches);
+            undecided_among(node, &out).unwrap_or(kind)
+        }
         _ => kind,
     }
 }
 
-// The split at the first run way across the set that is open, in the second try at the last one.
-fn undecided_run(node: &Node<'_>, set: BoundarySet) -> Option<NodeKind>
-    ensures { IfSome result (IsNodeKind node.now.classes.now node.now.task node.now.limits) }
-{
-    let out = ways(node.classes, &node.limits, set.members, node.task.batches);
-    undecided_among(node, &out)
-}
-
+// The split at the first of the ways that is an open run, in the second try at the last one.
 fn undecided_among(node: &Node<'_>, out: &[Way]) -> Option<NodeKind>
     requires { All (MayTake node.now.classes.now node.now.limits) out.now }
     ensures { IfSome result (IsNodeKind node.now.classes.now node.now.task node.now.limits) }

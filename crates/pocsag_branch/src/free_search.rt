@@ -1,9 +1,5 @@
-ghost use Rattle.std.specs.Prelude.{◌≡◌, ◌≤◌, IfErr, IfOk, slice_index};
-ghost use Rattle.pocsag_slots.specs.Loads.{IsAdmitted, IsLeast, limits_of_all};
-ghost use Rattle.pocsag_tree.specs.Views.{bound_tree_of};
-ghost use Rattle.pocsag_branch.specs.Examined.{greatest_least};
+ghost use Rattle.std.specs.Prelude.{IfErr, IfOk};
 ghost use Rattle.pocsag_branch.specs.Found.{HasPage, IsNodeLimit};
-ghost use Rattle.pocsag_branch.specs.FreeNode.{IsFreeTree};
 ghost use Rattle.pocsag_branch.specs.Freely.{IsFoundFreely, IsFreeFault, IsNearlyFewest};
 
 use crate::answer::Found;
@@ -14,14 +10,14 @@ use crate::least::least_of;
 use crate::outcome::{found_at_least, tour_of_one_more};
 use crate::task::{Stop, Task};
 use crate::within_one::{FallbackPlan, FreeFault};
-use pocsag_slots::{Choice, Classes};
+use pocsag_slots::Classes;
 use pocsag_tree::Tree;
 use pocsag_words::End;
 use std::alloc::{AllocError, Global};
 
-/// The same answer as that of `search`, with a tree whose shape is not promised, and mostly far fewer
-/// nodes. Where so many nodes, 1 to 1,000,000, do not decide it, `search` has as many; and where these do not
-/// either, `SearchLimit` holds a transmission of one batch more than is refuted, beside what `search` says.
+/// Returns what `search` returns, with a tree whose shape is not promised, and mostly with far fewer nodes. If this
+/// many nodes, 1 to 1,000,000, do not decide it, `search` runs with as many. If these do not decide it either,
+/// `SearchLimit` holds a transmission of one batch more than is refuted, and what `search` returns.
 ///
 /// It goes at most 289 nodes deep.
 pub fn search_freely(
@@ -44,7 +40,15 @@ pub fn search_freely(
         second: false,
     };
     match free_tree(alloc, classes, task) {
-        Ok(tree) => found_one_more(alloc, classes, task, &least.choice, tree),
+        Ok(tree) => {
+            let steps = tour_of_one_more(alloc, classes, &least.choice, least.batches, end)?;
+            Ok(Found {
+                batches: least.batches + 1,
+                choice: least.choice,
+                steps,
+                tree,
+            })
+        }
         Err(Stop::Met(answer)) => Ok(found_at_least(
             classes,
             task,
@@ -76,32 +80,6 @@ fn found_or_near(
         }
         Err(SearchFault::OutOfMemory) => Err(FreeFault::OutOfMemory),
     }
-}
-
-// What is found where the tree leaves no tour with the least number of batches, for which the choice is
-// admitted.
-fn found_one_more(
-    alloc: Global,
-    classes: &Classes,
-    task: Task,
-    choice: &Choice,
-    tree: Tree,
-) -> Result<Found, FreeFault>
-    requires least { IsLeast classes.now task.batches }
-    requires small { task.batches ≤ greatest_least }
-    requires admitted { IsAdmitted classes.now (limits_of_all classes.now task.batches)
-        (slice_index choice.now.early) }
-    requires tree { IsFreeTree classes.now task (bound_tree_of tree) }
-    ensures found { IfOk result (IsFoundFreely classes.now task.end task.limit) }
-    ensures fault { IfErr result (λ fault. fault ≡ FreeFault.OutOfMemory) }
-{
-    let steps = tour_of_one_more(alloc, classes, choice, task.batches, task.end)?;
-    Ok(Found {
-        batches: task.batches + 1,
-        choice: *choice,
-        steps,
-        tree,
-    })
 }
 
 /// A transmission of at most one batch more than the fewest, without a search.

@@ -1,7 +1,8 @@
 ghost use Rattle.std.specs.Prelude.{◌≡◌, ◌+◌, ◌<◌, ◌≤◌, false, slice_index};
 ghost use Rattle.pocsag_slots.specs.Loads.{IsAdmitted, IsLeast, limits_of_all, Overloads};
+ghost use Rattle.pocsag_slots.specs.Sums.{IsSet};
 ghost use Rattle.pocsag_tree.specs.Limits.{second_ranges};
-ghost use Rattle.pocsag_tree.specs.CertificateText.{HasText, IsSet};
+ghost use Rattle.pocsag_tree.specs.CertificateText.{HasText};
 ghost use Rattle.pocsag_tree.specs.Views.{bound_tree_of};
 ghost use Rattle.pocsag_check.specs.Acceptance.{IsAccepted};
 ghost use Rattle.pocsag_branch.specs.Examined.{greatest_least};

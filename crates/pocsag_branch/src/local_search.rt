@@ -1,4 +1,4 @@
-ghost use Rattle.std.specs.Prelude.{◌<◌, All, slice_index};
+ghost use Rattle.std.specs.Prelude.{◌<◌, slice_index};
 ghost use Rattle.pocsag_slots.specs.Loads.{IsAdmitted};
 ghost use Rattle.pocsag_slots.specs.Ways.{MayTake};
 ghost use Rattle.pocsag_branch.specs.Improvements.{IsImprovement};
@@ -43,33 +43,18 @@ pub(crate) enum Improvement {
     Cheaper(Candidate),
 }
 
-fn is_below(cost: Cost, other: Cost) -> bool {
-    cost.usable < other.usable || cost.usable == other.usable && cost.all < other.all
-}
-
-// What the ways cost.
-fn cost_over(node: &Node<'_>, usable: &UsableWays, out: &[Way]) -> Cost
-    requires { All (MayTake node.now.classes.now node.now.limits) out.now }
-{
+fn cost_of(node: &Node<'_>, usable: &UsableWays, set: BoundarySet) -> Cost {
+    if certain_class(node, set).is_none() {
+        return NONE_CERTAIN;
+    }
     let mut cost = Cost { usable: 0, all: 0 };
-    for way in out {
+    let out = ways(node.classes, &node.limits, set.members, node.task.batches);
+    for way in out.as_slice() {
         let more = u32::from(is_usable(usable, node.classes, &node.limits, *way));
-        cost = Cost {
-            usable: cost.usable.saturating_add(more),
-            all: cost.all.saturating_add(1),
-        };
+        cost.usable = cost.usable.saturating_add(more);
+        cost.all = cost.all.saturating_add(1);
     }
     cost
-}
-
-fn cost_of(node: &Node<'_>, usable: &UsableWays, set: BoundarySet) -> Cost {
-    match certain_class(node, set) {
-        Some(_) => {
-            let out = ways(node.classes, &node.limits, set.members, node.task.batches);
-            cost_over(node, usable, &out)
-        }
-        None => NONE_CERTAIN,
-    }
 }
 
 // One step: by the first usable way that leads to a choice whose runs are all reached, or else by the one
@@ -83,21 +68,17 @@ fn step_from(node: &Node<'_>, usable: &UsableWays, at: &Candidate) -> Improvemen
         at.set.members,
         node.task.batches,
     );
-    best_step(node, usable, at, &out)
-}
-
-fn best_step(node: &Node<'_>, usable: &UsableWays, at: &Candidate, out: &[Way]) -> Improvement
-    requires { All (MayTake node.now.classes.now node.now.limits) out.now }
-    ensures { IsImprovement node.now.classes.now node.now.limits result }
-{
     let mut best = Improvement::LocalOptimum;
     let mut least = at.cost;
-    for way in out {
+    for way in out.as_slice() {
         if is_usable(usable, node.classes, &node.limits, *way) {
             match step_by(node, usable, at, *way) {
                 Improvement::Connected(choice) => return Improvement::Connected(choice),
                 Improvement::Cheaper(next) => {
-                    if is_below(next.cost, least) {
+                    let cost = next.cost;
+                    if cost.usable < least.usable
+                        || cost.usable == least.usable && cost.all < least.all
+                    {
                         least = next.cost;
                         best = Improvement::Cheaper(next);
                     }
@@ -115,16 +96,9 @@ fn step_by(node: &Node<'_>, usable: &UsableWays, at: &Candidate, way: Way) -> Im
     ensures { IsImprovement node.now.classes.now node.now.limits result }
 {
     let narrowed = narrow(node.classes, &node.limits, way, node.task.batches);
-    match choose_from(node.classes, &narrowed, &at.choice) {
-        Ok(choice) => step_to(node, usable, choice),
-        Err(_) => Improvement::LocalOptimum,
-    }
-}
-
-fn step_to(node: &Node<'_>, usable: &UsableWays, choice: Choice) -> Improvement
-    requires { IsAdmitted node.now.classes.now node.now.limits (slice_index choice.early) }
-    ensures { IsImprovement node.now.classes.now node.now.limits result }
-{
+    let Ok(choice) = choose_from(node.classes, &narrowed, &at.choice) else {
+        return Improvement::LocalOptimum;
+    };
     let set = reached_set(node, &choice);
     if !lies_outside(node.classes, &choice, set.members) {
         return Improvement::Connected(choice);

@@ -1,4 +1,4 @@
-ghost use Rattle.std.specs.Prelude.{◌≡◌, false, true, ◌+◌, ◌<◌, ◌≤◌, ◌↔◌, ◌^◌, All, IsTrue, IfErr, IfOk};
+ghost use Rattle.std.specs.Prelude.{◌≡◌, false, true, ◌+◌, ◌<◌, ◌≤◌, ◌↔◌, All, IsTrue, IfErr, IfOk};
 ghost use Rattle.pocsag_slots.specs.Tours.{AsksForLast};
 ghost use Rattle.pocsag_slots.specs.Ways.{class_certain, MayTake, ways_across, ways_to_close};
 ghost use Rattle.pocsag_tree.specs.Views.{bound_tree_of};
@@ -9,13 +9,13 @@ ghost use Rattle.pocsag_branch.specs.Shape.{AdmitApart, AdmitSplit, AdmitUnclose
 ghost use Rattle.pocsag_branch.specs.Undecided.{Falls, IsSplitPoint};
 
 use crate::boundaries::BoundarySet;
-use crate::child::{child_by, lower_child, split_tree, upper_child, ways_out, ways_to_end};
+use crate::child::{child_by, lower_child, split_tree, upper_child};
 use crate::fixed_kinds::fixed_kind;
 use crate::free_kinds::free_kind;
 use crate::node::{Children, Node};
 use crate::task::{NodeKind, Stop, Task};
 use pocsag_check::accepts;
-use pocsag_slots::{Class, Way};
+use pocsag_slots::{Class, Way, ending_ways, ways};
 use pocsag_tree::Tree;
 use std::alloc::Global;
 
@@ -33,22 +33,7 @@ fn stands_for(node: &Node<'_>, tree: &Tree) -> bool
     accepts(node.classes, &node.limits, batches, tree, end)
 }
 
-// Which node is to be made under the limits.
-#[inline(never)]
-fn node_kind(alloc: Global, node: &Node<'_>) -> Result<NodeKind, Stop>
-    ensures kind { IfOk result (IsNodeKind node.now.classes.now node.now.task node.now.limits) }
-    ensures shape { node.now.task.fixed ≡ true →
-        IfOk result (IsNodeAs node.now.classes.now node.now.task node.now.limits) }
-    ensures stop { IfErr result (IsStop node.now.classes.now node.now.task) }
-{
-    if node.task.fixed {
-        fixed_kind(alloc, node)
-    } else {
-        free_kind(alloc, node)
-    }
-}
-
-/// A tree that refutes the node with these limits, and how many nodes are examined after it. Once so many are
+/// A tree that refutes the node with these limits, and how many nodes are examined after it. Once as many are
 /// examined as the task allows, a node of the fixed search is `Open`, and the free search ends.
 #[cycle(nodes)]
 pub(crate) fn node_tree(alloc: Global, node: &Node<'_>, examined: u32) -> Result<(Tree, u32), Stop>
@@ -63,11 +48,15 @@ pub(crate) fn node_tree(alloc: Global, node: &Node<'_>, examined: u32) -> Result
         }
         return Err(Stop::Limit);
     }
-    let kind = node_kind(alloc, node)?;
+    let kind = if node.task.fixed {
+        fixed_kind(alloc, node)?
+    } else {
+        free_kind(alloc, node)?
+    };
     tree_of_kind(alloc, node, kind, examined)
 }
 
-/// The tree of a node of this form, where so many nodes were examined before it.
+/// The tree of a node of this form, after this many examined nodes.
 #[cycle(nodes)]
 pub(crate) fn tree_of_kind(
     alloc: Global,
@@ -108,7 +97,7 @@ fn cut_node(
         (λ x. IsExamined node.now.classes.now node.now.task node.now.limits examined x.1 (bound_tree_of x.0)) }
     ensures stop { IfErr result (IsStop node.now.classes.now node.now.task) }
 {
-    let out = ways_out(node, set);
+    let out = ways(node.classes, &node.limits, set.members, node.task.batches);
     let (children, after) = child_nodes(alloc, node, &out, examined + 1)?;
     match children {
         Children::Whole(children) => Ok((
@@ -135,7 +124,7 @@ fn close_node(alloc: Global, node: &Node<'_>, examined: u32) -> Result<(Tree, u3
         (λ x. IsExamined node.now.classes.now node.now.task node.now.limits examined x.1 (bound_tree_of x.0)) }
     ensures stop { IfErr result (IsStop node.now.classes.now node.now.task) }
 {
-    let out = ways_to_end(node);
+    let out = ending_ways(node.classes, node.task.end, &node.limits);
     let (children, after) = child_nodes(alloc, node, &out, examined + 1)?;
     match children {
         Children::Whole(children) => Ok((Tree::Close { children }, after)),

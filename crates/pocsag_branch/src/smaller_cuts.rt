@@ -143,9 +143,14 @@ fn cut_at(node: &Node<'_>, set: BoundarySet) -> Option<NodeKind>
     }
 }
 
-// How many ways lead across the set that is reached, or many where no class must leave it.
-fn ways_across_reached(node: &Node<'_>, reached: BoundarySet) -> u32 {
-    match certain_class(node, reached) {
+// A cut at a set with fewer ways across than the set that is reached, if one is found. Sets grow from
+// boundary 0 by the boundary with the most ways into them.
+pub(crate) fn smaller_cut(node: &Node<'_>, reached: BoundarySet) -> Option<NodeKind>
+    ensures { IfSome result (IsNodeKind node.now.classes.now node.now.task node.now.limits) }
+{
+    let between = ways_between(node);
+    // where no class must leave the set that is reached, any cut is smaller
+    let mut least = match certain_class(node, reached) {
         Some(_) => ways(
             node.classes,
             &node.limits,
@@ -154,16 +159,7 @@ fn ways_across_reached(node: &Node<'_>, reached: BoundarySet) -> u32 {
         )
         .len() as u32,
         None => DECIDED,
-    }
-}
-
-// A cut at a set with fewer ways across than the set that is reached, if one is found. Sets grow from
-// boundary 0 by the boundary with the most ways into them.
-pub(crate) fn smaller_cut(node: &Node<'_>, reached: BoundarySet) -> Option<NodeKind>
-    ensures { IfSome result (IsNodeKind node.now.classes.now node.now.task node.now.limits) }
-{
-    let between = ways_between(node);
-    let mut least = ways_across_reached(node, reached);
+    };
     let mut best = None;
     let begun = GrowingSet {
         set: BoundarySet {

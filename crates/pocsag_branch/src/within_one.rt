@@ -17,11 +17,11 @@ pub struct FallbackPlan {
     pub tree: Tree,
 }
 
-/// Why the free search gave no answer.
+/// Why the free search returned no result.
 #[derive(Debug, Drop, Error)]
 pub enum FreeFault {
-    /// So many nodes did not decide between `least` batches and one more: a transmission of one batch more,
-    /// and what `search` says at the same limit.
+    /// This many nodes did not decide between `least` batches and one more. It holds a transmission of one batch
+    /// more, and what `search` returns at the same limit.
     #[error("search limit reached")]
     SearchLimit {
         fallback: FallbackPlan,

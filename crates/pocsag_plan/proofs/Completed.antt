@@ -1,24 +1,11 @@
 -- What a search found is a plan of the round.
-use Rattle.std.proofs.Common.{◌≡◌, ℕ, ◌*◌, ◌<◌, ◌≤◌, List, sum_by, arith, inl, inr, slice_index, subst}
-use Rattle.pocsag_words.specs.declared.ending.End.{End}
-use Rattle.pocsag_pages.specs.declared.page.Page.{Page}
-use Rattle.pocsag_pages.specs.Pages.{IsRound}
-use Rattle.pocsag_pages.specs.Reading.{IsLegalList, page_length}
-use Rattle.pocsag_pages.proofs.GoodPages.{apart_pages}
-use Rattle.pocsag_slots.specs.declared.class.Classes.{Classes}
-use Rattle.pocsag_slots.specs.Loads.{AreClassesOf, IsChoice, IsLeast}
-use Rattle.pocsag_slots.specs.Tours.{IsTourFor}
+use Rattle.pocsag_plan.proofs.Prelude.{◌≡◌, ℕ, ◌*◌, ◌<◌, ◌≤◌, List, sum_by, arith, inl, inr, slice_index, subst, End, Page, IsRound, IsLegalList, page_length, apart_pages, Classes, AreClassesOf, IsChoice, IsLeast, IsTourFor, all_nodes, closed_nodes, bound_tree_of, SearchLimit, IsNodeLimit, IsWithinOne}
 use Rattle.pocsag_slots.proofs.LoadLemmas.{load_few}
-use Rattle.pocsag_tree.specs.BoundTrees.{all_nodes, closed_nodes}
-use Rattle.pocsag_tree.specs.Views.{bound_tree_of}
 use Rattle.pocsag_branch.specs.declared.answer.Found.{Found}
 use Rattle.pocsag_branch.specs.declared.within_one.FallbackPlan.{FallbackPlan}
 use Rattle.pocsag_branch.specs.declared.within_one.FreeFault.{FreeFault}
 use Rattle.pocsag_branch.specs.declared.within_one.FreeFault.TheVariants.{SearchLimit as AtLimit}
-use Rattle.pocsag_branch.specs.declared.fault.SearchLimit.{SearchLimit}
-use Rattle.pocsag_branch.specs.Found.{IsNodeLimit}
 use Rattle.pocsag_branch.specs.Freely.{IsFreeFault, IsNearlyFewest}
-use Rattle.pocsag_plan.specs.Within.{IsWithinOne}
 use Rattle.pocsag_plan.proofs.Rooms.{room}
 
 -- no choice loads a slot above 1,760,000, so the least is no more

@@ -1,13 +1,5 @@
 -- The class table of a round has a page.
-use Rattle.std.proofs.Common.{◌≡◌, ℕ, ◌+◌, ◌<◌, ◌==◌, Bool, cond, List, [], ◌∷◌, length, arith, ap, refl, eq-eqb, slice_index}
-use Rattle.pocsag_words.specs.declared.ending.End.{End}
-use Rattle.pocsag_pages.specs.declared.page.Page.{Page}
-use Rattle.pocsag_slots.specs.declared.class.Classes.{Classes}
-use Rattle.pocsag_slots.specs.Loads.{AreClassesOf}
-use Rattle.pocsag_slots.specs.Classes.{class_of_page, count_of}
-use Rattle.pocsag_slots.proofs.CountLemmas.{page_class_below}
-use Rattle.pocsag_slots.proofs.Walks.{count_of-cons}
-use Rattle.pocsag_branch.specs.Found.{HasPage}
+use Rattle.pocsag_plan.proofs.Prelude.{◌≡◌, ℕ, ◌+◌, ◌<◌, ◌==◌, Bool, cond, List, [], ◌∷◌, length, arith, ap, refl, eq-eqb, slice_index, End, Page, Classes, AreClassesOf, class_of_page, count_of, page_class_below, count_of-cons, HasPage}
 
 -- the class of the first page has a page
 pub has_page : (k : Classes) (end : End) (R : List Page) → AreClassesOf k end R → 0 < length R → HasPage k

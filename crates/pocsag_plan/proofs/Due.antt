@@ -1,32 +1,17 @@
 -- What is sent by a plan is what the headline with its bound says.
-use Rattle.std.proofs.Common.{◌≡◌, ◌<◌, ℕ, List, ◌++◌, length, take, ap, arith, refl, sym, subst, ◌∙◌, slice_index}
-use Rattle.std.specs.Prelude.{Ok}
+use Rattle.pocsag_plan.proofs.Prelude.{◌≡◌, ◌<◌, ℕ, List, ◌++◌, length, take, ap, arith, refl, sym, subst, ◌∙◌, slice_index, Ok, Kind, End, Page, verdict, written_text, BoundTree, bound_tree_of, Step, HavePlaces, laid_by, Fewest, Search, IsFrontFor, IsLongestFront, IsBounded, IsPlan, IsPlanFor, HasFrontHeadline, HasHeadline, HeadlineOf, IsOfRound, Writes, WritesAllOf, WritesBounded, WritesCertificatePartOf, WritesPartOf}
 use Rattle.std.proofs.Math.Seq.{take-append_seam}
-use Rattle.pocsag_words.specs.declared.codeword.Kind.{Kind}
-use Rattle.pocsag_words.specs.declared.ending.End.{End}
-use Rattle.pocsag_pages.specs.declared.page.Page.{Page}
 use Rattle.pocsag_pages.specs.Bytes.{bytes_of}
-use Rattle.pocsag_pages.specs.PageFile.{verdict}
-use Rattle.pocsag_tree.specs.CertificateText.{written_text}
-use Rattle.pocsag_tree.specs.BoundTrees.{BoundTree}
-use Rattle.pocsag_tree.specs.Views.{bound_tree_of}
-use Rattle.pocsag_slots.specs.declared.step.Step.{Step}
 use Rattle.pocsag_slots.proofs.Fewest.{laid_list_legal}
-use Rattle.pocsag_batch.specs.Placement.{HavePlaces, laid_by}
 use Rattle.pocsag_batch.specs.Meanings.{Say}
 use Rattle.pocsag_batch.proofs.OrderLaws.{order_lays}
 use Rattle.pocsag_batch.proofs.Orders.{order_has_places}
-use Rattle.pocsag_plan.specs.declared.bounded.Bounded.{Bounded}
-use Rattle.pocsag_plan.specs.declared.search.OnLimit.TheVariants.{Fewest}
-use Rattle.pocsag_plan.specs.declared.search.Search.{Search}
+use Rattle.pocsag_plan.specs.declared.bounded.BoundedPlan.{BoundedPlan}
 use Rattle.pocsag_plan.specs.BoundedHeadline.{BoundedHeadline, IsHeadlineWhereTight}
-use Rattle.pocsag_plan.specs.Fronts.{IsFrontFor, IsLongestFront}
 use Rattle.pocsag_plan.specs.Headline.{RoundHeadline}
-use Rattle.pocsag_plan.specs.Plans.{IsBounded, IsPlan, IsPlanFor}
-use Rattle.pocsag_plan.specs.Streams.{HasFrontHeadline, HasHeadline, HeadlineOf, IsOfRound, Writes, WritesAllOf, WritesBounded, WritesCertificatePartOf, WritesPartOf}
 
 -- What is sent for a plan of a round is what its headline says.
-module _ (R : List Page) (bounded : Bounded) (is : IsBounded bounded.plan.end R bounded.plan bounded.bound) where
+module _ (R : List Page) (bounded : BoundedPlan) (is : IsBounded bounded.plan.end R bounded.plan bounded.bound) where
   pub due : (steps : List Step) (order : List ℕ) (said : List Kind) (U : List ℕ) →
       steps ≡ bounded.plan.steps.items → order ≡ bounded.plan.order.items → said ≡ laid_by R order steps → Say said U →
       HeadlineOf R bounded (bytes_of U) (written_text bounded.plan.end bounded.bound (bound_tree_of bounded.plan.tree))
@@ -100,14 +85,14 @@ tight_stream file end batches bound tree tx tx' cert cert' same is =
     all_as _ _ (λ sent certificate h. (tight file end batches tree sent certificate).0
     (subst (λ (n : ℕ). BoundedHeadline file end batches n tree sent certificate) same h)) tx tx' cert cert' is
 
-pub tight_plan : (search : Search) (R : List Page) (bounded : Bounded) → search.on_limit ≡ Fewest → IsPlanFor search R bounded →
+pub tight_plan : (search : Search) (R : List Page) (bounded : BoundedPlan) → search.on_limit ≡ Fewest → IsPlanFor search R bounded →
     IsPlan search.end R bounded.plan
 tight_plan search R bounded fewest is = record {
   bounded = subst (λ (n : ℕ). IsBounded search.end R bounded.plan n) (is.fewest fewest) is.plan_of;
   shaped = is.shaped fewest;
 }
 
-module _ (search : Search) (R : List Page) (bounded : Bounded) (is : IsPlanFor search R bounded) where
+module _ (search : Search) (R : List Page) (bounded : BoundedPlan) (is : IsPlanFor search R bounded) where
   -- what is sent for the plan is the headline of the round for the end that is asked for, with the bound
   pub asked_headline : (sent certificate : List ℕ) → HeadlineOf R bounded sent certificate →
       RoundHeadline R search.end bounded.plan.batches bounded.bound (bound_tree_of bounded.plan.tree) sent certificate
@@ -143,7 +128,7 @@ pub of_round_as : (file : List ℕ) (P Q : List Page → Type 0) → ((round : L
 of_round_as file P Q each is = record { round = is.round; read = is.read; holds = each is.round is.holds }
 
 -- What is planned of the first pages of a book.
-module _ (search : Search) (R round F rest : List Page) (batches : ℕ) (bounded : Bounded) (same : round ≡ R) (parts : F ++ rest ≡ round)
+module _ (search : Search) (R round F rest : List Page) (batches : ℕ) (bounded : BoundedPlan) (same : round ≡ R) (parts : F ++ rest ≡ round)
     (is : IsPlanFor search F bounded) where
   first_pages : F ≡ take bounded.plan.pages R
   first_pages = sym (ap (λ (n : ℕ). take n R) is.plan_of.pages ∙ (ap (take (length F)) (sym (parts ∙ same)) ∙ take-append_seam F rest))

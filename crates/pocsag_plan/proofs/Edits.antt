@@ -1,26 +1,8 @@
 -- A book that gains a page, and one that gives some up.
-use Rattle.std.proofs.Common.{◌≡◌, ℕ, ◌≤◌, Bool, false, List, [], ◌∷◌, ◌++◌, All, Contains, drop, length, nat_eq, refl, sym, ap, ◌∙◌, subst, arith, length-append}
-use Rattle.std.specs.Prelude.{Option, Some, None, is_some}
-use Rattle.std.specs.List.{IsDistinct}
-use Rattle.std.specs.Map.{keys_of, values_of, lookup, remove_entry}
-use Rattle.std.proofs.lemmas.Bool.Decides.{nat_tests}
-use Rattle.std.proofs.lemmas.List.{append-nil, drop-map, length-drop, map-append}
-use Rattle.std.proofs.lemmas.List.Elements.{All-weaker, Contains-append_right, Contains-get_or}
-use Rattle.std.proofs.lemmas.List.Sorted.{IsPermutation-middle}
-use Rattle.std.proofs.lemmas.Map.Keys.{IsDistinct-IsPermutation, IsDistinct-tail}
-use Rattle.pocsag_words.specs.declared.ending.End.{End}
-use Rattle.pocsag_words.specs.declared.ending.End.TheVariants.{Open, Closed}
-use Rattle.pocsag_pages.specs.declared.page.Page.{Page}
+use Rattle.pocsag_plan.proofs.Prelude.{◌≡◌, ℕ, ◌≤◌, Bool, false, List, [], ◌∷◌, ◌++◌, All, Contains, drop, length, nat_eq, refl, sym, ap, ◌∙◌, subst, arith, length-append, Option, Some, None, is_some, IsDistinct, keys_of, values_of, lookup, remove_entry, nat_tests, append-nil, drop-map, length-drop, map-append, All-weaker, Contains-append_right, Contains-get_or, IsPermutation-middle, IsDistinct-IsPermutation, IsDistinct-tail, End, Open, Closed, Page, page_limit, addresses_of, has_address, page_fault_of, AreGood, IsGoodPage, good_last, good_page, good_pages, Classes, AreClassesOf, without, CanGain, CanLose}
 use Rattle.pocsag_pages.specs.Listable.{IsListable}
-use Rattle.pocsag_pages.specs.Pages.{page_limit, addresses_of, has_address, page_fault_of, AreGood, IsGoodPage}
-use Rattle.pocsag_pages.proofs.FirstPages.{good_last}
-use Rattle.pocsag_pages.proofs.GoodPages.{good_page, good_pages}
 use Rattle.pocsag_pages.proofs.GrownRounds.{addresses_push, good_push}
-use Rattle.pocsag_slots.specs.declared.class.Classes.{Classes}
-use Rattle.pocsag_slots.specs.Loads.{AreClassesOf}
 use Rattle.pocsag_plan.specs.Books.{IsBook}
-use Rattle.pocsag_plan.specs.OpenRound.{without}
-use Rattle.pocsag_plan.specs.Tallies.{CanGain, CanLose}
 use Rattle.pocsag_plan.proofs.Entries.{AreKeyed, TakesOut, found_is, without_is}
 use Rattle.pocsag_plan.proofs.Refusals.{MayFollow}
 use Rattle.pocsag_plan.proofs.Tallies.{All-amid}

@@ -1,18 +1,8 @@
 -- The entries of a book: pages under their addresses.
-use Rattle.std.proofs.Common.{◌≡◌, ℕ, Bool, true, false, cond, not, List, [], ◌∷◌, ◌++◌, nat_eq, refl, sym, ap, ◌∙◌, subst, arith}
+use Rattle.pocsag_plan.proofs.Prelude.{◌≡◌, ℕ, Bool, true, false, cond, not, List, [], ◌∷◌, ◌++◌, nat_eq, refl, sym, ap, ◌∙◌, subst, arith, Some, is_some, IsDistinct, keys_of, values_of, lookup, remove_entry, nat_tests, All-from_recursion, IsDistinct-head, IsDistinct-tail, or_parts, Page, addresses_of, has_address, without}
 use Rattle.std.proofs.lemmas.Option.{same_Some}
-use Rattle.std.specs.Prelude.{Some, is_some}
-use Rattle.std.specs.List.{IsDistinct}
-use Rattle.std.specs.Map.{keys_of, values_of, lookup, remove_entry}
-use Rattle.std.proofs.lemmas.Bool.Decides.{nat_tests}
-use Rattle.std.proofs.lemmas.List.Elements.{All-from_recursion}
 use Rattle.std.proofs.lemmas.List.Folds.{list_any_none}
-use Rattle.std.proofs.lemmas.Map.Keys.{IsDistinct-head, IsDistinct-tail}
 use Rattle.std.proofs.lemmas.Map.Made.{is_some-lookup}
-use Rattle.std.proofs.lemmas.Bool.{or_parts}
-use Rattle.pocsag_pages.specs.declared.page.Page.{Page}
-use Rattle.pocsag_pages.specs.Pages.{addresses_of, has_address}
-use Rattle.pocsag_plan.specs.OpenRound.{without}
 
 -- each page stands under its address
 abbrev pub AreKeyed : List (ℕ × Page) → Type 0

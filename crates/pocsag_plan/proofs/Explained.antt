@@ -1,24 +1,9 @@
 -- What a fault of the search says of the round.
-use Rattle.std.proofs.Common.{◌≡◌, ◌∙◌, subst, sym, List, Option, Some, None}
-use Rattle.pocsag_words.specs.declared.ending.End.{End}
-use Rattle.pocsag_pages.specs.declared.page.Page.{Page}
-use Rattle.pocsag_pages.specs.Pages.{IsRound}
-use Rattle.pocsag_pages.proofs.GoodPages.{apart_pages}
-use Rattle.pocsag_slots.specs.declared.class.Classes.{Classes}
-use Rattle.pocsag_slots.specs.Loads.{AreClassesOf}
+use Rattle.pocsag_plan.proofs.Prelude.{◌≡◌, ◌∙◌, subst, sym, List, End, Page, IsRound, apart_pages, Classes, AreClassesOf, SearchLimit, IsNodeLimit, IsSearchFault, fault_of_search, Plan, PlanFault, Search, ExplainsPlan, IsNoWorse, MayStop, IsOutcomeFault, IsTightOrStopped, Fewest, ℕ}
+use Rattle.std.proofs.Common.{Option, Some, None}
 use Rattle.pocsag_branch.specs.declared.fault.SearchFault.{SearchFault}
-use Rattle.pocsag_branch.specs.declared.fault.SearchLimit.{SearchLimit}
 use Rattle.pocsag_branch.specs.declared.fault.SearchFault.TheVariants as searching
-use Rattle.pocsag_branch.specs.Found.{IsNodeLimit, IsSearchFault}
-use Rattle.pocsag_plan.specs.FaultChains.{fault_of_search}
-use Rattle.pocsag_plan.specs.declared.answer.Plan.{Plan}
-use Rattle.pocsag_plan.specs.declared.fault.PlanFault.{PlanFault}
 use Rattle.pocsag_plan.specs.declared.fault.PlanFault.TheVariants as planning
-use Rattle.pocsag_plan.specs.declared.search.Search.{Search}
-use Rattle.pocsag_plan.specs.Plans.{ExplainsPlan, IsNoWorse, MayStop}
-use Rattle.pocsag_plan.specs.Within.{IsOutcomeFault, IsTightOrStopped}
-use Rattle.pocsag_plan.specs.declared.search.OnLimit.TheVariants.{Fewest}
-use Rattle.std.proofs.Common.{ℕ}
 
 pub explained : (k : Classes) (end : End) (R : List Page) (limit : ℕ) (fault : SearchFault) → IsRound R → AreClassesOf k end R
     → IsNodeLimit limit →

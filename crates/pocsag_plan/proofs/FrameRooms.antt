@@ -1,21 +1,10 @@
 -- The frames of a plan, one after the other, and the idles of each, step by step.
-use Rattle.std.proofs.Common.{◌≡◌, ℕ, ◌+◌, ◌*◌, ◌%◌, ◌<◌, ◌≤◌, ◌==◌, Bool, true, false, List, ◌∷◌, cond, arith, ap, sym, subst, ◌∙◌, refl, eq-eqb, drop, get_or, length, length-set, slice_set, take, inl, inr}
-use Rattle.std.proofs.lemmas.Bool.{cases_lt}
-use Rattle.std.proofs.lemmas.List.{drop_more}
+use Rattle.pocsag_plan.proofs.Prelude.{◌≡◌, ℕ, ◌+◌, ◌*◌, ◌%◌, ◌<◌, ◌≤◌, ◌==◌, Bool, true, false, List, ◌∷◌, cond, arith, ap, sym, subst, ◌∙◌, refl, eq-eqb, drop, get_or, length, slice_set, take, inl, inr, cases_lt, drop_more, All-get_or, count_by_more_no, count_by_more_yes, sum_by_more, Page, AreGood, IsGoodPage, page_length, good_pages, Step, finish_of, idles, HasClasses, frame_codewords, frame_pages, frame_row, frames_of, starts_in}
+use Rattle.std.proofs.Common.{length-set}
 use Rattle.std.proofs.lemmas.List.Edits.{fill_by_more}
-use Rattle.std.proofs.lemmas.List.Elements.{All-get_or}
 use Rattle.std.proofs.lemmas.List.FromFn.{fill_by_all}
-use Rattle.std.proofs.lemmas.List.Sums.{count_by_more_no, count_by_more_yes, sum_by_more}
-use Rattle.pocsag_pages.specs.declared.page.Page.{Page}
-use Rattle.pocsag_pages.specs.Pages.{AreGood, IsGoodPage}
-use Rattle.pocsag_pages.specs.Reading.{page_length}
-use Rattle.pocsag_pages.proofs.GoodPages.{good_pages}
-use Rattle.pocsag_slots.specs.declared.step.Step.{Step}
 use Rattle.pocsag_slots.specs.declared.step.Step.TheVariants.{Idle as Stay, Run}
-use Rattle.pocsag_slots.specs.Classes.{finish_of}
-use Rattle.pocsag_slots.specs.Tours.{idles}
 use Rattle.pocsag_plan.specs.declared.frames.FrameRoom.{FrameRoom}
-use Rattle.pocsag_plan.specs.Frames.{HasClasses, frame_codewords, frame_pages, frame_row, frames_of, starts_in}
 
 -- how many idles stand in the two slots of a frame, where the steps start at boundary p
 abbrev pub room_from : ℕ → ℕ → List Step → ℕ

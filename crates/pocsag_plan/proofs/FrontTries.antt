@@ -1,37 +1,15 @@
 -- What a try of some first pages says of them.
-use Rattle.std.proofs.Common.{◌≡◌, ℕ, ◌+◌, ◌-◌, ◌<◌, ◌≤◌, List, length, take, arith, inl, inr, refl, slice_index, sym, ◌∙◌, subst, ap}
-use Rattle.std.specs.Prelude.{◌⊎◌, Option, Some, None, false}
-use Rattle.std.proofs.lemmas.List.{length-take, length-take-le}
-use Rattle.pocsag_words.specs.declared.ending.End.{End}
-use Rattle.pocsag_pages.specs.declared.page.Page.{Page}
-use Rattle.pocsag_pages.specs.Pages.{IsRound}
-use Rattle.pocsag_pages.specs.Reading.{IsLegalList}
-use Rattle.pocsag_pages.proofs.FirstPages.{first_round}
-use Rattle.pocsag_pages.proofs.GoodPages.{apart_pages}
-use Rattle.pocsag_slots.specs.declared.class.Classes.{Classes}
-use Rattle.pocsag_slots.specs.Loads.{AreClassesOf, IsLeast}
-use Rattle.pocsag_slots.proofs.Sayable.{tour_worded}
+use Rattle.pocsag_plan.proofs.Prelude.{◌≡◌, ℕ, ◌+◌, ◌-◌, ◌<◌, ◌≤◌, List, length, take, arith, inl, inr, refl, slice_index, sym, ◌∙◌, subst, ap, ◌⊎◌, Option, Some, None, length-take, length-take-le, End, Page, IsRound, IsLegalList, first_round, apart_pages, Classes, AreClassesOf, IsLeast, tour_worded, HasText, bound_tree_of, SearchLimit, HasPage, IsBound, IsLimit, IsNodeLimit, PlanFault, OnLimit, Fewest, Always, Search, ExceedsPages, HasSpare, AreFrontBounds, IsCut, IsExcess, IsUndecidedAt, IsUpper, StopsAt, AreBeyond, AreToBeSearched, ExplainsFront, FirstNeeds, IsFrontFor, IsLongestFront, IsUndecidedFor, IsWhyNoMore, ShowsBeyond, NoneHasFewer, IsOutcome, IsOutcomeFault, IsOutcomeFor, IsTightOrStopped}
+use Rattle.std.specs.Prelude.{false}
 use Rattle.pocsag_tree.specs.Limits.{second_ranges}
-use Rattle.pocsag_tree.specs.CertificateText.{HasText}
-use Rattle.pocsag_tree.specs.Views.{bound_tree_of}
 use Rattle.pocsag_tree.specs.declared.shape.Certificate.{Certificate}
-use Rattle.pocsag_branch.specs.declared.fault.SearchLimit.{SearchLimit}
 use Rattle.pocsag_branch.specs.declared.fault.SearchFault.TheVariants as searching
 use Rattle.pocsag_check.specs.Acceptance.{IsAccepted}
-use Rattle.pocsag_branch.specs.Found.{HasPage, IsBound, IsLimit, IsNodeLimit}
 use Rattle.pocsag_plan.specs.declared.fault.NoFront.TheVariants as front
-use Rattle.pocsag_plan.specs.declared.fault.PlanFault.{PlanFault}
 use Rattle.pocsag_plan.specs.declared.fault.PlanFault.TheVariants as planning
 use Rattle.pocsag_plan.specs.declared.front.FrontCut.{FrontCut}
 use Rattle.pocsag_plan.specs.declared.outcome.Outcome.{Outcome}
-use Rattle.pocsag_plan.specs.declared.search.OnLimit.{OnLimit}
-use Rattle.pocsag_plan.specs.declared.search.OnLimit.TheVariants.{Fewest, Always}
-use Rattle.pocsag_plan.specs.declared.search.Search.{Search}
 use Rattle.pocsag_plan.specs.declared.attempt.FrontBounds.{FrontBounds}
-use Rattle.pocsag_plan.specs.Attempts.{ExceedsPages, HasSpare, AreFrontBounds, IsCut, IsExcess, IsUndecidedAt, IsUpper, StopsAt}
-use Rattle.pocsag_plan.specs.Fronts.{AreBeyond, AreToBeSearched, ExplainsFront, FirstNeeds, IsFrontFor, IsLongestFront, IsUndecidedFor, IsWhyNoMore, ShowsBeyond}
-use Rattle.pocsag_plan.specs.Plans.{NoneHasFewer}
-use Rattle.pocsag_plan.specs.Within.{IsOutcome, IsOutcomeFault, IsOutcomeFor, IsTightOrStopped}
 use Rattle.pocsag_plan.proofs.Completed.{some_batch}
 use Rattle.pocsag_plan.proofs.Counted.{has_page}
 use Rattle.pocsag_plan.proofs.Explained.{explained}

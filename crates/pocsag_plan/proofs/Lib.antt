@@ -6,6 +6,7 @@ pub mod Entries
 pub mod Explained
 pub mod FrameRooms
 pub mod FrontTries
+pub mod Prelude
 pub mod Refusals
 pub mod Rooms
 pub mod Tallies

@@ -1,13 +1,8 @@
 -- When a page may be added, and the first reason where it may not.
-use Rattle.std.proofs.Common.{◌≡◌, ℕ, ◌<◌, ◌≤◌, Bool, true, false, cond, List, length, nat_le, refl, sym, ap, ◌∙◌, arith}
-use Rattle.std.specs.Prelude.{Option, Some, None}
-use Rattle.std.proofs.lemmas.Bool.Decides.{nat_tests}
-use Rattle.pocsag_pages.specs.declared.page.Page.{Page}
+use Rattle.pocsag_plan.proofs.Prelude.{◌≡◌, ℕ, ◌<◌, ◌≤◌, Bool, true, false, cond, List, length, nat_le, refl, sym, ap, ◌∙◌, arith, Option, Some, None, nat_tests, Page, page_limit, has_address, page_fault_of, add_fault, fault_beside}
 use Rattle.pocsag_pages.specs.declared.fault.PageFault.{PageFault}
-use Rattle.pocsag_pages.specs.Pages.{page_limit, has_address, page_fault_of}
 use Rattle.pocsag_plan.specs.declared.refusal.AddFault.{AddFault}
 use Rattle.pocsag_plan.specs.declared.refusal.AddFault.TheVariants as fault
-use Rattle.pocsag_plan.specs.OpenRound.{add_fault, fault_beside}
 
 -- nothing stands against the page
 pub record MayFollow (ps : List Page) (p : Page) : Type 0 where

@@ -1,14 +1,7 @@
 -- The codewords of the pages of a legal transmission fit into its batches.
-use Rattle.std.proofs.Common.{◌≡◌, ℕ, ◌+◌, ◌*◌, ◌≤◌, List, length, map, sum_by, arith, ap, length-append}
-use Rattle.std.proofs.lemmas.List.{length-map}
-use Rattle.std.proofs.lemmas.List.Sums.{sum_by-cons}
-use Rattle.std.proofs.lemmas.List.Sorted.{sum_by-IsPermutation}
+use Rattle.pocsag_plan.proofs.Prelude.{◌≡◌, ℕ, ◌+◌, ◌*◌, ◌≤◌, List, length, map, sum_by, arith, ap, length-append, length-map, sum_by-cons, sum_by-IsPermutation, Kind, End, Page, AreApart, IsLegalList, page_length, frame_at, Reads, at_end, past_idle, past_page}
 use Rattle.pocsag_words.specs.Kinds.{kind_of}
-use Rattle.pocsag_words.specs.declared.codeword.Kind.{Kind}
 use Rattle.pocsag_words.specs.declared.codeword.Kind.TheVariants.{Message}
-use Rattle.pocsag_words.specs.declared.ending.End.{End}
-use Rattle.pocsag_pages.specs.declared.page.Page.{Page}
-use Rattle.pocsag_pages.specs.Reading.{AreApart, IsLegalList, page_length, frame_at, Reads, at_end, past_idle, past_page}
 use Rattle.pocsag_slots.proofs.Rearranged.{rearranged}
 
 reads_long : {ws : List Kind} {i : ℕ} {ps : List Page} → Reads ws i ps → sum_by page_length ps ≤ length ws

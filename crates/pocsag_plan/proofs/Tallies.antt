@@ -1,21 +1,9 @@
 -- Class tables that gain or lose one page, wherever it stands.
-use Rattle.std.proofs.Common.{◌≡◌, ◌≢◌, ℕ, ◌+◌, ◌-◌, ◌/◌, ◌<◌, ◌==◌, ◌⊎◌, cond, List, [], ◌∷◌, ◌++◌, All, length, sym, ◌∙◌, subst, arith, slice_index, slice_set, get_or-set_same, get_or-set_other, inl, inr}
-use Rattle.std.proofs.lemmas.Bool.{cases_eq}
-use Rattle.std.proofs.lemmas.Bool.Decides.{nat_tests}
-use Rattle.std.proofs.lemmas.List.{length-append, length-set}
-use Rattle.std.proofs.lemmas.List.Elements.{All-cons, All-head, All-tail, All-weaker}
-use Rattle.pocsag_words.specs.declared.ending.End.{End}
+use Rattle.pocsag_plan.proofs.Prelude.{◌≡◌, ◌≢◌, ℕ, ◌+◌, ◌-◌, ◌/◌, ◌<◌, ◌==◌, cond, List, [], ◌∷◌, ◌++◌, All, length, sym, ◌∙◌, subst, arith, slice_index, slice_set, get_or-set_same, get_or-set_other, inl, inr, cases_eq, nat_tests, length-set, All-cons, All-head, All-tail, All-weaker, End, Page, IsGoodPage, page_length, Classes, AreClassesOf, class_of, class_of_page, count_of, turns_of, AreCounted, IsShort, tables_of, count_of-cons, turns_of-cons, CanGain, CanLose}
+use Rattle.std.proofs.Common.{◌⊎◌}
+use Rattle.std.proofs.lemmas.List.{length-append}
 use Rattle.pocsag_words.specs.declared.ending.End.TheVariants as ends
-use Rattle.pocsag_pages.specs.declared.page.Page.{Page}
-use Rattle.pocsag_pages.specs.Pages.{IsGoodPage}
-use Rattle.pocsag_pages.specs.Reading.{page_length}
-use Rattle.pocsag_slots.specs.declared.class.Classes.{Classes}
-use Rattle.pocsag_slots.specs.Loads.{AreClassesOf}
-use Rattle.pocsag_slots.specs.Classes.{class_of, class_of_page, count_of, turns_of}
 use Rattle.pocsag_slots.specs.Tables.{AreTables}
-use Rattle.pocsag_slots.proofs.CountLemmas.{AreCounted, IsShort, tables_of}
-use Rattle.pocsag_slots.proofs.Walks.{count_of-cons, turns_of-cons}
-use Rattle.pocsag_plan.specs.Tallies.{CanGain, CanLose}
 
 -- one page of a list counts as if it stood before the others
 count_amid : (end : End) (S R : List Page) (p : Page) (c : ℕ)

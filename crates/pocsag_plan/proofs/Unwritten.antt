@@ -1,31 +1,15 @@
 -- What a stream says of a fault that comes before the first write, and of one of its writers.
-use Rattle.std.proofs.Common.{◌≡◌, ℕ, Bool, true, false, IsTrue, List, arith, refl, rules, subst, sym, ◌↔◌}
-use Rattle.std.specs.Prelude.{Ok, Err, Some, Result, IsErrOf, IsOk}
+use Rattle.pocsag_plan.proofs.Prelude.{◌≡◌, ℕ, Bool, true, false, IsTrue, List, arith, refl, rules, subst, sym, ◌↔◌, Ok, Err, Some, Result, IsErrOf, IsOk, End, Page, IsRound, verdict, bound_tree_of, IsNodeLimit, stream_fault_of, Plan, PlanFault, OnLimit, Always, Search, ExplainsFront, StopsAtFront, ExplainsPlan, IsBounded, MayStop, ExplainsStream, IsCertificate, IsSearchLimit, IsTransmission, IsUnsent, WritesInTurn}
 use Rattle.pocsag_words.specs.declared.refusal.WriteFault.{WriteFault}
-use Rattle.pocsag_words.specs.declared.ending.End.{End}
-use Rattle.pocsag_pages.specs.declared.page.Page.{Page}
-use Rattle.pocsag_pages.specs.Pages.{IsRound}
-use Rattle.pocsag_pages.specs.PageFile.{verdict}
 use Rattle.pocsag_pages.specs.declared.fault.RoundFault.{RoundFault}
-use Rattle.pocsag_tree.specs.Views.{bound_tree_of}
-use Rattle.pocsag_branch.specs.Found.{IsNodeLimit}
 use Rattle.pocsag_plan.specs.BookPlans.{ExplainsBook, ExplainsBookFront, ExplainsBookStream}
-use Rattle.pocsag_plan.specs.FaultChains.{stream_fault_of}
-use Rattle.pocsag_plan.specs.declared.answer.Plan.{Plan}
 use Rattle.pocsag_plan.specs.declared.fault.NoFront.TheVariants as front
-use Rattle.pocsag_plan.specs.declared.fault.PlanFault.{PlanFault}
 use Rattle.pocsag_plan.specs.declared.fault.PlanFault.TheVariants as planning
 use Rattle.pocsag_plan.specs.declared.fault.StreamFault.{StreamFault}
 use Rattle.pocsag_plan.specs.declared.fault.StreamFault.TheVariants as streaming
 use Rattle.pocsag_plan.specs.declared.fault.UnsentFront.TheVariants as unsent
 use Rattle.pocsag_plan.specs.declared.refusal.BookFault.{BookFault}
 use Rattle.pocsag_plan.specs.declared.refusal.BookFault.TheVariants as book
-use Rattle.pocsag_plan.specs.declared.search.OnLimit.{OnLimit}
-use Rattle.pocsag_plan.specs.declared.search.OnLimit.TheVariants.{Always}
-use Rattle.pocsag_plan.specs.declared.search.Search.{Search}
-use Rattle.pocsag_plan.specs.Fronts.{ExplainsFront, StopsAtFront}
-use Rattle.pocsag_plan.specs.Plans.{ExplainsPlan, IsBounded, MayStop}
-use Rattle.pocsag_plan.specs.Streams.{ExplainsStream, IsCertificate, IsSearchLimit, IsTransmission, IsUnsent, WritesInTurn}
 
 -- a fault of a book's plan comes before the first write, so it is of neither writer
 pub of_no_writer : (e : BookFault) → (¬ IsTransmission (stream_fault_of e)) × (¬ IsCertificate (stream_fault_of e))
@@ -56,9 +40,6 @@ limited limit h = search (rules, arith)
 
 pub answered_limit : {A E : Type 0} (x : A) (e : E) (limit : ℕ) → (IsErrOf (Ok x) e ↔ (¬ IsNodeLimit limit)) → IsNodeLimit limit
 answered_limit x e limit h = limited limit (λ no. absurd (cc (h.1 no)))
-
-pub ok_bad_limit : {A E : Type 0} (x : A) (e : E) (N : Type 0) → N → IsErrOf (Ok x) e ↔ (¬ N)
-ok_bad_limit x e N is = (λ b. absurd (cc), λ no. absurd (no is))
 
 -- a fault of a writer
 by_writer : (P : StreamFault → Type 0) → ((f : WriteFault) → P (streaming.Transmission f)) → ((f : WriteFault) → P (streaming.Certificate f)) →

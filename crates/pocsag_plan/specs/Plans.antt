@@ -18,7 +18,7 @@ use Rattle.pocsag_branch.specs.Shape.{IsSearchTree, IsShaped}
 use Rattle.pocsag_batch.specs.FileOrder.{IsFileOrder}
 use Rattle.pocsag_batch.specs.Placement.{IsOrder}
 use Rattle.pocsag_plan.specs.declared.answer.Plan.{Plan}
-use Rattle.pocsag_plan.specs.declared.bounded.Bounded.{Bounded}
+use Rattle.pocsag_plan.specs.declared.bounded.BoundedPlan.{BoundedPlan}
 use Rattle.pocsag_plan.specs.declared.fault.PlanFault.{PlanFault}
 use Rattle.pocsag_plan.specs.declared.fault.PlanFault.TheVariants as fault
 use Rattle.pocsag_plan.specs.declared.search.OnLimit.{OnLimit}
@@ -98,14 +98,14 @@ pub record IsStopped (end : End) (R : List Page) (limit least found : ℕ) (tree
 
 -- A plan that refuses no round is no worse than one that may. Where no search stopped, its bound is its batches;
 -- and where one did, it has one batch more, and this is what is known of the round at the same limit.
-pub record IsNoWorse (end : End) (R : List Page) (limit : ℕ) (bounded : Bounded) : Type 0 where
+pub record IsNoWorse (end : End) (R : List Page) (limit : ℕ) (bounded : BoundedPlan) : Type 0 where
   pub tight : IfNone bounded.stopped (bounded.bound ≡ bounded.plan.batches)
   pub stopped : IfSome bounded.stopped (λ stop.
       (stop.least ≡ bounded.bound) × (stop.found ≡ bounded.plan.batches)
       × IsStopped end R limit stop.least stop.found (bound_tree_of stop.tree))
 
 -- The plan that is required for what is asked of a planner.
-pub record IsPlanFor (search : Search) (R : List Page) (bounded : Bounded) : Type 0 where
+pub record IsPlanFor (search : Search) (R : List Page) (bounded : BoundedPlan) : Type 0 where
   -- It has a bound, and its tree has no more nodes than may be examined;
   pub plan_of : IsBounded search.end R bounded.plan bounded.bound
   pub small : closed_nodes (bound_tree_of bounded.plan.tree) ≤ search.limit

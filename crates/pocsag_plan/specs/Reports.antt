@@ -5,7 +5,7 @@ use Rattle.pocsag_words.specs.Frame.{airtime, transmission_bits}
 use Rattle.pocsag_plan.specs.declared.airtime.BoundedReport.{BoundedReport}
 use Rattle.pocsag_plan.specs.declared.airtime.Report.{Report}
 use Rattle.pocsag_plan.specs.declared.answer.Plan.{Plan}
-use Rattle.pocsag_plan.specs.declared.bounded.Bounded.{Bounded}
+use Rattle.pocsag_plan.specs.declared.bounded.BoundedPlan.{BoundedPlan}
 use Rattle.pocsag_plan.specs.declared.search.Search.{Search}
 use Rattle.pocsag_plan.specs.Plans.{IsPlanFor}
 use Rattle.pocsag_plan.specs.Streams.{IsOfRound}
@@ -28,14 +28,14 @@ pub record IsReport (plan : Plan) (rate : ℕ) (report : Report) : Type 0 where
 
 -- The report at a rate of the plan that is required for what is asked of the page file's round, with its bound.
 pub record IsReportOf (file : List ℕ) (search : Search) (rate : ℕ) (answered : BoundedReport) : Type 0 where
-  pub bounded : Bounded
+  pub bounded : BoundedPlan
   pub plan_of : IsOfRound file (λ round. IsPlanFor search round bounded)
   pub same_bound : answered.bound ≡ bounded.bound
   pub report_of : IsReport bounded.plan rate answered.report
 
 -- A plan is required for what is asked of the page file's round.
 pub record IsPlannable (file : List ℕ) (search : Search) : Type 0 where
-  pub bounded : Bounded
+  pub bounded : BoundedPlan
   pub plan_of : IsOfRound file (λ round. IsPlanFor search round bounded)
 
 -- A transmission of so many batches lasts at most so many milliseconds at the rate, as a report reports it, and one of a batch

@@ -9,7 +9,7 @@ use Rattle.pocsag_tree.specs.BoundTrees.{BoundTree}
 use Rattle.pocsag_tree.specs.Views.{bound_tree_of}
 use Rattle.pocsag_branch.specs.Found.{IsNodeLimit}
 use Rattle.pocsag_plan.specs.declared.answer.Plan.{Plan}
-use Rattle.pocsag_plan.specs.declared.bounded.Bounded.{Bounded}
+use Rattle.pocsag_plan.specs.declared.bounded.BoundedPlan.{BoundedPlan}
 use Rattle.pocsag_plan.specs.declared.fault.UnsentFront.{UnsentFront}
 use Rattle.pocsag_plan.specs.declared.fault.UnsentFront.TheVariants as front
 use Rattle.pocsag_plan.specs.declared.fault.PlanFault.TheVariants as planning
@@ -33,7 +33,7 @@ pub record IsOfRound (file : List ℕ) (Holds : List Page → Type 0) : Type 0 w
 abbrev pub IsPlanOf : List ℕ → End → Plan → Type 0
 IsPlanOf file end plan = IsOfRound file (λ round. IsPlan end round plan)
 
-abbrev pub IsBoundedOf : List ℕ → End → Bounded → Type 0
+abbrev pub IsBoundedOf : List ℕ → End → BoundedPlan → Type 0
 IsBoundedOf file end bounded = IsOfRound file (λ round. IsBounded end round bounded.plan bounded.bound)
 
 -- The search stopped at the round of the page file.
@@ -64,7 +64,7 @@ pub record WritesCertificatePartOf (Holds : List ℕ → List ℕ → Type 0) (t
   pub part : TookPrefix cert_before cert_after certificate
 
 -- What the headline says of a plan of the round with its bound.
-abbrev pub HeadlineOf : List Page → Bounded → (sent certificate : List ℕ) → Type 0
+abbrev pub HeadlineOf : List Page → BoundedPlan → (sent certificate : List ℕ) → Type 0
 HeadlineOf round bounded =
     RoundHeadline round bounded.plan.end bounded.plan.batches bounded.bound (bound_tree_of bounded.plan.tree)
 

@@ -8,7 +8,7 @@ pub struct Report {
     pub codewords: u32,
     /// How many batches they take in file order, with the open end.
     pub in_order: u32,
-    /// The batches of the plan: the fewest, or for a plan that no round is refused at most one more.
+    /// The batches of the plan: the fewest, or if no round is refused at most one more.
     pub batches: u32,
     /// How many idle codewords fill the batches.
     pub idles: u64,

@@ -2,7 +2,7 @@ use pocsag_slots::{Choice, Step};
 use pocsag_tree::Tree;
 use pocsag_words::End;
 
-/// A plan of a round: how its pages are sent, and why fewer batches do not suffice. Within a `Bounded` the
+/// A plan of a round: how its pages are sent, and why fewer batches do not suffice. Within a `BoundedPlan` the
 /// batches may be one more than the fewest, and the tree is for its bound.
 #[derive(Drop)]
 pub struct Plan {

@@ -173,8 +173,8 @@ impl Book {
         }
     }
 
-    /// Takes the first pages out, so many, or all where there are fewer; the others keep their order. It takes no
-    /// memory, and its time grows with the number of all pages.
+    /// Takes this many first pages out, or all if there are fewer. The others keep their order. It takes no memory,
+    /// and its time grows with the number of all pages.
     pub fn drop_first(&mut self, count: usize)
         ensures { self.new ≡ drop count self.old }
     {

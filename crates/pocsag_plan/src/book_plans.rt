@@ -14,7 +14,7 @@ ghost use Rattle.pocsag_plan.specs.Streams.{fault_in, unsent_fault_in, HasFrontH
 
 use crate::answer::Plan;
 use crate::book::Book;
-use crate::bounded::Bounded;
+use crate::bounded::BoundedPlan;
 use crate::fault::{NoFront, PlanFault, StreamFault, UnsentFront};
 use crate::front::longest_front;
 use crate::plans::{counted_plan, is_node_limit};
@@ -40,7 +40,7 @@ impl Book {
     }
 
     // The round, and its plan over the class table that the book keeps for the end.
-    fn planned(&self, search: Search) -> Result<(Round, Bounded), BookFault>
+    fn planned(&self, search: Search) -> Result<(Round, BoundedPlan), BookFault>
         ensures round { IfOk result (λ both. (both.0 ≡ self.now) × IsRound self.now) }
         ensures plan { IfOk result (λ both. IsPlanFor search self.now both.1) }
         ensures bad_limit { IsErrOf result (BookFault.Plan PlanFault.BadLimit) ↔ (¬ IsNodeLimit search.limit) }
@@ -89,7 +89,7 @@ impl Book {
         tx: &mut T,
         cert: &mut C,
         search: Search,
-    ) -> Result<Bounded, StreamFault>
+    ) -> Result<BoundedPlan, StreamFault>
         ensures headline { T.is_known → C.is_known → IfOk result (λ bounded. WritesAllOf
             (RoundHeadline self.now search.end bounded.plan.batches bounded.bound (bound_tree_of bounded.plan.tree))
             (T.taken tx.old) (T.taken tx.new) (C.taken cert.old) (C.taken cert.new)) }
@@ -121,7 +121,7 @@ impl Book {
         cert: &mut C,
         batches: u32,
         search: Search,
-    ) -> Result<Bounded, UnsentFront>
+    ) -> Result<BoundedPlan, UnsentFront>
         ensures round { OnOk result (IsRound self.now) }
         ensures front { IfOk result (λ bounded. IsFrontFor search self.now batches bounded.plan.pages) }
         ensures longest { search.on_limit ≡ OnLimit.Fewest → IfOk result (λ bounded.

@@ -26,7 +26,7 @@ pub enum PlanFault {
 pub enum NoFront {
     /// There is no plan.
     Plan(PlanFault),
-    /// Not even the first page fits: it is sent in so many batches.
+    /// Not even the first page fits: it needs this many batches.
     FirstPage(u32),
 }
 
@@ -52,7 +52,7 @@ pub enum StreamFault {
 pub enum UnsentFront {
     /// As of a plan of all its pages.
     Stream(StreamFault),
-    /// Not even the first page fits: it is sent in so many batches.
+    /// Not even the first page fits: it needs this many batches.
     FirstPage(u32),
 }
 

@@ -8,7 +8,7 @@ ghost use Rattle.pocsag_plan.specs.Fronts.{ExplainsFront, IsFrontFor, IsLongestF
 ghost use Rattle.pocsag_plan.specs.Plans.{IsPlanFor};
 
 use crate::attempt::{FrontBounds, attempt};
-use crate::bounded::Bounded;
+use crate::bounded::BoundedPlan;
 use crate::fault::{NoFront, PlanFault};
 use crate::outcome::{Outcome, outcome_of};
 use crate::plans::{completed, is_node_limit};
@@ -26,7 +26,7 @@ pub struct FrontPlan {
     /// The first pages, in order.
     pub round: Round,
     /// Their plan, which has at most so many batches.
-    pub bounded: Bounded,
+    pub bounded: BoundedPlan,
     /// The pages that are left, in order.
     pub rest: Vec<Page>,
     /// Where pages are left, a certificate for the first pages and one more: they need more batches.

@@ -23,7 +23,7 @@ mod verdict;
 pub use airtime::{BoundedReport, Report};
 pub use answer::Plan;
 pub use book::Book;
-pub use bounded::Bounded;
+pub use bounded::BoundedPlan;
 pub use fault::{BadRate, NoFront, PlanFault, StreamFault, UnsentFront};
 pub use frames::{FrameRoom, frames_of};
 pub use front::{FrontPlan, longest_front};

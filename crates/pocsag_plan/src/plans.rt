@@ -8,7 +8,7 @@ ghost use Rattle.pocsag_plan.specs.Plans.{ExplainsPlan, IsPlan, IsPlanFor};
 ghost use Rattle.pocsag_plan.specs.Within.{IsOutcomeFor};
 
 use crate::answer::Plan;
-use crate::bounded::Bounded;
+use crate::bounded::BoundedPlan;
 use crate::fault::PlanFault;
 use crate::outcome::{Outcome, outcome_of};
 use crate::search::{OnLimit, Search};
@@ -44,7 +44,7 @@ pub fn plan(alloc: Global, round: &Round, limit: u32, end: End) -> Result<Plan, 
 /// Plans the round as is asked: with the fewest batches, which are then the bound, as `plan` does; or, where the effort is
 /// `Always`, refusing none: where `plan` stops at its limit, with one batch more than the bound that is proved, beside what
 /// `plan` returns. `BadLimit` where the node limit is 0 or above 1,000,000; `SearchLimit` never with `Always`.
-pub fn bounded_plan(alloc: Global, round: &Round, search: Search) -> Result<Bounded, PlanFault>
+pub fn bounded_plan(alloc: Global, round: &Round, search: Search) -> Result<BoundedPlan, PlanFault>
     ensures plan { IfOk result (IsPlanFor search round.now) }
     ensures bad_limit { IsErrOf result PlanFault.BadLimit ↔ (¬ IsNodeLimit search.limit) }
     ensures fault { IfErr result (ExplainsPlan search.on_limit search.end round.now search.limit) }
@@ -68,14 +68,14 @@ pub(crate) fn counted_plan(
     round: &Round,
     classes: &Classes,
     search: Search,
-) -> Result<Bounded, PlanFault>
+) -> Result<BoundedPlan, PlanFault>
     requires limited { IsNodeLimit search.limit }
     requires counted { AreClassesOf classes.now search.end round.now }
     ensures plan { IfOk result (IsPlanFor search round.now) }
     ensures limit { ¬ IsErrOf result PlanFault.BadLimit }
     ensures fault { IfErr result (ExplainsPlan search.on_limit search.end round.now search.limit) }
 {
-    round.keeps_rules();
+    round.recall_rules();
     let outcome = outcome_of(alloc, classes, search)?;
     Ok(completed(alloc, round, outcome, search)?)
 }
@@ -97,7 +97,7 @@ pub(crate) fn completed(
     round: &Round,
     outcome: Outcome,
     search: Search,
-) -> Result<Bounded, OutOfMemory>
+) -> Result<BoundedPlan, OutOfMemory>
     requires limited { IsNodeLimit search.limit }
     requires of_round { IsOutcomeFor search round.now outcome }
     ensures plan { IfOk result (IsPlanFor search round.now) }
@@ -121,7 +121,7 @@ pub(crate) fn completed(
         choice: found.choice,
         tree: found.tree,
     };
-    Ok(Bounded {
+    Ok(BoundedPlan {
         plan,
         bound,
         stopped,

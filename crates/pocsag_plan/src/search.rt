@@ -1,11 +1,11 @@
 use pocsag_words::End;
 
-/// How a planner answers where its nodes do not decide between two numbers of batches.
+/// What a planner does if its nodes do not decide between two numbers of batches.
 #[derive(Clone, Copy, PartialEq, Eq, Debug)]
 pub enum OnLimit {
-    /// Not at all: it returns with the fewest batches, or with `SearchLimit`.
+    /// It returns `SearchLimit`.
     Fewest,
-    /// With one batch more than its bound: it refuses no round.
+    /// It returns a plan of one batch more than its bound, and so refuses no round.
     Always,
 }
 

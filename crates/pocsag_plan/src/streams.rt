@@ -9,7 +9,7 @@ ghost use Rattle.pocsag_plan.specs.Streams.{ExplainsStream, fault_in, HeadlineOf
 ghost use Rattle.pocsag_plan.specs.declared.fault.StreamFault.TheVariants as fault;
 
 use crate::answer::Plan;
-use crate::bounded::Bounded;
+use crate::bounded::BoundedPlan;
 use crate::fault::{PlanFault, StreamFault};
 use crate::plans::{bounded_plan, is_node_limit};
 use crate::search::{OnLimit, Search};
@@ -19,10 +19,9 @@ use pocsag_tree::write_text;
 use pocsag_words::{End, Sink, Source, WriteFault};
 use std::alloc::Global;
 
-/// Reads a page file up to its end, plans its round, and writes the transmission whole and then the
-/// certificate. Faults in order: `BadLimit`, before anything is read; `Round`; `SearchLimit`;
-/// `OutOfMemory`; `Transmission`; `Certificate`. Nothing is written before the plan stands, and nothing
-/// grows after the first byte is written.
+/// Reads a page file up to its end, plans its round, and writes the transmission whole and then the certificate.
+/// Faults in order: `BadLimit`, before anything is read; `Round`; `SearchLimit`; `OutOfMemory`; `Transmission`;
+/// `Certificate`. Nothing is written before the plan is made, and nothing grows after the first byte is written.
 pub fn plan_stream<S: Source, T: Sink, C: Sink>(
     alloc: Global,
     source: &mut S,
@@ -77,9 +76,9 @@ pub fn plan_stream<S: Source, T: Sink, C: Sink>(
 }
 
 /// Reads a page file up to its end, plans its round as `bounded_plan` does with `Always`, and writes the transmission
-/// whole and then the certificate, which is for the bound. Faults in order: `BadLimit`, before anything is
-/// read; `Round`; `OutOfMemory`; `Transmission`; `Certificate`; never `SearchLimit`. Nothing is written
-/// before the plan stands, and nothing grows after the first byte is written.
+/// whole and then the certificate, which is for the bound. Faults in order: `BadLimit`, before anything is read;
+/// `Round`; `OutOfMemory`; `Transmission`; `Certificate`; never `SearchLimit`. Nothing is written before the plan is
+/// made, and nothing grows after the first byte is written.
 pub fn plan_stream_always<S: Source, T: Sink, C: Sink>(
     alloc: Global,
     source: &mut S,
@@ -87,7 +86,7 @@ pub fn plan_stream_always<S: Source, T: Sink, C: Sink>(
     cert: &mut C,
     limit: u32,
     end: End,
-) -> Result<Bounded, StreamFault>
+) -> Result<BoundedPlan, StreamFault>
     // The headline with a bound; and where the bound is the batches, the headline.
     ensures headline { S.is_known → T.is_known → C.is_known → IfOk result (λ bounded.
         WritesBounded (S.held source.old) end bounded.plan.batches bounded.bound (bound_tree_of bounded.plan.tree)
@@ -146,7 +145,7 @@ pub fn bounded_stream<S: Source, T: Sink, C: Sink>(
     tx: &mut T,
     cert: &mut C,
     search: Search,
-) -> Result<Bounded, StreamFault>
+) -> Result<BoundedPlan, StreamFault>
     ensures headline { S.is_known → T.is_known → C.is_known → IfOk result (λ bounded.
         WritesBounded (S.held source.old) search.end bounded.plan.batches bounded.bound
         (bound_tree_of bounded.plan.tree)
@@ -199,7 +198,7 @@ pub fn bounded_stream<S: Source, T: Sink, C: Sink>(
 /// allocator. Faults: `Transmission`, `Certificate`.
 pub fn send<T: Sink, C: Sink>(
     round: &Round,
-    bounded: &Bounded,
+    bounded: &BoundedPlan,
     tx: &mut T,
     cert: &mut C,
 ) -> Result<(), StreamFault>
@@ -214,7 +213,7 @@ pub fn send<T: Sink, C: Sink>(
     ensures writers { WritesInTurn T.failures C.failures tx.old tx.new cert.old cert.new (fault_in result) }
     ensures unsent { IfErr result IsUnsent }
 {
-    round.keeps_rules();
+    round.recall_rules();
     let plan = &bounded.plan;
     let slots = Slots::new(round, &plan.steps, &plan.order);
     let Ok(()) = write_slots(slots, tx) else {

@@ -1,7 +1,4 @@
-use Rattle.pocsag_batch.proofs.Prelude.{◌≡◌, ◌++◌, ℕ, List, sym, ap, ◌∙◌, bytes_of}
-use Rattle.std.proofs.lemmas.Iterator.{YieldsList-from_slice}
-use Rattle.std.proofs.lemmas.Iterator.Consumers.{YieldsList-from_copied}
-use Rattle.std.proofs.lemmas.List.{map-id}
+use Rattle.pocsag_batch.proofs.Prelude.{◌≡◌, ◌++◌, ℕ, List, sym, ap, ◌∙◌, bytes_of, YieldsList-from_slice, YieldsList-from_copied, map-id}
 use Rattle.pocsag_batch.proofs.UnderWay.{all_came, called_longer, part_came, took_longer}
 use Rattle.pocsag_batch.proofs.bytes.write.Goals as goal
 

@@ -1,8 +1,5 @@
-use Rattle.pocsag_batch.proofs.Prelude.{List, refl, YieldsList, kind_of, Kind}
-use Rattle.std.proofs.lemmas.Iterator.Consumers.{YieldsList-from_first}
-use Rattle.std.specs.Iterator.{YieldsFirstBy}
+use Rattle.pocsag_batch.proofs.Prelude.{List, refl, YieldsList, kind_of, Kind, YieldsList-from_first, YieldsFirstBy, same_from_kind_lem}
 use Rattle.pocsag_batch.proofs.UnderWay.{all_came, called_part, part_came, sends_part}
-use Rattle.pocsag_words.proofs.KindLemmas.{same_from_kind_lem}
 use Rattle.pocsag_batch.proofs.bytes.write_slots.Goals as goal
 
 -- what the iterator has left is what it gives
@@ -19,18 +16,18 @@ returns-in-Err-clause-part g c t =
     let done = c.in-Err.ensures.part t in
     let part = part_came done.0 done.1 (gives c.args.slots) done.2 in
     sends_part same_from_kind_lem c.args.slots (g.S.Sink.taken c.args.sink.now) (g.S.Sink.taken c.write_words.new.sink) done.0 part.0
-    c.are_sayable.ensures done.3 part.1 done.4
+    c.recall_sayable.ensures done.3 part.1 done.4
 
 pub returns-in-Ok-clause-calls : goal.returns-in-Ok-clause-calls
 returns-in-Ok-clause-calls g c =
     let done = c.in-Ok.ensures.calls in
     let part = part_came done.0 done.1 (gives c.args.slots) done.2 in
     called_part same_from_kind_lem c.args.slots (g.S.Sink.calls c.args.sink.now) (g.S.Sink.calls c.write_words.new.sink) done.0 part.0
-    c.are_sayable.ensures done.3 part.1 done.4
+    c.recall_sayable.ensures done.3 part.1 done.4
 
 pub returns-in-Err-clause-calls : goal.returns-in-Err-clause-calls
 returns-in-Err-clause-calls g c =
     let done = c.in-Err.ensures.calls in
     let part = part_came done.0 done.1 (gives c.args.slots) done.2 in
     called_part same_from_kind_lem c.args.slots (g.S.Sink.calls c.args.sink.now) (g.S.Sink.calls c.write_words.new.sink) done.0 part.0
-    c.are_sayable.ensures done.3 part.1 done.4
+    c.recall_sayable.ensures done.3 part.1 done.4

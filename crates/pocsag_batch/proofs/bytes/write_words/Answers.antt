@@ -1,6 +1,4 @@
-use Rattle.pocsag_batch.proofs.Prelude.{◌∷◌, [], refl, ◌∙◌, arith, IsCodeword}
-use Rattle.std.proofs.Common.{length-append}
-use Rattle.std.proofs.lemmas.List.Elements.{All-append, All-cons, All-nil}
+use Rattle.pocsag_batch.proofs.Prelude.{◌∷◌, [], refl, ◌∙◌, arith, IsCodeword, length-append, All-append, All-cons, All-nil}
 use Rattle.pocsag_batch.proofs.Sent.{called_first, called_more, sent_first, sent_more}
 use Rattle.pocsag_batch.proofs.bytes.write_words.Goals as goal
 

@@ -1,6 +1,5 @@
-use Rattle.pocsag_batch.proofs.Prelude.{◌≡◌, ◌+◌, ◌<◌, ◌≤◌, length, get_or, drop, arith, ap, Page}
+use Rattle.pocsag_batch.proofs.Prelude.{◌≡◌, ◌+◌, ◌<◌, ◌≤◌, length, get_or, drop, arith, ap, Page, left}
 use Rattle.pocsag_batch.proofs.FileOrders.{left_step}
-use Rattle.pocsag_pages.proofs.PageLists.{left}
 use Rattle.pocsag_batch.proofs.PageLists.{good_at}
 use Rattle.pocsag_batch.proofs.order.in_order_batches.Goals as goal
 

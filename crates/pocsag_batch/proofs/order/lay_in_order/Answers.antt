@@ -1,6 +1,5 @@
-use Rattle.pocsag_batch.proofs.Prelude.{◌≡◌, ◌+◌, ◌*◌, ◌<◌, ◌≤◌, length, get_or, drop, sym, ap, ◌∙◌, arith, Page, IsRound}
+use Rattle.pocsag_batch.proofs.Prelude.{◌≡◌, ◌+◌, ◌*◌, ◌<◌, ◌≤◌, length, get_or, drop, sym, ap, ◌∙◌, arith, Page, IsRound, left}
 use Rattle.pocsag_batch.proofs.Layouts.{idled_length, laid_length, laid_more, laid_last, laid_batches, laid_legal}
-use Rattle.pocsag_pages.proofs.PageLists.{left}
 use Rattle.pocsag_batch.proofs.PageLists.{good_at}
 use Rattle.pocsag_batch.proofs.order.lay_in_order.Goals as goal
 

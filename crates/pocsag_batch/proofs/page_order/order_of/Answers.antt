@@ -1,7 +1,4 @@
-use Rattle.pocsag_batch.proofs.Prelude.{◌≡◌, ℕ, Bool, ◌+◌, ◌<◌, List, [], ◌∷◌, ◌++◌, drop, length, get_or, ap, ◌∙◌, drop_all, End, Page, Step, AreChains, Links, all_places}
-use Rattle.std.proofs.Common.{rules}
-use Rattle.std.proofs.lemmas.List.{drop_more}
-use Rattle.pocsag_pages.proofs.GoodPages.{good_pages}
+use Rattle.pocsag_batch.proofs.Prelude.{◌≡◌, ℕ, Bool, ◌+◌, ◌<◌, List, [], ◌∷◌, ◌++◌, drop, length, get_or, ap, ◌∙◌, drop_all, End, Page, Step, AreChains, Links, all_places, rules, drop_more, good_pages}
 use Rattle.pocsag_slots.specs.declared.step.Step.TheVariants.{Idle as Stay, Run}
 use Rattle.pocsag_batch.proofs.Orders.{Stands, order_has_places, order_stands, stands_first, stands_run, takes}
 use Rattle.pocsag_batch.proofs.page_order.order_of.Goals as goal

@@ -1,5 +1,4 @@
-use Rattle.std.proofs.Common.{arith}
-use Rattle.pocsag_tour.specs.Reached.{at_start}
+use Rattle.pocsag_branch.proofs.Prelude.{arith, at_start}
 use Rattle.pocsag_branch.proofs.boundaries.reached_set.Goals as goal
 
 pub invariant_of-result : goal.invariant_of-result

@@ -1,5 +1,4 @@
-use Rattle.std.proofs.Common.{◌≡◌, ℕ, ◌<◌, false}
-use Rattle.pocsag_slots.specs.Ways.{class_certain}
+use Rattle.pocsag_branch.proofs.Prelude.{◌≡◌, ℕ, ◌<◌, false, class_certain}
 use Rattle.pocsag_branch.proofs.child.certain_class.Given as goal
 
 abbrev pub invariant-loop-class : goal.invariant-loop-class

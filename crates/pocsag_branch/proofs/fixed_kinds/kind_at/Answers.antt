@@ -1,4 +1,4 @@
-use Rattle.std.proofs.Common.{slice_index}
+use Rattle.pocsag_branch.proofs.Prelude.{slice_index}
 use Rattle.pocsag_branch.proofs.OpenWays.{ways_fall}
 use Rattle.pocsag_branch.proofs.fixed_kinds.kind_at.Goals as goal
 

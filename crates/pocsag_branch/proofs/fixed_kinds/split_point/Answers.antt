@@ -1,6 +1,4 @@
-use Rattle.std.proofs.Common.{arith, slice_index, refl, ◌≡◌, true, false}
-use Rattle.pocsag_slots.proofs.LoadLemmas.{count_few}
-use Rattle.pocsag_branch.specs.Shape.{at_one, at_count}
+use Rattle.pocsag_branch.proofs.Prelude.{arith, slice_index, refl, ◌≡◌, true, false, count_few, at_one, at_count}
 use Rattle.pocsag_branch.proofs.OpenWays.{splits_outside}
 use Rattle.pocsag_branch.proofs.fixed_kinds.split_point.Goals as goal
 

@@ -1,5 +1,4 @@
-use Rattle.std.proofs.Common.{ℕ, Bool, ◌<◌, slice_index}
-use Rattle.pocsag_tour.specs.Reached.{HasRunOutside}
+use Rattle.pocsag_branch.proofs.Prelude.{ℕ, Bool, ◌<◌, slice_index, HasRunOutside}
 use Rattle.pocsag_branch.proofs.fixed_kinds.split_point.Given as goal
 
 abbrev pub invariant-loop-class : goal.invariant-loop-class

@@ -1,5 +1,4 @@
-use Rattle.std.proofs.Common.{slice_index, arith}
-use Rattle.pocsag_tour.specs.Reached.{at_start}
+use Rattle.pocsag_branch.proofs.Prelude.{slice_index, arith, at_start}
 use Rattle.pocsag_branch.proofs.OpenWays.{closing_fall}
 use Rattle.pocsag_branch.proofs.fixed_kinds.why_no_tour.Goals as goal
 

@@ -1,4 +1,4 @@
-use Rattle.std.proofs.Common.{slice_index}
+use Rattle.pocsag_branch.proofs.Prelude.{slice_index}
 use Rattle.pocsag_words.specs.declared.ending.End.TheVariants.{Open}
 use Rattle.pocsag_branch.proofs.TreeEnds.{tour_admitted}
 use Rattle.pocsag_branch.proofs.fixed_root.choice_for_open_end.Goals as goal

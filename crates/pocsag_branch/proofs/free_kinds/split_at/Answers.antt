@@ -1,5 +1,4 @@
-use Rattle.std.proofs.Common.{arith}
-use Rattle.pocsag_slots.proofs.LoadLemmas.{count_few}
+use Rattle.pocsag_branch.proofs.Prelude.{arith, count_few}
 use Rattle.pocsag_branch.proofs.Settled.{splits_at_count, splits_at_one}
 use Rattle.pocsag_branch.proofs.free_kinds.split_at.Goals as goal
 

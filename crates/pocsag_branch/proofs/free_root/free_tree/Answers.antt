@@ -1,14 +1,6 @@
-use Rattle.std.proofs.Common.{◌≡◌, ◌≤◌, false, Result, Ok, Err, IfOk, arith, subst}
-use Rattle.std.proofs.lemmas.Result.{IfErr-weaker}
-use Rattle.pocsag_slots.specs.declared.class.Classes.{Classes}
-use Rattle.pocsag_tree.specs.declared.shape.Tree.{Tree}
-use Rattle.pocsag_tree.specs.BoundTrees.{BoundTree}
-use Rattle.pocsag_tree.specs.Views.{bound_tree_of}
+use Rattle.pocsag_branch.proofs.Prelude.{◌≡◌, ◌≤◌, false, Result, Ok, Err, IfOk, arith, subst, IfErr-weaker, Classes, Tree, BoundTree, bound_tree_of, Task, IsStop, IsFreeTree}
 use Rattle.pocsag_branch.specs.declared.task.Stop.{Stop}
 use Rattle.pocsag_branch.specs.declared.task.Stop.TheVariants.{Met, Limit, OutOfMemory}
-use Rattle.pocsag_branch.specs.declared.task.Task.{Task}
-use Rattle.pocsag_branch.specs.Examined.{IsStop}
-use Rattle.pocsag_branch.specs.FreeNode.{IsFreeTree}
 use Rattle.pocsag_branch.proofs.free_root.free_tree.Goals as goal
 
 same_tree : (k : Classes) (q r : Task) (t : BoundTree) → r.end ≡ q.end → r.batches ≡ q.batches → r.limit ≤ q.limit → IsFreeTree k r t →

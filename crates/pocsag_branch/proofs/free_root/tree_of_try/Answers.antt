@@ -1,11 +1,7 @@
-use Rattle.std.proofs.Common.{◌≡◌, ◌∙◌, sym, inl, inr}
+use Rattle.pocsag_branch.proofs.Prelude.{◌≡◌, ◌∙◌, sym, inl, inr, End, AsksForLast, bound_tree_of, err_from_is_err_and}
 use Rattle.std.specs.Prelude.{◌⊎◌}
-use Rattle.pocsag_words.specs.declared.ending.End.{End}
 use Rattle.pocsag_words.specs.declared.ending.End.TheVariants as ends
-use Rattle.pocsag_slots.specs.Tours.{AsksForLast}
-use Rattle.pocsag_tree.specs.Views.{bound_tree_of}
 use Rattle.pocsag_branch.proofs.TreeEnds.{all_node_limits, free_made, root_closing}
-use Rattle.std.proofs.lemmas.Result.{err_from_is_err_and}
 use Rattle.pocsag_branch.proofs.free_root.tree_of_try.Goals as goal
 use Rattle.pocsag_branch.proofs.free_root.tree_of_try.Goals.{in-Open, in-Closed}
 

@@ -1,6 +1,4 @@
-use Rattle.pocsag_tree.specs.declared.shape.Tree.TheVariants.{Overload}
-use Rattle.pocsag_tree.specs.Views.{bound_tree_of}
-use Rattle.std.proofs.Common.{arith}
+use Rattle.pocsag_branch.proofs.Prelude.{Overload, bound_tree_of, arith}
 use Rattle.pocsag_branch.proofs.TreeEnds.{bound_tree_of-overload, least_tree, tree_bound}
 use Rattle.pocsag_branch.proofs.free_search.fallback.Goals as goal
 

@@ -1,8 +1,4 @@
-use Rattle.std.proofs.Common.{◌≡◌, ℕ, arith, subst}
-use Rattle.pocsag_slots.specs.declared.class.Classes.{Classes}
-use Rattle.pocsag_slots.specs.Loads.{IsLeast}
-use Rattle.pocsag_tree.specs.Views.{bound_tree_of}
-use Rattle.pocsag_branch.specs.Found.{IsLimit, IsSearchFault}
+use Rattle.pocsag_branch.proofs.Prelude.{◌≡◌, ℕ, arith, subst, Classes, IsLeast, bound_tree_of, IsLimit, IsSearchFault}
 use Rattle.pocsag_branch.proofs.free_search.found_or_near.Goals as goal
 
 one_least : (k : Classes) (a b : ℕ) → IsLeast k a → IsLeast k b → a ≡ b

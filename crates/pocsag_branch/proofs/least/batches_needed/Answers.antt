@@ -1,6 +1,4 @@
-use Rattle.std.proofs.Common.{◌≡◌, ℕ, ◌+◌, ◌/◌, ◌%◌, min, ap, ◌∙◌}
-use Rattle.pocsag_slots.specs.Loads.{IsLeastLoad, limits_of_all}
-use Rattle.pocsag_slots.specs.Sums.{sum_over}
+use Rattle.pocsag_branch.proofs.Prelude.{◌≡◌, ℕ, ◌+◌, ◌/◌, ◌%◌, min, ap, ◌∙◌, IsLeastLoad, limits_of_all, sum_over}
 use Rattle.pocsag_branch.proofs.LeastBounds.{has_members, share_more, share_most, share_refuses}
 use Rattle.pocsag_branch.proofs.least.batches_needed.Goals as goal
 use Rattle.pocsag_branch.proofs.least.batches_needed.Goals.{After-from, After-div_ceil}

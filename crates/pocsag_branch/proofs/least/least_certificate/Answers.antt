@@ -1,12 +1,6 @@
-use Rattle.std.proofs.Common.{◌+◌, ap, arith, false, slice_index}
-use Rattle.pocsag_tree.specs.declared.shape.Tree.TheVariants.{Overload}
-use Rattle.pocsag_tree.specs.BoundTrees.{all_nodes}
-use Rattle.pocsag_tree.specs.Views.{bound_tree_of}
+use Rattle.pocsag_branch.proofs.Prelude.{◌+◌, ap, arith, false, slice_index, Overload, all_nodes, bound_tree_of, set_taking, spare_tour, tour_worded}
 use Rattle.pocsag_branch.proofs.TreeEnds.{bound_tree_of-overload, has_room, least_tree, tree_bound}
-use Rattle.pocsag_slots.proofs.Members.{set_taking}
-use Rattle.pocsag_tour.proofs.Spares.{spare_tour}
 use Rattle.pocsag_check.proofs.Spelled.{accepted_text}
-use Rattle.pocsag_slots.proofs.Sayable.{tour_worded}
 use Rattle.pocsag_branch.proofs.least.least_certificate.Goals as goal
 
 pub returns-clause-bound : goal.returns-clause-bound

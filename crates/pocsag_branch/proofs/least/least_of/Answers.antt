@@ -1,4 +1,4 @@
-use Rattle.std.proofs.Common.{slice_index}
+use Rattle.pocsag_branch.proofs.Prelude.{slice_index}
 use Rattle.pocsag_branch.proofs.LeastBounds.{least_is_least}
 use Rattle.pocsag_branch.proofs.least.least_of.Goals as goal
 

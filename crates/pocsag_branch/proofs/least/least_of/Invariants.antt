@@ -1,6 +1,4 @@
-use Rattle.std.proofs.Common.{◌-◌, ◌≤◌}
-use Rattle.pocsag_branch.specs.Examined.{greatest_least}
-use Rattle.pocsag_branch.specs.Shape.{RefusesOneLess}
+use Rattle.pocsag_branch.proofs.Prelude.{◌-◌, ◌≤◌, greatest_least, RefusesOneLess}
 use Rattle.pocsag_branch.proofs.least.least_of.Given as goal
 
 abbrev pub invariant-loop-choice : goal.invariant-loop-choice

@@ -1,5 +1,4 @@
-use Rattle.std.proofs.Common.{slice_index}
-use Rattle.pocsag_slots.specs.Loads.{IsAdmitted}
+use Rattle.pocsag_branch.proofs.Prelude.{slice_index, IsAdmitted}
 use Rattle.pocsag_branch.proofs.local_search.improved_choice.Given as goal
 
 abbrev pub invariant-loop : goal.invariant-loop

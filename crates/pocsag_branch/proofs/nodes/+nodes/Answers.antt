@@ -1,6 +1,4 @@
-use Rattle.std.proofs.Common.{ℕ, ◌+◌, ◌≤◌, ◌∙◌, arith}
-use Rattle.pocsag_slots.specs.declared.way.Way.TheVariants.{IdleIn}
-use Rattle.pocsag_tree.specs.Views.{bound_tree_of}
+use Rattle.pocsag_branch.proofs.Prelude.{ℕ, ◌+◌, ◌≤◌, ◌∙◌, arith, IdleIn, bound_tree_of}
 use Rattle.pocsag_branch.proofs.NodeChildren.{close_made, cut_made, kept, kept_below, kept_in_row, row_goes_on, split_made}
 use Rattle.pocsag_branch.proofs.nodes.+nodes.Goals as goal
 
@@ -44,7 +42,7 @@ pub cut_node-returns-in-Whole-clause-node : goal.cut_node-returns-in-Whole-claus
 cut_node-returns-in-Whole-clause-node t c =
     cut_made c.args.node.now.classes.now c.args.node.now.task c.args.node.now.limits c.args.examined c.in_ok-children.after
     c.args.set.members c.args.needed.number c.deref.result.now c.in-Whole.children c.args.needed.known c.args.set.zero c.requires.certain
-    (omega arith) c.requires.shape (c.deref.ensures.0 ∙ c.ways_out-out.ensures.items) (rw c.in-Whole.is at c.in_ok-children.ensures.node)
+    (omega arith) c.requires.shape (c.deref.ensures.0 ∙ c.ways-out.ensures.items) (rw c.in-Whole.is at c.in_ok-children.ensures.node)
 
 pub cut_node-returns-in-Kept-clause-node : goal.cut_node-returns-in-Kept-clause-node
 cut_node-returns-in-Kept-clause-node t c =
@@ -55,7 +53,7 @@ pub close_node-returns-in-Whole-clause-node : goal.close_node-returns-in-Whole-c
 close_node-returns-in-Whole-clause-node t c =
     close_made c.args.node.now.classes.now c.args.node.now.task c.args.node.now.limits c.args.examined c.in_ok-children.after
     c.deref.result.now c.in-Whole.children c.requires.asks c.requires.shape
-    (c.deref.ensures.0 ∙ c.ways_to_end-out.ensures.items) (rw c.in-Whole.is at c.in_ok-children.ensures.node)
+    (c.deref.ensures.0 ∙ c.ending_ways-out.ensures.items) (rw c.in-Whole.is at c.in_ok-children.ensures.node)
 
 pub close_node-returns-in-Kept-clause-node : goal.close_node-returns-in-Kept-clause-node
 close_node-returns-in-Kept-clause-node t c =

@@ -1,7 +1,4 @@
-use Rattle.std.proofs.Common.{◌+◌, ◌*◌, take}
-use Rattle.pocsag_tree.specs.Views.{bounds_of}
-use Rattle.pocsag_branch.specs.Examined.{AreExamined}
-use Rattle.pocsag_branch.specs.Undecided.{undecided}
+use Rattle.pocsag_branch.proofs.Prelude.{◌+◌, ◌*◌, take, bounds_of, AreExamined, undecided}
 use Rattle.pocsag_branch.proofs.nodes.+nodes.Given as goal
 
 abbrev pub decreases-node_tree : goal.decreases-node_tree

@@ -1,7 +1,4 @@
-use Rattle.std.proofs.Common.{refl, inl}
-use Rattle.pocsag_tree.specs.declared.shape.Tree.TheVariants.{Overload}
-use Rattle.pocsag_tree.specs.Views.{bound_tree_of}
-use Rattle.pocsag_branch.specs.Shape.{at_least}
+use Rattle.pocsag_branch.proofs.Prelude.{refl, inl, Overload, bound_tree_of, at_least}
 use Rattle.pocsag_branch.proofs.TreeEnds.{least_tree, tree_bound}
 use Rattle.pocsag_branch.proofs.outcome.found_at_least.Goals as goal
 

@@ -1,4 +1,4 @@
-use Rattle.std.proofs.Common.{◌+◌, slice_index}
+use Rattle.pocsag_branch.proofs.Prelude.{◌+◌, slice_index}
 use Rattle.pocsag_branch.proofs.TreeEnds.{has_room, never_apart}
 use Rattle.pocsag_branch.proofs.outcome.tour_of_one_more.Goals as goal
 

@@ -1,8 +1,4 @@
-use Rattle.std.proofs.Common.{◌≤◌, get_or, length, refl, arith}
-use Rattle.std.proofs.lemmas.List.{take_all}
-use Rattle.std.proofs.lemmas.List.Elements.{All-more}
-use Rattle.pocsag_slots.specs.declared.way.Way.TheVariants.{IdleIn}
-use Rattle.pocsag_branch.specs.Undecided.{Falls}
+use Rattle.pocsag_branch.proofs.Prelude.{◌≤◌, get_or, length, refl, arith, take_all, All-more, IdleIn, Falls}
 use Rattle.pocsag_branch.proofs.Settled.{undecided_falls}
 use Rattle.pocsag_branch.proofs.smaller_cuts.are_undecided.Goals as goal
 

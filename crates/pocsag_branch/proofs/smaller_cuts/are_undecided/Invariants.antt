@@ -1,5 +1,4 @@
-use Rattle.std.proofs.Common.{All, take}
-use Rattle.pocsag_branch.specs.Undecided.{Falls}
+use Rattle.pocsag_branch.proofs.Prelude.{All, take, Falls}
 use Rattle.pocsag_branch.proofs.smaller_cuts.are_undecided.Given as goal
 
 abbrev pub invariant-loop-way : goal.invariant-loop-way

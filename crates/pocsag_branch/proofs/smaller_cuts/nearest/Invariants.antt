@@ -1,4 +1,4 @@
-use Rattle.std.proofs.Common.{◌<◌, IfSome}
+use Rattle.pocsag_branch.proofs.Prelude.{◌<◌, IfSome}
 use Rattle.pocsag_branch.proofs.smaller_cuts.nearest.Given as goal
 
 abbrev pub invariant-loop-boundary : goal.invariant-loop-boundary

@@ -1,5 +1,4 @@
-use Rattle.std.proofs.Common.{inl, inr, sym, ◌∙◌}
-use Rattle.std.proofs.lemmas.Bool.{cases_eq}
+use Rattle.pocsag_branch.proofs.Prelude.{inl, inr, sym, ◌∙◌, cases_eq}
 use Rattle.pocsag_branch.proofs.smaller_cuts.set_with.Goals as goal
 
 pub invariant_of-result : goal.invariant_of-result

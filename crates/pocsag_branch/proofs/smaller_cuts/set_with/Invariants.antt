@@ -1,4 +1,4 @@
-use Rattle.std.proofs.Common.{◌≡◌, length}
+use Rattle.pocsag_branch.proofs.Prelude.{◌≡◌, length}
 use Rattle.pocsag_branch.proofs.smaller_cuts.set_with.Given as goal
 
 abbrev pub invariant-loop-other : goal.invariant-loop-other

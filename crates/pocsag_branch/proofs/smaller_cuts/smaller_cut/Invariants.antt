@@ -1,5 +1,4 @@
-use Rattle.std.proofs.Common.{IfSome}
-use Rattle.pocsag_branch.specs.Examined.{IsNodeKind}
+use Rattle.pocsag_branch.proofs.Prelude.{IfSome, IsNodeKind}
 use Rattle.pocsag_branch.proofs.smaller_cuts.smaller_cut.Given as goal
 
 abbrev pub invariant-loop : goal.invariant-loop

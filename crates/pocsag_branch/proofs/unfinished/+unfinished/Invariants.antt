@@ -1,6 +1,4 @@
-use Rattle.std.proofs.Common.{◌≡◌, drop}
-use Rattle.pocsag_tree.specs.Views.{bounds_of}
-use Rattle.pocsag_branch.specs.Marks.{have_open}
+use Rattle.pocsag_branch.proofs.Prelude.{◌≡◌, drop, bounds_of, have_open}
 use Rattle.pocsag_branch.proofs.unfinished.+unfinished.Given as goal
 
 abbrev pub invariant-any_unfinished-loop-tree : goal.invariant-any_unfinished-loop-tree

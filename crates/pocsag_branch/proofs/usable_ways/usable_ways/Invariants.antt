@@ -1,4 +1,4 @@
-use Rattle.std.proofs.Common.{◌≡◌, length}
+use Rattle.pocsag_branch.proofs.Prelude.{◌≡◌, length}
 use Rattle.pocsag_branch.proofs.usable_ways.usable_ways.Given as goal
 
 abbrev pub invariant-loop-class : goal.invariant-loop-class

@@ -1,10 +1,6 @@
-use Rattle.std.proofs.Common.{◌≡◌, arith, false, subst}
-use Rattle.std.proofs.lemmas.Result.{err_from_is_err_and}
-use Rattle.pocsag_tree.specs.Views.{bound_tree_of}
-use Rattle.pocsag_plan.specs.Attempts.{StopsAt}
+use Rattle.pocsag_plan.proofs.Prelude.{◌≡◌, arith, false, subst, err_from_is_err_and, bound_tree_of, StopsAt, accepted_closed, accepted_text}
 use Rattle.pocsag_plan.proofs.Completed.{most, nodes_few}
 use Rattle.pocsag_plan.proofs.FrontTries.{loads_exceed, search_exceeds, stops_at}
-use Rattle.pocsag_check.proofs.Spelled.{accepted_closed, accepted_text}
 use Rattle.pocsag_plan.proofs.attempt.attempt.Goals as goal
 
 pub returns-then-by_loads-batches-2-clause-attempt : goal.returns-then-by_loads-batches-2-clause-attempt

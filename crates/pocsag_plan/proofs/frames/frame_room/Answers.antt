@@ -1,7 +1,4 @@
-use Rattle.std.proofs.Common.{◌≡◌, ◌≤◌, true, false, ap, arith, length, rules}
-use Rattle.pocsag_pages.specs.declared.page.Page.{Page}
-use Rattle.pocsag_pages.specs.Reading.{page_length}
-use Rattle.pocsag_plan.specs.Frames.{starts_in}
+use Rattle.pocsag_plan.proofs.Prelude.{◌≡◌, ◌≤◌, true, false, ap, arith, length, rules, Page, page_length, starts_in}
 use Rattle.pocsag_plan.proofs.FrameRooms.{counted_in, counted_out, page_short}
 use Rattle.pocsag_plan.proofs.frames.frame_room.Goals.{then-page-frame, else-page-frame}
 use Rattle.pocsag_plan.proofs.frames.frame_room.Goals as goal

@@ -1,5 +1,4 @@
-use Rattle.std.proofs.Common.{◌≡◌, ◌*◌, ◌≤◌, take}
-use Rattle.pocsag_plan.specs.Frames.{frame_codewords, frame_pages}
+use Rattle.pocsag_plan.proofs.Prelude.{◌≡◌, ◌*◌, ◌≤◌, take, frame_codewords, frame_pages}
 use Rattle.pocsag_plan.proofs.frames.frame_room.Given as goal
 
 -- the counts are those of the pages so far, of which each has 1,401 codewords at most

@@ -1,5 +1,4 @@
-use Rattle.std.proofs.Common.{◌≡◌, ℕ, ◌<◌, get_or, length}
-use Rattle.pocsag_plan.specs.Frames.{frame_row}
+use Rattle.pocsag_plan.proofs.Prelude.{◌≡◌, ℕ, ◌<◌, get_or, length, frame_row}
 use Rattle.pocsag_plan.proofs.frames.frames_of.Given as goal
 
 -- the frames so far have their numbers

@@ -1,6 +1,4 @@
-use Rattle.std.proofs.Common.{◌+◌, drop, List}
-use Rattle.pocsag_slots.specs.declared.step.Step.{Step}
-use Rattle.pocsag_plan.specs.Frames.{frame_idles}
+use Rattle.pocsag_plan.proofs.Prelude.{◌+◌, drop, List, Step, frame_idles}
 use Rattle.pocsag_plan.proofs.FrameRooms.{class_small, idle_keeps, next_step, run_keeps}
 use Rattle.pocsag_plan.proofs.frames.room_left.Goals.{in-Idle, in-Run}
 use Rattle.pocsag_plan.proofs.frames.room_left.Goals as goal

@@ -1,5 +1,4 @@
-use Rattle.std.proofs.Common.{◌≡◌, ◌+◌, ◌<◌, ◌≤◌, drop}
-use Rattle.pocsag_plan.specs.Frames.{HasClasses, frame_idles}
+use Rattle.pocsag_plan.proofs.Prelude.{◌≡◌, ◌+◌, ◌<◌, ◌≤◌, drop, HasClasses, frame_idles}
 use Rattle.pocsag_plan.proofs.FrameRooms.{room_from}
 use Rattle.pocsag_plan.proofs.frames.room_left.Given as goal
 

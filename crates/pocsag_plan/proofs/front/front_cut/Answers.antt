@@ -1,8 +1,4 @@
-use Rattle.std.proofs.Common.{◌≡◌, ℕ, ◌+◌, ◌-◌, ◌/◌, ◌<◌, ◌≤◌, length, arith, inl, inr, refl, subst}
-use Rattle.std.specs.Prelude.{None}
-use Rattle.std.proofs.lemmas.Result.{err_from_is_err_and}
-use Rattle.pocsag_pages.proofs.FirstPages.{first_round}
-use Rattle.pocsag_plan.specs.Attempts.{IsFit, StopsAt}
+use Rattle.pocsag_plan.proofs.Prelude.{◌≡◌, ℕ, ◌+◌, ◌-◌, ◌/◌, ◌<◌, ◌≤◌, length, arith, inl, inr, refl, subst, None, err_from_is_err_and, first_round, IsFit, StopsAt}
 use Rattle.pocsag_plan.proofs.FrontTries.{cut_of, first_has_page, first_needs, front_explained, spare_fits, spare_front}
 use Rattle.pocsag_plan.proofs.front.front_cut.Goals as goal
 

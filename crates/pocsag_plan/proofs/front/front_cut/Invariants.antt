@@ -1,6 +1,4 @@
-use Rattle.std.proofs.Common.{◌-◌, ◌≤◌, length, take}
-use Rattle.pocsag_slots.specs.Loads.{AreClassesOf}
-use Rattle.pocsag_plan.specs.Attempts.{AreFrontBounds}
+use Rattle.pocsag_plan.proofs.Prelude.{◌-◌, ◌≤◌, length, take, AreClassesOf, AreFrontBounds}
 use Rattle.pocsag_plan.proofs.front.front_cut.Given as goal
 
 abbrev pub invariant-loop-bounds : goal.invariant-loop-bounds

@@ -1,8 +1,4 @@
-use Rattle.std.proofs.Common.{List, subst, sym}
-use Rattle.std.proofs.lemmas.Result.{err_from_is_err_and}
-use Rattle.pocsag_pages.specs.declared.page.Page.{Page}
-use Rattle.pocsag_pages.specs.Pages.{IsRound}
-use Rattle.pocsag_plan.specs.Fronts.{ExplainsFront}
+use Rattle.pocsag_plan.proofs.Prelude.{List, subst, sym, err_from_is_err_and, Page, IsRound, ExplainsFront}
 use Rattle.pocsag_plan.proofs.FrontTries.{front_of, longest_of, outcome_for, why_of}
 use Rattle.pocsag_plan.proofs.Unwritten.{limit_taken}
 use Rattle.pocsag_plan.proofs.front.longest_front.Goals as goal

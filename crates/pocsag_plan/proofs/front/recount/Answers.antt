@@ -1,11 +1,4 @@
-use Rattle.std.proofs.Common.{◌≡◌, ◌+◌, ◌-◌, ◌<◌, ◌≤◌, [], ◌∷◌, ◌++◌, All, length, take, arith, subst}
-use Rattle.std.proofs.lemmas.List.{length-take-le}
-use Rattle.std.proofs.lemmas.List.Elements.{All-take}
-use Rattle.pocsag_pages.specs.Pages.{IsGoodPage, page_limit}
-use Rattle.pocsag_pages.proofs.GoodPages.{good_pages}
-use Rattle.pocsag_pages.proofs.PageLists.{taken}
-use Rattle.pocsag_batch.proofs.PageLists.{good_at}
-use Rattle.pocsag_slots.specs.Loads.{AreClassesOf}
+use Rattle.pocsag_plan.proofs.Prelude.{◌≡◌, ◌+◌, ◌-◌, ◌<◌, ◌≤◌, [], ◌∷◌, ◌++◌, All, length, take, arith, subst, length-take-le, All-take, IsGoodPage, page_limit, good_pages, taken, good_at, AreClassesOf}
 use Rattle.pocsag_plan.proofs.front.recount.Goals as goal
 
 pub count_page-requires : goal.count_page-requires

@@ -1,5 +1,4 @@
-use Rattle.std.proofs.Common.{◌-◌, ◌≤◌, length, take}
-use Rattle.pocsag_slots.specs.Loads.{AreClassesOf}
+use Rattle.pocsag_plan.proofs.Prelude.{◌-◌, ◌≤◌, length, take, AreClassesOf}
 use Rattle.pocsag_plan.proofs.front.recount.Given as goal
 
 abbrev pub invariant-loop-counted : goal.invariant-loop-counted

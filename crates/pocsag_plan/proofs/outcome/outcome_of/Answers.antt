@@ -1,5 +1,4 @@
-use Rattle.std.proofs.Common.{refl, arith}
-use Rattle.std.proofs.lemmas.Result.{err_from_is_err_and}
+use Rattle.pocsag_plan.proofs.Prelude.{refl, arith, err_from_is_err_and}
 use Rattle.pocsag_plan.proofs.Explained.{outcome_fault}
 use Rattle.pocsag_plan.proofs.outcome.outcome_of.Goals as goal
 

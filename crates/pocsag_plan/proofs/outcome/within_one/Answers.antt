@@ -1,4 +1,4 @@
-use Rattle.std.proofs.Common.{◌≤◌, arith}
+use Rattle.pocsag_plan.proofs.Prelude.{◌≤◌, arith}
 use Rattle.pocsag_plan.proofs.Completed.{fallback_few}
 use Rattle.pocsag_plan.proofs.outcome.within_one.Goals as goal
 

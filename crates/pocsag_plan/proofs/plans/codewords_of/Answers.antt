@@ -1,8 +1,4 @@
-use Rattle.std.proofs.Common.{◌≡◌, ◌+◌, ◌<◌, ◌≤◌, List, length, get_or, take, subst, sym, arith, ap, sum_by}
-use Rattle.std.proofs.lemmas.List.Sums.{sum_by_more}
-use Rattle.pocsag_pages.specs.declared.page.Page.{Page}
-use Rattle.pocsag_pages.specs.Reading.{page_length}
-use Rattle.pocsag_batch.proofs.PageLists.{good_at}
+use Rattle.pocsag_plan.proofs.Prelude.{◌≡◌, ◌+◌, ◌<◌, ◌≤◌, List, length, get_or, take, subst, sym, arith, ap, sum_by, sum_by_more, Page, page_length, good_at}
 use Rattle.pocsag_plan.proofs.plans.codewords_of.Goals as goal
 
 pub loop-page-preserved : goal.loop-page-preserved

@@ -1,5 +1,4 @@
-use Rattle.std.proofs.Common.{◌≡◌, ◌*◌, ◌≤◌, sum_by, take}
-use Rattle.pocsag_pages.specs.Reading.{page_length}
+use Rattle.pocsag_plan.proofs.Prelude.{◌≡◌, ◌*◌, ◌≤◌, sum_by, take, page_length}
 use Rattle.pocsag_plan.proofs.plans.codewords_of.Given as goal
 
 abbrev pub invariant-loop-page : goal.invariant-loop-page

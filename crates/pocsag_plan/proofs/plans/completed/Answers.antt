@@ -1,14 +1,7 @@
-use Rattle.std.proofs.Common.{ℕ, ◌*◌, ◌≤◌, false, List, length, refl, sym, ap, subst, arith, slice_index}
-use Rattle.pocsag_pages.proofs.GoodPages.{apart_pages}
-use Rattle.pocsag_slots.specs.declared.step.Step.{Step}
-use Rattle.pocsag_slots.specs.Tours.{IsTourFor}
-use Rattle.pocsag_tree.specs.Views.{bound_tree_of}
-use Rattle.pocsag_batch.specs.Placement.{IsOrder}
+use Rattle.pocsag_plan.proofs.Prelude.{ℕ, ◌*◌, ◌≤◌, false, List, length, refl, sym, ap, subst, arith, slice_index, apart_pages, Step, IsTourFor, bound_tree_of, IsOrder, accepted_closed, accepted_text, tour_worded}
 use Rattle.pocsag_check.proofs.Bounds.{admitted_all}
 use Rattle.pocsag_plan.proofs.Explained.{no_worse}
 use Rattle.pocsag_plan.proofs.Completed.{found_room, most, nodes_few, some_batch, tour_for}
-use Rattle.pocsag_check.proofs.Spelled.{accepted_closed, accepted_text}
-use Rattle.pocsag_slots.proofs.Sayable.{tour_worded}
 use Rattle.pocsag_plan.proofs.plans.completed.Goals as goal
 
 pub order_of-requires : goal.order_of-requires

@@ -1,8 +1,7 @@
-use Rattle.std.proofs.Common.{◌≡◌, ℕ, ◌+◌, ◌-◌, ◌*◌, ◌/◌, ◌<◌, ◌≤◌, arith, refl, subst, sym}
+use Rattle.pocsag_plan.proofs.Prelude.{◌≡◌, ℕ, ◌+◌, ◌-◌, ◌*◌, ◌/◌, ◌<◌, ◌≤◌, arith, refl, subst, sym, AreMostWithin}
 use Rattle.std.proofs.Math.Nat.{lt_of_mul-lt-mul_right}
 use Rattle.std.proofs.lemmas.Grind.{div_ceil_times}
 use Rattle.pocsag_words.specs.Frame.{airtime, transmission_bits}
-use Rattle.pocsag_plan.specs.Reports.{AreMostWithin}
 use Rattle.pocsag_plan.proofs.reports.most_batches.Goals as goal
 
 -- so many batches last less than a millisecond more, and one batch more lasts longer

@@ -1,4 +1,4 @@
-use Rattle.std.proofs.Common.{refl}
+use Rattle.pocsag_plan.proofs.Prelude.{refl}
 use Rattle.pocsag_plan.proofs.Due.{all_as, certificate_part_as, file_headline, has_headline, part_as}
 use Rattle.pocsag_plan.proofs.Unwritten.{its_own, limit_taken, plan_answered, plan_explained, sent_explained}
 use Rattle.pocsag_plan.proofs.streams.bounded_stream.Goals as goal

@@ -1,4 +1,4 @@
-use Rattle.std.proofs.Common.{refl}
+use Rattle.pocsag_plan.proofs.Prelude.{refl}
 use Rattle.pocsag_plan.proofs.Due.{of_round_as, tight_plan, tight_stream}
 use Rattle.pocsag_plan.proofs.streams.plan_stream.Goals as goal
 

@@ -1,4 +1,4 @@
-use Rattle.std.proofs.lemmas.Result.{IfOk-weaker}
+use Rattle.pocsag_plan.proofs.Prelude.{IfOk-weaker}
 use Rattle.pocsag_plan.proofs.Due.{of_round_as, tight_stream}
 use Rattle.pocsag_plan.proofs.streams.plan_stream_always.Goals as goal
 

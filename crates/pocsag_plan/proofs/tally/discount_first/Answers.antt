@@ -1,11 +1,4 @@
-use Rattle.std.proofs.Common.{◌≡◌, ◌+◌, ℕ, ◌<◌, ◌≤◌, [], ◌∷◌, All, List, drop, get_or, length, take, arith, subst, ◌∙◌}
-use Rattle.std.proofs.lemmas.List.{get_or-take, length-drop, length-take-le}
-use Rattle.std.proofs.lemmas.List.Elements.{All-drop}
-use Rattle.pocsag_pages.specs.Pages.{IsGoodPage, page_limit}
-use Rattle.pocsag_pages.specs.declared.page.Page.{Page}
-use Rattle.pocsag_pages.proofs.GoodPages.{good_pages}
-use Rattle.pocsag_pages.proofs.PageLists.{left}
-use Rattle.pocsag_slots.specs.Loads.{AreClassesOf}
+use Rattle.pocsag_plan.proofs.Prelude.{◌≡◌, ◌+◌, ℕ, ◌<◌, ◌≤◌, [], ◌∷◌, All, List, drop, get_or, length, take, arith, subst, ◌∙◌, get_or-take, length-drop, length-take-le, All-drop, IsGoodPage, page_limit, Page, good_pages, left, AreClassesOf}
 use Rattle.pocsag_plan.proofs.tally.discount_first.Goals as goal
 
 -- the pages that are left begin with the next of those that are taken out

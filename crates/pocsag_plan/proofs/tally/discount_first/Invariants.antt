@@ -1,5 +1,4 @@
-use Rattle.std.proofs.Common.{drop}
-use Rattle.pocsag_slots.specs.Loads.{AreClassesOf}
+use Rattle.pocsag_plan.proofs.Prelude.{drop, AreClassesOf}
 use Rattle.pocsag_plan.proofs.tally.discount_first.Given as goal
 
 abbrev pub invariant-loop-page : goal.invariant-loop-page

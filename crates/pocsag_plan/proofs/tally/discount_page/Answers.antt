@@ -1,4 +1,4 @@
-use Rattle.pocsag_pages.specs.Pages.{IsGoodPage}
+use Rattle.pocsag_plan.proofs.Prelude.{IsGoodPage}
 use Rattle.pocsag_plan.proofs.Tallies.{All-here, lost, lost_tables}
 use Rattle.pocsag_plan.proofs.tally.discount_page.Goals as goal
 

@@ -1,7 +1,4 @@
-use Rattle.std.proofs.Common.{[], arith}
-use Rattle.std.proofs.lemmas.List.Elements.{All-nil}
-use Rattle.pocsag_words.specs.declared.ending.End.TheVariants.{Open}
-use Rattle.pocsag_slots.proofs.CountLemmas.{IsShort, none_counted, tables_of}
+use Rattle.pocsag_plan.proofs.Prelude.{[], arith, All-nil, Open, IsShort, none_counted, tables_of}
 use Rattle.pocsag_plan.proofs.tally.no_classes.Goals as goal
 
 pub invariant_of-result : goal.invariant_of-result

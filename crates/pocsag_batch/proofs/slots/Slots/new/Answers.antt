@@ -1,5 +1,4 @@
-use Rattle.pocsag_batch.proofs.Prelude.{ap, arith, length}
-use Rattle.pocsag_pages.proofs.GoodPages.{good_pages}
+use Rattle.pocsag_batch.proofs.Prelude.{ap, arith, length, good_pages}
 use Rattle.pocsag_batch.proofs.slots.Slots.new.Goals as goal
 
 pub invariant_of-result : goal.invariant_of-result

@@ -1,5 +1,4 @@
-use Rattle.pocsag_batch.proofs.Prelude.{ℕ, ◌/◌, ◌^◌, ◌<◌, sym, ap, ◌∙◌, address_kind}
-use Rattle.std.proofs.lemmas.List.Elements.{All-rest}
+use Rattle.pocsag_batch.proofs.Prelude.{ℕ, ◌/◌, ◌^◌, ◌<◌, sym, ap, ◌∙◌, address_kind, All-rest}
 use Rattle.pocsag_batch.proofs.Views.{begun_view}
 use Rattle.pocsag_batch.proofs.slots.SlotsIterator.next.Goals as goal
 

@@ -1,5 +1,4 @@
-use Rattle.pocsag_batch.proofs.Prelude.{◌≡◌, ◌++◌, map, replicate, kind_of}
-use Rattle.pocsag_words.specs.declared.codeword.Kind.TheVariants.{Idle}
+use Rattle.pocsag_batch.proofs.Prelude.{◌≡◌, ◌++◌, map, replicate, kind_of, Idle}
 use Rattle.pocsag_batch.proofs.word_list.WordList.push_idles.Given as goal
 
 abbrev pub invariant-loop-done : goal.invariant-loop-done

@@ -1,6 +1,4 @@
-use Rattle.pocsag_batch.proofs.Prelude.{◌≡◌, ℕ, ◌/◌, ◌<◌, ◌∷◌, ◌++◌, length, get_or, map, take, sym, ap, ◌∙◌, All-get_or, kind_of}
-use Rattle.pocsag_words.specs.declared.codeword.Kind.TheVariants.{Address, Message}
-use Rattle.pocsag_slots.proofs.Sayable.{kind_unreserved}
+use Rattle.pocsag_batch.proofs.Prelude.{◌≡◌, ℕ, ◌/◌, ◌<◌, ◌∷◌, ◌++◌, length, get_or, map, take, sym, ap, ◌∙◌, All-get_or, kind_of, Address, Message, kind_unreserved}
 use Rattle.pocsag_batch.proofs.Pushes.{pushed, pushed_more, map_taken}
 use Rattle.pocsag_batch.proofs.word_list.WordList.push_page.Goals as goal
 

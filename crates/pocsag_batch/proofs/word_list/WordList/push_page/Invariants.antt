@@ -1,5 +1,4 @@
-use Rattle.pocsag_batch.proofs.Prelude.{◌≡◌, ◌/◌, ◌∷◌, ◌++◌, map, take, kind_of}
-use Rattle.pocsag_words.specs.declared.codeword.Kind.TheVariants.{Address, Message}
+use Rattle.pocsag_batch.proofs.Prelude.{◌≡◌, ◌/◌, ◌∷◌, ◌++◌, map, take, kind_of, Address, Message}
 use Rattle.pocsag_batch.proofs.word_list.WordList.push_page.Given as goal
 
 -- the address codeword, and the message codewords so far

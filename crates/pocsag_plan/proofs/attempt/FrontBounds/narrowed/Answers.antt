@@ -1,5 +1,4 @@
-use Rattle.std.proofs.Common.{arith, subst}
-use Rattle.pocsag_plan.specs.Attempts.{IsTried}
+use Rattle.pocsag_plan.proofs.Prelude.{arith, subst, IsTried}
 use Rattle.pocsag_plan.proofs.attempt.FrontBounds.narrowed.Goals as goal
 
 pub returns-in-Exceeds-clause-bounds : goal.returns-in-Exceeds-clause-bounds

@@ -1,10 +1,5 @@
-use Rattle.std.proofs.Common.{◌≡◌, ◌∷◌, ◌++◌, ℕ, List, [], sym, ap, ◌∙◌, subst, nat_eq}
-use Rattle.std.specs.Prelude.{None}
-use Rattle.std.specs.Map.{lookup, values_of}
+use Rattle.pocsag_plan.proofs.Prelude.{◌≡◌, ◌∷◌, ◌++◌, ℕ, List, [], sym, ap, ◌∙◌, subst, nat_eq, None, lookup, values_of, Open, Closed, Page, add_fault}
 use Rattle.indexmap.proofs.CallerLemmas.{insert_entry-new}
-use Rattle.pocsag_words.specs.declared.ending.End.TheVariants.{Open, Closed}
-use Rattle.pocsag_pages.specs.declared.page.Page.{Page}
-use Rattle.pocsag_plan.specs.OpenRound.{add_fault}
 use Rattle.pocsag_plan.proofs.Edits.{can_gain, grown_book, not_found, values_push}
 use Rattle.pocsag_plan.proofs.Refusals.{MayFollow, may_follow}
 use Rattle.pocsag_plan.proofs.book.Book.add.Goals as goal

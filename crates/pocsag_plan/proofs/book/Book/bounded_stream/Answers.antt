@@ -1,4 +1,4 @@
-use Rattle.std.proofs.lemmas.Result.{err_from_is_err_and}
+use Rattle.pocsag_plan.proofs.Prelude.{err_from_is_err_and}
 use Rattle.pocsag_plan.proofs.Due.{all_as, asked_headline, certificate_part_as, has_headline, part_as}
 use Rattle.pocsag_plan.proofs.Unwritten.{answered_limit, book_answered, its_own, of_no_writer, same_bad_limit, stream_explained, unsent_explained, unwritten}
 use Rattle.pocsag_plan.proofs.book.Book.bounded_stream.Goals as goal

@@ -1,7 +1,4 @@
-use Rattle.std.proofs.Common.{false, List, Contains, ap, sym, ◌∙◌, subst}
-use Rattle.std.specs.Prelude.{is_some}
-use Rattle.pocsag_words.specs.declared.ending.End.TheVariants.{Open, Closed}
-use Rattle.pocsag_pages.specs.declared.page.Page.{Page}
+use Rattle.pocsag_plan.proofs.Prelude.{false, List, Contains, ap, sym, ◌∙◌, subst, is_some, Open, Closed, Page}
 use Rattle.pocsag_plan.proofs.Edits.{can_lose, rest_is, shrunk_book, there_is, was_there}
 use Rattle.pocsag_plan.proofs.Entries.{takes_out}
 use Rattle.pocsag_plan.proofs.book.Book.cancel.Goals as goal

@@ -1,4 +1,4 @@
-use Rattle.std.specs.Map.{values_of}
+use Rattle.pocsag_plan.proofs.Prelude.{values_of}
 use Rattle.pocsag_plan.proofs.Tallies.{open_or_idle}
 use Rattle.pocsag_plan.proofs.book.Book.classes.Goals as goal
 

@@ -1,6 +1,4 @@
-use Rattle.std.proofs.Common.{◌≡◌, ◌∙◌, ap, drop, length, min, rules, sym}
-use Rattle.std.specs.Map.{values_of}
-use Rattle.std.proofs.lemmas.List.{drop_min}
+use Rattle.pocsag_plan.proofs.Prelude.{◌≡◌, ◌∙◌, ap, drop, length, min, rules, sym, values_of, drop_min}
 use Rattle.pocsag_plan.proofs.Edits.{dropped_book, dropped_values}
 use Rattle.pocsag_plan.proofs.book.Book.drop_first.Goals as goal
 

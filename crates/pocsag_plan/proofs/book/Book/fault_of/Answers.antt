@@ -1,5 +1,4 @@
-use Rattle.std.proofs.Common.{◌<◌, ◌≤◌, true, false, length, sym, arith}
-use Rattle.pocsag_pages.specs.Pages.{page_limit}
+use Rattle.pocsag_plan.proofs.Prelude.{◌<◌, ◌≤◌, true, false, length, sym, arith, page_limit}
 use Rattle.pocsag_plan.proofs.Edits.{there_is}
 use Rattle.pocsag_plan.proofs.Refusals.{duplicate_fault, full_fault, no_fault}
 use Rattle.pocsag_plan.proofs.book.Book.fault_of.Goals as goal

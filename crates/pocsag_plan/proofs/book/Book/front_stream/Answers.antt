@@ -1,4 +1,4 @@
-use Rattle.std.proofs.Common.{refl}
+use Rattle.pocsag_plan.proofs.Prelude.{refl}
 use Rattle.pocsag_plan.proofs.Due.{all_as, book_front, book_longest, certificate_part_as, first_has_headline, first_headline, first_plan, part_as}
 use Rattle.pocsag_plan.proofs.Unwritten.{front_fault, its_own, limit_taken, unsent_front}
 use Rattle.pocsag_plan.proofs.book.Book.front_stream.Goals as goal

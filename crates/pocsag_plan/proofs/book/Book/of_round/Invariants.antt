@@ -1,4 +1,4 @@
-use Rattle.std.proofs.Common.{◌≡◌, take}
+use Rattle.pocsag_plan.proofs.Prelude.{◌≡◌, take}
 use Rattle.pocsag_plan.proofs.book.Book.of_round.Given as goal
 
 abbrev pub invariant-loop-page : goal.invariant-loop-page

@@ -1,4 +1,4 @@
-use Rattle.std.proofs.Common.{refl}
+use Rattle.pocsag_plan.proofs.Prelude.{refl}
 use Rattle.pocsag_plan.proofs.Due.{tight_plan}
 use Rattle.pocsag_plan.proofs.book.Book.plan.Goals as goal
 

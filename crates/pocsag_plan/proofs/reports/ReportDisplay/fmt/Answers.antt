@@ -1,5 +1,4 @@
-use Rattle.std.proofs.Common.{append_assoc}
-use Rattle.pocsag_plan.specs.Reports.{first_lines, last_lines, line_of, report_text}
+use Rattle.pocsag_plan.proofs.Prelude.{append_assoc, first_lines, last_lines, line_of, report_text}
 use Rattle.pocsag_plan.proofs.reports.ReportDisplay.fmt.Goals as goal
 
 pub returns-clause-writes : goal.returns-clause-writes

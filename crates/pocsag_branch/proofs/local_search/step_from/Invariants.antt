@@ -1,5 +1,5 @@
 use Rattle.pocsag_branch.specs.Improvements.{IsImprovement}
-use Rattle.pocsag_branch.proofs.local_search.best_step.Given as goal
+use Rattle.pocsag_branch.proofs.local_search.step_from.Given as goal
 
 abbrev pub invariant-loop-way : goal.invariant-loop-way
 invariant-loop-way l = IsImprovement l.node.classes.now l.node.limits l.best

@@ -1,6 +1,6 @@
 use Rattle.pocsag_batch.proofs.Sayable.{left_sayable}
-use Rattle.pocsag_words.proofs.KindLemmas.{address_has_codeword, message_has_codeword}
-use Rattle.pocsag_batch.proofs.slots.Slots.are_sayable.Goals as goal
+use Rattle.pocsag_batch.proofs.Prelude.{address_has_codeword, message_has_codeword}
+use Rattle.pocsag_batch.proofs.slots.Slots.recall_sayable.Goals as goal
 
 pub returns : goal.returns
 returns c =
