@@ -1,25 +1,10 @@
 -- Words that are judged one after the other.
-use Rattle.std.proofs.Common.{◌≡◌, ◌≢◌, ℕ, zero, suc, ◌+◌, ◌-◌, ◌*◌, ◌/◌, ◌%◌, ◌<◌, ◌≤◌, Bool, false, not, List, [], ◌∷◌, ◌++◌, length, map, take, drop, get_or, replicate, is_some, IsTrue, refl, sym, ap, ◌∙◌, subst, arith, append_assoc}
-use Rattle.std.specs.Prelude.{Result, Ok, Err}
-use Rattle.std.proofs.lemmas.Bool.{true≢false}
-use Rattle.std.proofs.lemmas.List.{append-nil, length-append, length-drop, length-take, length_push, map-append, drop-drop, drop_all, drop_more}
-use Rattle.pocsag_words.specs.Codeword.{IsCodeword}
-use Rattle.pocsag_words.specs.Kinds.{idle_word, kind_of}
+use Rattle.pocsag_decode.proofs.Prelude.{◌≡◌, ◌≢◌, ℕ, zero, suc, ◌+◌, ◌-◌, ◌*◌, ◌/◌, ◌%◌, ◌<◌, ◌≤◌, Bool, false, not, List, [], ◌∷◌, ◌++◌, length, map, take, drop, get_or, replicate, is_some, IsTrue, refl, sym, ap, ◌∙◌, subst, arith, append_assoc, Ok, Err, true≢false, append-nil, length-append, length-drop, length-take, length_push, map-append, drop-drop, drop_all, drop_more, IsCodeword, idle_word, kind_of, Kind, Idle, sync_word, unsynced, words_of, pages_from, unsynced_codeword, unsynced_count, unsynced_more, unsynced_sync, words_long, words_split, DecodeFault, resumed, HasRead, AreFine, JudgesMore, AllMayStand, HasBadWord, KeepsFrom, index_at, is_idle, is_message, may_follow}
+use Rattle.std.specs.Prelude.{Result}
 use Rattle.pocsag_words.proofs.KindLemmas.{IsCodeword-idle}
-use Rattle.pocsag_words.specs.declared.codeword.Kind.{Kind}
-use Rattle.pocsag_words.specs.declared.codeword.Kind.TheVariants.{Idle}
-use Rattle.pocsag_pages.specs.Bytes.{sync_word, unsynced, words_of}
-use Rattle.pocsag_pages.specs.Plain.{pages_from}
 use Rattle.pocsag_pages.specs.Reading.{frame_at}
-use Rattle.pocsag_pages.proofs.Lengths.{unsynced_codeword, unsynced_count, unsynced_more, unsynced_sync, words_long}
-use Rattle.pocsag_pager.proofs.WholeWords.{words_split}
-use Rattle.pocsag_decode.specs.declared.fault.DecodeFault.{DecodeFault}
 use Rattle.pocsag_decode.specs.declared.fault.DecodeFault.TheVariants as fault
-use Rattle.pocsag_decode.specs.declared.open_page.Growing.{Growing}
-use Rattle.pocsag_decode.specs.OpenPages.{resumed}
-use Rattle.pocsag_decode.specs.States.{HasRead}
-use Rattle.pocsag_decode.specs.Judgements.{AreFine, JudgesMore}
-use Rattle.pocsag_decode.specs.Places.{AllMayStand, HasBadWord, KeepsFrom, index_at, is_idle, is_message, may_follow}
+use Rattle.pocsag_decode.specs.declared.open_page.PageCollector.{PageCollector}
 use Rattle.pocsag_decode.proofs.Judgements.{none_good}
 use Rattle.pocsag_decode.proofs.WordByWord.{bad_codeword, bad_orphan, bad_stays, bad_sync, good_codeword, good_sync, may_codeword, may_last, may_sync}
 
@@ -163,12 +148,12 @@ module _ (i : ℕ) (bytes : List ℕ) (within : 68 * i + 68 ≤ length bytes) wh
 -- ---- a word that is judged and read
 
 -- what one codeword more does to growing pages
-abbrev Grows : (before after : Growing) (frame : ℕ) (kind : Kind) → Type 0
+abbrev Grows : (before after : PageCollector) (frame : ℕ) (kind : Kind) → Type 0
 Grows before after frame kind =
     (i : ℕ) (ks : List Kind) → frame ≡ frame_at i
     → before.pages.items ++ resumed i before.current (kind ∷ ks) ≡ after.pages.items ++ resumed (i + 1) after.current ks
 
-module _ (place : ℕ) (growing : Growing) (ws : List ℕ) (w : ℕ) (in_page now : Bool) (is_open : in_page ≡ is_some growing.current)
+module _ (place : ℕ) (growing : PageCollector) (ws : List ℕ) (w : ℕ) (in_page now : Bool) (is_open : in_page ≡ is_some growing.current)
     (judged : JudgesMore (Ok now) place in_page (w ∷ [])) (r : HasRead place growing ws) where
   good : AllMayStand (ws ++ w ∷ [])
   good = (judged ws (record { count = r.count; good = r.good; follows = is_open ∙ r.in_page })).good
@@ -200,7 +185,7 @@ module _ (place : ℕ) (growing : Growing) (ws : List ℕ) (w : ℕ) (in_page no
         pages = λ ks. rw same (r.pages ks);
       }
 
-  pub read_codeword : (frame : ℕ) (after : Growing) → 0 < place % 17 → frame ≡ (place % 17 - 1) / 2 → (kind : Kind) → kind ≡ kind_of w
+  pub read_codeword : (frame : ℕ) (after : PageCollector) → 0 < place % 17 → frame ≡ (place % 17 - 1) / 2 → (kind : Kind) → kind ≡ kind_of w
       → is_some after.current ≡ not (is_idle kind) → Grows growing after frame kind → HasRead (place + 1) after (ws ++ w ∷ [])
   read_codeword frame after s at kind is current grows =
       let n : place ≡ length ws = r.count in

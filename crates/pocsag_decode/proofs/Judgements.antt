@@ -1,18 +1,8 @@
 -- Each word can be judged, and bytes with no fault are whole batches of good words.
-use Rattle.std.proofs.Common.{◌≡◌, ◌≢◌, ◌⊎◌, ℕ, ◌/◌, ◌%◌, ◌^◌, ◌<◌, ◌≤◌, Bool, true, false, List, [], ◌∷◌, ◌++◌, length, All, refl, sym, ap, ◌∙◌, subst, inl, inr, arith, append_assoc}
-use Rattle.std.proofs.lemmas.Bool.{cases_eq, cases_lt, true≢false}
-use Rattle.std.proofs.lemmas.List.{append-nil, nil_from_length}
-use Rattle.pocsag_words.specs.Codeword.{IsCodeword}
+use Rattle.pocsag_decode.proofs.Prelude.{◌≡◌, ◌≢◌, ◌⊎◌, ℕ, ◌/◌, ◌%◌, ◌^◌, ◌<◌, ◌≤◌, Bool, true, false, List, [], ◌∷◌, ◌++◌, length, All, refl, sym, ap, ◌∙◌, subst, inl, inr, arith, append_assoc, cases_eq, cases_lt, true≢false, append-nil, nil_from_length, IsCodeword, kind_of, sync_word, leading, after_preamble, DecodeFault, words, HasFaultThere, HasFaultOfEnd, IsFaultless, is_message, index_at, may_follow, AllMayStand, HasBadWord}
 use Rattle.pocsag_words.specs.Columns.{syndrome_of}
-use Rattle.pocsag_words.specs.Kinds.{kind_of}
 use Rattle.pocsag_words.proofs.ErrorLemmas.{IsCodeword-from_syndrome, syndrome_of-codeword}
-use Rattle.pocsag_pages.specs.Bytes.{sync_word, leading, after_preamble}
-use Rattle.pocsag_decode.specs.declared.fault.DecodeFault.{DecodeFault}
 use Rattle.pocsag_decode.specs.declared.fault.DecodeFault.TheVariants as fault
-use Rattle.pocsag_decode.specs.Faults.{words, HasFaultThere, HasFaultOfEnd, IsFaultless}
-use Rattle.pocsag_decode.specs.declared.state.Decoder.{Decoder}
-use Rattle.pocsag_decode.specs.States.{HasTakenIn}
-use Rattle.pocsag_decode.specs.Places.{is_message, index_at, may_follow, AllMayStand, HasBadWord}
 use Rattle.pocsag_decode.proofs.Preambles.{nil_or}
 use Rattle.pocsag_decode.proofs.Transmissions.{IsWhole}
 use Rattle.pocsag_decode.proofs.WordByWord.{good_sync, bad_sync, good_codeword, bad_codeword, bad_orphan, bad_stays}
@@ -105,8 +95,3 @@ whole_no_fault X h = λ f d. elim d [ inl t ↦ not_there f t | inr t ↦ not_en
   not_end f (HasFaultOfEnd.short a b) = let l = h.long in omega arith
   not_end f (HasFaultOfEnd.no_batch a b) = let s = h.some in let n = ap length b in omega arith
   not_end f (HasFaultOfEnd.cut a b c) = c h.batches
-
--- a decoder that stands has met no fault
-pub standing_clean : (d : Decoder) (X : List ℕ) (f : DecodeFault) → HasTakenIn d X → ¬ HasFaultThere X f
-standing_clean d X f s (HasFaultThere.short a b) = let p = s.past b in omega arith
-standing_clean d X f s (HasFaultThere.bad a b) = all_good (words X) f s.words.read.good b

@@ -8,6 +8,7 @@ pub mod PageRows
 pub mod Pieces
 pub mod Preambles
 pub mod Prefixes
+pub mod Prelude
 pub mod Repairs
 pub mod Respelled
 pub mod Restoration

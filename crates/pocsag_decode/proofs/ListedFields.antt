@@ -1,14 +1,5 @@
 -- What a listing spells is read back.
-use Rattle.std.proofs.Common.{◌≡◌, ℕ, ◌≤◌, false, List, [], ◌∷◌, ◌∙◌}
-use Rattle.std.specs.Prelude.{Ok}
-use Rattle.std.specs.Fmt.{decimal}
-use Rattle.pocsag_text.specs.Characters.{space}
-use Rattle.pocsag_text.specs.Text.{alpha_payload, numeric_payload, trim_end}
-use Rattle.pocsag_text.proofs.RoundTrips.{alpha_text-back, numeric_text-back}
-use Rattle.pocsag_pages.specs.Pages.{is_reserved, last_address}
-use Rattle.pocsag_pages.specs.PageFile.{page_of_fields}
-use Rattle.pocsag_pages.proofs.Spelled.{characters_spelled, digits_spelled, tone_spelled}
-use Rattle.pocsag_decode.specs.Listing.{kind_field, message_field}
+use Rattle.pocsag_decode.proofs.Prelude.{◌≡◌, ℕ, ◌≤◌, false, List, [], ◌∷◌, ◌∙◌, Ok, decimal, space, alpha_payload, numeric_payload, trim_end, alpha_text-back, numeric_text-back, is_reserved, last_address, page_of_fields, characters_spelled, digits_spelled, tone_spelled, kind_field, message_field}
 use Rattle.pocsag_decode.specs.ListedFields.{IsSpelled, silent, digits, characters}
 
 digits_listed : (item : ℕ) (items text : List ℕ) → numeric_payload text ≡ Ok (item ∷ items) → message_field 0 (item ∷ items) ≡ trim_end space text

@@ -1,22 +1,7 @@
 -- Listings that are written as the codewords are read.
-use Rattle.std.proofs.Common.{◌≡◌, ◌≢◌, ℕ, ◌+◌, ◌*◌, ◌/◌, ◌%◌, ◌<◌, ◌≤◌, List, [], ◌∷◌, ◌++◌, All, length, get_or, map, take, drop, replicate, Option, Some, None, refl, sym, ap, ap₂, ◌∙◌, arith, append_assoc}
-use Rattle.std.proofs.lemmas.Bool.{eq-eqb, ne_eqb}
-use Rattle.std.proofs.lemmas.List.{append-nil, drop_all, drop_more, length-append, map-append, take_all}
-use Rattle.csv.specs.Writing.{default_writer, row_text}
-use Rattle.pocsag_words.specs.Kinds.{idle_word, kind_of}
-use Rattle.pocsag_words.specs.declared.codeword.Kind.{Kind}
-use Rattle.pocsag_words.specs.declared.codeword.Kind.TheVariants.{Idle}
-use Rattle.pocsag_pages.specs.declared.page.Page.{Page}
-use Rattle.pocsag_pages.specs.Bytes.{after_preamble, codewords_in, sync_word, unsynced, words_of}
-use Rattle.pocsag_pages.specs.Plain.{pages_from}
-use Rattle.pocsag_pages.proofs.Lengths.{unsynced_more, words_long}
-use Rattle.pocsag_decode.specs.declared.open_page.OpenPage.{OpenPage}
+use Rattle.pocsag_decode.proofs.Prelude.{◌≡◌, ◌≢◌, ℕ, ◌+◌, ◌*◌, ◌/◌, ◌%◌, ◌<◌, ◌≤◌, List, [], ◌∷◌, ◌++◌, All, length, get_or, map, take, drop, replicate, Option, Some, refl, sym, ap, ap₂, ◌∙◌, arith, append_assoc, eq-eqb, ne_eqb, append-nil, drop_all, drop_more, length-append, map-append, take_all, default_writer, row_text, idle_word, kind_of, Kind, Idle, Page, after_preamble, codewords_in, sync_word, unsynced, words_of, pages_from, unsynced_more, words_long, OpenPage, ReadsAs, closed, resumed, text_in, rows_of_pages, still_listed, header, listing, record_of}
+use Rattle.std.proofs.Common.{None}
 use Rattle.pocsag_decode.specs.declared.lister.Lister.{Lister}
-use Rattle.pocsag_decode.specs.Faults.{ReadsAs}
-use Rattle.pocsag_decode.specs.OpenPages.{closed, resumed}
-use Rattle.pocsag_decode.specs.Lines.{text_in}
-use Rattle.pocsag_decode.specs.Listers.{rows_of_pages, still_listed}
-use Rattle.pocsag_decode.specs.Listing.{header, listing, record_of}
 use Rattle.pocsag_decode.proofs.Fine.{batch_at, batch_first, batch_long}
 use Rattle.pocsag_decode.proofs.SentBytes.{one_reading, reads_whole}
 use Rattle.pocsag_decode.proofs.Transmissions.{IsWhole, resumed_end, whole_reads}

@@ -1,14 +1,9 @@
 -- Bytes have one fault, which stays however they go on, and is never want of memory.
-use Rattle.std.proofs.Common.{◌≡◌, ◌≢◌, ℕ, List, [], ◌++◌, length, refl, sym, ap, ◌∙◌, subst, inl, inr, arith}
-use Rattle.std.specs.Prelude.{Result, Ok, Err}
+use Rattle.pocsag_decode.proofs.Prelude.{◌≡◌, ◌≢◌, ℕ, List, [], ◌++◌, length, refl, sym, ap, ◌∙◌, subst, inl, inr, arith, Ok, Err, length-append, nil_from_length, cases_order, true≢false, words_of, after_preamble, DecodeFault, words, HasFaultThere, HasFaultOfEnd, HasFault, RefusesPiece, WantsMemory, IsBad, bad_word, orphan, MayStandAt, AllMayStand, HasBadWord}
+use Rattle.std.specs.Prelude.{Result}
 use Rattle.std.specs.Result.{IsErrAnd}
-use Rattle.std.proofs.lemmas.List.{length-append, nil_from_length}
-use Rattle.std.proofs.lemmas.Bool.{cases_order, true≢false}
-use Rattle.pocsag_pages.specs.Bytes.{words_of, after_preamble}
-use Rattle.pocsag_decode.specs.declared.fault.DecodeFault.{DecodeFault}
 use Rattle.pocsag_decode.specs.declared.fault.DecodeFault.TheVariants as fault
-use Rattle.pocsag_decode.specs.Faults.{words, HasFaultThere, HasFaultOfEnd, HasFault, RefusesPiece, WantsMemory}
-use Rattle.pocsag_decode.specs.Places.{IsBad, no_sync, bad_word, orphan, MayStandAt, AllMayStand, HasBadWord}
+use Rattle.pocsag_decode.specs.Places.{no_sync}
 use Rattle.pocsag_decode.proofs.Preambles.{begun_leading, begun_after}
 use Rattle.pocsag_decode.proofs.Words.{bad_on}
 

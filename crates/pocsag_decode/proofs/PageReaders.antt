@@ -1,18 +1,5 @@
 -- Pages that are handed out one after the other.
-use Rattle.std.proofs.Common.{◌≡◌, ℕ, ◌+◌, ◌%◌, ◌<◌, List, [], ◌∷◌, All, length, get_or, map, drop, Option, refl, sym, ap, ap₂, ◌∙◌, arith}
-use Rattle.std.specs.Int.{from_be_bytes, w32}
-use Rattle.std.proofs.lemmas.Bool.{eq-eqb}
-use Rattle.std.proofs.lemmas.List.{drop_more}
-use Rattle.pocsag_words.specs.Kinds.{kind_of}
-use Rattle.pocsag_words.specs.declared.codeword.Kind.{Kind}
-use Rattle.pocsag_pages.specs.declared.page.Page.{Page}
-use Rattle.pocsag_pages.specs.Bytes.{after_preamble, codewords_in, unsynced, words_of}
-use Rattle.pocsag_pages.specs.Listable.{IsListable}
-use Rattle.pocsag_pages.specs.Plain.{pages_from}
-use Rattle.pocsag_decode.specs.declared.open_page.OpenPage.{OpenPage}
-use Rattle.pocsag_decode.specs.Faults.{ReadsAs}
-use Rattle.pocsag_decode.specs.OpenPages.{resumed}
-use Rattle.pocsag_decode.specs.PageReaders.{codewords_before, kinds_left}
+use Rattle.pocsag_decode.proofs.Prelude.{◌≡◌, ℕ, ◌+◌, ◌%◌, ◌<◌, List, [], ◌∷◌, All, length, get_or, map, drop, Option, refl, sym, ap, ap₂, ◌∙◌, arith, from_be_bytes, w32, eq-eqb, drop_more, kind_of, Kind, Page, after_preamble, codewords_in, unsynced, words_of, IsListable, pages_from, OpenPage, ReadsAs, resumed, codewords_before, kinds_left}
 use Rattle.pocsag_decode.proofs.SentBytes.{one_reading, reads_whole}
 use Rattle.pocsag_decode.proofs.Transmissions.{whole_listable, whole_reads}
 

@@ -1,34 +1,14 @@
 -- The page file of a round's pages is that round.
-use Rattle.std.proofs.Common.{◌≡◌, ℕ, zero, suc, ◌+◌, ◌*◌, ◌<◌, ◌≤◌, ◌==◌, true, false, inl, inr, List, [], ◌∷◌, ◌++◌, length, map, All, nat_eq, nat_le, refl, sym, ap, ◌∙◌, subst, arith, append_assoc, add-one, codes}
-use Rattle.std.specs.Prelude.{None, Ok}
-use Rattle.std.specs.List.{AllByRecursion, flat_map}
-use Rattle.std.specs.Fmt.{decimal}
-use Rattle.std.proofs.lemmas.Bool.{cases_Bool}
-use Rattle.std.proofs.lemmas.Bool.Decides.{nat_tests}
+use Rattle.pocsag_decode.proofs.Prelude.{◌≡◌, ℕ, zero, suc, ◌+◌, ◌*◌, ◌<◌, ◌≤◌, ◌==◌, Bool, true, false, inl, inr, List, [], ◌∷◌, ◌++◌, length, map, All, nat_eq, refl, sym, ap, ◌∙◌, subst, arith, append_assoc, add-one, codes, None, Ok, AllByRecursion, flat_map, decimal, cases_Bool, nat_tests, append-nil, length-append, map-append, All-head, All-tail, default_writer, escaped, field_text, fields_text, is_blank, needs_quotes, row_text, alpha_payload, is_bad_byte, text_fault, alpha_bits, twenties, fault_none, unless_ok, Page, AreGood, IsRound, addresses_of, has_address, is_reserved, last_address, page_fault_of, fault_after, held_pages, in_the_way, is_header, page_of, page_of_fields, rows_of, verdict, unless_empty, characters_spelled, digits_spelled, tone_spelled, header, kind_field, listing, message_field, record_of, IsSpellable, IsOfText, page_file, page_record, whole_message, characters, digits, silent}
 use Rattle.std.proofs.lemmas.Fmt.{length-decimal-le}
-use Rattle.std.proofs.lemmas.List.{append-nil, length-append, map-append}
-use Rattle.std.proofs.lemmas.List.Elements.{All-head, All-tail}
 use Rattle.std.proofs.lemmas.List.Sorted.{IsPermutation-middle}
 use Rattle.std.proofs.lemmas.Map.Keys.{IsDistinct-IsPermutation, IsDistinct-head}
 use Rattle.csv.specs.Machine.{next_record}
 use Rattle.csv.specs.Reading.{default_config, records_from, strip_bom}
-use Rattle.csv.specs.Writing.{default_writer, escaped, field_text, fields_text, is_blank, needs_quotes, row_text}
 use Rattle.csv.specs.declared.parser.State.TheVariants as st
 use Rattle.csv.proofs.RoundTrip.{read-write}
-use Rattle.pocsag_text.specs.Text.{alpha_payload, is_bad_byte, text_fault, alpha_bits, twenties}
-use Rattle.pocsag_text.proofs.Payloads.{fault_none, unless_ok}
-use Rattle.pocsag_pages.specs.declared.page.Page.{Page}
-use Rattle.pocsag_pages.specs.Pages.{AreGood, IsRound, addresses_of, has_address, is_reserved, last_address, page_fault_of}
-use Rattle.pocsag_pages.specs.PageFile.{fault_after, is_header, page_of, page_of_fields, pages_of, rows_of, verdict}
-use Rattle.pocsag_pages.specs.PageList.{unless_empty}
-use Rattle.pocsag_pages.specs.Queues.{queue_verdict}
 use Rattle.pocsag_pages.proofs.GoodPages.{good_page}
-use Rattle.pocsag_pages.proofs.Judgements.{after_header, grown, grown_end, grown_on, judged, small_file}
-use Rattle.pocsag_pages.proofs.QueueRows.{after_queue_header, queue_judged, queue_room, queued, queued_end, queued_on, small_queue, some_queue}
-use Rattle.pocsag_pages.proofs.Spelled.{characters_spelled, digits_spelled, tone_spelled}
-use Rattle.pocsag_decode.specs.Listing.{header, kind_field, listing, message_field, record_of}
-use Rattle.pocsag_decode.specs.PageFiles.{IsSpellable, IsOfText, page_file, page_record, whole_message}
-use Rattle.pocsag_decode.specs.PageFiles.IsOfText.{characters, digits, silent}
+use Rattle.pocsag_pages.proofs.Judgements.{after_header, grown, grown_end, grown_on, is_room, judged, one_page_of, small_file, some_queue}
 use Rattle.pocsag_decode.proofs.ListedFields.{characters_listed}
 use Rattle.pocsag_decode.proofs.Respelled.{spaced_back}
 
@@ -91,29 +71,26 @@ free_address before qs p good =
     let front = IsDistinct-IsPermutation nat_eq flips _ _ (IsPermutation-middle (addresses_of before) p.address (addresses_of qs)) apart in
     others before p.address (addresses_of qs) (IsDistinct-head nat_eq p.address _ front)
 
-may_follow : (before : List Page) (p : Page) → has_address before p.address ≡ false → length before < 20000 →
-    fault_after (length before) before (Ok p) ≡ None
-may_follow before p free few =
-    let room : nat_le 20000 (length before) ≡ false = grind (arith, nat_tests) in
-    rw (free, room) refl
+none_in_the_way : (may_wait : Bool) (before qs : List Page) (p : Page) → (may_wait ≡ false → AreGood (before ++ p ∷ qs)) →
+    has_address (in_the_way may_wait before) p.address ≡ false
+none_in_the_way true before qs p good = refl
+none_in_the_way false before qs p good = free_address before qs p (good refl)
 
-one_page : (p : Page) → page_of (page_record p) ≡ Ok p → pages_of (page_record p ∷ []) ≡ p ∷ []
-unfolding pages_of
-one_page p e = rw e refl
-
-all_grown : (before qs : List Page) → AreGood (before ++ qs) → length (before ++ qs) ≤ 20000 → All IsBack qs →
-    grown before (length before) (map page_record qs) ≡ unless_empty (before ++ qs)
-all_grown before [] good few back = grown_end before (length before) ∙ ap unless_empty (sym (append-nil before))
-all_grown before (p ∷ qs) good few back =
+all_grown : (may_wait : Bool) (before qs : List Page) → (may_wait ≡ false → AreGood (before ++ qs)) → length (before ++ qs) ≤ 20000 → All IsBack qs →
+    grown may_wait before (length before) (map page_record qs) ≡ unless_empty (before ++ qs)
+all_grown may_wait before [] good few back = grown_end may_wait before (length before) ∙ ap unless_empty (sym (append-nil before))
+all_grown may_wait before (p ∷ qs) good few back =
     let this = All-head IsBack p qs back in
     let long = length-append before (p ∷ qs) in
-    let fine : fault_after (length before) before (page_of (page_record p)) ≡ None =
-    ap (fault_after (length before) before) this.spells ∙ may_follow before p (free_address before qs p good) (omega arith) in
+    let earlier : List Page = in_the_way may_wait before in
+    let fine : fault_after (length before) earlier (page_of (page_record p)) ≡ None =
+    ap (fault_after (length before) earlier) this.spells ∙ is_room (length before) earlier p (none_in_the_way may_wait before qs p good) (omega arith) in
     let snoc : (before ++ p ∷ []) ++ qs ≡ before ++ p ∷ qs = append_assoc before (p ∷ []) qs in
     let more : length (before ++ p ∷ []) ≡ length before + 1 = length-append before (p ∷ []) in
-    let rest = all_grown (before ++ p ∷ []) qs (subst AreGood (sym snoc) good) (rw (sym snoc) at few) (All-tail IsBack p qs back) in
-    grown_on before (length before) (page_record p) (map page_record qs) fine
-    ∙ (rw (one_page p this.spells) ((rw more at rest) ∙ ap unless_empty snoc))
+    let rest =
+    all_grown may_wait (before ++ p ∷ []) qs (λ e. subst AreGood (sym snoc) (good e)) (rw (sym snoc) at few) (All-tail IsBack p qs back) in
+    grown_on may_wait before (length before) (page_record p) (map page_record qs) fine
+    ∙ (rw (one_page_of _ p this.spells) ((rw more at rest) ∙ ap unless_empty snoc))
 
 -- how long the text of a record is at most
 escaped_short : (x : List ℕ) → length (escaped default_writer x) ≤ 2 * length x
@@ -215,36 +192,15 @@ file_short ps back few =
 all_back : (ps : List Page) → All (λ p. page_fault_of p ≡ None) ps → All IsSpellable ps → All IsBack ps
 all_back ps fine texts = λ k d h. record_back _ (fine k d h) (texts k d h)
 
--- pages that may stand in one round are read back, none as no pages
-pub good_back : (ps : List Page) → AreGood ps → length ps ≤ 20000 → All IsSpellable ps → verdict (page_file ps) ≡ unless_empty ps
-good_back ps good few texts =
-    let back = all_back ps good.each texts in
-    small_file (page_file ps) (file_short ps back few)
-    ∙ (rw (file_rows ps) (after_header header (map page_record ps) headed))
-    ∙ judged (map page_record ps)
-    ∙ all_grown [] ps good few back
+-- pages that may stand in one round, or one queue, are read back, none as no pages
+pub pages_back : (may_wait : Bool) (ps : List Page) → All (λ p. page_fault_of p ≡ None) ps → (may_wait ≡ false → AreGood ps) →
+    length ps ≤ 20000 → All IsSpellable ps → held_pages may_wait (page_file ps) ≡ unless_empty ps
+pages_back may_wait ps fine good few texts =
+    let back = all_back ps fine texts in
+    small_file may_wait (page_file ps) (file_short ps back few)
+    ∙ (rw (file_rows ps) (after_header may_wait header (map page_record ps) headed))
+    ∙ judged may_wait (map page_record ps)
+    ∙ all_grown may_wait [] ps good few back
 
 pub read_back : (R : List Page) → IsRound R → All IsSpellable R → verdict (page_file R) ≡ Ok R
-read_back R round texts = good_back R round.good round.few texts ∙ some_queue R round.some
-
--- the same of queues
-queue_grown : (before qs : List Page) → length (before ++ qs) ≤ 20000 → All IsBack qs →
-    queued before (length before) (map page_record qs) ≡ unless_empty (before ++ qs)
-queue_grown before [] few back = queued_end before (length before) ∙ ap unless_empty (sym (append-nil before))
-queue_grown before (p ∷ qs) few back =
-    let this = All-head IsBack p qs back in
-    let long = length-append before (p ∷ qs) in
-    let snoc : (before ++ p ∷ []) ++ qs ≡ before ++ p ∷ qs = append_assoc before (p ∷ []) qs in
-    let more : length (before ++ p ∷ []) ≡ length before + 1 = length-append before (p ∷ []) in
-    let rest = queue_grown (before ++ p ∷ []) qs (rw (sym snoc) at few) (All-tail IsBack p qs back) in
-    queued_on before (length before) (page_record p) (map page_record qs) p this.spells (queue_room (length before) p (omega arith))
-    ∙ ((rw more at rest) ∙ ap unless_empty snoc)
-
-pub queue_back : (ps : List Page) → All (λ p. page_fault_of p ≡ None) ps → length ps ≤ 20000 → All IsSpellable ps →
-    queue_verdict (page_file ps) ≡ unless_empty ps
-queue_back ps fine few texts =
-    let back = all_back ps fine texts in
-    small_queue (page_file ps) (file_short ps back few)
-    ∙ (rw (file_rows ps) (after_queue_header header (map page_record ps) headed))
-    ∙ queue_judged (map page_record ps)
-    ∙ queue_grown [] ps few back
+read_back R round texts = pages_back false R round.good.each (λ e. round.good) round.few texts ∙ some_queue R round.some

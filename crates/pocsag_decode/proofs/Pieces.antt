@@ -1,17 +1,7 @@
 -- A decoder that stands after some bytes, and one piece more or the end.
-use Rattle.std.proofs.Common.{◌≡◌, ◌≢◌, ℕ, ◌+◌, ◌%◌, ◌^◌, ◌<◌, ◌≤◌, List, [], ◌++◌, length, drop, sym, ap, ◌∙◌, subst, inl, inr, arith, All}
-use Rattle.std.proofs.lemmas.List.{append-nil, length-append, nil_from_length}
-use Rattle.std.proofs.lemmas.List.Elements.{All-append}
-use Rattle.pocsag_pages.specs.Bytes.{leading, after_preamble, words_of}
-use Rattle.pocsag_decode.specs.declared.fault.DecodeFault.{DecodeFault}
+use Rattle.pocsag_decode.proofs.Prelude.{◌≡◌, ◌≢◌, ℕ, ◌+◌, ◌%◌, ◌^◌, ◌<◌, ◌≤◌, List, [], ◌++◌, length, drop, sym, ap, ◌∙◌, subst, inl, inr, arith, All, append-nil, length-append, nil_from_length, All-append, leading, after_preamble, words_of, DecodeFault, Decoder, size_of, HasFaultThere, HasFaultOfEnd, RefusesPiece, no_memory, fault_there, words, KeepsFrom, HasTakenIn, HoldsOf, IsWantingOrBad}
 use Rattle.pocsag_decode.specs.declared.fault.DecodeFault.TheVariants as fault
-use Rattle.pocsag_decode.specs.declared.state.Decoder.{Decoder}
-use Rattle.pocsag_decode.specs.PartialWords.{size_of}
-use Rattle.pocsag_decode.specs.Faults.{HasFaultThere, HasFaultOfEnd, RefusesPiece, no_memory, fault_there, words}
-use Rattle.pocsag_decode.specs.Places.{KeepsFrom}
-use Rattle.pocsag_decode.specs.States.{HasTakenIn, HoldsOf}
 use Rattle.pocsag_decode.proofs.Preambles.{begun_leading, begun_after, alone_leading, alone_after, count_is, nil_or}
-use Rattle.pocsag_decode.specs.Intake.{IsWantingOrBad}
 use Rattle.pocsag_decode.proofs.Transmissions.{IsWhole}
 use Rattle.pocsag_decode.proofs.Words.{size_is}
 

@@ -1,8 +1,5 @@
 -- The bytes AA that stand first, and what follows them, as the bytes go on.
-use Rattle.std.proofs.Common.{◌≡◌, ◌≢◌, ◌⊎◌, ℕ, zero, suc, ◌+◌, List, [], ◌∷◌, ◌++◌, length, drop, replicate, refl, sym, ap, ap₂, ◌∙◌, inl, inr, arith, append_assoc}
-use Rattle.std.proofs.lemmas.Bool.{cases_eq, eq-eqb, ne_eqb}
-use Rattle.std.proofs.lemmas.List.{append-nil, length-append, length-replicate, replicate-append-replicate}
-use Rattle.pocsag_pages.specs.Bytes.{leading, after_preamble}
+use Rattle.pocsag_decode.proofs.Prelude.{◌≡◌, ◌≢◌, ◌⊎◌, ℕ, zero, suc, ◌+◌, List, [], ◌∷◌, ◌++◌, length, drop, replicate, refl, sym, ap, ap₂, ◌∙◌, inl, inr, arith, append_assoc, cases_eq, eq-eqb, ne_eqb, append-nil, length-append, length-replicate, replicate-append-replicate, leading, after_preamble}
 
 -- no byte AA stands first
 abbrev pub BeginsOther : List ℕ → Type 0

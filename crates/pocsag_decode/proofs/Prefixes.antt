@@ -1,10 +1,7 @@
 -- What a writer took of a listing that is written in pieces.
-use Rattle.std.proofs.Common.{◌≡◌, ℕ, ◌+◌, ◌<◌, ◌≤◌, List, [], ◌++◌, length, take, Result, Ok, Err, sym, ap, ◌∙◌, append_assoc, arith}
+use Rattle.pocsag_decode.proofs.Prelude.{◌≡◌, ℕ, ◌+◌, ◌<◌, ◌≤◌, List, [], ◌++◌, length, take, Result, sym, ap, ◌∙◌, append_assoc, arith, append-nil, take-append-le, take-length, OnErr, TookPrefix}
+use Rattle.std.proofs.Common.{Ok, Err}
 use Rattle.std.proofs.Common.{length-append, length-take}
-use Rattle.std.proofs.lemmas.List.{append-nil, take-append-le}
-use Rattle.std.proofs.Math.Seq.{take-length}
-use Rattle.std.specs.Prelude.{OnErr}
-use Rattle.pocsag_words.specs.Devices.{TookPrefix}
 
 -- what was taken so far is a prefix, if what is left completes it
 pub took_so_far : (before now rest due : List ℕ) → length before ≤ length now → before ++ due ≡ now ++ rest → TookPrefix before now due

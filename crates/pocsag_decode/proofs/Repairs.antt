@@ -1,18 +1,6 @@
 -- A transmission on its way to be repaired, and what the repaired bytes are.
-use Rattle.std.proofs.Common.{◌≡◌, ℕ, suc, lit<, ◌+◌, ◌*◌, ◌^◌, ◌<◌, ◌≤◌, ◌==◌, Bool, true, false, cond, List, [], ◌∷◌, ◌++◌, length, take, drop, replicate, All, bit_xor, count_ones, refl, sym, ap, ap₂, ◌∙◌, subst, arith, append_assoc}
-use Rattle.std.specs.Int.{to_be_bytes, w32}
+use Rattle.pocsag_decode.proofs.Prelude.{◌≡◌, ℕ, suc, lit<, ◌+◌, ◌*◌, ◌^◌, ◌<◌, ◌≤◌, ◌==◌, Bool, true, false, cond, List, [], ◌∷◌, ◌++◌, length, take, drop, replicate, All, bit_xor, count_ones, refl, sym, ap, ap₂, ◌∙◌, subst, arith, append_assoc, to_be_bytes, w32, flat_map, eq-eqb, drop-drop, drop_at, length-append, length-drop, length-replicate, length_push, take-append-drop, take_at, All-append, All-cons, All-drop, All-head, All-nil, All-tail, from_be_bytes-to_be_bytes_4, ones_le_self, after_preamble, leading, words_of, body_length, words_small, unfinished, words, AreRepaired, IsRepairOf, IsRepaired, differing_bits, differing_words, sync, no_sync, codeword, beyond}
 use Rattle.std.specs.Int.Bits.{xor_self}
-use Rattle.std.specs.List.{flat_map}
-use Rattle.std.proofs.lemmas.Bool.{eq-eqb}
-use Rattle.std.proofs.lemmas.List.{drop-drop, drop_at, length-append, length-drop, length-replicate, length_push, take-append-drop, take_at}
-use Rattle.std.proofs.lemmas.List.Elements.{All-append, All-cons, All-drop, All-head, All-nil, All-tail}
-use Rattle.std.proofs.lemmas.Nat.{from_be_bytes-to_be_bytes_4, ones_le_self}
-use Rattle.pocsag_pages.specs.Bytes.{after_preamble, leading, words_of}
-use Rattle.pocsag_pages.proofs.Lengths.{body_length}
-use Rattle.pocsag_pager.proofs.WholeWords.{words_small}
-use Rattle.pocsag_decode.specs.PartialWords.{unfinished}
-use Rattle.pocsag_decode.specs.Faults.{words}
-use Rattle.pocsag_decode.specs.Repairs.{AreRepaired, IsRepairOf, IsRepaired, differing_bits, differing_words, sync, no_sync, codeword, beyond}
 use Rattle.pocsag_decode.proofs.Preambles.{BeginsOther, Parts, after_is, parts}
 use Rattle.pocsag_decode.proofs.Words.{bytes_split, each_small, none_in_few, unfinished_short}
 

@@ -1,23 +1,11 @@
 -- What a page file of pages spells is read back.
-use Rattle.std.proofs.Common.{◌≡◌, ℕ, zero, suc, ◌+◌, ◌-◌, ◌*◌, ◌/◌, ◌≤◌, ◌==◌, Bool, inl, inr, false, List, [], ◌∷◌, ◌++◌, length, map, replicate, position, take, All, nat_lt, refl, sym, ap, ◌∙◌, subst, arith, append_assoc}
-use Rattle.std.specs.Prelude.{None, Ok}
-use Rattle.std.specs.List.{flat_map}
-use Rattle.std.proofs.lemmas.List.{length-append, length-map, length-replicate, map-append, replicate-append-replicate, take_at}
-use Rattle.std.proofs.lemmas.Bool.{cases_Bool, eqb-true, ne_eqb}
-use Rattle.std.proofs.lemmas.Bool.Decides.{nat_tests}
-use Rattle.std.proofs.lemmas.List.Elements.{All-append, All-replicate, All-take}
+use Rattle.pocsag_decode.proofs.Prelude.{◌≡◌, ℕ, zero, suc, ◌+◌, ◌-◌, ◌*◌, ◌/◌, ◌≤◌, ◌==◌, Bool, inl, inr, false, List, [], ◌∷◌, ◌++◌, length, map, replicate, position, take, All, nat_lt, refl, sym, ap, ◌∙◌, subst, arith, append_assoc, None, Ok, flat_map, length-append, length-map, length-replicate, map-append, replicate-append-replicate, take_at, cases_Bool, eqb-true, ne_eqb, nat_tests, All-append, All-replicate, All-take, position_or_len, item_digits, spaced, code_or_space, is_bad_digit, space, numeric_bits, numeric_payload, numeric_text, short_of, text_fault, trim_end, trimmed_onto, twenties, fault_none, numeric_payload-good, unless_ok, numeric_text-back}
 use Rattle.std.proofs.lemmas.List.Sums.{position_or_len_is}
-use Rattle.std.specs.List.{position_or_len}
 use Rattle.pocsag_words.proofs.TruthValues.{not_above}
-use Rattle.pocsag_decode.specs.PageFiles.{item_digits, spaced}
 use Rattle.pocsag_text.specs.Bits.{high_number, low_first}
 use Rattle.pocsag_text.proofs.BitLists.{length-low_first}
 use Rattle.pocsag_text.specs.Characters as T
-use Rattle.pocsag_text.specs.Characters.{code_or_space, is_bad_digit, space}
-use Rattle.pocsag_text.specs.Text.{numeric_bits, numeric_payload, numeric_text, short_of, text_fault, trim_end, trimmed_onto, twenties}
 use Rattle.pocsag_text.proofs.Cuts.{length-cut, length-flat_map-wide}
-use Rattle.pocsag_text.proofs.Payloads.{fault_none, numeric_payload-good, unless_ok}
-use Rattle.pocsag_text.proofs.RoundTrips.{numeric_text-back}
 
 -- a list is what is left of it, and then what was unwanted
 fill_onto : (c x : ℕ) (xs t : List ℕ) → (n : ℕ) × (xs ≡ t ++ replicate n c) → (n : ℕ) × (x ∷ xs ≡ trimmed_onto c x t ++ replicate n c)

@@ -1,25 +1,11 @@
 -- The repair of damaged bytes is what was sent, and holds what each pager shows of them.
-use Rattle.std.proofs.Common.{◌≡◌, ◌≢◌, ℕ, ◌+◌, ◌*◌, ◌/◌, ◌%◌, ◌<◌, List, [], ◌∷◌, ◌++◌, length, map, filter, replicate, Option, Some, All, refl, sym, ap, ap₂, ◌∙◌, subst, inl, inr, arith, lit<}
-use Rattle.std.specs.Int.{to_be_bytes, w32}
-use Rattle.std.specs.List.{AllZip, flat_map}
-use Rattle.std.proofs.lemmas.Bool.{cases_eq, eq-eqb, ne_eqb}
-use Rattle.std.proofs.lemmas.List.{append-nil, nil_from_length}
-use Rattle.std.proofs.lemmas.List.Elements.{All-append, All-from_recursion, All-head, All-nil, All-replicate, All-tail}
+use Rattle.pocsag_decode.proofs.Prelude.{◌≡◌, ◌≢◌, ℕ, ◌+◌, ◌*◌, ◌/◌, ◌%◌, ◌<◌, List, [], ◌∷◌, ◌++◌, length, map, filter, replicate, Option, Some, All, refl, sym, ap, ap₂, ◌∙◌, subst, inl, inr, arith, lit<, to_be_bytes, w32, AllZip, flat_map, cases_eq, eq-eqb, ne_eqb, append-nil, nil_from_length, All-append, All-from_recursion, All-head, All-nil, All-replicate, All-tail, IsCodeword, IsNear, kind_of, Page, Sent, after_preamble, body_bytes, leading, sync_word, synced, unsynced, words_of, body_length, synced_small, words_again, reads_plainly, unfinished, IsFaultless, ReadsAs, words, AreRepaired, IsRepairOf, IsRepaired, sync, no_sync, codeword, beyond}
 use Rattle.std.proofs.lemmas.Slice.Zip.{AllZip-long}
-use Rattle.pocsag_words.specs.Codeword.{IsCodeword, IsNear}
-use Rattle.pocsag_words.specs.Kinds.{kind_of}
-use Rattle.pocsag_pages.specs.declared.page.Page.{Page}
-use Rattle.pocsag_pages.specs.Bytes.{Sent, after_preamble, body_bytes, leading, sync_word, synced, unsynced, words_of}
-use Rattle.pocsag_pages.proofs.Lengths.{body_length, synced_small, words_again}
-use Rattle.pocsag_pages.proofs.Readings.{reads_plainly}
 use Rattle.pocsag_pager.specs.Damage.{IsDamaged}
 use Rattle.pocsag_pager.specs.Shown.{AreShown, IsMended, said, shown_from}
 use Rattle.pocsag_pager.proofs.Chosen.{calls}
 use Rattle.pocsag_pager.proofs.Mended.{mended_same}
 use Rattle.pocsag_pager.proofs.Damage.{shown_is_chosen}
-use Rattle.pocsag_decode.specs.PartialWords.{unfinished}
-use Rattle.pocsag_decode.specs.Faults.{IsFaultless, ReadsAs, words}
-use Rattle.pocsag_decode.specs.Repairs.{AreRepaired, IsRepairOf, IsRepaired, sync, no_sync, codeword, beyond}
 use Rattle.pocsag_decode.proofs.Preambles.{Parts, after_is, count_is, leading_is}
 use Rattle.pocsag_decode.proofs.Repairs.{none_wrong, repaired_words}
 use Rattle.pocsag_decode.proofs.Judgements.{whole_no_fault}

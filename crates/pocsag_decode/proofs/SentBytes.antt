@@ -1,22 +1,8 @@
 -- Bytes that are sent are whole, and sent from one list of codewords.
-use Rattle.std.proofs.Common.{◌≡◌, ◌≢◌, ℕ, not, ◌+◌, ◌*◌, ◌/◌, ◌%◌, ◌<◌, Bool, List, [], ◌∷◌, ◌++◌, length, map, IsTrue, All, refl, sym, ap, ◌∙◌, subst, inl, inr, arith, append_assoc}
-use Rattle.std.proofs.lemmas.Bool.{cases_eq, eq-eqb, ne_eqb, true≢false}
-use Rattle.std.proofs.lemmas.List.{append-nil, length_push}
-use Rattle.std.proofs.lemmas.List.Elements.{All-head, All-tail}
-use Rattle.pocsag_words.specs.Codeword.{IsCodeword}
-use Rattle.pocsag_words.specs.Kinds.{kind_of}
-use Rattle.pocsag_words.specs.declared.codeword.Kind.{Kind}
-use Rattle.pocsag_words.specs.declared.codeword.Kind.TheVariants.{Idle, Address, Message}
-use Rattle.pocsag_pages.specs.declared.page.Page.{Page}
-use Rattle.pocsag_pages.specs.Bytes.{Sent, codewords_in, sync_word, synced, unsynced, body_bytes, words_of, after_preamble}
-use Rattle.pocsag_pages.specs.Plain.{HasNoOrphan, pages_from}
-use Rattle.pocsag_pages.proofs.Readings.{reads_plainly}
-use Rattle.pocsag_decode.specs.Faults.{ReadsAs}
-use Rattle.pocsag_decode.specs.Places.{is_message, is_idle, may_follow, AllMayStand}
+use Rattle.pocsag_decode.proofs.Prelude.{◌≡◌, ◌≢◌, ℕ, not, ◌+◌, ◌*◌, ◌/◌, ◌%◌, ◌<◌, Bool, List, [], ◌∷◌, ◌++◌, length, map, IsTrue, All, refl, sym, ap, ◌∙◌, subst, inl, inr, arith, append_assoc, cases_eq, eq-eqb, ne_eqb, true≢false, append-nil, length_push, All-head, All-tail, IsCodeword, kind_of, Kind, Idle, Address, Message, Page, Sent, codewords_in, sync_word, synced, unsynced, body_bytes, words_of, after_preamble, HasNoOrphan, pages_from, reads_plainly, ReadsAs, is_message, is_idle, may_follow, AllMayStand, body_length, synced_count, synced_small, words_again}
 use Rattle.pocsag_decode.proofs.Preambles.{Parts, BeginsOther, leading_is, after_is}
 use Rattle.pocsag_decode.proofs.Transmissions.{IsWhole}
 use Rattle.pocsag_decode.proofs.WordByWord.{good_sync, good_codeword, may_sync, may_codeword}
-use Rattle.pocsag_pages.proofs.Lengths.{body_length, synced_count, synced_small, words_again}
 use Rattle.pocsag_decode.proofs.Judgements.{none_good}
 
 -- the words of what was sent

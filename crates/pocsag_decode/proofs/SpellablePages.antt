@@ -1,21 +1,12 @@
 -- Each page that fields spell is spellable.
-use Rattle.std.proofs.Common.{◌≡◌, ℕ, ◌<◌, ◌==◌, Bool, true, false, cond, List, [], ◌∷◌, length, All, refl, subst, arith}
-use Rattle.std.specs.Prelude.{Option, Some, None, Result, Ok, Err, IfOk, codes}
+use Rattle.pocsag_decode.proofs.Prelude.{◌≡◌, ℕ, ◌<◌, ◌==◌, Bool, true, false, cond, List, [], ◌∷◌, length, All, refl, subst, arith, None, Ok, Err, IfOk, All-cons, All-nil, alpha_payload, numeric_payload, Page, ◌>>=◌, Row, address_of, fault_if, first_fault, function_of, is_header, kind_of_field, of_record, of_text, or_fault, page_of, page_of_fields, pages_of, pages_unless, pages_of_all_rows, pages_of_rows, payload_of, held_pages, with_page, unless_empty, is_reserved, IsSpellable, characters, digits, silent}
+use Rattle.std.specs.Prelude.{Option, Some, Result, codes}
 use Rattle.std.specs.Str.{bytes_eq}
-use Rattle.std.proofs.lemmas.List.Elements.{All-cons, All-nil}
 use Rattle.pocsag_text.specs.declared.fault.TextFault.{TextFault}
-use Rattle.pocsag_text.specs.Text.{alpha_payload, numeric_payload}
-use Rattle.pocsag_pages.specs.declared.page.Page.{Page}
 use Rattle.pocsag_pages.specs.declared.fault.FieldFault.{FieldFault}
 use Rattle.pocsag_pages.specs.declared.fault.FieldFault.TheVariants as field
 use Rattle.pocsag_pages.specs.declared.fault.RoundFault.{RoundFault}
 use Rattle.pocsag_pages.specs.declared.fault.RoundFault.TheVariants as fault
-use Rattle.pocsag_pages.specs.PageFile.{◌>>=◌, Row, address_of, fault_if, first_fault, function_of, is_header, kind_of_field, of_record, of_text, or_fault, page_of, page_of_fields, pages_of, pages_unless, payload_of, round_of_rows, verdict, verdict_of_rows, with_page}
-use Rattle.pocsag_pages.specs.Queues.{first_queue_fault, queue_of_all_rows, queue_of_rows, queue_verdict}
-use Rattle.pocsag_pages.specs.PageList.{unless_empty}
-use Rattle.pocsag_pages.specs.Pages.{is_reserved}
-use Rattle.pocsag_decode.specs.PageFiles.{IsSpellable}
-use Rattle.pocsag_decode.specs.PageFiles.IsOfText.{characters, digits, silent}
 
 -- what is left of the fields once the one before is read
 left : {A B : Type 0} (P : B → Type 0) (r : Result A FieldFault) (f : A → Result B FieldFault) → ((a : A) → IfOk (f a) P) → IfOk (r >>= f) P
@@ -94,24 +85,24 @@ unless_spelled : (o : Option RoundFault) (rows : List Row) → IfOk (pages_unles
 unless_spelled (Some f) rows = tt
 unless_spelled None rows = some_spelled (pages_of rows) (rows_spelled rows)
 
-round_spelled : (rows : List Row) → IfOk (round_of_rows rows) AreSpellable
-unfolding round_of_rows
-round_spelled rows = unless_spelled (first_fault [] rows) rows
+pages_spelled : (may_wait : Bool) (rows : List Row) → IfOk (pages_of_rows may_wait rows) AreSpellable
+unfolding pages_of_rows
+pages_spelled may_wait rows = unless_spelled (first_fault may_wait [] rows) rows
 
--- what holds of the round of all records behind a header holds of the round of all files
-module _ (P : List Page → Type 0) (each : (rows : List Row) → IfOk (round_of_rows rows) P) where
-  behind_header : (t : Bool) (rows : List Row) → IfOk (cond t (round_of_rows rows) (Err fault.BadHeader)) P
+-- what holds of the pages of all records behind a header holds of the pages of all files
+module _ (P : List Page → Type 0) (may_wait : Bool) (each : (rows : List Row) → IfOk (pages_of_rows may_wait rows) P) where
+  behind_header : (t : Bool) (rows : List Row) → IfOk (cond t (pages_of_rows may_wait rows) (Err fault.BadHeader)) P
   behind_header true rows = each rows
   behind_header false rows = tt
 
-  of_rows : (t : Bool) (rows : List Row) → IfOk (cond t (Err fault.TooLarge) (verdict_of_rows rows)) P
-  unfolding verdict_of_rows
+  of_rows : (t : Bool) (rows : List Row) → IfOk (cond t (Err fault.TooLarge) (pages_of_all_rows may_wait rows)) P
+  unfolding pages_of_all_rows
   of_rows true rows = tt
   of_rows false [] = tt
   of_rows false (header ∷ rows) = behind_header (is_header header) rows
 
-  pub of_files : (file : List ℕ) → IfOk (verdict file) P
-  unfolding verdict
+  pub of_files : (file : List ℕ) → IfOk (held_pages may_wait file) P
+  unfolding held_pages
   of_files file = of_rows _ _
 
 -- what holds of the value, where there is one, holds of that value
@@ -121,27 +112,5 @@ value_of P r a all e = subst (λ s. IfOk s P) e all
 pub page_spellable : (address name message : List ℕ) (p : Page) → page_of_fields address name message ≡ Ok p → IsSpellable p
 page_spellable address name message p e = value_of IsSpellable _ p (fields_spelled address name message) e
 
-pub round_spellable : (file : List ℕ) (R : List Page) → verdict file ≡ Ok R → All IsSpellable R
-round_spellable file R e = value_of AreSpellable _ R (of_files AreSpellable round_spelled file) e
-
--- the same of queues
-queue_spelled : (rows : List Row) → IfOk (queue_of_rows rows) AreSpellable
-unfolding queue_of_rows
-queue_spelled rows = unless_spelled (first_queue_fault 0 rows) rows
-
-behind_queue_header : (t : Bool) (rows : List Row) → IfOk (cond t (queue_of_rows rows) (Err fault.BadHeader)) AreSpellable
-behind_queue_header true rows = queue_spelled rows
-behind_queue_header false rows = tt
-
-of_queue_rows : (t : Bool) (rows : List Row) → IfOk (cond t (Err fault.TooLarge) (queue_of_all_rows rows)) AreSpellable
-unfolding queue_of_all_rows
-of_queue_rows true rows = tt
-of_queue_rows false [] = tt
-of_queue_rows false (header ∷ rows) = behind_queue_header (is_header header) rows
-
-of_queues : (file : List ℕ) → IfOk (queue_verdict file) AreSpellable
-unfolding queue_verdict
-of_queues file = of_queue_rows _ _
-
-pub queue_spellable : (file : List ℕ) (Q : List Page) → queue_verdict file ≡ Ok Q → All IsSpellable Q
-queue_spellable file Q e = value_of AreSpellable _ Q (of_queues file) e
+pub pages_spellable : (may_wait : Bool) (file : List ℕ) (ps : List Page) → held_pages may_wait file ≡ Ok ps → All IsSpellable ps
+pages_spellable may_wait file ps e = value_of AreSpellable _ ps (of_files AreSpellable may_wait (pages_spelled may_wait) file) e

@@ -1,29 +1,9 @@
 -- Bytes with no fault are sent from codewords that read as their pages.
-use Rattle.std.proofs.Common.{◌≡◌, ◌≢◌, ℕ, ◌+◌, ◌*◌, ◌/◌, ◌%◌, ◌^◌, ◌<◌, ◌≤◌, Bool, not, List, [], ◌∷◌, ◌++◌, length, map, replicate, slice_index, Option, Some, None, IsTrue, All, refl, sym, ap, ap₂, ◌∙◌, subst, inl, inr, arith, append_assoc}
-use Rattle.std.specs.Int.{to_be_bytes, w32}
-use Rattle.std.specs.List.{flat_map}
-use Rattle.std.proofs.Math.Seq.{get_or-append_seam}
-use Rattle.std.proofs.lemmas.Bool.{cases_eq, cases_lt, lt-ltb, le-ltb, eq-eqb, ne_eqb}
-use Rattle.std.proofs.lemmas.List.{append-nil, length-append, length_push, nil_from_length}
-use Rattle.std.proofs.lemmas.List.Elements.{All-nil, All-cons, All-head, All-tail, All-map, All-weaker, All-drop}
-use Rattle.pocsag_words.specs.Codeword.{IsCodeword}
-use Rattle.pocsag_words.specs.Kinds.{kind_of, IsInRange}
-use Rattle.pocsag_words.specs.declared.codeword.Kind.{Kind}
-use Rattle.pocsag_words.specs.declared.codeword.Kind.TheVariants.{Idle, Address, Message}
-use Rattle.pocsag_pages.specs.declared.page.Page.{Page}
-use Rattle.pocsag_pages.specs.Bytes.{codewords_in, sync_word, synced, unsynced, leading, after_preamble, Sent}
-use Rattle.pocsag_pages.specs.Plain.{HasNoOrphan, items_of, pages_from}
-use Rattle.pocsag_pages.proofs.Readings.{plain_reads}
-use Rattle.pocsag_decode.specs.declared.open_page.OpenPage.{OpenPage}
-use Rattle.pocsag_decode.specs.PartialWords.{unfinished}
-use Rattle.pocsag_decode.specs.Faults.{words, ReadsAs}
-use Rattle.pocsag_decode.specs.OpenPages.{resumed, closed}
-use Rattle.pocsag_pages.specs.Listable.{IsListable}
-use Rattle.pocsag_decode.specs.Places.{is_message, is_idle, may_follow, MayStandAt, AllMayStand}
+use Rattle.pocsag_decode.proofs.Prelude.{◌≡◌, ◌≢◌, ℕ, ◌+◌, ◌*◌, ◌/◌, ◌%◌, ◌^◌, ◌<◌, ◌≤◌, Bool, not, List, [], ◌∷◌, ◌++◌, length, map, replicate, slice_index, Option, Some, IsTrue, All, refl, sym, ap, ap₂, ◌∙◌, subst, inl, inr, arith, append_assoc, to_be_bytes, w32, flat_map, get_or-append_seam, cases_eq, cases_lt, lt-ltb, le-ltb, eq-eqb, ne_eqb, append-nil, length-append, length_push, nil_from_length, All-nil, All-cons, All-head, All-tail, All-map, All-weaker, All-drop, IsCodeword, kind_of, IsInRange, Kind, Idle, Address, Message, Page, codewords_in, sync_word, synced, unsynced, leading, after_preamble, Sent, HasNoOrphan, items_of, pages_from, plain_reads, OpenPage, unfinished, words, ReadsAs, resumed, closed, IsListable, is_message, is_idle, may_follow, MayStandAt, AllMayStand, unsynced_count}
+use Rattle.std.proofs.Common.{None}
 use Rattle.pocsag_decode.proofs.Preambles.{parts}
 use Rattle.pocsag_decode.proofs.WordByWord.{may_sync, may_codeword, may_kept}
 use Rattle.pocsag_decode.proofs.Words.{bytes_count, bytes_split, unfinished_short}
-use Rattle.pocsag_pages.proofs.Lengths.{unsynced_count}
 
 -- the words so far, of which the next is w
 module _ (before : List ℕ) (w : ℕ) (ws : List ℕ) (good : AllMayStand (before ++ w ∷ ws)) where

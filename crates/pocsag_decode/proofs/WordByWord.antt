@@ -1,14 +1,7 @@
 -- One word more: the words before it keep their judgement, and the last is judged by them.
-use Rattle.std.proofs.Common.{◌≡◌, ◌≢◌, ℕ, ◌+◌, ◌-◌, ◌/◌, ◌%◌, ◌<◌, ◌≤◌, ◌==◌, ◌&&◌, false, not, nat_lt, List, [], ◌∷◌, ◌++◌, length, slice_index, IsTrue, refl, sym, ap, ◌∙◌, subst, inl, inr, arith}
-use Rattle.std.proofs.Math.Seq.{get_or-append_seam}
-use Rattle.std.proofs.lemmas.Bool.{cases_eq, cases_lt, cond_both, lt-ltb, le-ltb, eq-eqb, ne_eqb}
-use Rattle.std.proofs.lemmas.List.{get_or_append_left, length-append, length_push}
-use Rattle.pocsag_words.specs.Codeword.{IsCodeword}
-use Rattle.pocsag_words.specs.Kinds.{kind_of}
-use Rattle.pocsag_pages.specs.Bytes.{sync_word}
-use Rattle.pocsag_decode.specs.declared.fault.DecodeFault.{DecodeFault}
+use Rattle.pocsag_decode.proofs.Prelude.{◌≡◌, ◌≢◌, ℕ, ◌+◌, ◌-◌, ◌/◌, ◌%◌, ◌<◌, ◌≤◌, ◌==◌, ◌&&◌, false, not, nat_lt, List, [], ◌∷◌, ◌++◌, length, slice_index, IsTrue, refl, sym, ap, ◌∙◌, subst, inl, inr, arith, get_or-append_seam, cases_eq, cases_lt, cond_both, lt-ltb, le-ltb, eq-eqb, ne_eqb, get_or_append_left, length-append, length_push, IsCodeword, kind_of, sync_word, DecodeFault, is_message, is_idle, index_at, before, may_follow, IsBad, bad_word, orphan, MayStandAt, AllMayStand, HasBadWord, KeepsFrom}
 use Rattle.pocsag_decode.specs.declared.fault.DecodeFault.TheVariants as fault
-use Rattle.pocsag_decode.specs.Places.{is_message, is_idle, index_at, before, may_follow, IsBad, no_sync, bad_word, orphan, MayStandAt, AllMayStand, HasBadWord, KeepsFrom}
+use Rattle.pocsag_decode.specs.Places.{no_sync}
 
 before_lt : (j : ℕ) → 1 < j → before j < j
 before_lt j h = cond_both (j % 17 == 1) (j - 2) (j - 1) (λ x. x < j) (λ e. omega arith) (λ e. omega arith)

@@ -1,20 +1,6 @@
 -- Bytes that go on: their whole words, and what follows these.
-use Rattle.std.proofs.Common.{◌≡◌, ◌≢◌, ℕ, lit<, ◌+◌, ◌-◌, ◌*◌, ◌<◌, ◌≤◌, List, [], ◌∷◌, ◌++◌, length, get_or, take, drop, refl, sym, ap, ap₂, ◌∙◌, subst, inl, inr, arith, append_assoc, true, false, ◌==◌, All}
-use Rattle.std.proofs.lemmas.Bool.{cases_lt, eqb-true, false≢true}
-use Rattle.std.specs.Int.{from_be_bytes, to_be_bytes, w32}
-use Rattle.std.specs.List.{flat_map}
-use Rattle.std.proofs.lemmas.List.{append-nil, get_or_past, length-append, length-drop, nil_from_length, take-append-drop, take_all}
-use Rattle.std.proofs.lemmas.List.Elements.{All-drop, All-take}
-use Rattle.std.proofs.lemmas.Nat.{be_bytes_4}
-use Rattle.pocsag_pages.specs.Bytes.{words_of}
-use Rattle.pocsag_pages.proofs.Lengths.{first_word, words_long}
-use Rattle.pocsag_decode.specs.declared.fault.DecodeFault.{DecodeFault}
+use Rattle.pocsag_decode.proofs.Prelude.{◌≡◌, ◌≢◌, ℕ, lit<, ◌+◌, ◌-◌, ◌*◌, ◌<◌, ◌≤◌, List, [], ◌∷◌, ◌++◌, length, get_or, take, drop, refl, sym, ap, ap₂, ◌∙◌, subst, inl, inr, arith, append_assoc, true, false, ◌==◌, All, cases_lt, eqb-true, false≢true, from_be_bytes, to_be_bytes, w32, flat_map, append-nil, get_or_past, length-append, length-drop, nil_from_length, take-append-drop, take_all, All-drop, All-take, be_bytes_4, words_of, first_word, words_long, DecodeFault, PartialWord, partial_bytes, size_of, unfinished, HasBadWord, KeepsFrom, HasRead, HoldsOf, IsTaking, IsWantingOrBad}
 use Rattle.pocsag_decode.specs.declared.body.Body.{Body}
-use Rattle.pocsag_decode.specs.declared.partial_word.PartialWord.{PartialWord}
-use Rattle.pocsag_decode.specs.PartialWords.{partial_bytes, size_of, unfinished}
-use Rattle.pocsag_decode.specs.Places.{HasBadWord, KeepsFrom}
-use Rattle.pocsag_decode.specs.States.{HasRead, HoldsOf}
-use Rattle.pocsag_decode.specs.Intake.{IsTaking, IsWantingOrBad}
 use Rattle.pocsag_decode.proofs.WordByWord.{bad_stays, keeps_on}
 
 pub words_on : (Y Z : List ℕ) → words_of (Y ++ Z) ≡ words_of Y ++ words_of (unfinished Y ++ Z)

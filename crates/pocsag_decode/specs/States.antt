@@ -4,7 +4,7 @@ use Rattle.pocsag_words.specs.Kinds.{kind_of}
 use Rattle.pocsag_words.specs.declared.codeword.Kind.{Kind}
 use Rattle.pocsag_pages.specs.Bytes.{leading, after_preamble, words_of, unsynced}
 use Rattle.pocsag_pages.specs.Plain.{pages_from}
-use Rattle.pocsag_decode.specs.declared.open_page.Growing.{Growing}
+use Rattle.pocsag_decode.specs.declared.open_page.PageCollector.{PageCollector}
 use Rattle.pocsag_decode.specs.declared.body.Body.{Body}
 use Rattle.pocsag_decode.specs.declared.state.Decoder.{Decoder}
 use Rattle.pocsag_decode.specs.PartialWords.{partial_bytes, unfinished}
@@ -13,7 +13,7 @@ use Rattle.pocsag_decode.specs.Places.{AllMayStand, may_follow}
 
 -- So many whole words were read, none of them bad; the pages that they read as so far and whether a
 -- message codeword may follow are held.
-pub record HasRead (place : ℕ) (growing : Growing) (ws : List ℕ) : Type 0 where
+pub record HasRead (place : ℕ) (growing : PageCollector) (ws : List ℕ) : Type 0 where
   pub count : place ≡ length ws
   pub good : AllMayStand ws
   pub in_page : is_some growing.current ≡ may_follow ws (length ws)

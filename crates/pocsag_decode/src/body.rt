@@ -6,7 +6,7 @@ ghost use Rattle.pocsag_decode.specs.Intake.{CountsBytes, CountsWord, ReadsWord,
 
 use crate::fault::DecodeFault;
 use crate::judge::{BATCH, judge_word};
-use crate::open_page::Growing;
+use crate::open_page::PageCollector;
 use crate::partial_word::PartialWord;
 use pocsag_pages::Page;
 use pocsag_words::kind_of_number;
@@ -18,7 +18,7 @@ pub(crate) struct Body {
     // How many whole words were read.
     pub(crate) place: u64,
     pub(crate) partial: PartialWord,
-    pub(crate) growing: Growing,
+    pub(crate) growing: PageCollector,
 }
 
 impl Body {

@@ -7,7 +7,7 @@ ghost use Rattle.pocsag_decode.specs.States.{HasStopped, HasTakenIn};
 
 use crate::body::Body;
 use crate::fault::DecodeFault;
-use crate::open_page::Growing;
+use crate::open_page::PageCollector;
 use crate::partial_word::PartialWord;
 use crate::state::Decoder;
 use pocsag_pages::{Page, preamble_len};
@@ -28,7 +28,7 @@ impl Decoder {
             body: Body {
                 place: 0,
                 partial: PartialWord::None,
-                growing: Growing {
+                growing: PageCollector {
                     alloc,
                     pages: Vec::new(alloc),
                     current: None,
@@ -37,8 +37,7 @@ impl Decoder {
         }
     }
 
-    /// Takes the next piece of the bytes, which may be empty. After a fault every call answers
-    /// `Failed`.
+    /// Takes the next piece of the bytes, which may be empty. After a fault every call returns `Failed`.
     pub fn feed(&mut self, piece: &[u8]) -> Result<(), DecodeFault>
         // The bytes X that were fed so far and the piece have no fault at a byte that is there.
         ensures stands { (X : List ℕ) → HasTakenIn self.old X → OnOk result (HasTakenIn self.new (X ++ piece.now)) }
@@ -60,8 +59,7 @@ impl Decoder {
         }
     }
 
-    /// The pages of all the bytes that were fed, or the fault of their end. Every later call answers
-    /// `Failed`.
+    /// The pages of all the bytes that were fed, or the fault of their end. Every later call returns `Failed`.
     pub fn finish(&mut self) -> Result<Vec<Page>, DecodeFault>
         ensures finished { (X : List ℕ) → HasTakenIn self.old X →
             MatchResult result (λ v. ReadsAs X v.items) (λ e. (e ≡ DecodeFault.OutOfMemory) ⊎ HasFaultOfEnd X e) }

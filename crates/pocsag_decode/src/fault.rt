@@ -28,7 +28,7 @@ pub enum DecodeFault {
     /// The bytes end directly after the preamble.
     #[error("the transmission has no batch")]
     NoBatch,
-    /// All pieces together pass 2^64 - 1 bytes.
+    /// All pieces together have more than 2^64 - 1 bytes.
     #[error("the transmission is too long")]
     TooMuch,
     #[error("out of memory")]

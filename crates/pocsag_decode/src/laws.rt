@@ -22,7 +22,7 @@ pub fn readings_have_no_fault()
 
 /// What was sent comes back: the repair of bytes with at most two wrong bits in each word of a transmission is that
 /// transmission, and so is that of its own bytes.
-pub fn repair_restores()
+pub fn recall_repair_restores()
     ensures damaged { (X T Y Z : List ℕ) → Sent X T → IsDamaged X Y → IsRepairOf Y Z → Z ≡ X }
     ensures whole { (X T Y : List ℕ) → Sent X T → IsRepairOf X Y → Y ≡ X }
 {}
@@ -30,7 +30,7 @@ pub fn repair_restores()
 /// The page file of a round's pages is read as that round, where the payload of each page is none, that of a numeric
 /// text with function 0, or that of an alphanumeric text with function 3. The same holds of any pages of a round, but
 /// that no pages, of which the file has the header alone, give no round; and of pages of a queue, read as one.
-pub fn page_files_are_read_back()
+pub fn recall_page_files_are_read_back()
     ensures round { (R : List Page) → IsRound R → All IsSpellable R → verdict (page_file R) ≡ Ok R }
     ensures pages { (ps : List Page) → AreGood ps → length ps ≤ page_limit → All IsSpellable ps →
         verdict (page_file ps) ≡ unless_empty ps }
@@ -39,8 +39,8 @@ pub fn page_files_are_read_back()
 {}
 
 /// Each page that three fields spell is spellable, and so is each page of a page file's round or queue: this is what the law
-/// `page_files_are_read_back` asks of pages.
-pub fn pages_of_files_are_spellable()
+/// `recall_page_files_are_read_back` asks of pages.
+pub fn recall_pages_of_files_are_spellable()
     ensures fields { (address kind message : List ℕ) (p : Page) →
         page_of_fields address kind message ≡ Ok p → IsSpellable p }
     ensures files { (file : List ℕ) (R : List Page) → verdict file ≡ Ok R → All IsSpellable R }

@@ -20,15 +20,15 @@ mod whole;
 pub use fault::{DecodeFault, ListFault};
 pub use judge::judge_bytes;
 pub use laws::{
-    page_files_are_read_back, pages_of_files_are_spellable, readings_have_no_fault,
-    readings_of_bytes_are_one, repair_restores,
+    readings_have_no_fault, readings_of_bytes_are_one, recall_page_files_are_read_back,
+    recall_pages_of_files_are_spellable, recall_repair_restores,
 };
 pub use lister::{list_owned, list_sent};
 pub use listing::{
     kind_of_page, list, message_of, whole_message, write_many_records, write_page_file,
     write_records,
 };
-pub use open_page::{Growing, OpenPage};
+pub use open_page::{OpenPage, PageCollector};
 pub use page_reader::{PageReader, PageSource};
 pub use repair::repair_all;
 pub use repaired::Repaired;

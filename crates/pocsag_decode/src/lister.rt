@@ -139,9 +139,9 @@ fn list_batches<S: Sink>(lister: &mut Lister, bytes: &[u8], sink: &mut S) -> Res
     write_records(lister.alloc, &mut lister.records, sink)
 }
 
-/// Writes the listing of the pages that the bytes of a transmission read as, as `list` does, but as they are read: no more
-/// than one page is held, and records up to 1,048,576 bytes beside its own. After a fault a prefix was written, which is not all where memory was refused. Of bytes that
-/// have a fault nothing is promised: `judge_bytes` finds it before.
+/// Writes the listing of the pages that the bytes of a transmission read as, as `list` does, but as they are read: no more than
+/// one page is held, and records up to 1,048,576 bytes beside its own. After a fault a prefix was written; if memory was refused,
+/// it is not all. Nothing is promised of bytes that have a fault, which `judge_bytes` finds before.
 pub fn list_sent<S: Sink>(alloc: Global, bytes: &[u8], sink: &mut S) -> Result<(), ListFault>
     ensures whole { S.is_known → OnOk result ((pages : List Page) → ReadsAs bytes.now pages →
         S.taken sink.new ≡ S.taken sink.old ++ listing pages) }

@@ -152,18 +152,6 @@ fn put_page(
     put_record(writer, address.as_bytes(), kind, message.as_slice())
 }
 
-// The list without its items, and its room where that is not much, so that a long message and its record do not stand
-// beside them.
-fn without_items(alloc: Global, mut items: Vec<u32>) -> Vec<u32>
-    ensures { result.items ≡ [] }
-{
-    if items.len() > KEPT_ITEMS {
-        return Vec::new(alloc);
-    }
-    items.clear();
-    items
-}
-
 // Writes the record of a page that is not needed any more, and gives the room of its items.
 pub(crate) fn put_spent(
     alloc: Global,
@@ -180,15 +168,19 @@ pub(crate) fn put_spent(
         function,
         payload,
     } = page;
-    let items = payload.into_vec();
+    let mut items = payload.into_vec();
     let kind = kind_of_page(function, items.as_slice());
     let Ok(message) = message_of(alloc, function, items.as_slice()) else {
         return Err(AllocError);
     };
-    let room = without_items(alloc, items);
+    // Much room is not kept, so that a long message and its record do not stand beside it.
+    if items.len() > KEPT_ITEMS {
+        items = Vec::new(alloc);
+    }
+    items.clear();
     let address = format!(in alloc; "{}", address)?;
     put_record(writer, address.as_bytes(), kind, message.as_slice())?;
-    Ok(room)
+    Ok(items)
 }
 
 // A writer with the record of the names.
@@ -201,7 +193,7 @@ pub(crate) fn begin_listing(alloc: Global) -> Result<Writer<Vec<u8>>, AllocError
     Ok(writer)
 }
 
-/// Writes all records out. After a fault a prefix was written, and nothing where memory was refused.
+/// Writes all records out. After a fault a prefix was written; if memory was refused, nothing was.
 pub fn write_records<S: Sink>(
     alloc: Global,
     writer: &mut Writer<Vec<u8>>,
@@ -220,8 +212,8 @@ pub fn write_records<S: Sink>(
     Ok(())
 }
 
-/// Writes the records so far out where they are many, but for the last byte: while memory may be refused, the listing is not whole.
-/// After a fault a prefix was written, and nothing where memory was refused.
+/// Writes the records so far out if they are many, but keeps the last byte: the listing is not whole while memory may be refused.
+/// After a fault a prefix was written; if memory was refused, nothing was.
 pub fn write_many_records<S: Sink>(
     alloc: Global,
     writer: &mut Writer<Vec<u8>>,

@@ -23,7 +23,7 @@ pub struct OpenPage {
 }
 
 impl OpenPage {
-    /// Ends the open page, and gives it.
+    /// Ends the open page, and returns it.
     pub fn end_page(current: &mut Option<OpenPage>) -> Option<Page>
         ensures page { option_to_list result ≡ closed current.old }
         ensures none { current.new ≡ None }
@@ -44,8 +44,8 @@ impl OpenPage {
         })
     }
 
-    /// Takes one codeword more, which stands in this frame, and gives the page that ends at it. A message codeword where no page is
-    /// open is passed over.
+    /// Takes one more codeword, of this frame, and returns the page that ends at it. A message codeword is skipped if no page is
+    /// open.
     #[inline(always)]
     pub fn take_kind(
         alloc: Global,
@@ -93,7 +93,7 @@ impl OpenPage {
 
 /// The pages of the codewords that were read.
 #[derive(Drop)]
-pub struct Growing {
+pub struct PageCollector {
     pub alloc: Global,
     /// Those that are finished.
     pub pages: Vec<Page>,
@@ -101,8 +101,8 @@ pub struct Growing {
     pub current: Option<OpenPage>,
 }
 
-impl Growing {
-    /// Takes one codeword more, which stands in this frame.
+impl PageCollector {
+    /// Takes one more codeword, of this frame.
     pub fn take(&mut self, frame: u32, kind: Kind) -> Result<(), AllocError>
         requires ranges { IsInRange kind }
         requires frame { frame < 8 }

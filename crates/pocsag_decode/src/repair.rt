@@ -6,7 +6,7 @@ ghost use Rattle.pocsag_pager.specs.Damage.{IsDamaged};
 ghost use Rattle.pocsag_decode.specs.Repairs.{Counts, IsRepaired, IsRepairOf};
 
 use crate::judge::BATCH;
-use crate::laws::repair_restores;
+use crate::laws::recall_repair_restores;
 use crate::repaired::Repaired;
 use pocsag_pages::preamble_len;
 use pocsag_words::{SYNC_WORD, repair};
@@ -53,7 +53,7 @@ pub fn repair_all(bytes: &mut [u8]) -> Repaired
     ensures whole { (T : List ℕ) → Sent bytes.old T →
         (bytes.new ≡ bytes.old) × (result.words ≡ 0) × (result.bits ≡ 0) }
 {
-    repair_restores();
+    recall_repair_restores();
     let mut told = Repaired { words: 0, bits: 0 };
     let mut at = preamble_len(bytes);
     let mut place = 0;

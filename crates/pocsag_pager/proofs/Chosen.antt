@@ -1,7 +1,5 @@
 -- The page of an address, in a list that has each page of a round and no more pages.
-use Rattle.pocsag_pager.proofs.Prelude.{◌≡◌, ◌≢◌, ℕ, zero, suc, ◌+◌, ◌<◌, Bool, true, false, cond, nat_eq, List, [], ◌∷◌, ◌++◌, length, get_or, filter, All, refl, sym, ap, subst, ◌∙◌, inl, inr, arith, eqb-true, ne_eqb, All-head, All-tail, Page, AreApart}
-use Rattle.std.proofs.Common.{Contains, length-append}
-use Rattle.std.proofs.lemmas.Bool.{cases_Bool}
+use Rattle.pocsag_pager.proofs.Prelude.{◌≡◌, ◌≢◌, ℕ, zero, suc, ◌+◌, ◌<◌, Bool, true, false, cond, nat_eq, List, [], ◌∷◌, ◌++◌, length, get_or, filter, All, refl, sym, ap, subst, ◌∙◌, inl, inr, arith, eqb-true, ne_eqb, All-head, All-tail, Page, AreApart, Contains, length-append, cases_Bool}
 use Rattle.pocsag_pages.proofs.PageLists.{apart_rest}
 
 -- whether the page is for the address

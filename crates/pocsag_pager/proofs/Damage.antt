@@ -1,20 +1,13 @@
 -- A damaged transmission is heard as it was sent.
-use Rattle.pocsag_pager.proofs.Prelude.{◌≡◌, ◌≢◌, ℕ, ◌+◌, ◌*◌, ◌-◌, ◌/◌, ◌%◌, ◌<◌, ◌≤◌, Bool, true, false, cond, nat_eq, List, [], ◌∷◌, length, map, drop, filter, All, refl, sym, ap, ap₂, subst, ◌∙◌, inl, inr, arith, eqb-true, Option, Some, None, AllZip, cases_eq, ne_eqb, length-map, All-head, All-tail, IsCodeword, IsNear, Kind, Page, unsynced, words_of, AreApart, frame_at, IsMended, AreShown, is_ours, page_called, run_of, said, shown_from}
-use Rattle.std.proofs.Common.{eq-eqb, ◌↔◌}
-use Rattle.std.proofs.lemmas.Bool.{le-ltb}
+use Rattle.pocsag_pager.proofs.Prelude.{◌≡◌, ◌≢◌, ℕ, ◌+◌, ◌*◌, ◌-◌, ◌/◌, ◌%◌, ◌<◌, ◌≤◌, Bool, true, false, cond, nat_eq, List, [], ◌∷◌, length, map, drop, filter, All, refl, sym, ap, ap₂, subst, ◌∙◌, inl, inr, arith, eqb-true, Option, Some, None, AllZip, cases_eq, ne_eqb, length-map, All-head, All-tail, IsCodeword, IsNear, Kind, Page, unsynced, words_of, AreApart, frame_at, IsMended, AreShown, is_ours, page_called, run_of, said, shown_from, ◌↔◌, le-ltb, length-drop, kind_of, Idle, Address, Message, after_preamble, body_bytes, bytes_of, leading, sync_word, synced, IsLegalList, Reads, body_length, synced_count, synced_small, words_again}
+use Rattle.std.proofs.Common.{eq-eqb}
 use Rattle.std.proofs.lemmas.Bool.Decides.{nat_tests}
-use Rattle.std.proofs.lemmas.List.{length-drop}
-use Rattle.pocsag_words.specs.Kinds.{kind_of}
-use Rattle.pocsag_words.specs.declared.codeword.Kind.TheVariants.{Idle, Address, Message}
 use Rattle.pocsag_words.specs.declared.ending.End.{End}
-use Rattle.pocsag_pages.specs.Bytes.{after_preamble, body_bytes, bytes_of, leading, sync_word, synced}
 use Rattle.pocsag_pages.specs.Plain.{HasNoOrphan, items_of, pages_from}
-use Rattle.pocsag_pages.specs.Reading.{IsLegalList, Reads}
 use Rattle.pocsag_pager.specs.Damage.{IsDamaged}
 use Rattle.pocsag_pager.specs.Faults.{bytes_fault}
 use Rattle.pocsag_pager.proofs.Chosen.{calls, chosen}
 use Rattle.pocsag_pager.proofs.Mended.{mended_back}
-use Rattle.pocsag_pages.proofs.Lengths.{body_length, synced_count, synced_small, words_again}
 
 -- ---- the front of a transmission's bytes
 
@@ -49,33 +42,34 @@ no_fault end T batches R Y legal damaged =
     let words : length (synced 0 T) ≡ 17 * batches = omega (arith, synced_count 0 T) in
     no_fault_case 72 (68 * batches) (omega arith) (omega arith) (omega arith) Y front (omega arith)
 
--- ---- the codewords, each mended
+-- ---- what holds of each word and the one received, where synchronisation codewords are left out
 
-first_word : (i j w : ℕ) (T ys : List ℕ) → j ≡ i + (i + 15) / 16 → i % 16 ≡ 0 → AllZip IsNear (sync_word ∷ w ∷ synced (i + 1) T) ys
-    → ((zs : List ℕ) → AllZip IsNear (synced (i + 1) T) zs → AllZip IsNear T (unsynced (j + 2) zs)) → AllZip IsNear (w ∷ T) (unsynced j ys)
-first_word i j w T [] e first near more = absurd near
-first_word i j w T (y ∷ []) e first near more = absurd (near.1)
-first_word i j w T (y ∷ z ∷ zs) e first near more =
-    let here : j % 17 ≡ 0 = omega arith in
-    let next : (j + 1) % 17 ≢ 0 = λ wrong. absurd (omega arith) in
-    let two : j + 1 + 1 ≡ j + 2 = omega arith in
-    rw (eq-eqb _ _ here, ne_eqb _ _ next, two) (near.1.0, more zs near.1.1)
+module _ (R : ℕ → ℕ → Type 0) where
+  first_word : (i j w : ℕ) (T ys : List ℕ) → j ≡ i + (i + 15) / 16 → i % 16 ≡ 0 → AllZip R (sync_word ∷ w ∷ synced (i + 1) T) ys
+      → ((zs : List ℕ) → AllZip R (synced (i + 1) T) zs → AllZip R T (unsynced (j + 2) zs)) → AllZip R (w ∷ T) (unsynced j ys)
+  first_word i j w T [] e first each more = absurd each
+  first_word i j w T (y ∷ []) e first each more = absurd (each.1)
+  first_word i j w T (y ∷ z ∷ zs) e first each more =
+      let here : j % 17 ≡ 0 = omega arith in
+      let next : (j + 1) % 17 ≢ 0 = λ wrong. absurd (omega arith) in
+      let two : j + 1 + 1 ≡ j + 2 = omega arith in
+      rw (eq-eqb _ _ here, ne_eqb _ _ next, two) (each.1.0, more zs each.1.1)
 
-next_word : (i j w : ℕ) (T ys : List ℕ) → j ≡ i + (i + 15) / 16 → i % 16 ≢ 0 → AllZip IsNear (w ∷ synced (i + 1) T) ys
-    → ((zs : List ℕ) → AllZip IsNear (synced (i + 1) T) zs → AllZip IsNear T (unsynced (j + 1) zs)) → AllZip IsNear (w ∷ T) (unsynced j ys)
-next_word i j w T [] e n near more = absurd near
-next_word i j w T (y ∷ ys) e n near more =
-    let here : j % 17 ≢ 0 = λ wrong. absurd (omega arith) in
-    rw (ne_eqb _ _ here) (near.0, more ys near.1)
+  next_word : (i j w : ℕ) (T ys : List ℕ) → j ≡ i + (i + 15) / 16 → i % 16 ≢ 0 → AllZip R (w ∷ synced (i + 1) T) ys
+      → ((zs : List ℕ) → AllZip R (synced (i + 1) T) zs → AllZip R T (unsynced (j + 1) zs)) → AllZip R (w ∷ T) (unsynced j ys)
+  next_word i j w T [] e n each more = absurd each
+  next_word i j w T (y ∷ ys) e n each more =
+      let here : j % 17 ≢ 0 = λ wrong. absurd (omega arith) in
+      rw (ne_eqb _ _ here) (each.0, more ys each.1)
 
-near_unsynced : (i j : ℕ) (T ys : List ℕ) → j ≡ i + (i + 15) / 16 → AllZip IsNear (synced i T) ys → AllZip IsNear T (unsynced j ys)
-near_unsynced i j [] [] e near = tt
-near_unsynced i j [] (y ∷ ys) e near = absurd near
-near_unsynced i j (w ∷ T) ys e near =
-    elim (cases_eq (i % 16) 0) [
-      | inl first ↦ first_word i j w T ys e first (rw (eq-eqb _ _ first) at near) (λ zs. near_unsynced (i + 1) (j + 2) T zs (omega arith))
-      | inr n ↦ next_word i j w T ys e n (rw (ne_eqb _ _ n) at near) (λ zs. near_unsynced (i + 1) (j + 1) T zs (omega arith))
-    ]
+  pub zip_unsynced : (i j : ℕ) (T ys : List ℕ) → j ≡ i + (i + 15) / 16 → AllZip R (synced i T) ys → AllZip R T (unsynced j ys)
+  zip_unsynced i j [] [] e each = tt
+  zip_unsynced i j [] (y ∷ ys) e each = absurd each
+  zip_unsynced i j (w ∷ T) ys e each =
+      elim (cases_eq (i % 16) 0) [
+        | inl first ↦ first_word i j w T ys e first (rw (eq-eqb _ _ first) at each) (λ zs. zip_unsynced (i + 1) (j + 2) T zs (omega arith))
+        | inr n ↦ next_word i j w T ys e n (rw (ne_eqb _ _ n) at each) (λ zs. zip_unsynced (i + 1) (j + 1) T zs (omega arith))
+      ]
 
 -- ---- what is shown of codewords that are all repaired
 
@@ -133,7 +127,7 @@ repaired law end T batches R Y a ps apart legal damaged h =
     let near : AllZip IsNear (synced 0 T) (words_of (after_preamble Y)) =
     subst (λ (xs : List ℕ). AllZip IsNear xs (words_of (after_preamble Y))) sent damaged.words in
     let kinds = all_back T (unsynced 0 (words_of (after_preamble Y))) h.mended legal.0
-    (near_unsynced 0 0 T (words_of (after_preamble Y)) (omega arith) near) h.each in
+    (zip_unsynced IsNear 0 0 T (words_of (after_preamble Y)) (omega arith) near) h.each in
     let plain = (law (map kind_of T) 0 read.ps).0 read.reads in
     h.holds ∙ ap (shown_from a 0) kinds ∙ shown_is_chosen a 0 (map kind_of T) ∙ ap (filter (calls a)) (sym (plain.1))
     ∙ chosen a R read.ps apart read.as_many read.each

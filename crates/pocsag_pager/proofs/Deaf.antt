@@ -1,15 +1,7 @@
 -- A batch that changes nothing: no page is open, and its frame of the address calls nobody.
-use Rattle.pocsag_pager.proofs.Prelude.{◌≡◌, ℕ, ◌+◌, ◌-◌, ◌*◌, ◌/◌, ◌%◌, ◌^◌, ◌<◌, ◌≤◌, All, Bool, true, false, nat_eq, drop, take, List, [], ◌∷◌, ◌++◌, length, refl, sym, ap, subst, ◌∙◌, inl, inr, arith, append_assoc, Option, None, from_be_bytes, w32, All-cons, All-head, All-nil, All-tail, Kind, Page, words_of, HaveEnded, IsHeardAs, next_open}
+use Rattle.pocsag_pager.proofs.Prelude.{◌≡◌, ℕ, ◌+◌, ◌-◌, ◌*◌, ◌/◌, ◌%◌, ◌^◌, ◌<◌, ◌≤◌, All, Bool, true, false, nat_eq, drop, take, List, [], ◌∷◌, ◌++◌, length, refl, sym, ap, subst, ◌∙◌, inl, inr, arith, append_assoc, Option, None, from_be_bytes, w32, All-cons, All-head, All-nil, All-tail, Kind, Page, words_of, HaveEnded, IsHeardAs, next_open, length-append, not, eq-eqb, false≢true, append-nil, drop-drop, length-drop, length-take, All-drop, All-take, IsOnlyNear, kind_of, words_long, State, Listening}
 use Rattle.std.specs.Bool.{OnFalse, OnTrue}
-use Rattle.std.proofs.Common.{Some, length-append, not}
-use Rattle.std.proofs.lemmas.Bool.{eq-eqb, false≢true}
-use Rattle.std.proofs.lemmas.List.{append-nil, drop-drop, length-drop, length-take}
-use Rattle.std.proofs.lemmas.List.Elements.{All-drop, All-take}
-use Rattle.pocsag_words.specs.Codeword.{IsOnlyNear}
-use Rattle.pocsag_words.specs.Kinds.{kind_of}
-use Rattle.pocsag_pages.proofs.Lengths.{words_long}
-use Rattle.pocsag_pager.specs.declared.pager.State.{State}
-use Rattle.pocsag_pager.specs.declared.pager.State.TheVariants.{Listening}
+use Rattle.std.proofs.Common.{Some}
 use Rattle.pocsag_pager.proofs.Hearings.{IsOpen, Known, pass_all, turn_ended, turn_open}
 use Rattle.pocsag_pager.proofs.Mended.{AreRepaired}
 use Rattle.pocsag_pager.proofs.Places.{ending_none, quiet_kind}
@@ -96,8 +88,7 @@ deaf_all law a s words bytes ps first holds long small nobody nor known =
     let parts : (((words ++ before) ++ one ∷ []) ++ other ∷ []) ++ behind ≡ words ++ words_of bytes =
     ap (λ (l : List ℕ). l ++ behind) (append_assoc (words ++ before) (one ∷ []) (other ∷ []))
     ∙ ap (λ (l : List ℕ). ((words ++ before) ++ l) ++ behind) (sym (frame_words rest (omega arith)))
-    ∙ three_parts (1 + 2 * (a % 8)) at words bytes (take at bytes) rest (take 8 rest) (drop 8 rest) (omega arith) (omega arith) (omega arith)
-    refl refl refl refl in
+    ∙ three_parts (a % 8) words bytes (take at bytes) rest (take 8 rest) (drop 8 rest) (omega arith) long refl refl refl refl in
     let l1 = length-append words before in
     let l2 = length-append (words ++ before) (one ∷ []) in
     let l3 = length-append ((words ++ before) ++ one ∷ []) (other ∷ []) in

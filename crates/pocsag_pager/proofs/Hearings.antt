@@ -1,14 +1,9 @@
 -- What a pager has heard, one word at a time.
-use Rattle.pocsag_pager.proofs.Prelude.{◌≡◌, ◌≢◌, ℕ, ◌+◌, ◌-◌, ◌/◌, ◌%◌, ◌<◌, List, [], ◌∷◌, ◌++◌, length, map, sym, ap, ap₂, subst, ◌∙◌, ◌⊎◌, ◌^◌, inl, inr, arith, append_assoc, All, Option, None, option_to_list, AllZip, map-append, length-map, cases_eq, All-head, All-tail, Kind, Page, unsynced, frame_at, IsMended, AreShown, said, shown_from, HaveEnded, IsElsewhere, ended_from, open_from, IsHeardAs, ending, next_open}
-use Rattle.std.specs.Prelude.{IsSome}
-use Rattle.std.proofs.lemmas.List.{append-nil, length-append}
+use Rattle.pocsag_pager.proofs.Prelude.{◌≡◌, ◌≢◌, ℕ, ◌+◌, ◌-◌, ◌/◌, ◌%◌, ◌<◌, List, [], ◌∷◌, ◌++◌, length, map, sym, ap, ap₂, subst, ◌∙◌, ◌⊎◌, ◌^◌, inl, inr, arith, append_assoc, All, Option, None, option_to_list, AllZip, map-append, length-map, cases_eq, All-head, All-tail, Kind, Page, unsynced, frame_at, IsMended, AreShown, said, shown_from, HaveEnded, IsElsewhere, ended_from, open_from, IsHeardAs, ending, next_open, IsSome, append-nil, State, Listening, HoldsOnceMended, unsynced_codeword, unsynced_count, unsynced_more, unsynced_sync}
+use Rattle.std.proofs.lemmas.List.{length-append}
 use Rattle.std.proofs.lemmas.Slice.Zip.{AllZip-long}
-use Rattle.pocsag_pager.specs.declared.pager.State.{State}
-use Rattle.pocsag_pager.specs.declared.pager.State.TheVariants.{Listening}
-use Rattle.pocsag_pager.specs.Shown.{HoldsOnceMended}
 use Rattle.pocsag_pager.proofs.Mended.{AreRepaired, heard_at, all_mended_same}
 use Rattle.pocsag_pager.proofs.Places.{ended_more, ending_none, next_open_elsewhere, next_open_same, open_more, shown_is}
-use Rattle.pocsag_pages.proofs.Lengths.{unsynced_codeword, unsynced_count, unsynced_more, unsynced_sync}
 
 AllZip-push_two : {A B : Type 0} (R : A → B → Type 0) (xs : List A) (ys : List B) (x : A) (y : B) → AllZip R xs ys → R x y
     → AllZip R (xs ++ x ∷ []) (ys ++ y ∷ [])

@@ -1,11 +1,5 @@
 -- Where memory is wanting, a page is shown.
-use Rattle.pocsag_pager.proofs.Prelude.{◌≡◌, ◌⊎◌, ◌≤◌, ◌*◌, inl, inr, ℕ, ◌+◌, Bool, true, false, cond, List, [], ◌∷◌, ◌++◌, length, map, take, drop, refl, sym, ap, subst, ◌∙◌, append_assoc, Option, Some, None, option_to_list, AllZip, map-append, from_be_bytes, w32, Kind, Page, unsynced, words_of, IsMended, AreShown, HaveEnded, is_ours, page_called, said, shown_from, ended_from, open_from, pager_address}
-use Rattle.std.specs.Prelude.{IsSome}
-use Rattle.std.proofs.lemmas.List.{take-append-drop}
-use Rattle.pocsag_words.specs.declared.codeword.Kind.TheVariants.{Idle, Address, Message}
-use Rattle.pocsag_pages.proofs.Lengths.{unsynced_more}
-use Rattle.pocsag_pager.specs.Shown.{HoldsOnceMended, ShowsSome}
-use Rattle.pocsag_pager.specs.States.{Continues, IsOver, HasFollowed}
+use Rattle.pocsag_pager.proofs.Prelude.{◌≡◌, ◌⊎◌, ◌≤◌, ◌*◌, inl, inr, ℕ, ◌+◌, Bool, true, false, cond, List, [], ◌∷◌, ◌++◌, length, map, take, drop, refl, sym, ap, subst, ◌∙◌, append_assoc, Option, Some, None, option_to_list, AllZip, map-append, from_be_bytes, w32, Kind, Page, unsynced, words_of, IsMended, AreShown, HaveEnded, is_ours, page_called, said, shown_from, ended_from, open_from, pager_address, IsSome, take-append-drop, Idle, Address, Message, unsynced_more, HoldsOnceMended, ShowsSome, Continues, IsOver, HasFollowed}
 use Rattle.pocsag_pager.specs.declared.fault.PagerFault.{PagerFault}
 use Rattle.pocsag_pager.specs.declared.fault.PagerFault.TheVariants as fault
 use Rattle.pocsag_pager.specs.declared.pager.Pager.{Pager}

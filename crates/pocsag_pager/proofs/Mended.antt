@@ -1,6 +1,5 @@
 -- Each word is mended in just one way.
-use Rattle.pocsag_pager.proofs.Prelude.{◌≡◌, ℕ, ◌^◌, ◌<◌, ◌⊎◌, List, [], ◌∷◌, refl, sym, ap, ap₂, inl, inr, Option, Some, None, AllZip, IsCodeword, IsNear, Kind, IsMended, said, IsHeardAs}
-use Rattle.pocsag_words.specs.Codeword.{IsOnlyNear, HasNoneNear}
+use Rattle.pocsag_pager.proofs.Prelude.{◌≡◌, ℕ, ◌^◌, ◌<◌, ◌⊎◌, List, [], ◌∷◌, refl, sym, ap, ap₂, inl, inr, Option, Some, None, AllZip, IsCodeword, IsNear, Kind, IsMended, said, IsHeardAs, IsOnlyNear, HasNoneNear}
 
 pub mended_same : (w : ℕ) (m n : Option ℕ) → IsMended w m → IsMended w n → m ≡ n
 mended_same w None None is also = refl

@@ -1,10 +1,6 @@
 -- The receiver, one word at a time, against the list of places.
-use Rattle.pocsag_pager.proofs.Prelude.{◌≡◌, ◌≢◌, ℕ, ◌+◌, ◌/◌, ◌%◌, ◌^◌, Bool, true, false, cond, nat_eq, List, [], ◌∷◌, ◌++◌, length, refl, ap, arith, Option, Some, None, option_to_list, ne_eqb, Kind, Page, frame_at, is_ours, page_called, run_of, shown_from, ended_from, open_from, ending, next_open}
-use Rattle.std.proofs.Common.{not, nat_lt, ◌&&◌}
-use Rattle.pocsag_words.specs.declared.codeword.Kind.TheVariants.{Idle, Address, Message}
+use Rattle.pocsag_pager.proofs.Prelude.{◌≡◌, ◌≢◌, ℕ, ◌+◌, ◌/◌, ◌%◌, ◌^◌, Bool, true, false, cond, nat_eq, List, [], ◌∷◌, ◌++◌, length, refl, ap, arith, Option, Some, None, option_to_list, ne_eqb, Kind, Page, frame_at, is_ours, page_called, run_of, shown_from, ended_from, open_from, ending, next_open, not, nat_lt, ◌&&◌, Idle, Address, Message, idle_word, kind_of, is_run}
 use Rattle.pocsag_words.proofs.TruthValues.{and_false}
-use Rattle.pocsag_words.specs.Kinds.{idle_word, kind_of}
-use Rattle.pocsag_pager.specs.States.{is_run}
 
 -- ---- a run of message codewords has no page of its own
 

@@ -1,7 +1,5 @@
 -- What is shown is one list, of pages that may be listed.
-use Rattle.pocsag_pager.proofs.Prelude.{◌≡◌, ℕ, ◌+◌, ◌/◌, ◌%◌, ◌^◌, ◌<◌, Bool, true, false, cond, nat_eq, List, [], ◌∷◌, map, All, sym, ap, subst, ◌∙◌, arith, Option, Some, None, All-cons, All-nil, Kind, Page, unsynced, AreShown, is_ours, page_called, run_of, said, shown_from}
-use Rattle.std.proofs.Common.{nat_lt}
-use Rattle.pocsag_words.specs.declared.codeword.Kind.TheVariants.{Idle, Address, Message}
+use Rattle.pocsag_pager.proofs.Prelude.{◌≡◌, ℕ, ◌+◌, ◌/◌, ◌%◌, ◌^◌, ◌<◌, Bool, true, false, cond, nat_eq, List, [], ◌∷◌, map, All, sym, ap, subst, ◌∙◌, arith, Option, Some, None, All-cons, All-nil, Kind, Page, unsynced, AreShown, is_ours, page_called, run_of, said, shown_from, nat_lt, Idle, Address, Message}
 use Rattle.pocsag_pages.specs.Listable.{IsListable}
 use Rattle.pocsag_pager.proofs.Mended.{all_mended_same}
 

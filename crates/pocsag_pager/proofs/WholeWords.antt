@@ -1,8 +1,6 @@
 -- The words of bytes, taken four bytes at a time.
-use Rattle.pocsag_pager.proofs.Prelude.{◌≡◌, ℕ, zero, suc, ◌+◌, ◌-◌, ◌*◌, ◌/◌, ◌^◌, ◌<◌, ◌≤◌, All, drop, List, [], ◌∷◌, ◌++◌, length, get_or, take, map, refl, sym, ap, ap₂, subst, ◌∙◌, arith, append_assoc, Option, Some, None, from_be_bytes, w32, map-append, All-cons, All-nil, Page, words_of, AreShown, HaveEnded}
-use Rattle.std.proofs.Common.{take-add}
+use Rattle.pocsag_pager.proofs.Prelude.{◌≡◌, ℕ, zero, suc, ◌+◌, ◌-◌, ◌*◌, ◌/◌, ◌^◌, ◌<◌, ◌≤◌, All, drop, List, [], ◌∷◌, ◌++◌, length, get_or, take, map, refl, sym, ap, ap₂, subst, ◌∙◌, arith, append_assoc, Option, Some, None, from_be_bytes, w32, map-append, All-cons, All-nil, Page, words_of, AreShown, HaveEnded, take-add, take_more, length-drop, length-take, take-append-drop}
 use Rattle.std.specs.Simd.{first_chunks}
-use Rattle.std.proofs.lemmas.List.{take_more, length-take, take-append-drop}
 
 pub chunk_words : (n : ℕ) (xs : List ℕ) → n ≡ length xs / 4 → map (from_be_bytes w32) (first_chunks 4 n xs) ≡ words_of xs
 chunk_words zero [] e = refl
@@ -64,13 +62,16 @@ words_small (a ∷ b ∷ c ∷ d ∷ xs) h =
     All-cons (λ w. w < 2 ^ 32) (from_be_bytes w32 (a ∷ b ∷ c ∷ d ∷ [])) (words_of xs) (word_small a b c d (h 0) (h 1) (h 2) (h 3))
     (words_small xs (λ i. h (suc (suc (suc (suc i))))))
 
-pub three_parts : (k n : ℕ) (words xs before rest frame after : List ℕ) → n ≡ 4 * k → n ≤ length xs → 8 ≤ length rest → before ≡ take n xs
-    → rest ≡ drop n xs
+-- the words of a batch are those of its three parts, of which the one in the middle is frame i
+pub three_parts : (i : ℕ) (words xs before rest frame after : List ℕ) → i < 8 → length xs ≡ 68 → before ≡ take (4 + 8 * i) xs
+    → rest ≡ drop (4 + 8 * i) xs
     → frame ≡ take 8 rest → after ≡ drop 8 rest → ((words ++ words_of before) ++ words_of frame) ++ words_of after ≡ words ++ words_of xs
-three_parts k n words xs before rest frame after e within room b r f a =
+three_parts i words xs before rest frame after small long b r f a =
+    let room : 8 ≤ length rest = rw r (omega (arith, length-drop (4 + 8 * i) xs)) in
     let both : List ℕ → List ℕ → List ℕ = λ ys zs. words_of ys ++ words_of zs in
     let second : words_of frame ++ words_of after ≡ words_of rest = ap₂ both f a ∙ sym (words_split 2 8 rest refl room) in
-    let first : words_of before ++ words_of rest ≡ words_of xs = ap₂ both b r ∙ sym (words_split k n xs e within) in
+    let first : words_of before ++ words_of rest ≡ words_of xs =
+    ap₂ both b r ∙ sym (words_split (1 + 2 * i) (4 + 8 * i) xs (omega arith) (omega arith)) in
     append_assoc (words ++ words_of before) (words_of frame) (words_of after)
     ∙ append_assoc words (words_of before) (words_of frame ++ words_of after)
     ∙ ap (λ ws. words ++ ws) (ap (λ ws. words_of before ++ ws) second ∙ first)

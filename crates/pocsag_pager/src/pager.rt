@@ -69,9 +69,9 @@ impl Pager {
         })
     }
 
-    /// Hears the next word. Every seventeenth word, the first among them, is passed over as a
-    /// synchronisation word, whatever it holds; any other is repaired. The page that this word ends
-    /// is answered. After `OutOfMemory` and after `end` the pager answers `Failed`.
+    /// Hears the next word. Every seventeenth word, the first among them, is passed over as a synchronisation word,
+    /// whatever it holds; any other is repaired. Returns the page that this word ends. After `OutOfMemory` and after
+    /// `end` the pager returns `Failed`.
     pub fn hear(&mut self, word: u32) -> Result<Option<Page>, PagerFault>
         ensures stands { (words : List ℕ) → HasFollowed self.old words →
             OnOk result (HasFollowed self.new (words ++ word ∷ [])) }
@@ -108,7 +108,7 @@ impl Pager {
         Ok(ended)
     }
 
-    /// The page that is still open, which takes no memory. From then on the pager answers `Failed`.
+    /// The page that is still open, which takes no memory. From then on the pager returns `Failed`.
     pub fn end(&mut self) -> Result<Option<Page>, PagerFault>
         ensures shown { (words : List ℕ) (ps : List Page) → HasFollowed self.old words →
             HaveEnded words (pager_address self.old) ps →
@@ -162,7 +162,7 @@ impl Pager {
 
     // Whether the words of the next batch change nothing: no page is open, and neither word of the address's frame is
     // its address codeword once it is mended.
-    pub(crate) fn is_deaf_to(&self, batch: &[u8]) -> bool
+    pub(crate) fn cannot_open_page(&self, batch: &[u8]) -> bool
         requires { length batch.now ≡ 68 }
         ensures { OnTrue result ((words : List ℕ) (ps : List Page) → HasHeard self.now words ps →
             HasHeard self.now (words ++ words_of batch.now) ps) }

@@ -52,7 +52,7 @@ fn keep(pages: &mut Vec<Page>, page: Option<Page>) -> Result<(), AllocError>
 }
 
 // Hears the words of these bytes, and keeps the pages that end.
-fn hear_each(pager: &mut Pager, pages: &mut Vec<Page>, bytes: &[u8]) -> Result<(), PagerFault>
+fn feed_words(pager: &mut Pager, pages: &mut Vec<Page>, bytes: &[u8]) -> Result<(), PagerFault>
     ensures heard { Hears result pager.old pager.new pages.old.items pages.new.items bytes.now }
     ensures memory { WantsForPage result pager.old pages.old.items bytes.now }
 {
@@ -65,7 +65,7 @@ fn hear_each(pager: &mut Pager, pages: &mut Vec<Page>, bytes: &[u8]) -> Result<(
 }
 
 // The same, where the words are passed over unheard if they change nothing.
-fn hear_part(pager: &mut Pager, pages: &mut Vec<Page>, bytes: &[u8]) -> Result<(), PagerFault>
+fn feed_part(pager: &mut Pager, pages: &mut Vec<Page>, bytes: &[u8]) -> Result<(), PagerFault>
     ensures heard { Hears result pager.old pager.new pages.old.items pages.new.items bytes.now }
     ensures memory { WantsForPage result pager.old pages.old.items bytes.now }
 {
@@ -74,7 +74,7 @@ fn hear_part(pager: &mut Pager, pages: &mut Vec<Page>, bytes: &[u8]) -> Result<(
         pager.skip(count);
         return Ok(());
     }
-    hear_each(pager, pages, bytes)
+    feed_words(pager, pages, bytes)
 }
 
 // Hears a batch, unless it changes nothing, in three parts: what is before the address's frame, the frame, and what is
@@ -85,14 +85,14 @@ fn hear_batch(pager: &mut Pager, pages: &mut Vec<Page>, batch: &[u8]) -> Result<
     ensures heard { Hears result pager.old pager.new pages.old.items pages.new.items batch.now }
     ensures memory { WantsForPage result pager.old pages.old.items batch.now }
 {
-    if pager.is_deaf_to(batch) {
+    if pager.cannot_open_page(batch) {
         return Ok(());
     }
     let (before, rest) = batch.split_at(4 + 8 * pager.frame());
     let (frame, after) = rest.split_at(8);
-    hear_part(pager, pages, before)?;
-    hear_each(pager, pages, frame)?;
-    hear_part(pager, pages, after)
+    feed_part(pager, pages, before)?;
+    feed_words(pager, pages, frame)?;
+    feed_part(pager, pages, after)
 }
 
 // What a pager that has heard nothing shows of the words of these whole batches.
@@ -113,10 +113,9 @@ fn hear_batches(alloc: Global, mut pager: Pager, bytes: &[u8]) -> Result<Vec<Pag
     Ok(pages)
 }
 
-/// The pages that a pager of the address shows of a transmission, in order. Faults, judged in this
-/// order before any word is heard: `BadAddress`, `ReservedAddress`, `ShortPreamble` (fewer than 72
-/// bytes AA stand first), `NoBatch` (nothing follows them), `Truncated` (what follows them is not
-/// whole batches of 68 bytes); then `OutOfMemory`.
+/// The pages that a pager of the address shows of a transmission, in order. Faults, judged in this order before any
+/// word is read: `BadAddress`, `ReservedAddress`, `ShortPreamble` (fewer than 72 bytes AA stand first), `NoBatch`
+/// (nothing follows them), `Truncated` (what follows them is not whole batches of 68 bytes); then `OutOfMemory`.
 pub fn hear_all(alloc: Global, bytes: &[u8], address: u32) -> Result<Vec<Page>, PagerFault>
     ensures shown { IfOk result (λ pages. AreShown (words_of (after_preamble bytes.now)) address pages.items) }
     ensures ok { OnOk result (hearing_fault address bytes.now ≡ None) }

@@ -1,19 +1,13 @@
 -- How many samples a sound has, and which; and what of them is written so far.
-use Rattle.std.proofs.Common.{◌≡◌, ◌==◌, ◌↔◌, Bool, true, false, cond, Option, None, ℕ, ◌+◌, ◌*◌, ◌/◌, ◌^◌, ◌<◌, ◌≤◌, List, [], ◌∷◌, ◌++◌, length, take, drop, Some, slice_get, ℤ, pos, refl, sym, ap, ap₂, subst, ◌∙◌, inl, inr, arith, append_assoc}
+use Rattle.pocsag_wav.proofs.Prelude.{◌≡◌, ◌==◌, ◌↔◌, Bool, true, false, cond, Option, None, ℕ, ◌+◌, ◌*◌, ◌/◌, ◌^◌, ◌<◌, ◌≤◌, List, [], ◌∷◌, ◌++◌, length, take, drop, Some, slice_get, ℤ, pos, refl, sym, ap, ap₂, subst, ◌∙◌, inl, inr, arith, append_assoc, append-nil, take-append-drop, bit_at, cast_signed, cast_unsigned, div_ceil, from_bool, w16, flat_map, high_level, keyed_bytes, level_at, level_in, low_level, tail_bits, IsWav, sample_bytes, wav_header, IsCount, samples_of}
 use Rattle.std.proofs.Math.Nat.{mul-le-mul_right}
 use Rattle.std.proofs.lemmas.Bool.{cases_lt}
 use Rattle.std.proofs.lemmas.Grind.{div_ceil_times}
-use Rattle.std.proofs.lemmas.List.{append-nil, take-append-drop}
 use Rattle.std.proofs.lemmas.List.Concat.{flat_map-append}
 use Rattle.std.proofs.lemmas.List.FromFn.{get_or-map-range_with_len, length-map-range_with_len, map-range_with_len_more, take-map-range_with_len}
 use Rattle.std.proofs.lemmas.Nat.{div_below, le-div}
 use Rattle.std.proofs.lemmas.Option.{slice_get-get_or}
-use Rattle.std.specs.Int.{bit_at, cast_signed, cast_unsigned, div_ceil, from_bool, w16}
-use Rattle.std.specs.List.{flat_map}
 use Rattle.pocsag_wav.specs.declared.keying.Keying.{Keying}
-use Rattle.pocsag_wav.specs.Levels.{high_level, keyed_bytes, level_at, level_in, low_level, tail_bits}
-use Rattle.pocsag_wav.specs.Wav.{IsWav, sample_bytes, wav_header}
-use Rattle.pocsag_wav.specs.Samples.{IsCount, samples_of}
 
 -- c is the least number with T * S ≤ c * R: just the i below it have i * R / S below T
 pub counts_bits : (R S T c : ℕ) → 0 < R → 0 < S → T * S ≤ c * R → c * R < T * S + R → (i : ℕ) → (i < c) ↔ (i * R / S < T)

@@ -1,13 +1,6 @@
-use Rattle.std.proofs.Common.{◌≡◌, ◌<◌, ◌∷◌, ℕ, Bool, List, length, take, drop, get_or, replicate, refl, sym, ap, subst, ◌∙◌, arith, Ok, true, false}
+use Rattle.pocsag_decode.proofs.Prelude.{◌≡◌, ◌<◌, ◌∷◌, ℕ, Bool, List, length, take, drop, get_or, replicate, refl, sym, ap, subst, ◌∙◌, arith, true, false, true≢false, drop_more, get_or_default, length-drop, length-take, take_all, bytes_eq-Decides, IsCodeword, idle_word, sync_word, words_of, words_long, JudgesMore}
+use Rattle.std.proofs.Common.{Ok}
 use Rattle.std.proofs.Math.Bool.{beq}
-use Rattle.std.proofs.lemmas.Bool.{true≢false}
-use Rattle.std.proofs.lemmas.List.{drop_more, get_or_default, length-drop, length-take, take_all}
-use Rattle.std.proofs.lemmas.Slice.Eq.{bytes_eq-Decides}
-use Rattle.pocsag_words.specs.Codeword.{IsCodeword}
-use Rattle.pocsag_words.specs.Kinds.{idle_word}
-use Rattle.pocsag_pages.specs.Bytes.{sync_word, words_of}
-use Rattle.pocsag_pages.proofs.Lengths.{words_long}
-use Rattle.pocsag_decode.specs.Judgements.{JudgesMore}
 use Rattle.pocsag_decode.proofs.Fine.{fine_after_sync, fine_idles}
 use Rattle.pocsag_decode.proofs.judge.judge_batch.Goals as goal
 

@@ -1,9 +1,5 @@
-use Rattle.std.proofs.Common.{◌≡◌, ◌+◌, ◌-◌, ◌*◌, ◌/◌, ◌≤◌, ℕ, Bool, List, [], length, take, drop, sym, subst, arith, Err, Ok, Result}
-use Rattle.std.proofs.lemmas.List.{take_rest}
-use Rattle.std.proofs.lemmas.Result.{err_from_is_err_and}
-use Rattle.pocsag_pages.specs.Bytes.{words_of}
-use Rattle.pocsag_decode.specs.declared.fault.DecodeFault.{DecodeFault}
-use Rattle.pocsag_decode.specs.Judgements.{JudgesMore}
+use Rattle.pocsag_decode.proofs.Prelude.{◌≡◌, ◌+◌, ◌-◌, ◌*◌, ◌/◌, ◌≤◌, ℕ, Bool, List, [], length, take, drop, sym, subst, arith, Result, take_rest, err_from_is_err_and, words_of, DecodeFault, JudgesMore}
+use Rattle.std.proofs.Common.{Err, Ok}
 use Rattle.pocsag_decode.proofs.Fine.{batch_bad, batch_then, none_fine}
 use Rattle.pocsag_decode.proofs.judge.judge_batches.Goals as goal
 

@@ -1,7 +1,4 @@
-use Rattle.std.proofs.Common.{◌*◌, drop, false, Bool, Result}
-use Rattle.pocsag_pages.specs.Bytes.{words_of}
-use Rattle.pocsag_decode.specs.declared.fault.DecodeFault.{DecodeFault}
-use Rattle.pocsag_decode.specs.Judgements.{JudgesMore}
+use Rattle.pocsag_decode.proofs.Prelude.{◌*◌, drop, false, Bool, Result, words_of, DecodeFault, JudgesMore}
 use Rattle.pocsag_decode.proofs.judge.judge_batches.Given as goal
 
 abbrev pub invariant-loop-i : goal.invariant-loop-i

@@ -1,11 +1,4 @@
-use Rattle.std.proofs.Common.{◌≡◌, ◌%◌, ◌<◌, ◌≤◌, ◌==◌, ℕ, List, [], ◌∷◌, length, drop, map, refl, sym, ap, subst, ◌∙◌, inl, inr, arith, false}
-use Rattle.std.proofs.lemmas.List.Elements.{All-from_get_or}
-use Rattle.std.proofs.lemmas.Result.{err_from_is_err_and}
-use Rattle.pocsag_words.specs.Kinds.{kind_of}
-use Rattle.pocsag_pages.specs.Plain.{pages_from}
-use Rattle.pocsag_pages.specs.Bytes.{after_preamble, codewords_in, leading, words_of}
-use Rattle.pocsag_decode.specs.Faults.{HasFaultOfEnd, HasFaultThere}
-use Rattle.pocsag_decode.specs.Places.{AllMayStand, HasBadWord}
+use Rattle.pocsag_decode.proofs.Prelude.{◌≡◌, ◌%◌, ◌<◌, ◌≤◌, ◌==◌, ℕ, List, [], ◌∷◌, length, drop, map, refl, sym, ap, subst, ◌∙◌, inl, inr, arith, false, All-from_get_or, err_from_is_err_and, kind_of, pages_from, after_preamble, codewords_in, leading, words_of, HasFaultOfEnd, HasFaultThere, AllMayStand, HasBadWord}
 use Rattle.pocsag_decode.proofs.Preambles.{nil_or}
 use Rattle.pocsag_decode.proofs.Transmissions.{IsWhole, whole_reads}
 use Rattle.pocsag_decode.proofs.Words.{is_nil}

@@ -1,7 +1,4 @@
-use Rattle.std.proofs.Common.{ap, sym}
-use Rattle.std.proofs.lemmas.Bool.{true≢false}
-use Rattle.pocsag_words.specs.declared.codeword.Kind.TheVariants.{Idle, Address, Message}
-use Rattle.pocsag_decode.specs.Places.{is_message}
+use Rattle.pocsag_decode.proofs.Prelude.{ap, sym, true≢false, Idle, Address, Message, is_message}
 use Rattle.pocsag_decode.proofs.Fine.{fine_kind, no_page}
 use Rattle.pocsag_decode.proofs.judge.judge_kind.Goals as goal
 

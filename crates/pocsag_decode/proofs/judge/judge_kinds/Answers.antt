@@ -1,5 +1,5 @@
-use Rattle.std.proofs.Common.{refl, arith, Err, Ok}
-use Rattle.std.proofs.lemmas.Result.{err_from_is_err_and}
+use Rattle.pocsag_decode.proofs.Prelude.{refl, arith, err_from_is_err_and}
+use Rattle.std.proofs.Common.{Err, Ok}
 use Rattle.pocsag_decode.proofs.Fine.{none_behind, word_bad, word_then}
 use Rattle.pocsag_decode.proofs.judge.judge_kinds.Goals as goal
 

@@ -1,6 +1,4 @@
-use Rattle.std.proofs.Common.{◌≡◌, ◌+◌, drop, Bool, Result}
-use Rattle.pocsag_decode.specs.declared.fault.DecodeFault.{DecodeFault}
-use Rattle.pocsag_decode.specs.Judgements.{JudgesMore}
+use Rattle.pocsag_decode.proofs.Prelude.{◌≡◌, ◌+◌, drop, Bool, Result, DecodeFault, JudgesMore}
 use Rattle.pocsag_decode.proofs.judge.judge_kinds.Given as goal
 
 abbrev pub invariant-loop-codeword : goal.invariant-loop-codeword

@@ -1,4 +1,4 @@
-use Rattle.std.proofs.Common.{arith}
+use Rattle.pocsag_decode.proofs.Prelude.{arith}
 use Rattle.pocsag_decode.proofs.Fine.{fine_sync, not_codeword, not_sync}
 use Rattle.pocsag_decode.proofs.judge.judge_word.Goals as goal
 

@@ -1,10 +1,5 @@
-use Rattle.std.proofs.Common.{◌≡◌, ℕ, List, [], ◌<◌, ◌/◌, length, get_or, map, refl, sym, ap, subst, ◌∙◌, arith, Err, Ok}
-use Rattle.std.specs.Int.{from_be_bytes, w32}
-use Rattle.std.proofs.lemmas.List.{get_or-map, length-map}
-use Rattle.std.proofs.lemmas.Result.{err_from_is_err_and}
-use Rattle.pocsag_pages.specs.Bytes.{words_of}
-use Rattle.pocsag_pager.proofs.WholeWords.{chunk_words}
-use Rattle.pocsag_decode.specs.Judgements.{JudgesMore}
+use Rattle.pocsag_decode.proofs.Prelude.{◌≡◌, ℕ, List, [], ◌<◌, ◌/◌, length, get_or, map, refl, sym, ap, subst, ◌∙◌, arith, from_be_bytes, w32, get_or-map, length-map, err_from_is_err_and, words_of, chunk_words, JudgesMore}
+use Rattle.std.proofs.Common.{Err, Ok}
 use Rattle.pocsag_decode.proofs.Fine.{none_behind, word_bad, word_then}
 use Rattle.pocsag_decode.proofs.judge.judge_words.Goals as goal
 

@@ -1,8 +1,4 @@
-use Rattle.std.proofs.Common.{◌≡◌, ◌+◌, drop, map, Bool, Result}
-use Rattle.std.specs.Int.{from_be_bytes, w32}
-use Rattle.pocsag_pages.specs.Bytes.{words_of}
-use Rattle.pocsag_decode.specs.declared.fault.DecodeFault.{DecodeFault}
-use Rattle.pocsag_decode.specs.Judgements.{JudgesMore}
+use Rattle.pocsag_decode.proofs.Prelude.{◌≡◌, ◌+◌, drop, map, Bool, Result, from_be_bytes, w32, words_of, DecodeFault, JudgesMore}
 use Rattle.pocsag_decode.proofs.judge.judge_words.Given as goal
 
 abbrev pub invariant-loop-word : goal.invariant-loop-word

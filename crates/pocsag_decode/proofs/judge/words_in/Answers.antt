@@ -1,7 +1,4 @@
-use Rattle.std.proofs.Common.{◌≡◌, ◌/◌, length, map, refl, sym, ap, ◌∙◌, arith}
-use Rattle.std.specs.Int.{from_be_bytes, w32}
-use Rattle.std.proofs.lemmas.List.{take_all}
-use Rattle.pocsag_pager.proofs.WholeWords.{chunk_words}
+use Rattle.pocsag_decode.proofs.Prelude.{◌≡◌, ◌/◌, length, map, refl, sym, ap, ◌∙◌, arith, from_be_bytes, w32, take_all, chunk_words}
 use Rattle.pocsag_decode.proofs.judge.words_in.Goals as goal
 
 pub returns : goal.returns

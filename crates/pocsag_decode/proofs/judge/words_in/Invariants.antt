@@ -1,5 +1,4 @@
-use Rattle.std.proofs.Common.{◌≡◌, length, map, take}
-use Rattle.std.specs.Int.{from_be_bytes, w32}
+use Rattle.pocsag_decode.proofs.Prelude.{◌≡◌, length, map, take, from_be_bytes, w32}
 use Rattle.pocsag_decode.proofs.judge.words_in.Given as goal
 
 abbrev pub invariant-loop-i : goal.invariant-loop-i

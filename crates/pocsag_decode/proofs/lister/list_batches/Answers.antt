@@ -1,9 +1,5 @@
-use Rattle.std.proofs.Common.{codes, rules, ◌≡◌, ℕ, ◌+◌, ◌*◌, ◌<◌, ◌≤◌, List, [], ◌++◌, length, length-append, refl, sym, ap, ◌∙◌, arith}
-use Rattle.std.proofs.lemmas.List.{append-nil}
-use Rattle.std.proofs.lemmas.Result.{on_err_weaker, on_ok_weaker}
-use Rattle.pocsag_decode.specs.Lines.{text_in}
-use Rattle.pocsag_decode.specs.Listers.{rows_of_pages}
-use Rattle.pocsag_decode.specs.OpenPages.{closed}
+use Rattle.pocsag_decode.proofs.Prelude.{codes, rules, ◌≡◌, ℕ, ◌+◌, ◌*◌, ◌<◌, ◌≤◌, List, [], ◌++◌, length, refl, sym, ap, ◌∙◌, arith, append-nil, on_err_weaker, on_ok_weaker, text_in, rows_of_pages, closed}
+use Rattle.std.proofs.Common.{length-append}
 use Rattle.pocsag_decode.proofs.Listings.{all_listed, more_listed, none_listed, poured}
 use Rattle.pocsag_decode.proofs.PageRows.{row_some}
 use Rattle.pocsag_decode.proofs.Prefixes.{after_fault, some_left, took_last, took_on, took_so_far}

@@ -1,10 +1,4 @@
-use Rattle.std.proofs.Common.{◌≡◌, ◌<◌, ◌≤◌, ◌++◌, length, map}
-use Rattle.pocsag_words.specs.Kinds.{kind_of}
-use Rattle.pocsag_pages.specs.Bytes.{unsynced, words_of}
-use Rattle.pocsag_pages.specs.Plain.{pages_from}
-use Rattle.pocsag_decode.specs.Lines.{text_in}
-use Rattle.pocsag_decode.specs.Listers.{CanList}
-use Rattle.pocsag_decode.specs.Listing.{listing}
+use Rattle.pocsag_decode.proofs.Prelude.{◌≡◌, ◌<◌, ◌≤◌, ◌++◌, length, map, kind_of, unsynced, words_of, pages_from, text_in, CanList, listing}
 use Rattle.pocsag_decode.proofs.Listings.{AreListed}
 use Rattle.pocsag_decode.proofs.lister.list_batches.Given as goal
 

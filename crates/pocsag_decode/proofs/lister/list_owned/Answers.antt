@@ -1,4 +1,4 @@
-use Rattle.std.proofs.Common.{arith}
+use Rattle.pocsag_decode.proofs.Prelude.{arith}
 use Rattle.pocsag_decode.proofs.PageRows.{listing_some}
 use Rattle.pocsag_decode.proofs.lister.list_owned.Goals as goal
 

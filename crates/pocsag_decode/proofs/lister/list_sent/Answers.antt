@@ -1,9 +1,6 @@
-use Rattle.std.proofs.Common.{◌+◌, ◌<◌, length, [], List, refl, subst, ap, ◌∙◌, arith, drop, ℕ}
-use Rattle.std.proofs.lemmas.List.Elements.{All-from_get_or}
-use Rattle.std.proofs.lemmas.Result.{on_err_weaker, on_ok_weaker}
+use Rattle.pocsag_decode.proofs.Prelude.{◌+◌, ◌<◌, length, [], List, refl, subst, ap, ◌∙◌, arith, drop, ℕ, All-from_get_or, on_err_weaker, on_ok_weaker, TookPrefix}
 use Rattle.pocsag_decode.proofs.Listings.{listed_reading}
 use Rattle.pocsag_decode.proofs.PageRows.{listing_some}
-use Rattle.pocsag_words.specs.Devices.{TookPrefix}
 use Rattle.pocsag_decode.proofs.lister.list_sent.Goals as goal
 
 pub returns-clause-whole : goal.returns-clause-whole

@@ -1,12 +1,7 @@
-use Rattle.std.proofs.Common.{codes, rules, ◌≡◌, ◌++◌, List, ℕ, length, length-append, refl, sym, ap, ◌∙◌, arith}
+use Rattle.pocsag_decode.proofs.Prelude.{codes, rules, ◌≡◌, ◌++◌, List, ℕ, length, refl, sym, ap, ◌∙◌, arith, map-id, on_err_weaker, on_ok_weaker, default_writer, row_text, text_in, record_of, rows_of_pages}
+use Rattle.std.proofs.Common.{length-append}
 use Rattle.std.proofs.lemmas.Iterator.Adapters.{YieldsList-from_vec}
 use Rattle.std.proofs.lemmas.Iterator.Consumers.{YieldsList-end, YieldsList-turn}
-use Rattle.std.proofs.lemmas.List.{map-id}
-use Rattle.std.proofs.lemmas.Result.{on_err_weaker, on_ok_weaker}
-use Rattle.csv.specs.Writing.{default_writer, row_text}
-use Rattle.pocsag_decode.specs.Lines.{text_in}
-use Rattle.pocsag_decode.specs.Listing.{record_of}
-use Rattle.pocsag_decode.specs.Listers.{rows_of_pages}
 use Rattle.pocsag_decode.proofs.Listings.{listing_is, poured, row_more, rows_end}
 use Rattle.pocsag_decode.proofs.PageRows.{row_some}
 use Rattle.pocsag_decode.proofs.Prefixes.{after_fault, some_left, took_on, took_so_far}

@@ -1,7 +1,4 @@
-use Rattle.std.proofs.Common.{◌≡◌, ◌<◌, ◌≤◌, ◌++◌, drop, length}
-use Rattle.pocsag_decode.specs.Lines.{IsReady, text_in}
-use Rattle.pocsag_decode.specs.Listers.{rows_of_pages}
-use Rattle.pocsag_decode.specs.Listing.{listing}
+use Rattle.pocsag_decode.proofs.Prelude.{◌≡◌, ◌<◌, ◌≤◌, ◌++◌, drop, length, IsReady, text_in, rows_of_pages, listing}
 use Rattle.pocsag_decode.proofs.lister.put_all.Given as goal
 
 abbrev pub invariant-loop-page : goal.invariant-loop-page

@@ -1,9 +1,4 @@
-use Rattle.std.proofs.Common.{◌≡◌, take, ◌++◌}
-use Rattle.std.specs.List.{flat_map}
-use Rattle.csv.specs.Writing.{row_text, default_writer}
-use Rattle.pocsag_decode.specs.Lines.{IsReady, text_in}
-use Rattle.pocsag_decode.specs.Listing.{header}
-use Rattle.pocsag_decode.specs.PageFiles.{record_in}
+use Rattle.pocsag_decode.proofs.Prelude.{◌≡◌, take, ◌++◌, flat_map, row_text, default_writer, IsReady, text_in, header, record_in}
 use Rattle.pocsag_decode.proofs.listing.pages_text.Given as goal
 
 abbrev pub invariant-loop-page : goal.invariant-loop-page

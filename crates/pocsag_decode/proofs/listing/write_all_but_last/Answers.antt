@@ -1,5 +1,4 @@
-use Rattle.std.proofs.Common.{rules, ◌≡◌, ◌∷◌, [], ◌++◌, List, ℕ, ap, ◌∙◌, append_assoc, arith}
-use Rattle.pocsag_decode.specs.Lines.{text_in}
+use Rattle.pocsag_decode.proofs.Prelude.{rules, ◌≡◌, ◌∷◌, [], ◌++◌, List, ℕ, ap, ◌∙◌, append_assoc, arith, text_in}
 use Rattle.pocsag_decode.proofs.Prefixes.{after_fault, took_on}
 use Rattle.pocsag_decode.proofs.listing.write_all_but_last.Goals as goal
 

@@ -1,6 +1,4 @@
-use Rattle.std.proofs.Common.{◌≡◌, ◌==◌, ℕ, ◌+◌, ◌-◌, ◌^◌, ◌<◌, ◌≤◌, Bool, true, false, not, if◌then◌else◌, List, ◌++◌, length, take, drop, sym, ap, ap₂, ◌∙◌, append_assoc, arith}
-use Rattle.std.specs.Int.{to_be_bytes, w32}
-use Rattle.std.proofs.lemmas.List.{take-append-drop}
+use Rattle.pocsag_decode.proofs.Prelude.{◌≡◌, ◌==◌, ℕ, ◌+◌, ◌-◌, ◌^◌, ◌<◌, ◌≤◌, Bool, true, false, not, if◌then◌else◌, List, ◌++◌, length, take, drop, sym, ap, ap₂, ◌∙◌, append_assoc, arith, to_be_bytes, w32, take-append-drop}
 use Rattle.std.proofs.lemmas.Slice.{drop-put_mid, take-put_mid}
 use borrow.Rule.Slice.PartMut.{put_mid}
 use mir.Val.{bool_byte}
@@ -69,12 +67,12 @@ returns-clause-counted c =
 
 pub returns-clause-restored : goal.returns-clause-restored
 returns-clause-restored c = λ X T sent damaged.
-    c.repair_restores.ensures.damaged X T _ _ sent damaged (repaired_all _ _ _ _ _ _ c.loop-bytes.invariant (omega arith))
+    c.recall_repair_restores.ensures.damaged X T _ _ sent damaged (repaired_all _ _ _ _ _ _ c.loop-bytes.invariant (omega arith))
 
 pub returns-clause-whole : goal.returns-clause-whole
 returns-clause-whole c = λ T sent.
     let t = c.loop-bytes.invariant in
     let short : length c.loop-bytes.bytes < c.loop-bytes.at + 4 = omega arith in
-    let same = c.repair_restores.ensures.whole _ T _ sent (repaired_all _ _ _ _ _ _ t short) in
+    let same = c.recall_repair_restores.ensures.whole _ T _ sent (repaired_all _ _ _ _ _ _ t short) in
     let none = nothing_differs _ _ same in
     (same, counted_words _ _ _ _ _ _ t short ∙ none.0, counted_bits _ _ _ _ _ _ t short ∙ none.1)

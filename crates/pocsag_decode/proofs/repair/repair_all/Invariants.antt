@@ -1,4 +1,4 @@
-use Rattle.std.proofs.Common.{◌-◌, length}
+use Rattle.pocsag_decode.proofs.Prelude.{◌-◌, length}
 use Rattle.pocsag_decode.proofs.Repairs.{IsRepairing}
 use Rattle.pocsag_decode.proofs.repair.repair_all.Given as goal
 

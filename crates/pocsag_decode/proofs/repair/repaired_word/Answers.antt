@@ -1,5 +1,4 @@
-use Rattle.std.proofs.Common.{arith}
-use Rattle.pocsag_decode.specs.Repairs.{IsRepaired}
+use Rattle.pocsag_decode.proofs.Prelude.{arith, IsRepaired}
 use Rattle.pocsag_decode.proofs.repair.repaired_word.Goals as goal
 
 pub returns-in-Some : goal.returns-in-Some

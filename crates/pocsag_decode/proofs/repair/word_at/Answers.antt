@@ -1,9 +1,5 @@
-use Rattle.std.proofs.Common.{◌≡◌, ◌<◌, take, drop, All, arith}
-use Rattle.std.specs.Int.{from_be_bytes, w32}
+use Rattle.pocsag_decode.proofs.Prelude.{◌≡◌, ◌<◌, take, drop, All, arith, from_be_bytes, w32, length-drop, length-take, All-drop, All-from_get_or, All-take, be_bytes_4}
 use Rattle.std.proofs.lemmas.Grind.{common_steps}
-use Rattle.std.proofs.lemmas.List.{length-drop, length-take}
-use Rattle.std.proofs.lemmas.List.Elements.{All-drop, All-from_get_or, All-take}
-use Rattle.std.proofs.lemmas.Nat.{be_bytes_4}
 use Rattle.pocsag_decode.proofs.Words.{each_small}
 use Rattle.pocsag_decode.proofs.repair.word_at.Goals as goal
 

@@ -1,10 +1,7 @@
-use Rattle.std.proofs.Common.{◌≡◌, ◌⊎◌, ℕ, List, [], inl, inr}
-use Rattle.std.specs.Prelude.{Result, Ok, Err, MatchResult, Vec}
+use Rattle.pocsag_decode.proofs.Prelude.{◌≡◌, ◌⊎◌, ℕ, List, [], inl, inr, Ok, Err, MatchResult, Vec, Page, DecodeFault, HasFault, HasFaultOfEnd, ReadsAs, WantsMemory}
+use Rattle.std.specs.Prelude.{Result}
 use Rattle.std.specs.Global.{Global}
-use Rattle.pocsag_pages.specs.declared.page.Page.{Page}
-use Rattle.pocsag_decode.specs.declared.fault.DecodeFault.{DecodeFault}
 use Rattle.pocsag_decode.specs.declared.fault.DecodeFault.TheVariants as fault
-use Rattle.pocsag_decode.specs.Faults.{HasFault, HasFaultOfEnd, ReadsAs, WantsMemory}
 use Rattle.pocsag_decode.proofs.OneFault.{answered, wanting_word}
 use Rattle.pocsag_decode.proofs.whole.decode.Goals as goal
 

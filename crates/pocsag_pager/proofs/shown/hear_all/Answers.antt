@@ -1,8 +1,5 @@
-use Rattle.pocsag_pager.proofs.Prelude.{ℕ, List, refl, sym, ap, subst, words_of}
-use Rattle.std.proofs.lemmas.Result.{IfOk-weaker, MatchResult-from_both}
+use Rattle.pocsag_pager.proofs.Prelude.{ℕ, List, refl, sym, ap, subst, words_of, IfOk-weaker, MatchResult-from_both, OnErr, ShowsSome}
 use Rattle.pocsag_pager.proofs.WholeWords.{not_both, shown_at}
-use Rattle.std.specs.Prelude.{OnErr}
-use Rattle.pocsag_pager.specs.Shown.{ShowsSome}
 use Rattle.pocsag_pager.proofs.shown.hear_all.Goals as goal
 
 pub returns-in_err-batches-clause-repaired : goal.returns-in_err-batches-clause-repaired

@@ -1,7 +1,5 @@
-use Rattle.pocsag_pager.proofs.Prelude.{◌+◌, ◌*◌, ◌≤◌, ℕ, List, length, take, sym, subst, ◌∙◌, arith, words_of, HasHeard, pager_address}
+use Rattle.pocsag_pager.proofs.Prelude.{◌+◌, ◌*◌, ◌≤◌, ℕ, List, length, take, sym, subst, ◌∙◌, arith, words_of, HasHeard, pager_address, err_from_is_err_and, ShowsSome}
 use Rattle.pocsag_pager.proofs.WholeWords.{next_batch}
-use Rattle.std.proofs.lemmas.Result.{err_from_is_err_and}
-use Rattle.pocsag_pager.specs.Shown.{ShowsSome}
 use Rattle.pocsag_pager.proofs.Memory.{shows_last, shows_whole}
 use Rattle.pocsag_pager.proofs.shown.hear_batches.Goals as goal
 

@@ -1,10 +1,4 @@
-use Rattle.std.proofs.Common.{◌≡◌, ◌*◌, ◌/◌, List, ℕ, ℤ, get_or, ap₂, ◌++◌, ◌∷◌, [], refl, sym, ap, ◌∙◌, rules, arith}
-use Rattle.std.specs.Int.{cast_signed, cast_unsigned, w16}
-use Rattle.std.specs.List.{flat_map}
-use Rattle.pocsag_decode.proofs.Prefixes.{after_fault, took_on}
-use Rattle.pocsag_wav.specs.Levels.{level_at}
-use Rattle.pocsag_wav.specs.Wav.{sample_bytes}
-use Rattle.pocsag_wav.specs.Samples.{samples_of}
+use Rattle.pocsag_wav.proofs.Prelude.{◌≡◌, ◌*◌, ◌/◌, List, ℕ, ℤ, get_or, ap₂, ◌++◌, ◌∷◌, [], refl, sym, ap, ◌∙◌, rules, arith, cast_signed, cast_unsigned, w16, flat_map, after_fault, took_on, level_at, sample_bytes, samples_of}
 use Rattle.pocsag_wav.proofs.Sounds.{level_fits, none_written, pushed, still_to_write, written_more}
 use Rattle.pocsag_wav.proofs.wav.put_samples.Goals as goal
 

@@ -1,7 +1,4 @@
-use Rattle.std.proofs.Common.{◌≡◌, ◌≤◌, ◌++◌, length}
-use Rattle.std.specs.List.{flat_map}
-use Rattle.pocsag_wav.specs.Wav.{sample_bytes}
-use Rattle.pocsag_wav.specs.Samples.{samples_of}
+use Rattle.pocsag_wav.proofs.Prelude.{◌≡◌, ◌≤◌, ◌++◌, length, flat_map, sample_bytes, samples_of}
 use Rattle.pocsag_wav.proofs.wav.put_samples.Given as goal
 
 abbrev pub invariant-loop-index : goal.invariant-loop-index

@@ -1,9 +1,4 @@
-use Rattle.std.proofs.Common.{◌≡◌, ◌++◌, ℕ, List, [], length, sym, ap, ◌∙◌, append_assoc, length-append, arith}
-use Rattle.std.proofs.lemmas.List.{append-nil}
-use Rattle.std.specs.List.{flat_map}
-use Rattle.pocsag_decode.proofs.Prefixes.{took_on}
-use Rattle.pocsag_wav.specs.Wav.{sample_bytes, wav_header}
-use Rattle.pocsag_wav.specs.Samples.{samples_of}
+use Rattle.pocsag_wav.proofs.Prelude.{◌≡◌, ◌++◌, ℕ, List, [], length, sym, ap, ◌∙◌, append_assoc, length-append, arith, append-nil, flat_map, took_on, sample_bytes, wav_header, samples_of}
 use Rattle.pocsag_wav.proofs.Sounds.{is_wav}
 use Rattle.pocsag_wav.proofs.wav.write_wav.Goals as goal
 

@@ -1,9 +1,4 @@
-use Rattle.std.proofs.Common.{◌≡◌, ℕ, ◌≤◌, List, [], ◌∷◌, ◌++◌, length, get_or, take, refl, sym, ap, ◌∙◌, arith}
-use Rattle.std.specs.Int.{from_be_bytes, w32}
-use Rattle.std.proofs.lemmas.List.{length-take-le, nil_from_length}
-use Rattle.std.proofs.lemmas.Result.{err_from_is_err_and}
-use Rattle.pocsag_pages.specs.Bytes.{words_of}
-use Rattle.pocsag_decode.specs.PartialWords.{partial_bytes}
+use Rattle.pocsag_decode.proofs.Prelude.{◌≡◌, ℕ, ◌≤◌, List, [], ◌∷◌, ◌++◌, length, get_or, take, refl, sym, ap, ◌∙◌, arith, from_be_bytes, w32, length-take-le, nil_from_length, err_from_is_err_and, words_of, partial_bytes}
 use Rattle.pocsag_decode.proofs.Words.{first_four, first_one, front_and_tail, word_more, refused_more, taken, not_taken, taking_last}
 use Rattle.pocsag_decode.proofs.body.Body.take.Goals as goal
 

@@ -1,5 +1,4 @@
-use Rattle.std.proofs.Common.{length}
-use Rattle.pocsag_decode.specs.Intake.{IsTaking}
+use Rattle.pocsag_decode.proofs.Prelude.{length, IsTaking}
 use Rattle.pocsag_decode.proofs.body.Body.take.Given as goal
 
 abbrev pub invariant-loop-rest : goal.invariant-loop-rest

@@ -1,9 +1,4 @@
-use Rattle.std.proofs.Common.{ℕ, List, [], ◌∷◌, ◌++◌, length, refl, sym, ap, ◌∙◌}
-use Rattle.std.specs.Int.{from_be_bytes, w32}
-use Rattle.std.proofs.lemmas.Result.{on_ok_weaker, IfErr-weaker}
-use Rattle.pocsag_pages.specs.Bytes.{words_of}
-use Rattle.pocsag_decode.specs.declared.partial_word.PartialWord.{PartialWord}
-use Rattle.pocsag_decode.specs.PartialWords.{partial_bytes}
+use Rattle.pocsag_decode.proofs.Prelude.{ℕ, List, [], ◌∷◌, ◌++◌, length, refl, sym, ap, ◌∙◌, from_be_bytes, w32, on_ok_weaker, IfErr-weaker, words_of, PartialWord, partial_bytes}
 use Rattle.pocsag_decode.proofs.Words.{byte_more, word_more, refused_more}
 use Rattle.pocsag_decode.proofs.body.Body.take_byte.Goals as goal
 

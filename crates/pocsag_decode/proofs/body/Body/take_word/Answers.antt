@@ -1,5 +1,4 @@
-use Rattle.std.proofs.Common.{inl, refl, arith}
-use Rattle.std.proofs.lemmas.Result.{err_from_is_err_and}
+use Rattle.pocsag_decode.proofs.Prelude.{inl, refl, arith, err_from_is_err_and}
 use Rattle.pocsag_decode.proofs.Fine.{kept_word, read_codeword, read_sync}
 use Rattle.pocsag_decode.proofs.body.Body.take_word.Goals as goal
 use Rattle.pocsag_decode.proofs.body.Body.take_word.Goals.{then-self-gt0+in_ok-take, else-self-gt0}

@@ -1,11 +1,4 @@
-use Rattle.std.proofs.Common.{◌≡◌, ◌∷◌, ◌+◌, ◌/◌, ◌++◌, ℕ, List, length, map, replicate, take, refl, sym, ap, subst, ◌∙◌, arith}
-use Rattle.std.specs.Int.{from_be_bytes, w32}
-use Rattle.std.proofs.lemmas.List.{take_all}
-use Rattle.std.proofs.lemmas.Slice.Eq.{bytes_eq-Decides}
-use Rattle.pocsag_words.specs.Kinds.{idle_word, kind_of}
-use Rattle.pocsag_pages.specs.Bytes.{sync_word, unsynced, words_of}
-use Rattle.pocsag_pager.proofs.WholeWords.{chunk_words}
-use Rattle.pocsag_decode.specs.Listers.{still_listed}
+use Rattle.pocsag_decode.proofs.Prelude.{◌≡◌, ◌∷◌, ◌+◌, ◌/◌, ◌++◌, ℕ, List, length, map, replicate, take, refl, sym, ap, subst, ◌∙◌, arith, from_be_bytes, w32, take_all, bytes_eq-Decides, idle_word, kind_of, sync_word, unsynced, words_of, chunk_words, still_listed}
 use Rattle.pocsag_decode.proofs.Listings.{batch_codewords, idles_listed}
 use Rattle.pocsag_decode.proofs.lister.Lister.take_batch.Goals as goal
 

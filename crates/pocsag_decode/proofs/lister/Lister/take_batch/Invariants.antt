@@ -1,9 +1,4 @@
-use Rattle.std.proofs.Common.{◌≡◌, ◌+◌, ◌%◌, ◌≤◌, ◌++◌, ℕ, List, length, map, take}
-use Rattle.std.specs.Int.{from_be_bytes, w32}
-use Rattle.pocsag_words.specs.Kinds.{kind_of}
-use Rattle.pocsag_words.specs.declared.codeword.Kind.{Kind}
-use Rattle.pocsag_decode.specs.Lines.{text_in}
-use Rattle.pocsag_decode.specs.Listers.{CanList, still_listed}
+use Rattle.pocsag_decode.proofs.Prelude.{◌≡◌, ◌+◌, ◌%◌, ◌≤◌, ◌++◌, ℕ, List, length, map, take, from_be_bytes, w32, kind_of, Kind, text_in, CanList, still_listed}
 use Rattle.pocsag_decode.proofs.lister.Lister.take_batch.Given as goal
 
 abbrev pub invariant-loop-word : goal.invariant-loop-word

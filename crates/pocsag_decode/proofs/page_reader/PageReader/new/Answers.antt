@@ -1,8 +1,4 @@
-use Rattle.std.proofs.Common.{◌≡◌, ℕ, ◌/◌, ◌<◌, length, map, drop, refl, ap, ◌∙◌, arith}
-use Rattle.std.specs.Int.{from_be_bytes, w32}
-use Rattle.std.proofs.lemmas.List.Elements.{All-from_get_or}
-use Rattle.pocsag_pages.specs.Bytes.{after_preamble, words_of}
-use Rattle.pocsag_pager.proofs.WholeWords.{chunk_words}
+use Rattle.pocsag_decode.proofs.Prelude.{◌≡◌, ℕ, ◌/◌, ◌<◌, length, map, drop, refl, ap, ◌∙◌, arith, from_be_bytes, w32, All-from_get_or, after_preamble, words_of, chunk_words}
 use Rattle.pocsag_decode.proofs.PageReaders.{all_left, reading_listable}
 use Rattle.pocsag_decode.proofs.page_reader.PageReader.new.Goals as goal
 

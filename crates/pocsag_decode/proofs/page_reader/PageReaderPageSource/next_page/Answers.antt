@@ -1,7 +1,4 @@
-use Rattle.std.proofs.Common.{◌≡◌, ℕ, ◌<◌, [], length, get_or, refl, sym, subst, ◌∙◌, arith}
-use Rattle.std.specs.Int.{from_be_bytes, w32}
-use Rattle.pocsag_decode.specs.OpenPages.{resumed}
-use Rattle.pocsag_decode.specs.PageReaders.{codewords_before, kinds_left, pages_left}
+use Rattle.pocsag_decode.proofs.Prelude.{◌≡◌, ℕ, ◌<◌, [], length, get_or, refl, sym, subst, ◌∙◌, arith, from_be_bytes, w32, resumed, codewords_before, kinds_left, pages_left}
 use Rattle.pocsag_decode.proofs.PageReaders.{sync_passed}
 use Rattle.pocsag_decode.proofs.page_reader.PageReaderPageSource.next_page.Goals as goal
 

@@ -1,5 +1,4 @@
-use Rattle.std.proofs.Common.{◌≡◌}
-use Rattle.pocsag_decode.specs.PageReaders.{pages_left}
+use Rattle.pocsag_decode.proofs.Prelude.{◌≡◌, pages_left}
 use Rattle.pocsag_decode.proofs.page_reader.PageReaderPageSource.next_page.Given as goal
 
 abbrev pub invariant-loop-place : goal.invariant-loop-place

@@ -1,6 +1,4 @@
-use Rattle.std.proofs.Common.{ℕ, ◌%◌, map, inr, sym, ap, ◌∙◌, arith}
-use Rattle.pocsag_words.specs.Kinds.{kind_of}
-use Rattle.pocsag_pages.specs.Bytes.{codewords_in}
+use Rattle.pocsag_decode.proofs.Prelude.{ℕ, ◌%◌, map, inr, sym, ap, ◌∙◌, arith, kind_of, codewords_in}
 use Rattle.pocsag_decode.proofs.Pieces.{short_end, no_batch_end, cut_end, ended_whole}
 use Rattle.pocsag_decode.proofs.Judgements.{whole_no_fault}
 use Rattle.pocsag_decode.proofs.Transmissions.{pages_end, whole_reads, whole_listable}

@@ -1,4 +1,4 @@
-use Rattle.std.proofs.Common.{arith}
+use Rattle.pocsag_decode.proofs.Prelude.{arith}
 use Rattle.pocsag_decode.proofs.Pieces.{skips_begun, skips_alone}
 use Rattle.pocsag_decode.proofs.state.Decoder.skip_preamble.Goals as goal
 

@@ -1,9 +1,4 @@
-use Rattle.std.proofs.Common.{◌+◌, ◌^◌, ◌<◌, length, All, ap, arith}
-use Rattle.std.proofs.lemmas.List.Elements.{All-from_get_or}
-use Rattle.std.proofs.lemmas.Result.{on_ok_weaker, IfErr-weaker}
-use Rattle.pocsag_pages.specs.Bytes.{after_preamble}
-use Rattle.pocsag_decode.specs.Faults.{too_much}
-use Rattle.pocsag_decode.specs.States.{HoldsOf}
+use Rattle.pocsag_decode.proofs.Prelude.{◌+◌, ◌^◌, ◌<◌, length, All, ap, arith, All-from_get_or, on_ok_weaker, IfErr-weaker, after_preamble, too_much, HoldsOf}
 use Rattle.pocsag_decode.proofs.Pieces.{fed_preamble, fed_body, refused_short, refused_body, full_size, body_size}
 use Rattle.pocsag_decode.proofs.Words.{is_nil, not_nil}
 use Rattle.pocsag_decode.proofs.state.Decoder.take.Goals as goal

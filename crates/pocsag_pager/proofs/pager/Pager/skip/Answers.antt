@@ -1,5 +1,4 @@
-use Rattle.pocsag_pager.proofs.Prelude.{◌≡◌, ◌%◌, ℕ, length, arith, subst, sym, IsElsewhere}
-use Rattle.std.proofs.Common.{length-append}
+use Rattle.pocsag_pager.proofs.Prelude.{◌≡◌, ◌%◌, ℕ, length, arith, subst, sym, IsElsewhere, length-append}
 use Rattle.pocsag_pager.proofs.Hearings.{pass_all}
 use Rattle.pocsag_pager.proofs.pager.Pager.skip.Goals as goal
 

@@ -1,8 +1,7 @@
-use Rattle.std.proofs.Common.{◌≡◌, ℕ, ◌/◌, List, ◌++◌, replicate, drop, Option, None, Some, refl, sym, ap, ◌∙◌}
+use Rattle.pocsag_wav.proofs.Prelude.{◌≡◌, ℕ, ◌/◌, List, ◌++◌, replicate, drop, Option, None, Some, refl, sym, ap, ◌∙◌, keyed_bytes}
 use Rattle.pocsag_words.specs.Frame.{preamble_byte}
 use Rattle.pocsag_pages.specs.Bytes.{after_preamble, leading}
 use Rattle.pocsag_decode.proofs.Preambles.{parts}
-use Rattle.pocsag_wav.specs.Levels.{keyed_bytes}
 use Rattle.pocsag_wav.proofs.keyed.Keyed.new.Goals as goal
 use Rattle.pocsag_wav.proofs.keyed.Keyed.new.Goals.{in-Some, in-None}
 

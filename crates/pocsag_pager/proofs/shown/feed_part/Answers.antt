@@ -1,7 +1,6 @@
-use Rattle.pocsag_pager.proofs.Prelude.{words_of}
-use Rattle.pocsag_pages.proofs.Lengths.{words_long}
+use Rattle.pocsag_pager.proofs.Prelude.{words_of, words_long}
 use Rattle.pocsag_pager.proofs.WholeWords.{words_small}
-use Rattle.pocsag_pager.proofs.shown.hear_part.Goals as goal
+use Rattle.pocsag_pager.proofs.shown.feed_part.Goals as goal
 
 pub returns-then-passes-clause-heard : goal.returns-then-passes-clause-heard
 returns-then-passes-clause-heard c =

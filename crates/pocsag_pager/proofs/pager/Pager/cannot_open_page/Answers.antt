@@ -1,9 +1,6 @@
-use Rattle.pocsag_pager.proofs.Prelude.{◌≡◌, ◌+◌, ◌*◌, ◌<◌, ◌%◌, ℕ, All, drop, length, take, subst, arith, from_be_bytes, w32, words_of}
-use Rattle.std.proofs.Common.{length-append}
-use Rattle.std.proofs.lemmas.List.Elements.{All-from_get_or}
-use Rattle.pocsag_pages.proofs.Lengths.{words_long}
+use Rattle.pocsag_pager.proofs.Prelude.{◌≡◌, ◌+◌, ◌*◌, ◌<◌, ◌%◌, ℕ, All, drop, length, take, subst, arith, from_be_bytes, w32, words_of, length-append, All-from_get_or, words_long}
 use Rattle.pocsag_pager.proofs.Deaf.{CallsNobody, deaf_all, on_not}
-use Rattle.pocsag_pager.proofs.pager.Pager.is_deaf_to.Goals as goal
+use Rattle.pocsag_pager.proofs.pager.Pager.cannot_open_page.Goals as goal
 
 pub returns : goal.returns
 returns c =

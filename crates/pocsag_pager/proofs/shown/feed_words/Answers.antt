@@ -1,12 +1,7 @@
-use Rattle.pocsag_pager.proofs.Prelude.{◌≡◌, ◌+◌, ◌/◌, ◌++◌, ◌∷◌, [], ℕ, List, length, map, take, refl, sym, ap, subst, ◌∙◌, arith, append_assoc, from_be_bytes, w32, words_of, HasHeard, pager_address}
-use Rattle.std.proofs.lemmas.List.{take_all}
-use Rattle.pocsag_pager.specs.States.{HasFollowed}
+use Rattle.pocsag_pager.proofs.Prelude.{◌≡◌, ◌+◌, ◌/◌, ◌++◌, ◌∷◌, [], ℕ, List, length, map, take, refl, sym, ap, subst, ◌∙◌, arith, append_assoc, from_be_bytes, w32, words_of, HasHeard, pager_address, take_all, HasFollowed, ShowsSome, Err, err_from_is_err_and}
 use Rattle.pocsag_pager.proofs.WholeWords.{chunk_words, ended_at, one_more_word}
-use Rattle.pocsag_pager.specs.Shown.{ShowsSome}
 use Rattle.pocsag_pager.proofs.Memory.{shows_all, shows_ended, wanted}
-use Rattle.std.proofs.Common.{Err}
-use Rattle.std.proofs.lemmas.Result.{err_from_is_err_and}
-use Rattle.pocsag_pager.proofs.shown.hear_each.Goals as goal
+use Rattle.pocsag_pager.proofs.shown.feed_words.Goals as goal
 
 pub loop-word-preserved : goal.loop-word-preserved
 loop-word-preserved c =

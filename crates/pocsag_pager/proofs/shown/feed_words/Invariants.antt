@@ -1,5 +1,5 @@
 use Rattle.pocsag_pager.proofs.Prelude.{◌≡◌, ℕ, List, ◌++◌, map, take, from_be_bytes, w32, HasHeard, pager_address}
-use Rattle.pocsag_pager.proofs.shown.hear_each.Given as goal
+use Rattle.pocsag_pager.proofs.shown.feed_words.Given as goal
 
 abbrev pub invariant-loop-word : goal.invariant-loop-word
 invariant-loop-word l = record {
