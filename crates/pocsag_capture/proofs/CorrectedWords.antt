@@ -1,30 +1,5 @@
 -- Words that are corrected one after the other.
-use Rattle.std.proofs.Common.{◌≡◌, ◌≢◌, ℕ, ◌+◌, ◌*◌, ◌/◌, ◌%◌, ◌<◌, ◌≤◌, ◌==◌, Bool, true, false, cond, List, [], ◌∷◌, ◌++◌, length, map, All, Option, Some, None, bit_xor, count_ones, refl, sym, ap, ap₂, subst, ◌∙◌, inl, inr, arith, append_assoc, eq-eqb, if◌then◌else◌}
-use Rattle.std.specs.Prelude.{nat_le, option_to_list}
-use Rattle.std.specs.Int.{to_be_bytes, w32}
-use Rattle.std.specs.List.{AllZip, flat_map, range_with_len}
-use Rattle.std.proofs.lemmas.Bool.{cases_eq, cases_lt, le-leb, lt-leb, ne_eqb}
-use Rattle.std.proofs.lemmas.Bool.Decides.{nat_tests}
-use Rattle.std.proofs.lemmas.Grind.{flat_map-append}
-use Rattle.std.proofs.lemmas.List.{append-nil, length-append, map-append}
-use Rattle.std.proofs.lemmas.List.Elements.{All-nil, All-push}
-use Rattle.std.proofs.lemmas.List.FromFn.{length-map-range_with_len, map-range_with_len_more}
-use Rattle.std.proofs.lemmas.Slice.Zip.{all_zipped_more}
-use Rattle.pocsag_words.specs.Codeword.{IsCodeword}
-use Rattle.pocsag_words.specs.Kinds.{kind_of}
-use Rattle.pocsag_words.specs.declared.codeword.Kind.{Kind}
-use Rattle.pocsag_words.specs.declared.codeword.Kind.TheVariants.{Idle, Address, Message}
-use Rattle.pocsag_pages.specs.Bytes.{body_bytes, sync_word, synced, unsynced}
-use Rattle.pocsag_pages.proofs.Lengths.{unsynced_codeword, unsynced_more, unsynced_sync}
-use Rattle.pocsag_pager.specs.Shown.{IsMended, said}
-use Rattle.pocsag_decode.specs.OpenPages.{stays_open}
-use Rattle.pocsag_capture.specs.CapturedPages.{without_orphans}
-use Rattle.pocsag_capture.specs.Extracted.{count_cut, cuts_from, far_words, near_errors, page_cuts, sum_at_synchronisations}
-use Rattle.pocsag_capture.specs.Lost.{lost_words, mended_errors, wrong_bits}
-use Rattle.pocsag_capture.specs.Receptions.{received_word}
-use Rattle.pocsag_capture.specs.TakenWords.{TakesWord, cut_by, end_by, is_lost}
-use Rattle.pocsag_capture.specs.declared.corrector.WordCorrector.{WordCorrector}
-use Rattle.pocsag_capture.specs.declared.reception.Reception.{Reception}
+use Rattle.pocsag_capture.proofs.Prelude.{◌≡◌, ◌≢◌, ℕ, ◌+◌, ◌*◌, ◌/◌, ◌%◌, ◌<◌, ◌≤◌, ◌==◌, Bool, true, false, cond, List, [], ◌∷◌, ◌++◌, length, map, All, Option, Some, None, bit_xor, count_ones, refl, sym, ap, ap₂, subst, ◌∙◌, inl, inr, arith, append_assoc, eq-eqb, if◌then◌else◌, nat_le, option_to_list, to_be_bytes, w32, AllZip, flat_map, range_with_len, cases_eq, cases_lt, le-leb, lt-leb, ne_eqb, nat_tests, flat_map-append, append-nil, length-append, map-append, All-nil, All-push, length-map-range_with_len, map-range_with_len_more, all_zipped_more, IsCodeword, kind_of, Kind, Idle, Address, Message, body_bytes, sync_word, synced, unsynced, unsynced_codeword, unsynced_more, unsynced_sync, IsMended, said, stays_open, without_orphans, count_cut, cuts_from, far_words, near_errors, page_cuts, sum_at_synchronisations, lost_words, mended_errors, wrong_bits, received_word, TakesWord, cut_by, end_by, is_lost, WordCorrector, Reception}
 
 -- ---- counts
 

@@ -1,16 +1,6 @@
 -- Which words of a run are past repair.
-use Rattle.std.proofs.Common.{◌≡◌, ℕ, ◌+◌, ◌-◌, ◌*◌, ◌^◌, ◌<◌, ◌≤◌, Bool, true, false, List, [], ◌∷◌, ◌++◌, map, Option, Some, None, IsTrue, not, refl, sym, ap, subst, ◌∙◌, inl, inr, arith}
-use Rattle.std.specs.List.{AllZip, range_with_len}
-use Rattle.std.proofs.lemmas.List.FromFn.{map-range_with_len_more}
-use Rattle.pocsag_words.specs.Codeword.{HasNoneNear}
-use Rattle.pocsag_words.proofs.ErrorLemmas.{numbers_are_repaired_lem}
-use Rattle.pocsag_pager.specs.Shown.{IsMended}
-use Rattle.pocsag_pager.proofs.Mended.{all_mended_same}
-use Rattle.pocsag_capture.specs.Lost.{lost_words}
-use Rattle.pocsag_capture.specs.Receptions.{HasFewLost, sent_at}
-use Rattle.pocsag_capture.specs.TakenWords.{is_lost}
-use Rattle.pocsag_capture.specs.declared.reception.Run.{Run}
-use Rattle.std.proofs.lemmas.Slice.Zip.{all_zipped_more}
+use Rattle.pocsag_capture.proofs.Prelude.{◌≡◌, ℕ, ◌+◌, ◌-◌, ◌*◌, ◌^◌, ◌<◌, ◌≤◌, Bool, true, false, List, [], ◌∷◌, ◌++◌, map, Option, Some, None, not, refl, sym, ap, subst, ◌∙◌, inl, inr, arith, AllZip, range_with_len, map-range_with_len_more, HasNoneNear, numbers_are_repaired_lem, IsMended, all_mended_same, lost_words, HasFewLost, sent_at, is_lost, Run, all_zipped_more}
+use Rattle.std.proofs.Common.{IsTrue}
 use Rattle.pocsag_capture.proofs.CorrectedWords.{lost_more}
 
 pub not_false : (b : Bool) → not b ≡ false → IsTrue b

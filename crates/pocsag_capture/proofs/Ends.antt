@@ -1,26 +1,9 @@
 -- What is extracted of receptions that a capture holds.
-use Rattle.std.proofs.Common.{◌≡◌, ℕ, zero, suc, ◌+◌, ◌*◌, ◌%◌, ◌^◌, ◌<◌, ◌≤◌, false, List, [], ◌∷◌, ◌++◌, length, map, replicate, slice_get, All, Option, Some, None, lit<, refl, sym, ap, ap₂, subst, ◌∙◌, inl, inr, arith, append_assoc}
-use Rattle.std.specs.List.{AllZip, range_with_len}
-use Rattle.std.proofs.lemmas.Bool.{cases_eq, eq-eqb, ne_eqb}
-use Rattle.std.proofs.lemmas.List.{length-append}
-use Rattle.std.proofs.lemmas.List.Elements.{All-cons, All-head, All-nil, All-tail}
+use Rattle.pocsag_capture.proofs.Prelude.{◌≡◌, ℕ, zero, suc, ◌+◌, ◌*◌, ◌%◌, ◌^◌, ◌<◌, ◌≤◌, false, List, [], ◌∷◌, ◌++◌, length, map, replicate, slice_get, All, Option, Some, None, lit<, refl, sym, ap, ap₂, subst, ◌∙◌, inl, inr, arith, append_assoc, AllZip, range_with_len, cases_eq, ne_eqb, length-append, All-cons, All-head, All-nil, All-tail, HasNoneNear-from_far, HasNoneNear, check_of, columns, combine, syndrome_of, body_bytes, unsynced, pages_from, IsMended, said, mended_same, capture_bits, without_orphans, ExtractsAll, ExtractsReception, PutsExtract, PutsExtracts, AreFound, AreReceptions, IsReception, IsSyncRun, all_batches, behind, counted, held_end, last_sync, nothing, passed, received, received_word, ReceptionStats, Reception, Run}
+use Rattle.std.proofs.lemmas.Bool.{eq-eqb}
 use Rattle.std.proofs.lemmas.Option.{slice_get_cases}
-use Rattle.pocsag_words.proofs.ErrorLemmas.{HasNoneNear-from_far}
-use Rattle.pocsag_words.specs.Codeword.{HasNoneNear}
-use Rattle.pocsag_words.specs.Columns.{check_of, columns, combine, syndrome_of}
 use Rattle.pocsag_words.specs.Frame.{input_limit}
-use Rattle.pocsag_pages.specs.Bytes.{body_bytes, unsynced}
-use Rattle.pocsag_pages.specs.Plain.{pages_from}
-use Rattle.pocsag_pager.specs.Shown.{IsMended, said}
-use Rattle.pocsag_pager.proofs.Mended.{mended_same}
-use Rattle.pocsag_capture.specs.Bits.{capture_bits}
-use Rattle.pocsag_capture.specs.CapturedPages.{without_orphans}
-use Rattle.pocsag_capture.specs.ExtractedBytes.{ExtractsAll, ExtractsReception, PutsExtract, PutsExtracts}
-use Rattle.pocsag_capture.specs.Receptions.{AreFound, AreReceptions, IsReception, IsSyncRun, all_batches, behind, counted, held_end, last_sync, nothing, passed, received, received_word}
 use Rattle.pocsag_capture.specs.declared.extract.Extracted.{Extracted}
-use Rattle.pocsag_capture.specs.declared.reception.ReceptionStats.{ReceptionStats}
-use Rattle.pocsag_capture.specs.declared.reception.Reception.{Reception}
-use Rattle.pocsag_capture.specs.declared.reception.Run.{Run}
 use Rattle.pocsag_capture.proofs.Joined.{IsBody, all_body, all_bytes, all_captured, all_codewords, all_pages, all_told, body_join, body_reads, join_body, one_body, one_captured, pages_in, sent_body}
 use Rattle.pocsag_capture.proofs.Extracts.{word_unread}
 use Rattle.pocsag_capture.proofs.Windows.{bits_long}

@@ -1,20 +1,5 @@
 -- Receptions that are extracted one behind the other.
-use Rattle.std.proofs.Common.{◌≡◌, ℕ, ◌+◌, ◌-◌, ◌*◌, ◌<◌, ◌≤◌, List, [], ◌∷◌, ◌++◌, length, map, Bool, refl, sym, ap, subst, ◌∙◌, arith, eq-eqb}
-use Rattle.std.specs.List.{AllZip}
-use Rattle.std.proofs.lemmas.Bool.{le-leb, le-ltb, lt-leb, lt-ltb}
-use Rattle.std.proofs.lemmas.List.{append-nil, flat_map_more, map-append}
-use Rattle.std.proofs.lemmas.Slice.Zip.{all_zipped_more}
-use Rattle.pocsag_pages.specs.Bytes.{body_bytes}
-use Rattle.pocsag_capture.specs.Bits.{as_sent, word_on}
-use Rattle.pocsag_capture.specs.Extracted.{AreExtracted, count_cut}
-use Rattle.pocsag_capture.specs.ExtractedBytes.{IsExtract, PutsExtract, PutsExtracts}
-use Rattle.pocsag_capture.specs.Receptions.{all_batches, batches_in_front, own_word, received_word, sent_at}
-use Rattle.pocsag_capture.specs.Slips.{AreInStep}
-use Rattle.pocsag_capture.specs.TakenWords.{cut_by}
-use Rattle.pocsag_capture.specs.declared.polarity.Polarity.{Polarity}
-use Rattle.pocsag_capture.specs.declared.reception.ReceptionStats.{ReceptionStats}
-use Rattle.pocsag_capture.specs.declared.reception.Reception.{Reception}
-use Rattle.pocsag_capture.specs.declared.corrector.WordCorrector.{WordCorrector}
+use Rattle.pocsag_capture.proofs.Prelude.{◌≡◌, ℕ, ◌+◌, ◌-◌, ◌*◌, ◌<◌, ◌≤◌, List, [], ◌∷◌, ◌++◌, length, map, Bool, refl, sym, ap, subst, ◌∙◌, arith, eq-eqb, AllZip, le-leb, le-ltb, lt-leb, lt-ltb, append-nil, flat_map_more, map-append, all_zipped_more, body_bytes, as_sent, word_on, AreExtracted, count_cut, IsExtract, PutsExtract, PutsExtracts, all_batches, batches_in_front, own_word, received_word, sent_at, AreInStep, cut_by, Polarity, ReceptionStats, Reception, WordCorrector}
 use Rattle.pocsag_capture.proofs.CorrectedWords.{IsCorrecting, begun_batch, count_more, first_words, last_end}
 
 -- ---- a word of a reception

@@ -1,15 +1,5 @@
 -- The words in front of a run.
-use Rattle.std.proofs.Common.{◌≡◌, ◌⊎◌, ℕ, zero, suc, ◌+◌, ◌-◌, ◌*◌, ◌<◌, ◌≤◌, List, [], ◌∷◌, ◌++◌, map, Option, Some, None, refl, sym, ap, ap₂, subst, ◌∙◌, inl, inr, arith}
-use Rattle.std.specs.List.{AllZip, range_with_len}
-use Rattle.std.proofs.lemmas.Bool.{cases_eq, cases_lt}
-use Rattle.std.proofs.lemmas.List.FromFn.{map-range_with_len_more}
-use Rattle.std.proofs.lemmas.Slice.Zip.{all_zipped_more}
-use Rattle.pocsag_words.specs.Codeword.{HasNoneNear, IsOnlyNear}
-use Rattle.pocsag_pager.specs.Shown.{IsMended}
-use Rattle.pocsag_pager.proofs.Mended.{all_mended_same}
-use Rattle.pocsag_capture.specs.Lost.{lost_words, mended_errors, wrong_bits}
-use Rattle.pocsag_capture.specs.Receptions.{AreInFront, HasInFront, SlipsInFront, count_read_in_front, in_front_of, sent_at}
-use Rattle.pocsag_capture.specs.declared.polarity.Polarity.{Polarity}
+use Rattle.pocsag_capture.proofs.Prelude.{◌≡◌, ◌⊎◌, ℕ, zero, suc, ◌+◌, ◌-◌, ◌*◌, ◌<◌, ◌≤◌, List, [], ◌∷◌, ◌++◌, map, Option, Some, None, refl, sym, ap, ap₂, subst, ◌∙◌, inl, inr, arith, AllZip, range_with_len, cases_eq, cases_lt, map-range_with_len_more, all_zipped_more, HasNoneNear, IsOnlyNear, IsMended, all_mended_same, lost_words, mended_errors, wrong_bits, AreInFront, HasInFront, SlipsInFront, count_read_in_front, in_front_of, sent_at, Polarity}
 use Rattle.pocsag_capture.proofs.CorrectedWords.{errors_more, few_mended, lost_more}
 
 -- the first words in front, as AreInFront has them
@@ -46,12 +36,6 @@ front_one_more bits held p bit count errors next w v more f room is near added s
       few = omega (arith, f.few, few_mended w (Some v) near);
     } in
     subst (λ (n : ℕ). IsFrontSoFar bits held p bit n more) (sym step) (subst (IsFrontSoFar bits held p bit (count + 1)) (sym added) all)
-
--- they are all
-pub front_over : (bits : List ℕ) (held : ℕ) (p : Polarity) (bit count errors : ℕ) → IsFrontSoFar bits held p bit count errors → count ≤ 16
-    → (count ≡ 16) ⊎ ((bit < held + 32 * (count + 1)) ⊎ HasNoneNear (sent_at bits p (bit - 32 * (count + 1)))) → AreInFront bits held p bit count errors
-front_over bits held p bit count errors f most ends =
-    record { most = most; room = f.room; mended = f.mended; each = f.each; kept = f.kept; wrong = f.wrong; ends = ends }
 
 -- ---- one number of words
 

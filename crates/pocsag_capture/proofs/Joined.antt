@@ -1,26 +1,5 @@
 -- Extracted receptions as one transmission.
-use Rattle.std.proofs.Common.{◌≡◌, ℕ, ◌+◌, ◌*◌, ◌/◌, ◌%◌, ◌<◌, ◌==◌, Bool, true, false, List, [], ◌∷◌, ◌++◌, length, map, replicate, All, Option, Some, None, refl, sym, ap, ap₂, subst, ◌∙◌, arith, if◌then◌else◌}
-use Rattle.std.specs.Int.{to_be_bytes, w32}
-use Rattle.std.specs.List.{AllZip, flat_map}
-use Rattle.std.proofs.lemmas.Grind.{flat_map-append}
-use Rattle.std.proofs.lemmas.List.{length-append, length-map, map-append}
-use Rattle.std.proofs.lemmas.List.Elements.{All-append, All-cons, All-nil}
-use Rattle.pocsag_words.specs.Codeword.{IsCodeword}
-use Rattle.pocsag_words.specs.Kinds.{kind_of}
-use Rattle.pocsag_words.specs.declared.codeword.Kind.{Kind}
-use Rattle.pocsag_words.specs.declared.codeword.Kind.TheVariants.{Idle, Address, Message}
-use Rattle.pocsag_pages.specs.declared.page.Page.{Page}
-use Rattle.pocsag_pages.specs.Bytes.{Sent, body_bytes, sync_word, synced}
-use Rattle.pocsag_pages.specs.Plain.{HasNoOrphan, items_of, pages_from}
-use Rattle.pocsag_pages.specs.Reading.{frame_at}
-use Rattle.pocsag_pages.proofs.Readings.{plain_reads}
-use Rattle.pocsag_decode.specs.Faults.{ReadsAs}
-use Rattle.pocsag_pager.specs.Shown.{said}
-use Rattle.pocsag_capture.specs.CapturedPages.{AreCaptured, without_orphans}
-use Rattle.pocsag_capture.specs.ExtractedBytes.{IsExtract, IsStatsOf}
-use Rattle.pocsag_capture.specs.Receptions.{received}
-use Rattle.pocsag_capture.specs.declared.reception.ReceptionStats.{ReceptionStats}
-use Rattle.pocsag_capture.specs.declared.reception.Reception.{Reception}
+use Rattle.pocsag_capture.proofs.Prelude.{◌≡◌, ℕ, ◌+◌, ◌*◌, ◌/◌, ◌%◌, ◌<◌, ◌==◌, Bool, true, false, List, [], ◌∷◌, ◌++◌, length, map, replicate, All, Option, Some, None, refl, sym, ap, ap₂, subst, ◌∙◌, arith, if◌then◌else◌, to_be_bytes, w32, AllZip, flat_map, flat_map-append, length-append, length-map, map-append, All-append, All-cons, All-nil, IsCodeword, kind_of, Kind, Idle, Address, Message, Page, Sent, body_bytes, sync_word, synced, HasNoOrphan, items_of, pages_from, frame_at, plain_reads, ReadsAs, said, AreCaptured, without_orphans, IsExtract, IsStatsOf, received, ReceptionStats, Reception}
 use Rattle.pocsag_capture.proofs.CorrectedWords.{synced_two}
 
 -- ---- corrected words read as pages

@@ -8,6 +8,7 @@ pub mod Once
 pub mod PageEnds
 pub mod PagesLeft
 pub mod Polarities
+pub mod Prelude
 pub mod SearchLemmas
 pub mod SentBits
 pub mod SyncTables

@@ -1,29 +1,8 @@
 -- A capture holds one list of receptions, and one list of pages.
-use Rattle.std.proofs.Common.{◌≡◌, ℕ, ◌+◌, ◌-◌, ◌*◌, ◌^◌, ◌<◌, ◌≤◌, lit<, List, [], ◌∷◌, length, map, take, drop, filter, Option, Some, None, Bool, true, false, cond, refl, sym, ap, ap₂, subst, ◌∙◌, inl, inr, arith}
-use Rattle.std.specs.List.{AllZip, flat_map}
+use Rattle.pocsag_capture.proofs.Prelude.{◌≡◌, ℕ, ◌+◌, ◌-◌, ◌*◌, ◌^◌, ◌<◌, ◌≤◌, lit<, List, [], ◌∷◌, length, map, take, drop, filter, Option, Some, None, Bool, true, false, cond, refl, sym, ap, ap₂, subst, ◌∙◌, inl, inr, arith, AllZip, flat_map, cases_lt, length-take, All-append, All-drop, All-nil, All-take, Kind, Idle, Address, Message, high_first, AreBits, AreBits-high_first, high_number-lt, Page, unsynced, pages_from, reads_plainly, AreShown, is_ours, run_of, said, shown_from, all_mended_same, capture_bits, word_on, AreCaptured, HasCaptured, without_orphans, AreFound, IsOnAir, HasBatches, HasInFront, IsBridged, IsInStep, IsReadTo, IsReception, IsSyncRun, IsSynchronised, counted, held_end, last_sync, nothing, passed, received, Polarity, Upright, Inverted, Reception, Run}
 use Rattle.std.proofs.Math.Pow.{pow_mono}
-use Rattle.std.proofs.lemmas.Bool.{cases_lt}
-use Rattle.std.proofs.lemmas.List.{length-take}
-use Rattle.std.proofs.lemmas.List.Elements.{All-append, All-drop, All-nil, All-take}
-use Rattle.pocsag_words.specs.declared.codeword.Kind.{Kind}
-use Rattle.pocsag_words.specs.declared.codeword.Kind.TheVariants.{Idle, Address, Message}
-use Rattle.pocsag_text.specs.Bits.{high_first}
-use Rattle.pocsag_text.proofs.BitLists.{AreBits, AreBits-high_first, high_number-lt}
-use Rattle.pocsag_pages.specs.declared.page.Page.{Page}
-use Rattle.pocsag_pages.specs.Bytes.{unsynced}
-use Rattle.pocsag_pages.specs.Plain.{pages_from}
-use Rattle.pocsag_pages.proofs.Readings.{reads_plainly}
-use Rattle.pocsag_pager.specs.Shown.{AreShown, is_ours, run_of, said, shown_from}
 use Rattle.pocsag_pager.proofs.Chosen.{calls}
-use Rattle.pocsag_pager.proofs.Mended.{all_mended_same}
 use Rattle.pocsag_pager.proofs.Damage.{shown_is_chosen}
-use Rattle.pocsag_capture.specs.Bits.{capture_bits, word_on}
-use Rattle.pocsag_capture.specs.CapturedPages.{AreCaptured, HasCaptured, without_orphans}
-use Rattle.pocsag_capture.specs.Receptions.{AreFound, IsOnAir, HasBatches, HasInFront, IsBridged, IsInStep, IsReadTo, IsReception, IsSyncRun, IsSynchronised, counted, held_end, last_sync, nothing, passed, received}
-use Rattle.pocsag_capture.specs.declared.polarity.Polarity.{Polarity}
-use Rattle.pocsag_capture.specs.declared.polarity.Polarity.TheVariants.{Upright, Inverted}
-use Rattle.pocsag_capture.specs.declared.reception.Reception.{Reception}
-use Rattle.pocsag_capture.specs.declared.reception.Run.{Run}
 use Rattle.pocsag_capture.proofs.InFront.{same_in_front}
 use Rattle.pocsag_capture.proofs.Polarities.{one_polarity}
 

@@ -1,26 +1,6 @@
 -- Where pages end: those that are cut, word by word, and those that are not, which stand whole.
-use Rattle.std.proofs.Common.{◌≡◌, ℕ, ◌+◌, ◌*◌, ◌<◌, Bool, true, false, List, [], ◌∷◌, ◌++◌, length, filter, map, All, Option, Some, None, refl, sym, ap, subst, ◌∙◌, inl, inr, arith, append_assoc}
-use Rattle.std.specs.Prelude.{nat_le}
-use Rattle.std.specs.List.{AllZip}
-use Rattle.std.proofs.lemmas.Bool.{cases_lt, le-leb}
-use Rattle.std.proofs.lemmas.List.{length-append}
-use Rattle.std.proofs.lemmas.List.Elements.{All-head, All-tail}
-use Rattle.pocsag_words.specs.declared.codeword.Kind.{Kind}
-use Rattle.pocsag_words.specs.declared.codeword.Kind.TheVariants.{Idle, Address, Message}
-use Rattle.pocsag_pages.specs.declared.page.Page.{Page}
-use Rattle.pocsag_pages.specs.Bytes.{unsynced}
-use Rattle.pocsag_pages.specs.Plain.{items_of, pages_from}
-use Rattle.pocsag_pages.specs.Reading.{frame_at}
-use Rattle.pocsag_pages.proofs.Readings.{reads_plainly}
-use Rattle.pocsag_pager.specs.Shown.{IsMended, said}
+use Rattle.pocsag_capture.proofs.Prelude.{◌≡◌, ℕ, ◌+◌, ◌*◌, ◌<◌, Bool, true, false, List, [], ◌∷◌, ◌++◌, length, filter, map, All, Option, Some, None, refl, sym, ap, subst, ◌∙◌, inl, inr, arith, append_assoc, nat_le, AllZip, cases_lt, le-leb, length-append, All-head, All-tail, Kind, Idle, Address, Message, Page, unsynced, items_of, pages_from, frame_at, reads_plainly, IsMended, said, all_mended_same, capture_bits, AreCaptured, HasCaptured, without_orphans, count_cut, ends_cut, page_cuts, AreCutsOf, CapturedTransmission, HasTransmissions, IsCapturedTransmission, IsPageEnd, UncutStandWhole, pages_captured, received, Reception}
 use Rattle.pocsag_pager.specs.Turns.{IsHeardAs}
-use Rattle.pocsag_pager.proofs.Mended.{all_mended_same}
-use Rattle.pocsag_capture.specs.Bits.{capture_bits}
-use Rattle.pocsag_capture.specs.CapturedPages.{AreCaptured, HasCaptured, without_orphans}
-use Rattle.pocsag_capture.specs.Extracted.{count_cut, ends_cut, page_cuts}
-use Rattle.pocsag_capture.specs.PageEnds.{AreCutsOf, CapturedTransmission, HasTransmissions, IsCapturedTransmission, IsPageEnd, UncutStandWhole, pages_captured}
-use Rattle.pocsag_capture.specs.Receptions.{received}
-use Rattle.pocsag_capture.specs.declared.reception.Reception.{Reception}
 
 -- ---- pages that are not cut stand whole
 
@@ -145,12 +125,6 @@ uncut_pages_stand words steady ps cuts f g =
     pages_stand steady 0 false [] (unsynced 0 words) (unsynced 0 words) (map said g.mended) refl refl (heard_each (unsynced 0 words) g.mended g.each) in
     subst (λ (bs : List Bool). UncutStandWhole (unsynced 0 words) steady ps bs) (sym g.holds)
     (subst (λ (qs : List Page). UncutStandWhole (unsynced 0 words) steady qs (page_cuts steady 0 (map said g.mended))) (sym pages) stand)
-
-pub as_many_cuts : (words : List ℕ) (steady : ℕ) (ps : List Page) (cuts : List Bool) → AreCaptured words ps → AreCutsOf words steady cuts
-    → length cuts ≡ length ps
-as_many_cuts words steady ps cuts f g =
-    ap (λ (bs : List Bool). length bs) g.holds ∙ as_many steady 0 false (map said g.mended)
-    ∙ ap (λ (qs : List Page). length qs) (sym (plain_pages words steady ps cuts f g))
 
 -- ---- the pages of all of them
 

@@ -1,31 +1,7 @@
 -- What is left of a reception, before and behind each word.
-use Rattle.std.proofs.Common.{◌≡◌, ◌≢◌, ℕ, suc, ◌+◌, ◌-◌, ◌*◌, ◌%◌, ◌<◌, ◌≤◌, Bool, true, false, List, [], ◌∷◌, ◌++◌, map, Option, Some, None, bit_xor, count_ones, refl, sym, ap, ap₂, subst, ◌∙◌, arith, eq-eqb, if◌then◌else◌}
-use Rattle.std.specs.Prelude.{IfNone, IfSome, IsTrue, is_some, nat_le, option_to_list}
-use Rattle.std.specs.List.{AllZip, range_with_len}
-use Rattle.std.proofs.lemmas.Bool.{ne_eqb}
-use Rattle.std.proofs.lemmas.List.{append-nil}
-use Rattle.pocsag_words.specs.declared.codeword.Kind.{Kind}
-use Rattle.pocsag_words.specs.declared.codeword.Kind.TheVariants.{Idle, Address, Message}
-use Rattle.pocsag_pages.specs.declared.page.Page.{Page}
-use Rattle.pocsag_pages.specs.Bytes.{sync_word, unsynced}
-use Rattle.pocsag_pages.specs.Plain.{pages_from}
-use Rattle.pocsag_pages.proofs.Readings.{plain_reads}
-use Rattle.pocsag_decode.specs.OpenPages.{ends_open, stays_open, without_orphan}
-use Rattle.pocsag_decode.specs.PageReaders.{codewords_before}
-use Rattle.pocsag_pager.specs.Shown.{IsMended, said}
-use Rattle.pocsag_capture.specs.CapturedPages.{AreCaptured, without_orphans}
-use Rattle.pocsag_capture.specs.Extracted.{AreExtracted, count_cut, cuts_from, far_words, lost_synchronisations, near_errors, synchronisation_errors}
-use Rattle.pocsag_capture.specs.Lost.{lost_words, mended_errors}
-use Rattle.pocsag_capture.specs.PageEnds.{AreCutsOf, IsCapturedTransmission}
-use Rattle.pocsag_capture.specs.PagesLeft.{IsReceivedFrom, handed_cuts, words_from}
-use Rattle.pocsag_capture.specs.Receptions.{all_batches, received, received_word}
-use Rattle.pocsag_capture.specs.Slips.{AreInStep}
-use Rattle.pocsag_capture.specs.TakenWords.{CountsSync, TakesWord, cut_by, end_by, is_lost}
+use Rattle.pocsag_capture.proofs.Prelude.{◌≡◌, ◌≢◌, ℕ, suc, ◌+◌, ◌-◌, ◌*◌, ◌%◌, ◌<◌, ◌≤◌, Bool, true, false, List, [], ◌∷◌, ◌++◌, map, Option, Some, None, bit_xor, count_ones, refl, sym, ap, ap₂, subst, ◌∙◌, arith, eq-eqb, if◌then◌else◌, IfNone, IfSome, IsTrue, is_some, nat_le, option_to_list, AllZip, range_with_len, ne_eqb, append-nil, Kind, Idle, Address, Message, Page, sync_word, unsynced, pages_from, plain_reads, ends_open, stays_open, without_orphan, codewords_before, IsMended, said, AreCaptured, without_orphans, AreExtracted, count_cut, cuts_from, far_words, lost_synchronisations, near_errors, synchronisation_errors, lost_words, mended_errors, AreCutsOf, IsCapturedTransmission, IsReceivedFrom, handed_cuts, words_from, all_batches, received, received_word, AreInStep, CountsSync, TakesWord, cut_by, end_by, is_lost, WordCorrector, Reception, ReceptionStats}
 use Rattle.pocsag_capture.specs.declared.captured_pages.CapturedPage.{CapturedPage}
 use Rattle.pocsag_capture.specs.declared.corrector.CorrectedWord.{CorrectedWord}
-use Rattle.pocsag_capture.specs.declared.corrector.WordCorrector.{WordCorrector}
-use Rattle.pocsag_capture.specs.declared.reception.Reception.{Reception}
-use Rattle.pocsag_capture.specs.declared.reception.ReceptionStats.{ReceptionStats}
 use Rattle.pocsag_capture.proofs.CorrectedWords.{cuts_step, far_few, few_cut, few_lost_of, few_mended, last_end, near_few, same_step}
 use Rattle.pocsag_capture.proofs.Joined.{keeps_no_orphan}
 

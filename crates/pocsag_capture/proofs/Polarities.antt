@@ -1,14 +1,6 @@
 -- No word is the synchronisation codeword in both polarities.
-use Rattle.std.proofs.Common.{◌≡◌, ℕ, zero, suc, lit<, ◌+◌, ◌-◌, ◌/◌, ◌%◌, ◌^◌, ◌<◌, ◌≤◌, Some, bit_xor, count_ones, ap, refl, arith}
+use Rattle.pocsag_capture.proofs.Prelude.{◌≡◌, ℕ, zero, suc, lit<, ◌+◌, ◌-◌, ◌/◌, ◌%◌, ◌^◌, ◌<◌, ◌≤◌, Some, bit_xor, count_ones, ap, refl, arith, pow-suc, ones_le_self, IsLinear-div, IsLinear-mod, IsNear, sync_word, as_sent, Polarity, Upright, Inverted}
 use Rattle.std.specs.Int.Count.{ones_step}
-use Rattle.std.proofs.Math.Nat.{pow-suc}
-use Rattle.std.proofs.lemmas.Nat.{ones_le_self}
-use Rattle.pocsag_words.proofs.Linear.{IsLinear-div, IsLinear-mod}
-use Rattle.pocsag_words.specs.Codeword.{IsNear}
-use Rattle.pocsag_pages.specs.Bytes.{sync_word}
-use Rattle.pocsag_capture.specs.Bits.{as_sent}
-use Rattle.pocsag_capture.specs.declared.polarity.Polarity.{Polarity}
-use Rattle.pocsag_capture.specs.declared.polarity.Polarity.TheVariants.{Upright, Inverted}
 
 -- the lowest bit of two numbers, and of one and the other's complement
 lowest : (x y z : ℕ) → x < 2 → y < 2 → z ≡ 1 - y → bit_xor x y + bit_xor x z ≡ 1

@@ -1,16 +1,5 @@
 -- The search for a synchronisation codeword, bit by bit or eight bits at once.
-use Rattle.std.proofs.Common.{◌≡◌, ℕ, ◌+◌, ◌-◌, ◌*◌, ◌/◌, ◌%◌, ◌^◌, ◌<◌, ◌≤◌, List, [], ◌∷◌, ◌++◌, append_assoc, length, Option, Some, refl, sym, ap, subst, ◌∙◌, inl, inr, arith}
-use Rattle.std.proofs.lemmas.Bool.{cases_lt}
-use Rattle.std.proofs.lemmas.List.{append-nil}
-use Rattle.pocsag_words.specs.Codeword.{IsNear}
-use Rattle.pocsag_pages.specs.Bytes.{sync_word}
-use Rattle.pocsag_capture.specs.Bits.{as_sent, capture_bits, word_on}
-use Rattle.pocsag_capture.specs.Receptions.{AreFound, AreReceptions, HasInFront, IsOnAir, IsBridged, IsInStep, IsQuiet, IsReception, IsSyncRun, IsSynchronised, behind, counted, held_end, last_sync, nothing, passed}
-use Rattle.pocsag_capture.specs.Runs.{BeginsRun, Steps}
-use Rattle.pocsag_capture.specs.Slips.{HasOtherSync, IsBeforeIdle}
-use Rattle.pocsag_capture.specs.declared.polarity.Polarity.{Polarity}
-use Rattle.pocsag_capture.specs.declared.reception.Reception.{Reception}
-use Rattle.pocsag_capture.specs.declared.reception.Run.{Run}
+use Rattle.pocsag_capture.proofs.Prelude.{◌≡◌, ℕ, ◌+◌, ◌-◌, ◌*◌, ◌/◌, ◌%◌, ◌^◌, ◌<◌, ◌≤◌, List, [], ◌∷◌, ◌++◌, append_assoc, length, Option, Some, refl, sym, ap, subst, ◌∙◌, inl, inr, arith, cases_lt, append-nil, IsNear, sync_word, as_sent, capture_bits, word_on, AreFound, AreReceptions, HasInFront, IsOnAir, IsBridged, IsInStep, IsQuiet, IsReception, IsSyncRun, IsSynchronised, behind, counted, held_end, last_sync, nothing, passed, BeginsRun, Steps, HasOtherSync, IsBeforeIdle, Polarity, Reception, Run}
 use Rattle.pocsag_capture.proofs.Windows.{bits_long}
 
 -- more bits

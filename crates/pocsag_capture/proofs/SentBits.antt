@@ -1,46 +1,9 @@
 -- A capture that holds a sent transmission shows its pages.
-use Rattle.std.proofs.Common.{◌≡◌, ◌≢◌, ◌⊎◌, ℕ, zero, suc, lit<, ◌+◌, ◌-◌, ◌*◌, ◌/◌, ◌%◌, ◌^◌, ◌<◌, ◌≤◌, ◌==◌, if◌then◌else◌, List, [], ◌∷◌, ◌++◌, length, map, take, drop, get_or, All, Option, Some, Bool, true, false, bit_xor, count_ones, refl, sym, ap, ap₂, subst, ◌∙◌, inl, inr, arith, append_assoc, eq-eqb}
-use Rattle.std.specs.List.{AllZip, flat_map, range_with_len}
+use Rattle.pocsag_capture.proofs.Prelude.{if◌then◌else◌, ◌≡◌, ◌≢◌, ◌⊎◌, ℕ, zero, suc, lit<, ◌+◌, ◌-◌, ◌*◌, ◌/◌, ◌%◌, ◌^◌, ◌<◌, ◌≤◌, ◌==◌, List, [], ◌∷◌, ◌++◌, length, map, take, drop, get_or, All, Option, Some, Bool, true, false, bit_xor, count_ones, refl, sym, ap, ap₂, subst, ◌∙◌, inl, inr, arith, append_assoc, eq-eqb, AllZip, flat_map, range_with_len, min-le_right, drop-append-add, get_or-append_seam, ones_le_self, cases_eq, cases_lt, ne_eqb, same_number_lists, drop_more, length-append, length-map, length-take-le, map-append, take-append-drop, get_or-map-range_with_len, length-map-range_with_len, All-cons, All-get_or, All-head, All-nil, All-tail, AllZip-get_or, AllZip-long, HasNoneNear, IsCodeword, IsNear, IsOnlyNear, check_of, columns, combine, kind_of, numbers_are_repaired_lem, Kind, Idle, Address, Message, high_first, high_number, length-high_first, length-flat_map-wide, Page, after_preamble, sync_word, synced, unsynced, words_of, HasNoOrphan, pages_from, EndsIdle, Reads, synced_count, unsynced_count, unsynced_more, reads_plainly, ReadsAs, stays_open, without_orphan, IsMended, said, mended_back, as_sent, capture_bits, word_on, AreCaptured, HasCaptured, without_orphans, lost_words, AreFound, HasFewLost, IsLikeSynchronised, IsQuiet, IsReception, IsSyncRun, IsSynchronised, all_batches, batches_in_front, counted, held_end, run_end, last_sync, nothing, passed, received, received_word, sent_at, Polarity, Upright, Inverted, Reception, Run}
 use Rattle.std.specs.Int.Bits.{xor_self}
-use Rattle.std.proofs.Math.Nat.{min-le_right}
-use Rattle.std.proofs.Math.Seq.{drop-append-add, get_or-append_seam}
-use Rattle.std.proofs.lemmas.Nat.{ones_le_self}
-use Rattle.std.proofs.lemmas.Bool.{cases_eq, cases_lt, ne_eqb}
-use Rattle.std.proofs.lemmas.Grind.{same_number_lists}
-use Rattle.std.proofs.lemmas.List.{drop_more, length-append, length-map, length-take-le, map-append, take-append-drop}
-use Rattle.std.proofs.lemmas.List.FromFn.{get_or-map-range_with_len, length-map-range_with_len}
-use Rattle.std.proofs.lemmas.List.Elements.{All-cons, All-get_or, All-head, All-nil, All-tail, AllZip-get_or}
-use Rattle.std.proofs.lemmas.Slice.Zip.{AllZip-long}
-use Rattle.pocsag_words.specs.Codeword.{HasNoneNear, IsCodeword, IsNear, IsOnlyNear}
-use Rattle.pocsag_words.specs.Columns.{check_of, columns, combine}
-use Rattle.pocsag_words.specs.Kinds.{kind_of}
 use Rattle.pocsag_words.proofs.BlockCode.{IsCodeword-from_low}
-use Rattle.pocsag_words.proofs.ErrorLemmas.{numbers_are_repaired_lem}
-use Rattle.pocsag_words.specs.declared.codeword.Kind.{Kind}
-use Rattle.pocsag_words.specs.declared.codeword.Kind.TheVariants.{Idle, Address, Message}
-use Rattle.pocsag_text.specs.Bits.{high_first, high_number}
-use Rattle.pocsag_text.proofs.BitLists.{length-high_first}
-use Rattle.pocsag_text.proofs.Cuts.{length-flat_map-wide}
-use Rattle.pocsag_pages.specs.declared.page.Page.{Page}
-use Rattle.pocsag_pages.specs.Bytes.{after_preamble, sync_word, synced, unsynced, words_of}
-use Rattle.pocsag_pages.specs.Plain.{HasNoOrphan, pages_from}
-use Rattle.pocsag_pages.specs.Reading.{EndsIdle, Reads}
-use Rattle.pocsag_pages.proofs.Lengths.{synced_count, unsynced_count, unsynced_more}
-use Rattle.pocsag_pages.proofs.Readings.{reads_plainly}
-use Rattle.pocsag_decode.specs.Faults.{ReadsAs}
-use Rattle.pocsag_decode.specs.OpenPages.{stays_open, without_orphan}
 use Rattle.pocsag_decode.proofs.SentBytes.{codewords_are}
-use Rattle.pocsag_pager.specs.Shown.{IsMended, said}
-use Rattle.pocsag_pager.proofs.Mended.{mended_back}
-use Rattle.pocsag_capture.specs.Bits.{as_sent, capture_bits, word_on}
-use Rattle.pocsag_capture.specs.CapturedPages.{AreCaptured, HasCaptured, without_orphans}
-use Rattle.pocsag_capture.specs.Lost.{lost_words}
-use Rattle.pocsag_capture.specs.Receptions.{AreFound, HasFewLost, IsLikeSynchronised, IsQuiet, IsReception, IsSyncRun, IsSynchronised, all_batches, batches_in_front, counted, held_end, run_end, last_sync, nothing, passed, received, received_word, sent_at}
 use Rattle.pocsag_capture.specs.Sent.{HoldsSent, NothingFollows, IsReceived, StandAmong}
-use Rattle.pocsag_capture.specs.declared.polarity.Polarity.{Polarity}
-use Rattle.pocsag_capture.specs.declared.polarity.Polarity.TheVariants.{Upright, Inverted}
-use Rattle.pocsag_capture.specs.declared.reception.Reception.{Reception}
-use Rattle.pocsag_capture.specs.declared.reception.Run.{Run}
 use Rattle.pocsag_capture.proofs.Joined.{no_orphan_any, no_orphan_join, pages_join, pages_shift, keeps_no_orphan}
 use Rattle.pocsag_capture.proofs.CorrectedWords.{synced_two}
 use Rattle.pocsag_capture.proofs.Extracts.{word_read, word_there}
@@ -49,17 +12,17 @@ use Rattle.pocsag_capture.proofs.Windows.{number_behind}
 
 -- ---- words behind other bits
 
-shift_word : (A B : List ℕ) (q : ℕ) → word_on (A ++ B) (length A + q) ≡ word_on B q
+pub shift_word : (A B : List ℕ) (q : ℕ) → word_on (A ++ B) (length A + q) ≡ word_on B q
 shift_word A B q = ap (λ (l : List ℕ). high_number 0 (take 32 l)) (drop-append-add A B q)
 
 module _ (A B : List ℕ) (q : ℕ) (p : Polarity) where
-  shift_back : IsSynchronised (A ++ B) (length A + q) p → IsSynchronised B q p
+  pub shift_back : IsSynchronised (A ++ B) (length A + q) p → IsSynchronised B q p
   shift_back f = record {
     within = omega (arith, f.within, length-append A B);
     near = subst (λ (w : ℕ). IsNear sync_word (as_sent p w)) (shift_word A B q) f.near;
   }
 
-like_back : (A B : List ℕ) (q : ℕ) (p : Polarity) → IsLikeSynchronised (A ++ B) (length A + q) p → IsLikeSynchronised B q p
+pub like_back : (A B : List ℕ) (q : ℕ) (p : Polarity) → IsLikeSynchronised (A ++ B) (length A + q) p → IsLikeSynchronised B q p
 like_back A B q p f = record {
   within = omega (arith, f.within, length-append A B);
   like = subst (λ (w : ℕ). count_ones (bit_xor sync_word (as_sent p w)) ≤ 7) (shift_word A B q) f.like;
@@ -114,7 +77,7 @@ zip_cons : {B : Type 0} (R : ℕ → B → Type 0) (t : ℕ) (ts : List ℕ) (ys
 zip_cons R t ts [] near = absurd near
 zip_cons R t ts (y ∷ zs) near = (y, zs, refl, near.0, near.1)
 
-pub mended_again : (i j : ℕ) (T ys : List ℕ) (ms : List (Option ℕ)) → j ≡ i + (i + 15) / 16 → All IsCodeword T → AllZip IsNear (synced i T) ys
+mended_again : (i j : ℕ) (T ys : List ℕ) (ms : List (Option ℕ)) → j ≡ i + (i + 15) / 16 → All IsCodeword T → AllZip IsNear (synced i T) ys
     → AllZip IsMended (unsynced j ys) ms → ms ≡ map Some T
 mended_again i j [] [] [] e are near each = refl
 mended_again i j [] [] (m ∷ ms) e are near each = absurd each
@@ -139,24 +102,26 @@ mended_again i j (w ∷ T) ys ms e are near each =
           (mended_again (i + 1) (j + 1) T word.1 m.1 (omega arith) rest word.4 m.4)
     ]
 
+pub only_near : (t y : ℕ) → IsCodeword t → IsNear t y → y < 2 ^ 32 → IsOnlyNear y t
+only_near t y is near small =
+    elim (numbers_are_repaired_lem y small) [
+      | inl none ↦ absurd (none t is near)
+      | inr only ↦ subst (IsOnlyNear y) (sym (only.1.only t is near)) only.1
+    ]
+
 -- codewords are mended to themselves
 mended_itself : (T : List ℕ) → All IsCodeword T → AllZip IsMended T (map Some T)
 mended_itself [] are = tt
 mended_itself (w ∷ T) are =
     let is = All-head IsCodeword w T are in
-    let near : IsNear w w = rw (xor_self w) (omega (arith, ones_le_self 0)) in (
-      elim (numbers_are_repaired_lem w is.fits) [
-        | inl none ↦ absurd (none w is near)
-        | inr only ↦ subst (IsOnlyNear w) (sym (only.1.only w is near)) only.1
-      ],
-      mended_itself T (All-tail IsCodeword w T are),
-    )
+    let near : IsNear w w = rw (xor_self w) (omega (arith, ones_le_self 0)) in
+    (only_near w w is near is.fits, mended_itself T (All-tail IsCodeword w T are))
 
-pub said_some : (T : List ℕ) → map said (map Some T) ≡ map Some (map kind_of T)
+said_some : (T : List ℕ) → map said (map Some T) ≡ map Some (map kind_of T)
 said_some [] = refl
 said_some (w ∷ T) = ap (λ (l : List (Option Kind)). Some (kind_of w) ∷ l) (said_some T)
 
-pub without_orphans_same : (b : Bool) (ks : List Kind) → HasNoOrphan b ks → without_orphans b (map Some ks) ≡ ks
+without_orphans_same : (b : Bool) (ks : List Kind) → HasNoOrphan b ks → without_orphans b (map Some ks) ≡ ks
 without_orphans_same b [] h = refl
 without_orphans_same b (Idle ∷ ks) h = ap (λ (l : List Kind). Idle ∷ l) (without_orphans_same false ks h)
 without_orphans_same b (Address high function ∷ ks) h = ap (λ (l : List Kind). Address high function ∷ l) (without_orphans_same true ks h)
@@ -201,6 +166,18 @@ pub record IsOn (b : ℕ) (p : Polarity) (u : Run) : Type 0 where
   pub place : u.bit + 544 * k ≡ b
   pub polarity : u.polarity ≡ p
 
+-- the reception of that run, among others
+pub record IsHeld (bits : List ℕ) (b : ℕ) (p : Polarity) (rs : List Reception) : Type 0 where
+  pub earlier : List Reception
+  pub reception : Reception
+  pub later : List Reception
+  pub whole : rs ≡ earlier ++ (reception ∷ later)
+  pub first : ℕ
+  pub run : Run
+  pub is_run : IsSyncRun bits first run
+  pub is : IsReception bits run reception
+  pub on : IsOn b p run
+
 module _ (bits : List ℕ) (b : ℕ) (p : Polarity) (fits : WordsFit bits) (there : IsSynchronised bits b p) (quiet : IsQuiet bits (b - 544) b) where
   on_here : (k : ℕ) (u : Run) → k < u.batches → IsSynchronised bits (u.bit + 544 * k) u.polarity → u.bit + 544 * k ≤ b → b < u.bit + 544 * k + 544
       → IsOn b p u
@@ -225,14 +202,14 @@ module _ (bits : List ℕ) (b : ℕ) (p : Polarity) (fits : WordsFit bits) (ther
             ]
       ]
 
-  pub on_run : (first : ℕ) (u : Run) → IsSyncRun bits first u → first ≤ b → b ≤ last_sync u → IsOn b p u
+  on_run : (first : ℕ) (u : Run) → IsSyncRun bits first u → first ≤ b → b ≤ last_sync u → IsOn b p u
   on_run first u run low high =
       elim (cases_lt b u.bit) [
         | inl less ↦ absurd (run.quiet b low less p there)
         | inr more ↦ let some = run.some in on_step first ((b - u.bit) / 544) u run (omega arith) (omega arith) (omega arith)
       ]
 
-  pub end_early : (first : ℕ) (u : Run) (r : Reception) → IsSyncRun bits first u → last_sync u < b → held_end u r ≤ b + 31
+  end_early : (first : ℕ) (u : Run) (r : Reception) → IsSyncRun bits first u → last_sync u < b → held_end u r ≤ b + 31
   end_early first u r run before =
       let some = run.some in
       elim (cases_lt (last_sync u) (b - 544)) [
@@ -240,111 +217,150 @@ module _ (bits : List ℕ) (b : ℕ) (p : Polarity) (fits : WordsFit bits) (ther
         | inr late ↦ absurd (quiet (last_sync u) late before u.polarity run.last)
       ]
 
-  module _ (ps : List Page) (few : (u : Run) → u.bit ≡ b → u.polarity ≡ p → HasFewLost bits u)
-      (shows : (first : ℕ) (u : Run) (r : Reception) (here : List Page) → IsSyncRun bits first u → IsReception bits u r → IsOn b p u
-      → AreCaptured (received bits r) here → StandAmong ps here) where
-    shown_from : (first held : ℕ) (rs : List Reception) (pss : List (List Page)) → first ≤ b → held ≤ b + 31 → AreFound bits first held rs
-        → AllZip (λ (r : Reception) (here : List Page). AreCaptured (received bits r) here) rs pss → StandAmong ps (pages_of pss)
-    shown_from first held rs pss low late (nothing none) each = absurd (none b low (omega (arith, there.within)) p there)
-    shown_from first held rs [] low late (counted u r more run counts is front rest) each = absurd each
-    shown_from first held rs (here ∷ pss) low late (counted u r more run counts is front rest) each =
+  module _ (few : (u : Run) → u.bit ≡ b → u.polarity ≡ p → HasFewLost bits u) where
+    held_by : (first held : ℕ) (rs : List Reception) → first ≤ b → held ≤ b + 31 → AreFound bits first held rs → IsHeld bits b p rs
+    held_by first held rs low late (nothing none) = absurd (none b low (omega (arith, there.within)) p there)
+    held_by first held rs low late (counted u r more run counts is front rest) =
         elim (cases_lt (last_sync u) b) [
           | inl before ↦
-              let next = shown_from (last_sync u + 1) (held_end u r) more pss (omega arith) (end_early first u r run before) rest each.1 in
-              record { front = here ++ next.front; back = next.back; whole = rw next.whole (simp append_assoc) }
-          | inr after ↦
-              let mine = shows first u r here run is (on_run first u run low after) each.0 in
-              record { front = mine.front; back = mine.back ++ pages_of pss; whole = ap (λ (l : List Page). l ++ pages_of pss) mine.whole ∙ simp append_assoc }
+              let next = held_by (last_sync u + 1) (held_end u r) more (omega arith) (end_early first u r run before) rest in
+              record {
+                earlier = r ∷ next.earlier;
+                reception = next.reception;
+                later = next.later;
+                whole = ap (λ (l : List Reception). r ∷ l) next.whole;
+                first = next.first;
+                run = next.run;
+                is_run = next.is_run;
+                is = next.is;
+                on = next.on;
+              }
+          | inr past ↦ record {
+            earlier = [];
+            reception = r;
+            later = more;
+            whole = refl;
+            first = first;
+            run = u;
+            is_run = run;
+            is = is;
+            on = on_run first u run low past;
+          }
         ]
-    shown_from first held rs pss low late (passed u more run not rest) each =
+    held_by first held rs low late (passed u more run not rest) =
         elim (cases_lt (last_sync u) b) [
-          | inl before ↦ shown_from (last_sync u + 1) held more pss (omega arith) late rest each
-          | inr after ↦
-              let on = on_run first u run low after in
+          | inl before ↦ held_by (last_sync u + 1) held more (omega arith) late rest
+          | inr past ↦
+              let on = on_run first u run low past in
               absurd (elim (cases_lt 1 u.batches) [
                 | inl many ↦ not (inl many)
                 | inr one ↦
                     let bit : u.bit ≡ b = omega (arith, on.place, on.below) in
-                    not (inr (omega arith, few u bit on.polarity))
+                    not (inr (omega (arith, bit), few u bit on.polarity))
               ])
         ]
 
+-- what stands among the pages of one of the receptions stands among those of all
+among_all : (ps : List Page) (P : Reception → List Page → Type 0) (earlier : List Reception) (r : Reception) (later : List Reception)
+    (pss : List (List Page)) → AllZip P (earlier ++ (r ∷ later)) pss → ((here : List Page) → P r here → StandAmong ps here) → StandAmong ps (pages_of pss)
+among_all ps P [] r later [] each shows = absurd each
+among_all ps P [] r later (here ∷ pss) each shows =
+    let mine = shows here each.0 in
+    record { front = mine.front; back = mine.back ++ pages_of pss; whole = ap (λ (l : List Page). l ++ pages_of pss) mine.whole ∙ simp append_assoc }
+among_all ps P (q ∷ earlier) r later [] each shows = absurd each
+among_all ps P (q ∷ earlier) r later (here ∷ pss) each shows =
+    let next = among_all ps P earlier r later pss each.1 shows in
+    record { front = here ++ next.front; back = next.back; whole = rw next.whole (simp append_assoc) }
+
 -- ---- what is captured behind other words
 
-pub unsynced_shift : (i j : ℕ) (ws : List ℕ) → i % 17 ≡ j % 17 → unsynced i ws ≡ unsynced j ws
+unsynced_shift : (i j : ℕ) (ws : List ℕ) → i % 17 ≡ j % 17 → unsynced i ws ≡ unsynced j ws
 unsynced_shift i j [] e = refl
 unsynced_shift i j (w ∷ ws) e =
     ap₂ (λ (n : ℕ) (l : List ℕ). if n == 0 then l else (w ∷ l)) e (unsynced_shift (i + 1) (j + 1) ws (omega arith))
 
-pub zip_split : (xs ys : List ℕ) (ms : List (Option ℕ)) → AllZip IsMended (xs ++ ys) ms
+zip_split : (xs ys : List ℕ) (ms : List (Option ℕ)) → AllZip IsMended (xs ++ ys) ms
     → AllZip IsMended xs (take (length xs) ms) × AllZip IsMended ys (drop (length xs) ms)
 zip_split [] ys ms each = (tt, each)
 zip_split (x ∷ xs) ys [] each = absurd each
 zip_split (x ∷ xs) ys (m ∷ ms) each = let rest = zip_split xs ys ms each.1 in ((each.0, rest.0), rest.1)
 
 -- whether a page is open after words
-abbrev pub open_after_all : Bool → List (Option Kind) → Bool
+abbrev open_after_all : Bool → List (Option Kind) → Bool
 open_after_all b [] = b
 open_after_all b (m ∷ ms) = open_after_all (stays_open b m) ms
 
-pub without_orphans_long : (b : Bool) (ms : List (Option Kind)) → length (without_orphans b ms) ≡ length ms
+without_orphans_long : (b : Bool) (ms : List (Option Kind)) → length (without_orphans b ms) ≡ length ms
 without_orphans_long b [] = refl
 without_orphans_long b (m ∷ ms) = let rest = without_orphans_long (stays_open b m) ms in omega arith
 
-pub without_orphans_two : (b : Bool) (ms ns : List (Option Kind)) → without_orphans b (ms ++ ns) ≡ without_orphans b ms ++ without_orphans (open_after_all b ms) ns
+without_orphans_two : (b : Bool) (ms ns : List (Option Kind)) → without_orphans b (ms ++ ns) ≡ without_orphans b ms ++ without_orphans (open_after_all b ms) ns
 without_orphans_two b [] ns = refl
 without_orphans_two b (m ∷ ms) ns = ap (λ (l : List Kind). without_orphan b m ∷ l) (without_orphans_two (stays_open b m) ms ns)
 
-pub ends_closed : (b : Bool) (ks : List Kind) → EndsIdle ks → open_after_all b (map Some ks) ≡ false
+ends_closed : (b : Bool) (ks : List Kind) → EndsIdle ks → open_after_all b (map Some ks) ≡ false
 ends_closed b [] e = absurd e
 ends_closed b (w ∷ []) e = ap (λ (k : Kind). stays_open b (Some k)) e
 ends_closed b (w ∷ v ∷ ks) e = ends_closed (stays_open b (Some w)) (v ∷ ks) e
 
 -- nothing is open after words, or none follow
-pub after_closed : (b : Bool) (after : List ℕ) (ms : List (Option ℕ)) → AllZip IsMended (unsynced 0 after) ms → (after ≡ []) ⊎ (b ≡ false)
+after_closed : (b : Bool) (after : List ℕ) (ms : List (Option ℕ)) → AllZip IsMended (unsynced 0 after) ms → (after ≡ []) ⊎ (b ≡ false)
     → HasNoOrphan false (without_orphans b (map said ms))
 after_closed b after ms each (inr closed) = rw closed (keeps_no_orphan false (map said ms))
 after_closed b [] [] each (inl none) = tt
 after_closed b [] (m ∷ ms) each (inl none) = absurd each
 after_closed b (w ∷ after) ms each (inl none) = absurd (cc)
 
+-- the words of a transmission among those that are captured
+pub record StandsBetween (before T : List ℕ) (ps : List Page) (ms : List (Option Kind)) : Type 0 where
+  pub left : List (Option Kind)
+  pub right : List (Option Kind)
+  pub all : ms ≡ left ++ (map Some (map kind_of T) ++ right)
+  pub long : length left ≡ length (unsynced 0 before)
+  pub back : List Page
+  pub pages : pages_from 0 (without_orphans false ms) ≡ pages_from 0 (without_orphans false left) ++ (ps ++ back)
+
 module _ (before Y after T : List ℕ) (ps : List Page) (are : All IsCodeword T) (near : AllZip IsNear (synced 0 T) Y)
     (reads : Reads (map kind_of T) 0 ps) where
-  captured_between : (here : List Page) → length before % 17 ≡ 0 → length Y % 17 ≡ 0 → (after ≡ []) ⊎ EndsIdle (map kind_of T)
-      → AreCaptured (before ++ (Y ++ after)) here → StandAmong ps here
-  captured_between here first_whole whole ended g =
+  pub stands_between : (mended : List (Option ℕ)) → AllZip IsMended (unsynced 0 (before ++ (Y ++ after))) mended → length before % 17 ≡ 0 → length Y % 17 ≡ 0
+      → (after ≡ []) ⊎ EndsIdle (map kind_of T) → StandsBetween before T ps (map said mended)
+  stands_between mended each first_whole whole ended =
       let words : unsynced 0 (before ++ (Y ++ after)) ≡ unsynced 0 before ++ (unsynced 0 Y ++ unsynced 0 after) =
       unsynced_more 0 before (Y ++ after)
       ∙ ap (λ (l : List ℕ). unsynced 0 before ++ l) (unsynced_shift (0 + length before) 0 (Y ++ after) (omega arith)
       ∙ unsynced_more 0 Y after ∙ ap (λ (l : List ℕ). unsynced 0 Y ++ l) (unsynced_shift (0 + length Y) 0 after (omega arith))) in
-      let parts = zip_split (unsynced 0 before) (unsynced 0 Y ++ unsynced 0 after) g.mended (subst (λ (l : List ℕ). AllZip IsMended l g.mended) words g.each) in
-      let left = take (length (unsynced 0 before)) g.mended in
-      let later = drop (length (unsynced 0 before)) g.mended in
+      let parts = zip_split (unsynced 0 before) (unsynced 0 Y ++ unsynced 0 after) mended (subst (λ (l : List ℕ). AllZip IsMended l mended) words each) in
+      let left = take (length (unsynced 0 before)) mended in
+      let later = drop (length (unsynced 0 before)) mended in
       let rest = zip_split (unsynced 0 Y) (unsynced 0 after) later parts.1 in
       let right = drop (length (unsynced 0 Y)) later in
       let K : List Kind = map kind_of T in
       let same : map said (take (length (unsynced 0 Y)) later) ≡ map Some K =
       ap (map said) (mended_again 0 0 T Y (take (length (unsynced 0 Y)) later) (omega arith) are near rest.0) ∙ said_some T in
-      let all : map said g.mended ≡ map said left ++ (map Some K ++ map said right) =
-      ap (map said) (sym (take-append-drop (length (unsynced 0 before)) g.mended)
+      let all : map said mended ≡ map said left ++ (map Some K ++ map said right) =
+      ap (map said) (sym (take-append-drop (length (unsynced 0 before)) mended)
       ∙ ap (λ (l : List (Option ℕ)). left ++ l) (sym (take-append-drop (length (unsynced 0 Y)) later))) ∙ simp (map-append, same) in
       let plain = reads_plainly reads in
       let b : Bool = open_after_all (open_after_all false (map said left)) (map Some K) in
       let first : List Kind = without_orphans false (map said left) in
       let last : List Kind = without_orphans b (map said right) in
-      let kinds : without_orphans false (map said g.mended) ≡ first ++ (K ++ last) =
+      let kinds : without_orphans false (map said mended) ≡ first ++ (K ++ last) =
       ap (without_orphans false) all ∙ simp without_orphans_two (ap (λ (l : List Kind). first ++ (l ++ last))
       (without_orphans_same (open_after_all false (map said left)) K (no_orphan_any (open_after_all false (map said left)) K plain.no_orphan))) in
       let closed : HasNoOrphan false last = after_closed b after right rest.1
       (elim ended [ inl none ↦ inl none | inr idle ↦ inr (ends_closed (open_after_all false (map said left)) K idle) ]) in
       let joined : HasNoOrphan false (K ++ last) = no_orphan_join false K last plain.no_orphan closed in
-      let long : length first ≡ length (unsynced 0 before) =
-      without_orphans_long false (map said left) ∙ length-map left said ∙ AllZip-long IsMended (unsynced 0 before) left parts.0 in
+      let long_left : length (map said left) ≡ length (unsynced 0 before) =
+      length-map left said ∙ AllZip-long IsMended (unsynced 0 before) left parts.0 in
+      let long : length first ≡ length (unsynced 0 before) = without_orphans_long false (map said left) ∙ long_left in
       let count = unsynced_count 0 before in
       record {
-        front = pages_from 0 first;
+        left = map said left;
+        right = map said right;
+        all = all;
+        long = long_left;
         back = pages_from (length K) last;
-        whole = (reads_plainly g.holds).pages ∙ ap (pages_from 0) kinds
+        pages = ap (pages_from 0) kinds
             ∙ pages_join 0 (length first) first (K ++ last) (omega arith) joined
             ∙ ap (λ (l : List Page). pages_from 0 first ++ l) (pages_shift (length first) 0 (K ++ last) (omega (arith, long, count))
             ∙ pages_join 0 (length K) K last (omega arith) closed ∙ ap (λ (l : List Page). l ++ pages_from (length K) last) (sym plain.pages));
@@ -375,13 +391,13 @@ module _ (A R : List ℕ) (p : Polarity) (ps : List Page) (X : List ℕ) (f : Is
   sent_long : length (synced 0 f.codewords) ≡ 17 * f.batches
   sent_long = omega (arith, synced_count 0 f.codewords, f.whole.1)
 
-  batches_long : length X ≡ 544 * f.batches
+  pub batches_long : length X ≡ 544 * f.batches
   batches_long = omega (arith, ap length f.sent, word_bits_long p f.words, words_long)
 
   all_long : length whole_bits ≡ length A + 544 * f.batches + length R
   all_long = omega (arith, length-append A (X ++ R), length-append X R, batches_long)
 
-  word_of : (j : ℕ) → j < 17 * f.batches → sent_at whole_bits p (length A + 32 * j) ≡ get_or f.words j 0
+  pub word_of : (j : ℕ) → j < 17 * f.batches → sent_at whole_bits p (length A + 32 * j) ≡ get_or f.words j 0
   word_of j below =
       word_there whole_bits p (length A + 32 * j) (omega (arith, all_long))
       ∙ ap (as_sent p) (shift_word A (X ++ R) (32 * j))
@@ -457,7 +473,7 @@ module _ (A R : List ℕ) (p : Polarity) (ps : List Page) (X : List ℕ) (f : Is
     least_batches = elim is.batches [ inl more ↦ omega (arith, more.1, least) | inr same ↦ omega (arith, same.1, least) ]
 
     -- no word of it is left out
-    least_words : 17 * (on.k + f.batches) ≤ r.words
+    pub least_words : 17 * (on.k + f.batches) ≤ r.words
     least_words =
         let some = f.whole.0 in
         elim (cases_lt r.words (17 * (on.k + f.batches))) [
@@ -473,25 +489,31 @@ module _ (A R : List ℕ) (p : Polarity) (ps : List Page) (X : List ℕ) (f : Is
         ]
 
     -- where nothing goes on behind it, no batch follows
-    no_more_batches : NothingFollows p R → r.batches ≡ on.k + f.batches
-    no_more_batches over =
-        let some = f.whole.0 in
-        let end : u.bit + 544 * (on.k + f.batches) ≡ length A + 544 * f.batches = omega (arith, on.place) in
-        let later : u.bit + 544 * (on.k + f.batches - 1) + 2 * 544 ≡ length A + 544 * f.batches + 544 = omega (arith, on.place) in
-        let most : u.batches ≤ on.k + f.batches =
-        no_more whole_bits u.bit (on.k + f.batches) u.batches u.polarity (omega arith) run.each
-        (λ there. none_like over.ends (like_of whole_bits (length A + 544 * f.batches) p
-        (subst (λ (q : Polarity). IsSynchronised whole_bits (length A + 544 * f.batches) q) on.polarity
-        (subst (λ (n : ℕ). IsSynchronised whole_bits n u.polarity) end there))))
-        (λ bridged. none_later over.stays (subst (λ (q : Polarity). IsSynchronised whole_bits (length A + 544 * f.batches + 544) q) on.polarity
-        (subst (λ (n : ℕ). IsSynchronised whole_bits n u.polarity) later bridged.there))) in
-        let here : run_end u ≡ length A + 544 * f.batches = omega (arith, on.place, least, most) in
-        elim is.batches [
-          | inl like ↦
-              absurd (none_like over.ends (subst (λ (q : Polarity). IsLikeSynchronised whole_bits (length A + 544 * f.batches) q) on.polarity
-              (subst (λ (n : ℕ). IsLikeSynchronised whole_bits n u.polarity) here like.0)))
-          | inr same ↦ omega (arith, same.1, least, most)
-        ]
+    module _ (over : NothingFollows p R) where
+      most : u.batches ≤ on.k + f.batches
+      most =
+          let some = f.whole.0 in
+          let end : u.bit + 544 * (on.k + f.batches) ≡ length A + 544 * f.batches = omega (arith, on.place) in
+          let later : u.bit + 544 * (on.k + f.batches - 1) + 2 * 544 ≡ length A + 544 * f.batches + 544 = omega (arith, on.place) in
+          no_more whole_bits u.bit (on.k + f.batches) u.batches u.polarity (omega arith) run.each
+          (λ there. none_like over.ends (like_of whole_bits (length A + 544 * f.batches) p
+          (subst (λ (q : Polarity). IsSynchronised whole_bits (length A + 544 * f.batches) q) on.polarity
+          (subst (λ (n : ℕ). IsSynchronised whole_bits n u.polarity) end there))))
+          (λ bridged. none_later over.stays (subst (λ (q : Polarity). IsSynchronised whole_bits (length A + 544 * f.batches + 544) q) on.polarity
+          (subst (λ (n : ℕ). IsSynchronised whole_bits n u.polarity) later bridged.there)))
+
+      pub own_run : u.batches ≡ on.k + f.batches
+      own_run = omega (arith, least, most)
+
+      pub own_batches : r.batches ≡ on.k + f.batches
+      own_batches =
+          let here : run_end u ≡ length A + 544 * f.batches = omega (arith, on.place, own_run) in
+          elim is.batches [
+            | inl like ↦
+                absurd (none_like over.ends (subst (λ (q : Polarity). IsLikeSynchronised whole_bits (length A + 544 * f.batches) q) on.polarity
+                (subst (λ (n : ℕ). IsLikeSynchronised whole_bits n u.polarity) here like.0)))
+            | inr same ↦ omega (arith, same.1, own_run)
+          ]
 
     -- the words at so many places from one on
     abbrev pub placed_words : (place count : ℕ) → List ℕ
@@ -521,47 +543,59 @@ module _ (A R : List ℕ) (p : Polarity) (ps : List Page) (X : List ℕ) (f : Is
         (range_two (received_word whole_bits r) own_place (17 * f.batches) later (17 * f.batches + later) (own_place + 17 * f.batches) (omega arith) (omega arith)
         ∙ ap (λ (l : List ℕ). l ++ placed_words (own_place + 17 * f.batches) later) own_words)
 
-    no_words_behind : NothingFollows p R → placed_words (own_place + 17 * f.batches) (17 * (r.batches - (on.k + f.batches))) ≡ []
+    pub no_words_behind : NothingFollows p R → placed_words (own_place + 17 * f.batches) (17 * (r.batches - (on.k + f.batches))) ≡ []
     no_words_behind over =
-        let none : 17 * (r.batches - (on.k + f.batches)) ≡ 0 = omega (arith, no_more_batches over) in
+        let none : 17 * (r.batches - (on.k + f.batches)) ≡ 0 = omega (arith, own_batches over) in
         ap (λ (n : ℕ). map (received_word whole_bits r) (range_with_len (own_place + 17 * f.batches) n)) none
 
     captured_of : (here : List Page) → EndsIdle (map kind_of f.codewords) ⊎ NothingFollows p R → AreCaptured (received whole_bits r) here → StandAmong ps here
-    captured_of here ended g =
+    captured_of here ended captured =
         let long = length-map-range_with_len (received_word whole_bits r) 0 own_place in
-        captured_between (placed_words 0 own_place) f.words (placed_words (own_place + 17 * f.batches) (17 * (r.batches - (on.k + f.batches)))) f.codewords ps f.are f.near f.reads here (omega (arith, long)) (omega (arith, words_long))
-        (elim ended [ inl idle ↦ inr idle | inr over ↦ inl (no_words_behind over) ])
-        (subst (λ (ws : List ℕ). AreCaptured ws here) received_are g)
+        let front : List ℕ = placed_words 0 own_place in
+        let back : List ℕ = placed_words (own_place + 17 * f.batches) (17 * (r.batches - (on.k + f.batches))) in
+        let g = subst (λ (ws : List ℕ). AreCaptured ws here) received_are captured in
+        let stands = stands_between front f.words back f.codewords ps f.are f.near f.reads g.mended g.each (omega (arith, long)) (omega (arith, words_long))
+        (elim ended [ inl idle ↦ inr idle | inr over ↦ inl (no_words_behind over) ]) in
+        record { front = pages_from 0 (without_orphans false stands.left); back = stands.back; whole = (reads_plainly g.holds).pages ∙ stands.pages }
 
 -- ---- the pages of a transmission stand among those of the capture
+
+-- the reception of the first batch of what a capture holds
+pub held_of : (capture : List ℕ) (rs : List Reception) (ps : List Page) (h : HoldsSent (capture_bits capture) ps) → AreFound (capture_bits capture) 0 0 rs
+    → IsHeld (h.before ++ (h.batches ++ h.after)) (length h.before) h.polarity rs
+held_of capture rs ps h found =
+    let A : List ℕ = h.before in
+    let f = h.received in
+    let bits : List ℕ = A ++ (h.batches ++ h.after) in
+    let start : length A + 544 * 0 ≡ length A = omega arith in
+    let there = subst (λ (n : ℕ). IsSynchronised bits n h.polarity) start (batch_there A h.after h.polarity ps h.batches f 0 f.whole.0) in
+    held_by bits (length A) h.polarity (subst WordsFit h.whole (capture_fits capture)) there
+    (subst (λ (l : List ℕ). IsQuiet l (length A - 544) (length A)) h.whole h.quiet) (few_lost A h.after h.polarity ps h.batches f) 0 0 rs (omega arith)
+    (omega arith) (subst (λ (l : List ℕ). AreFound l 0 0 rs) h.whole found)
 
 pub shows_what_was_sent : (capture : List ℕ) (rs : List Reception) (ps qs : List Page) → HoldsSent (capture_bits capture) ps → HasCaptured capture rs qs
     → StandAmong ps qs
 shows_what_was_sent capture rs ps qs h g =
-    let A : List ℕ = h.before in
-    let R : List ℕ = h.after in
-    let X : List ℕ = h.batches in
-    let p : Polarity = h.polarity in
-    let f = h.received in
-    let bits : List ℕ = A ++ (X ++ R) in
-    let start : length A + 544 * 0 ≡ length A = omega arith in
-    let there = subst (λ (n : ℕ). IsSynchronised bits n p) start (batch_there A R p ps X f 0 f.whole.0) in
+    let held = held_of capture rs ps h g.found in
     subst (StandAmong ps) (sym g.all)
-    (shown_from bits (length A) p (subst WordsFit h.whole (capture_fits capture)) there
-    (subst (λ (l : List ℕ). IsQuiet l (length A - 544) (length A)) h.whole h.quiet) ps (few_lost A R p ps X f)
-    (λ first u r here run is on. captured_of A R p ps X f first u r run is on here h.ended) 0 0 rs g.pages (omega arith) (omega arith)
-    (subst (λ (l : List ℕ). AreFound l 0 0 rs) h.whole g.found)
-    (subst (λ (l : List ℕ). AllZip (λ (s : Reception) (here : List Page). AreCaptured (received l s) here) rs g.pages) h.whole g.each))
+    (among_all ps (λ (s : Reception) (here : List Page). AreCaptured (received (capture_bits capture) s) here) held.earlier held.reception held.later g.pages
+    (subst (λ (l : List Reception). AllZip (λ (s : Reception) (here : List Page). AreCaptured (received (capture_bits capture) s) here) l g.pages) held.whole g.each)
+    (λ here captured.
+    captured_of h.before h.after h.polarity ps h.batches h.received held.first held.run held.reception held.is_run held.is held.on here h.ended
+    (subst (λ (l : List ℕ). AreCaptured (received l held.reception) here) h.whole captured)))
 
 -- ---- a transmission itself
 
+-- words that are mended to the codewords of pages are captured as these
+pub mended_captured : (words T : List ℕ) (ps : List Page) → AllZip IsMended (unsynced 0 words) (map Some T) → Reads (map kind_of T) 0 ps →
+    AreCaptured words ps
+mended_captured words T ps each reads =
+    let kinds : without_orphans false (map said (map Some T)) ≡ map kind_of T =
+    ap (without_orphans false) (said_some T) ∙ without_orphans_same false (map kind_of T) (reads_plainly reads).no_orphan in
+    record { mended = map Some T; each = each; holds = subst (λ (ks : List Kind). Reads ks 0 ps) (sym kinds) reads }
+
 pub reading_captured : (X : List ℕ) (ps : List Page) → ReadsAs X ps → AreCaptured (words_of (after_preamble X)) ps
 reading_captured X ps f =
-    let T = f.codewords in
-    let kinds : without_orphans false (map said (map Some T)) ≡ map kind_of T =
-    ap (without_orphans false) (said_some T) ∙ without_orphans_same false (map kind_of T) (reads_plainly f.reads).no_orphan in
-    record {
-      mended = map Some T;
-      each = subst (λ (ws : List ℕ). AllZip IsMended ws (map Some T)) (sym (codewords_are X T f.sent)) (mended_itself T f.sent.codewords);
-      holds = subst (λ (ks : List Kind). Reads ks 0 ps) (sym kinds) f.reads;
-    }
+    mended_captured (words_of (after_preamble X)) f.codewords ps
+    (subst (λ (ws : List ℕ). AllZip IsMended ws (map Some f.codewords)) (sym (codewords_are X f.codewords f.sent)) (mended_itself f.codewords f.sent.codewords))
+    f.reads

@@ -1,15 +1,6 @@
 -- Words near the synchronisation codeword begin only where the tables have an entry.
-use Rattle.std.proofs.Common.{◌≡◌, ℕ, zero, suc, ◌+◌, ◌-◌, ◌/◌, ◌%◌, ◌^◌, ◌<◌, Bool, true, not, nat_lt, nat_eq, ◌&&◌, slice_index, bit_and, bit_xor, subst, refl, ap, ◌∙◌, inl, inr, arith, lit<}
-use Rattle.std.proofs.lemmas.Bool.Decides.{nat_tests}
-use Rattle.std.proofs.lemmas.Bool.{and_parts, cases_lt}
-use Rattle.std.proofs.lemmas.Nat.{xor_comm, xor_lt}
-use Rattle.pocsag_words.specs.Codeword.{IsNear}
-use Rattle.pocsag_words.proofs.Linear.{xor_cancel}
+use Rattle.pocsag_capture.proofs.Prelude.{◌≡◌, ℕ, zero, suc, ◌+◌, ◌-◌, ◌/◌, ◌%◌, ◌^◌, ◌<◌, Bool, true, not, nat_lt, nat_eq, ◌&&◌, slice_index, bit_and, bit_xor, subst, refl, ap, ◌∙◌, inl, inr, arith, lit<, nat_tests, and_parts, cases_lt, xor_comm, xor_lt, IsNear, xor_cancel, sync_word, as_sent, Polarity, Upright, Inverted}
 use Rattle.pocsag_words.proofs.Sparse.{all_sparse, sparse}
-use Rattle.pocsag_pages.specs.Bytes.{sync_word}
-use Rattle.pocsag_capture.specs.Bits.{as_sent}
-use Rattle.pocsag_capture.specs.declared.polarity.Polarity.{Polarity}
-use Rattle.pocsag_capture.specs.declared.polarity.Polarity.TheVariants.{Upright, Inverted}
 use Rattle.pocsag_capture.proofs.SentBits.{sent_fits, sent_twice}
 use Rattle.pocsag_capture.specs.declared.sync_table.TheConstants.{FOURTH, SECOND, THIRD}
 

@@ -1,12 +1,5 @@
 -- The words of a window of 40 bits.
-use Rattle.std.proofs.Common.{◌≡◌, ℕ, suc, ◌+◌, ◌-◌, ◌*◌, ◌/◌, ◌%◌, ◌^◌, ◌<◌, ◌≤◌, List, [], ◌∷◌, ◌++◌, length, take, drop, get_or, refl, sym, ap, ◌∙◌, arith, append_assoc}
-use Rattle.std.proofs.Math.Seq.{drop-cons}
-use Rattle.std.proofs.lemmas.Grind.{flat_map-append}
-use Rattle.std.proofs.lemmas.List.{drop-drop, drop_at, length-take-le, take-append-drop, take_at}
-use Rattle.pocsag_text.specs.Bits.{high_first, high_number}
-use Rattle.pocsag_text.proofs.BitLists.{high_first-join, high_first-split, high_number-high_first, length-high_first}
-use Rattle.pocsag_text.proofs.Cuts.{length-flat_map-wide}
-use Rattle.pocsag_capture.specs.Bits.{capture_bits, word_on}
+use Rattle.pocsag_capture.proofs.Prelude.{◌≡◌, ℕ, suc, ◌+◌, ◌-◌, ◌*◌, ◌/◌, ◌%◌, ◌^◌, ◌<◌, ◌≤◌, List, [], ◌∷◌, ◌++◌, length, take, drop, get_or, refl, sym, ap, ◌∙◌, arith, append_assoc, drop-cons, flat_map-append, drop-drop, drop_at, length-take-le, take-append-drop, take_at, high_first, high_number, high_first-join, high_first-split, high_number-high_first, length-high_first, length-flat_map-wide, capture_bits, word_on}
 
 -- the number of 32 bits that stand first
 first_number : (z : ℕ) (rest : List ℕ) → z < 2 ^ 32 → high_number 0 (take 32 (high_first 32 z ++ rest)) ≡ z

@@ -1,12 +1,11 @@
 //! The pages of a reception, each with its state, one after the other as they end.
-ghost use Rattle.std.specs.Prelude.{◌≡◌, ◌+◌, ◌*◌, ◌^◌, ◌<◌, ◌≤◌, ◌++◌, [], Bool, List, None, Some, All, length, is_some, option_to_list, IfNone, IfOk, IfSome, OnOk};
+ghost use Rattle.std.specs.Prelude.{◌≡◌, ◌+◌, ◌*◌, ◌^◌, ◌<◌, ◌≤◌, [], None, Some, All, length, is_some, option_to_list, IfNone, IfOk, IfSome, OnOk};
 ghost use Rattle.pocsag_words.specs.Frame.{input_limit};
 ghost use Rattle.pocsag_pages.specs.Listable.{IsListable};
 ghost use Rattle.pocsag_pages.specs.declared.page.Page.{Page};
 ghost use Rattle.pocsag_capture.specs.Bits.{capture_bits};
 ghost use Rattle.pocsag_capture.specs.PagesLeft.{AreLeft, CanRead, EndsReceived, HandsOut, IsHandedOut, ReadsReception, handed_cuts, handed_pages, most_left};
 ghost use Rattle.pocsag_capture.specs.Receptions.{all_batches, behind};
-ghost use Rattle.pocsag_capture.specs.declared.reception.ReceptionStats.{ReceptionStats};
 
 use crate::corrector::WordCorrector;
 use crate::reception::{BATCH, Reception, ReceptionStats};
@@ -53,7 +52,7 @@ fn with_state(page: Option<Page>, is_cut: Option<bool>) -> Option<CapturedPage>
 }
 
 impl<'a> CapturedPages<'a> {
-    /// A reader of the pages of a reception, which are all left.
+    /// A reader of the pages of a reception that has read none of them.
     pub fn new(alloc: Global, capture: &'a [u8], reception: Reception) -> CapturedPages<'a>
         requires few { length capture.now ≤ input_limit }
         requires end { behind reception < 2 ^ 60 }
@@ -108,23 +107,7 @@ impl<'a> CapturedPages<'a> {
         Ok(with_state(page, corrected_word.ended))
     }
 
-    // Ends the page that is open behind the last word: it is cut.
-    fn take_end(&mut self) -> Option<CapturedPage>
-        requires can { CanRead self.old }
-        requires all { self.old.place ≡ 17 * all_batches self.old.reception }
-        ensures can { CanRead self.new }
-        ensures handed { (ps : List Page) (cuts : List Bool) (heard : ReceptionStats) →
-            AreLeft self.new ps cuts heard →
-            AreLeft self.old (handed_pages result ++ ps) (handed_cuts result ++ cuts) heard }
-        ensures listable { All IsListable (handed_pages result) }
-        ensures fewer { IfSome result (λ _. most_left self.new < most_left self.old) }
-        ensures over { IsHandedOut self.new }
-    {
-        let is_cut = self.corrector.close(true);
-        with_state(OpenPage::end_page(&mut self.current), is_cut)
-    }
-
-    /// The next page, and none behind the last. Where memory is refused, the pages that are left are still left.
+    /// The next page, or none after the last. If memory is refused, the remaining pages are the same as before.
     pub fn next_page(&mut self) -> Result<Option<CapturedPage>, AllocError>
         requires can { CanRead self.old }
         ensures can { CanRead self.new }
@@ -138,7 +121,9 @@ impl<'a> CapturedPages<'a> {
                 return Ok(Some(page));
             }
         }
-        Ok(self.take_end())
+        // A page that is open behind the last word is cut.
+        let is_cut = self.corrector.close(true);
+        Ok(with_state(OpenPage::end_page(&mut self.current), is_cut))
     }
 
     /// How the reception was received, with the words that are left.

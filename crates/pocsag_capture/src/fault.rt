@@ -10,7 +10,7 @@ pub enum CaptureFault {
     /// It has more than 268,435,456 bytes.
     #[error("the capture is too large")]
     TooLarge,
-    /// It has so many transmissions, and not the one that is asked for.
+    /// It has only this many transmissions, and not the one that was asked for.
     #[error("transmission {nth} of {found}: the capture has no such transmission")]
     NoSuchTransmission { nth: u64, found: u64 },
     #[error("out of memory")]

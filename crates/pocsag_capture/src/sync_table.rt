@@ -93,8 +93,8 @@ fn begin_set(table: &[u16; 256], byte: u64) -> u16
     table[byte as usize]
 }
 
-/// Whether one of the eight words that begin in the first byte of a window of 40 bits may be a synchronisation codeword: for one
-/// in twenty random windows. Where it returns false, none is.
+/// Whether one of the eight words that begin in the first byte of a window of 40 bits may be a synchronisation codeword. It
+/// returns true for one in twenty random windows. If it returns false, none is one.
 #[inline(always)]
 pub(crate) fn may_begin(window: u64) -> bool
     requires { window < 2 ^ 40 }

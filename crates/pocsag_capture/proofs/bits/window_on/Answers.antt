@@ -1,4 +1,4 @@
-use Rattle.std.proofs.Common.{◌≡◌, ℕ, ◌+◌, ◌*◌, ◌<◌, get_or, arith}
+use Rattle.pocsag_capture.proofs.Prelude.{◌≡◌, ℕ, ◌+◌, ◌*◌, ◌<◌, get_or, arith}
 use Rattle.pocsag_capture.proofs.Windows.{word_of_four, words_of_five}
 use Rattle.pocsag_capture.proofs.bits.window_on.Goals as goal
 use Rattle.pocsag_capture.proofs.bits.window_on.Goals.{then-at-capture, else-at-capture}

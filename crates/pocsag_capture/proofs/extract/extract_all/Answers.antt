@@ -1,7 +1,4 @@
-use Rattle.std.proofs.Common.{sym, ap, subst}
-use Rattle.pocsag_capture.specs.Bits.{capture_bits}
-use Rattle.pocsag_capture.specs.Receptions.{AreReceptions}
-use Rattle.pocsag_capture.specs.declared.reception.Reception.{Reception}
+use Rattle.pocsag_capture.proofs.Prelude.{sym, ap, subst, capture_bits, AreReceptions, Reception}
 use Rattle.pocsag_capture.proofs.Ends.{extracts_all}
 use Rattle.pocsag_capture.proofs.SentBits.{shows_what_was_sent}
 use Rattle.pocsag_capture.proofs.extract.extract_all.Goals as goal

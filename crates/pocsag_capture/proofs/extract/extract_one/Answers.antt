@@ -1,6 +1,4 @@
-use Rattle.std.proofs.Common.{sym, subst}
-use Rattle.pocsag_capture.specs.Bits.{capture_bits}
-use Rattle.pocsag_capture.specs.Receptions.{AreReceptions}
+use Rattle.pocsag_capture.proofs.Prelude.{sym, subst, capture_bits, AreReceptions}
 use Rattle.pocsag_capture.proofs.Ends.{extracts_reception, one_of, receptions_short}
 use Rattle.pocsag_capture.proofs.extract.extract_one.Goals as goal
 

@@ -1,11 +1,4 @@
-use Rattle.std.proofs.Common.{◌+◌, ◌%◌, ◌≡◌, ◌≢◌, Bool, Option, [], refl, sym, ap, ◌∙◌, arith, append_assoc, eq-eqb}
-use Rattle.std.specs.Int.{to_be_bytes, w32}
-use Rattle.std.proofs.lemmas.List.{append-nil}
-use Rattle.pocsag_pages.specs.Bytes.{sync_word}
-use Rattle.pocsag_capture.specs.Bits.{capture_bits}
-use Rattle.pocsag_capture.specs.Receptions.{received_word}
-use Rattle.pocsag_capture.specs.TakenWords.{cut_by}
-use Rattle.pocsag_capture.specs.declared.corrector.WordCorrector.{WordCorrector}
+use Rattle.pocsag_capture.proofs.Prelude.{◌+◌, ◌%◌, ◌≡◌, ◌≢◌, Bool, Option, [], refl, sym, ap, ◌∙◌, arith, append_assoc, eq-eqb, to_be_bytes, w32, append-nil, sync_word, capture_bits, received_word, cut_by, WordCorrector}
 use Rattle.pocsag_capture.proofs.Extracts.{extract_of}
 use Rattle.pocsag_capture.proofs.CorrectedWords.{begun_batch, begun_none, bytes_with, correcting_codeword, correcting_none, correcting_sync}
 use Rattle.pocsag_capture.proofs.extract.put_extract.Goals as goal

@@ -1,4 +1,4 @@
-use Rattle.pocsag_capture.specs.Bits.{capture_bits}
+use Rattle.pocsag_capture.proofs.Prelude.{capture_bits}
 use Rattle.pocsag_capture.proofs.Extracts.{IsExtracting}
 use Rattle.pocsag_capture.proofs.extract.put_extract.Given as goal
 

@@ -1,6 +1,4 @@
-use Rattle.std.proofs.Common.{rules}
-use Rattle.std.proofs.lemmas.List.{take_more}
-use Rattle.pocsag_capture.specs.Bits.{capture_bits}
+use Rattle.pocsag_capture.proofs.Prelude.{rules, take_more, capture_bits}
 use Rattle.pocsag_capture.proofs.Extracts.{extracts_more}
 use Rattle.pocsag_capture.proofs.extract.put_extracts.Goals as goal
 

@@ -1,6 +1,4 @@
-use Rattle.std.proofs.Common.{take}
-use Rattle.pocsag_capture.specs.Bits.{capture_bits}
-use Rattle.pocsag_capture.specs.ExtractedBytes.{PutsExtracts}
+use Rattle.pocsag_capture.proofs.Prelude.{take, capture_bits, PutsExtracts}
 use Rattle.pocsag_capture.proofs.extract.put_extracts.Given as goal
 
 abbrev pub invariant-loop-reception : goal.invariant-loop-reception

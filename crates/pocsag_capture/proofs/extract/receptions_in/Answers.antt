@@ -1,4 +1,4 @@
-use Rattle.std.proofs.Common.{arith}
+use Rattle.pocsag_capture.proofs.Prelude.{arith}
 use Rattle.pocsag_capture.proofs.Ends.{receptions_short}
 use Rattle.pocsag_capture.proofs.extract.receptions_in.Goals as goal
 

@@ -1,5 +1,4 @@
-use Rattle.std.proofs.Common.{◌+◌, ◌∙◌, ap, refl, arith, bit_xor, count_ones, ℕ}
-use Rattle.pocsag_capture.specs.Bits.{capture_bits}
+use Rattle.pocsag_capture.proofs.Prelude.{◌+◌, ◌∙◌, ap, refl, arith, bit_xor, count_ones, ℕ, capture_bits}
 use Rattle.pocsag_capture.proofs.InFront.{front_none, front_one_more}
 use Rattle.pocsag_capture.proofs.in_front.repaired_in_front.Goals as goal
 

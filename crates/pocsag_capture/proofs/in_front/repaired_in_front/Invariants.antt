@@ -1,4 +1,4 @@
-use Rattle.pocsag_capture.specs.Bits.{capture_bits}
+use Rattle.pocsag_capture.proofs.Prelude.{capture_bits}
 use Rattle.pocsag_capture.proofs.InFront.{IsFrontSoFar}
 use Rattle.pocsag_capture.proofs.in_front.repaired_in_front.Given as goal
 

@@ -1,7 +1,4 @@
-use Rattle.std.proofs.Common.{◌≡◌, ℕ, ◌+◌, ◌-◌, ◌*◌, refl, subst, inl, inr, arith}
-use Rattle.std.proofs.lemmas.Bool.{cases_lt}
-use Rattle.pocsag_capture.specs.Bits.{capture_bits}
-use Rattle.pocsag_capture.specs.Receptions.{IsBeside}
+use Rattle.pocsag_capture.proofs.Prelude.{◌≡◌, ℕ, ◌+◌, ◌-◌, ◌*◌, refl, subst, inl, inr, arith, cases_lt, capture_bits, IsBeside}
 use Rattle.pocsag_capture.proofs.in_front.slips_in_front.Goals as goal
 
 pub loop-nth-preserved : goal.loop-nth-preserved

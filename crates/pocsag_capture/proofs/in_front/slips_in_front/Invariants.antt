@@ -1,6 +1,4 @@
-use Rattle.std.proofs.Common.{◌⊎◌, ℕ, ◌+◌, ◌-◌, ◌*◌, ◌<◌, ◌≤◌}
-use Rattle.pocsag_capture.specs.Bits.{capture_bits}
-use Rattle.pocsag_capture.specs.Receptions.{IsBeside}
+use Rattle.pocsag_capture.proofs.Prelude.{◌⊎◌, ℕ, ◌+◌, ◌-◌, ◌*◌, ◌<◌, ◌≤◌, capture_bits, IsBeside}
 use Rattle.pocsag_capture.proofs.in_front.slips_in_front.Given as goal
 
 abbrev pub invariant-loop-nth : goal.invariant-loop-nth

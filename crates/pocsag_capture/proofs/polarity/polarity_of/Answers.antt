@@ -1,4 +1,4 @@
-use Rattle.std.proofs.Common.{arith}
+use Rattle.pocsag_capture.proofs.Prelude.{arith}
 use Rattle.pocsag_capture.proofs.Polarities.{both_polarities, is_inverted, is_neither, is_upright}
 use Rattle.pocsag_capture.proofs.polarity.polarity_of.Goals as goal
 

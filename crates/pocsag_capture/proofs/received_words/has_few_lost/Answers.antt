@@ -1,8 +1,5 @@
-use Rattle.std.proofs.Common.{◌≡◌, ℕ, ◌+◌, ◌-◌, sym, subst, arith}
-use Rattle.std.proofs.lemmas.Bool.{le-leb}
-use Rattle.pocsag_capture.specs.Bits.{capture_bits}
+use Rattle.pocsag_capture.proofs.Prelude.{◌≡◌, ℕ, ◌+◌, ◌-◌, sym, subst, arith, le-leb, capture_bits, leb-true}
 use Rattle.pocsag_capture.proofs.Counting.{IsCounting, counting_kept, counting_lost, few_counted}
-use borrow.Author.Tests.{leb-true}
 use Rattle.pocsag_capture.proofs.received_words.has_few_lost.Goals as goal
 use Rattle.pocsag_capture.proofs.received_words.has_few_lost.Goals.{then-is_lost, else-is_lost}
 

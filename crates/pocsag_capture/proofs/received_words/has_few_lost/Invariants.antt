@@ -1,5 +1,4 @@
-use Rattle.std.proofs.Common.{◌-◌, ◌<◌}
-use Rattle.pocsag_capture.specs.Bits.{capture_bits}
+use Rattle.pocsag_capture.proofs.Prelude.{◌-◌, ◌<◌, capture_bits}
 use Rattle.pocsag_capture.proofs.Counting.{IsCounting}
 use Rattle.pocsag_capture.proofs.received_words.has_few_lost.Given as goal
 

@@ -1,7 +1,4 @@
-use Rattle.std.proofs.Common.{◌≡◌, ◌+◌, ◌*◌, sym, ap, subst, ◌∙◌, arith}
-use Rattle.pocsag_words.specs.Codeword.{HasNoneNear}
-use Rattle.pocsag_capture.specs.Bits.{capture_bits}
-use Rattle.pocsag_capture.specs.Receptions.{sent_at}
+use Rattle.pocsag_capture.proofs.Prelude.{◌≡◌, ◌+◌, ◌*◌, sym, ap, subst, ◌∙◌, arith, HasNoneNear, capture_bits, sent_at}
 use Rattle.pocsag_capture.proofs.Counting.{not_false}
 use Rattle.pocsag_capture.proofs.received_words.is_break.Goals as goal
 

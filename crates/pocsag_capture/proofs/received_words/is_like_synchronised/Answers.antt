@@ -1,9 +1,5 @@
-use Rattle.std.proofs.Common.{ℕ, ◌≡◌, ◌≤◌, bit_xor, count_ones, sym, ap, subst, ◌∙◌, arith}
-use Rattle.std.proofs.lemmas.Bool.{le-leb}
-use Rattle.pocsag_pages.specs.Bytes.{sync_word}
-use Rattle.pocsag_capture.specs.Bits.{as_sent, capture_bits, word_on}
+use Rattle.pocsag_capture.proofs.Prelude.{ℕ, ◌≡◌, ◌≤◌, bit_xor, count_ones, sym, ap, subst, ◌∙◌, arith, le-leb, sync_word, as_sent, capture_bits, word_on, leb-true}
 use Rattle.pocsag_capture.proofs.Windows.{bits_long}
-use borrow.Author.Tests.{leb-true}
 use Rattle.pocsag_capture.proofs.received_words.is_like_synchronised.Goals as goal
 
 pub returns-then-bit-capture : goal.returns-then-bit-capture

@@ -1,5 +1,4 @@
-use Rattle.std.proofs.Common.{sym, ap, ◌∙◌, arith}
-use Rattle.pocsag_capture.specs.Bits.{as_sent, capture_bits}
+use Rattle.pocsag_capture.proofs.Prelude.{sym, ap, ◌∙◌, arith, as_sent, capture_bits}
 use Rattle.pocsag_capture.proofs.Extracts.{word_cut, word_there}
 use Rattle.pocsag_capture.proofs.Windows.{bits_long}
 use Rattle.pocsag_capture.proofs.received_words.sent_at.Goals as goal

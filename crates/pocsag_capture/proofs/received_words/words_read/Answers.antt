@@ -1,7 +1,4 @@
-use Rattle.std.proofs.Common.{◌≡◌, ℕ, refl, subst, inl, inr, arith}
-use Rattle.std.proofs.lemmas.Bool.{cases_lt}
-use Rattle.pocsag_capture.specs.Bits.{capture_bits}
-use Rattle.pocsag_capture.specs.Receptions.{IsBreak}
+use Rattle.pocsag_capture.proofs.Prelude.{◌≡◌, ℕ, refl, subst, inl, inr, arith, cases_lt, capture_bits, IsBreak}
 use Rattle.pocsag_capture.proofs.received_words.words_read.Goals as goal
 
 pub loop-place-preserved : goal.loop-place-preserved

@@ -1,6 +1,4 @@
-use Rattle.std.proofs.Common.{ℕ, ◌<◌}
-use Rattle.pocsag_capture.specs.Bits.{capture_bits}
-use Rattle.pocsag_capture.specs.Receptions.{IsBreak}
+use Rattle.pocsag_capture.proofs.Prelude.{ℕ, ◌<◌, capture_bits, IsBreak}
 use Rattle.pocsag_capture.proofs.received_words.words_read.Given as goal
 
 abbrev pub invariant-loop-place : goal.invariant-loop-place

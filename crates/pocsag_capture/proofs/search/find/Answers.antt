@@ -1,5 +1,4 @@
-use Rattle.std.proofs.Common.{◌/◌, arith}
-use Rattle.pocsag_capture.specs.Bits.{capture_bits}
+use Rattle.pocsag_capture.proofs.Prelude.{◌/◌, arith, capture_bits}
 use Rattle.pocsag_capture.proofs.SearchLemmas.{quiet_eight, quiet_end, quiet_more, synchronised_at}
 use Rattle.pocsag_capture.proofs.Windows.{bits_long}
 use Rattle.pocsag_capture.proofs.search.find.Goals as goal

@@ -1,6 +1,4 @@
-use Rattle.std.proofs.Common.{◌+◌, ◌-◌, ◌^◌, ◌<◌, ◌≤◌}
-use Rattle.pocsag_capture.specs.Bits.{capture_bits}
-use Rattle.pocsag_capture.specs.Receptions.{IsQuiet}
+use Rattle.pocsag_capture.proofs.Prelude.{◌+◌, ◌-◌, ◌^◌, ◌<◌, ◌≤◌, capture_bits, IsQuiet}
 use Rattle.pocsag_capture.proofs.search.find.Given as goal
 
 abbrev pub invariant-loop-bit : goal.invariant-loop-bit

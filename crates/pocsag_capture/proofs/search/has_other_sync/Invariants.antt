@@ -1,6 +1,4 @@
-use Rattle.std.proofs.Common.{ℕ, ◌+◌, ◌-◌, ◌^◌, ◌<◌, ◌≤◌}
-use Rattle.pocsag_capture.specs.Bits.{capture_bits}
-use Rattle.pocsag_capture.specs.Receptions.{behind}
+use Rattle.pocsag_capture.proofs.Prelude.{ℕ, ◌+◌, ◌-◌, ◌^◌, ◌<◌, ◌≤◌, capture_bits, behind}
 use Rattle.pocsag_capture.proofs.SearchLemmas.{IsAlone}
 use Rattle.pocsag_capture.proofs.search.has_other_sync.Given as goal
 

@@ -1,7 +1,4 @@
-use Rattle.std.proofs.Common.{ℕ, ◌+◌, ◌*◌, ap, arith, subst, sym}
-use Rattle.std.proofs.Math.Nat.{min-le_right}
-use Rattle.pocsag_capture.specs.Bits.{capture_bits}
-use Rattle.pocsag_capture.specs.Receptions.{HasInFront, IsQuiet, last_sync}
+use Rattle.pocsag_capture.proofs.Prelude.{ℕ, ◌+◌, ◌*◌, ap, arith, subst, sym, min-le_right, capture_bits, HasInFront, IsQuiet, last_sync}
 use Rattle.pocsag_capture.proofs.SearchLemmas.{SoFar, found_all, found_more, found_same, run_begins}
 use Rattle.pocsag_capture.proofs.Windows.{bits_long}
 use Rattle.pocsag_capture.proofs.search.receptions.Goals as goal

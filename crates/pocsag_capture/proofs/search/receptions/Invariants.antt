@@ -1,5 +1,4 @@
-use Rattle.std.proofs.Common.{◌-◌, ◌^◌, ◌<◌}
-use Rattle.pocsag_capture.specs.Bits.{capture_bits}
+use Rattle.pocsag_capture.proofs.Prelude.{◌-◌, ◌^◌, ◌<◌, capture_bits}
 use Rattle.pocsag_capture.proofs.SearchLemmas.{SoFar}
 use Rattle.pocsag_capture.proofs.search.receptions.Given as goal
 

@@ -1,6 +1,4 @@
-use Rattle.std.proofs.Common.{◌≡◌, ℕ, ◌+◌, ◌-◌, ◌*◌, subst, arith}
-use Rattle.pocsag_capture.specs.Bits.{capture_bits}
-use Rattle.pocsag_capture.specs.Runs.{Steps}
+use Rattle.pocsag_capture.proofs.Prelude.{◌≡◌, ℕ, ◌+◌, ◌-◌, ◌*◌, subst, arith, capture_bits, Steps}
 use Rattle.pocsag_capture.proofs.SearchLemmas.{chain_ends, chain_first, chain_on}
 use Rattle.pocsag_capture.proofs.Windows.{bits_long}
 use Rattle.pocsag_capture.proofs.search.run_of.Goals as goal

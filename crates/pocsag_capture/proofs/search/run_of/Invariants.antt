@@ -1,6 +1,4 @@
-use Rattle.std.proofs.Common.{◌+◌, ◌-◌, ◌*◌, ◌<◌, ◌≤◌, length}
-use Rattle.pocsag_capture.specs.Bits.{capture_bits}
-use Rattle.pocsag_capture.specs.Runs.{Steps}
+use Rattle.pocsag_capture.proofs.Prelude.{◌+◌, ◌-◌, ◌*◌, ◌<◌, ◌≤◌, length, capture_bits, Steps}
 use Rattle.pocsag_capture.proofs.SearchLemmas.{IsChain}
 use Rattle.pocsag_capture.proofs.search.run_of.Given as goal
 

@@ -1,7 +1,4 @@
-use Rattle.std.proofs.Common.{◌≡◌, ℕ, ◌+◌, ◌-◌, ◌*◌, refl, sym, subst, inl, inr, arith}
-use Rattle.std.proofs.lemmas.Bool.{cases_lt}
-use Rattle.pocsag_capture.specs.Bits.{capture_bits}
-use Rattle.pocsag_capture.specs.Receptions.{IsBeside}
+use Rattle.pocsag_capture.proofs.Prelude.{◌≡◌, ℕ, ◌+◌, ◌-◌, ◌*◌, refl, sym, subst, inl, inr, arith, cases_lt, capture_bits, IsBeside}
 use Rattle.pocsag_capture.proofs.Counting.{not_false}
 use Rattle.pocsag_capture.proofs.slip.is_slip.Goals as goal
 use Rattle.pocsag_capture.proofs.slip.is_slip.Goals.{else-place-end-via-then-place-end+else-not-is_beside, else-place-end-via-else-place-end}

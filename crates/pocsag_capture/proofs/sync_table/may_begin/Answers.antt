@@ -1,4 +1,4 @@
-use Rattle.std.proofs.Common.{◌/◌, ◌%◌, bit_and, refl, ap₂}
+use Rattle.pocsag_capture.proofs.Prelude.{◌/◌, ◌%◌, bit_and, refl, ap₂}
 use Rattle.pocsag_capture.proofs.SyncTables.{not_empty, set_of, window_set}
 use Rattle.pocsag_capture.proofs.sync_table.may_begin.Goals as goal
 

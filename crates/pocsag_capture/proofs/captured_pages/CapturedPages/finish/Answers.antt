@@ -1,12 +1,4 @@
-use Rattle.std.proofs.Common.{◌≡◌, ◌+◌, [], Bool, Option, refl, sym, ap, ◌∙◌, arith}
-use Rattle.pocsag_decode.specs.OpenPages.{resumed}
-use Rattle.pocsag_decode.specs.PageReaders.{codewords_before}
-use Rattle.pocsag_decode.specs.declared.open_page.OpenPage.{OpenPage}
-use Rattle.pocsag_capture.specs.Bits.{capture_bits}
-use Rattle.pocsag_capture.specs.CapturedPages.{without_orphans}
-use Rattle.pocsag_capture.specs.Receptions.{received_word}
-use Rattle.pocsag_capture.specs.TakenWords.{cut_by}
-use Rattle.pocsag_capture.specs.declared.corrector.WordCorrector.{WordCorrector}
+use Rattle.pocsag_capture.proofs.Prelude.{◌≡◌, ◌+◌, [], Bool, Option, refl, sym, ap, ◌∙◌, arith, resumed, codewords_before, OpenPage, capture_bits, without_orphans, received_word, cut_by, WordCorrector}
 use Rattle.pocsag_capture.proofs.PagesLeft.{left_none, received_none, walks_none, walks_on}
 use Rattle.pocsag_capture.proofs.captured_pages.CapturedPages.finish.Goals as goal
 

@@ -1,4 +1,4 @@
-use Rattle.pocsag_capture.specs.Bits.{capture_bits}
+use Rattle.pocsag_capture.proofs.Prelude.{capture_bits}
 use Rattle.pocsag_capture.proofs.PagesLeft.{IsWalking}
 use Rattle.pocsag_capture.proofs.captured_pages.CapturedPages.finish.Given as goal
 

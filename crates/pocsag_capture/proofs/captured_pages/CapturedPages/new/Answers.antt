@@ -1,7 +1,4 @@
-use Rattle.std.proofs.Common.{refl, inl, inr, arith}
-use Rattle.std.proofs.lemmas.List.Elements.{All-nil}
-use Rattle.pocsag_pages.specs.Listable.{IsListable}
-use Rattle.pocsag_capture.specs.Bits.{capture_bits}
+use Rattle.pocsag_capture.proofs.Prelude.{refl, inl, inr, arith, All-nil, IsListable, capture_bits}
 use Rattle.pocsag_capture.proofs.PagesLeft.{captured_from_start}
 use Rattle.pocsag_capture.proofs.captured_pages.CapturedPages.new.Goals as goal
 

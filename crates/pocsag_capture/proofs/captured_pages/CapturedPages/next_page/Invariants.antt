@@ -1,7 +1,4 @@
-use Rattle.std.proofs.Common.{◌≡◌, ◌≤◌, Bool, List}
-use Rattle.pocsag_pages.specs.declared.page.Page.{Page}
-use Rattle.pocsag_capture.specs.PagesLeft.{AreLeft, CanRead, most_left}
-use Rattle.pocsag_capture.specs.declared.reception.ReceptionStats.{ReceptionStats}
+use Rattle.pocsag_capture.proofs.Prelude.{◌≡◌, ◌≤◌, Bool, List, Page, AreLeft, CanRead, most_left, ReceptionStats}
 use Rattle.pocsag_capture.proofs.captured_pages.CapturedPages.next_page.Given as goal
 
 abbrev pub invariant-loop-self : goal.invariant-loop-self

@@ -1,16 +1,5 @@
-use Rattle.std.proofs.Common.{◌≡◌, ◌≢◌, ◌+◌, ◌%◌, ◌∷◌, ◌++◌, Bool, ℕ, List, Option, Some, bit_xor, count_ones, map, refl, sym, ap, ap₂, subst, ◌∙◌, arith}
-use Rattle.std.specs.Prelude.{is_some}
+use Rattle.pocsag_capture.proofs.Prelude.{◌≡◌, ◌≢◌, ◌+◌, ◌%◌, ◌∷◌, ◌++◌, Bool, ℕ, List, Option, Some, bit_xor, count_ones, map, refl, sym, ap, ap₂, subst, ◌∙◌, arith, is_some, Kind, sync_word, Page, ends_open, resumed, stays_open, codewords_before, said, capture_bits, without_orphans, IsReceivedFrom, received_word}
 use Rattle.std.proofs.lemmas.Result.{err_from_is_err_and}
-use Rattle.pocsag_words.specs.declared.codeword.Kind.{Kind}
-use Rattle.pocsag_pages.specs.Bytes.{sync_word}
-use Rattle.pocsag_pages.specs.declared.page.Page.{Page}
-use Rattle.pocsag_decode.specs.OpenPages.{ends_open, resumed, stays_open}
-use Rattle.pocsag_decode.specs.PageReaders.{codewords_before}
-use Rattle.pocsag_pager.specs.Shown.{said}
-use Rattle.pocsag_capture.specs.Bits.{capture_bits}
-use Rattle.pocsag_capture.specs.CapturedPages.{without_orphans}
-use Rattle.pocsag_capture.specs.PagesLeft.{IsReceivedFrom}
-use Rattle.pocsag_capture.specs.Receptions.{received_word}
 use Rattle.pocsag_capture.proofs.CorrectedWords.{far_few, near_few}
 use Rattle.pocsag_capture.proofs.PagesLeft.{ends_same, few_bits_behind, few_cut_behind, few_lost_behind, received_codeword, received_sync, stays_same}
 use Rattle.pocsag_capture.proofs.captured_pages.CapturedPages.take_word.Goals as goal

@@ -1,6 +1,5 @@
-use Rattle.std.proofs.Common.{ℕ, ◌+◌, None, Some, bit_xor, count_ones, refl, sym, ◌∙◌, ap, arith}
+use Rattle.pocsag_capture.proofs.Prelude.{ℕ, ◌+◌, None, Some, bit_xor, count_ones, refl, sym, ◌∙◌, ap, arith, WordCorrector}
 use Rattle.pocsag_words.proofs.KindLemmas.{IsCodeword-idle}
-use Rattle.pocsag_capture.specs.declared.corrector.WordCorrector.{WordCorrector}
 use Rattle.pocsag_capture.proofs.corrector.WordCorrector.take.Goals as goal
 
 pub returns-in_default : goal.returns-in_default
