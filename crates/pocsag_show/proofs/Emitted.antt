@@ -1,14 +1,10 @@
 -- Texts that are written as they are made.
-use Rattle.std.proofs.Common.{◌≡◌, ℕ, ◌<◌, ◌≤◌, List, [], ◌++◌, length, refl, ap, sym, inl, inr, ◌∙◌, append_assoc, arith, length-append}
-use Rattle.std.proofs.lemmas.List.{append-nil}
+use Rattle.pocsag_show.proofs.Prelude.{◌≡◌, ℕ, ◌<◌, ◌≤◌, List, [], ◌++◌, length, refl, ap, sym, subst, inl, inr, ◌∙◌, append_assoc, arith, length-append, append-nil, some_left, took_on, took_so_far, of_list, HasEmitted, IsEmitting, StoppedEmitting}
 use Rattle.pocsag_words.specs.Devices.{HasFailed, TookPrefix}
 use Rattle.pocsag_words.specs.declared.device.Sink.{Ghosts as Writer}
-use Rattle.pocsag_decode.proofs.Prefixes.{some_left, took_on, took_so_far}
 use Rattle.pocsag_show.specs.declared.fault.ShowFault.TheVariants as fault
 use Rattle.pocsag_decode.specs.declared.fault.ListFault.{ListFault}
 use Rattle.pocsag_decode.specs.declared.fault.ListFault.TheVariants as list
-use Rattle.pocsag_show.specs.Shows.{of_list}
-use Rattle.pocsag_show.specs.Emission.{HasEmitted, IsEmitting, StoppedEmitting}
 
 module _ {S : Type 0} (Out : Writer S) (start now : S) (all : List ℕ) where
   -- the text begins with what waits
@@ -30,6 +26,13 @@ module _ {S : Type 0} (Out : Writer S) (start now : S) (all : List ℕ) where
     some = let s = u.some in omega (arith, ap length e, length-append waits piece);
     failures = u.failures;
   }
+
+  -- the next piece of what is to be made waits
+  pub next_put : {waits after due : List ℕ} (next rest piece : List ℕ) → due ≡ piece ++ next → IsEmitting Out start now all waits (due ++ rest)
+      → after ≡ waits ++ piece → IsEmitting Out start now all after (next ++ rest)
+  next_put {waits = waits} {after = after} next rest piece first u put =
+      put_behind waits after piece (next ++ rest)
+      (subst (IsEmitting Out start now all waits) (ap (λ (l : List ℕ). l ++ rest) first ∙ append_assoc piece next rest) u) put
 
   -- memory was refused
   pub refused : (waits rest : List ℕ) → IsEmitting Out start now all waits rest → StoppedEmitting Out start now all fault.OutOfMemory

@@ -1,12 +1,5 @@
 -- Codewords that are read one after the other.
-use Rattle.std.proofs.Common.{◌≡◌, ◌≢◌, ℕ, ◌+◌, ◌/◌, ◌%◌, ◌<◌, ◌≤◌, List, [], ◌∷◌, length, get_or, map, refl, ap, sym, inl, inr, ◌∙◌, arith}
-use Rattle.std.specs.Int.{from_be_bytes, w32}
-use Rattle.std.proofs.lemmas.Bool.{cases_eq, cases_lt, eq-eqb, ne_eqb}
-use Rattle.std.proofs.lemmas.List.{drop_all, drop_more}
-use Rattle.pocsag_words.specs.Kinds.{kind_of}
-use Rattle.pocsag_words.specs.declared.codeword.Kind.{Kind}
-use Rattle.pocsag_pages.specs.Bytes.{unsynced}
-use Rattle.pocsag_decode.specs.PageReaders.{kinds_left}
+use Rattle.pocsag_show.proofs.Prelude.{◌≡◌, ◌≢◌, ℕ, ◌+◌, ◌/◌, ◌%◌, ◌<◌, ◌≤◌, List, [], ◌∷◌, length, get_or, map, refl, ap, sym, inl, inr, ◌∙◌, arith, from_be_bytes, w32, cases_eq, cases_lt, eq-eqb, ne_eqb, drop_all, drop_more, kind_of, Kind, unsynced, kinds_left}
 
 module _ (words : List (List ℕ)) where
   pub none_left : (j : ℕ) → length words ≤ j → kinds_left j words ≡ []

@@ -1,13 +1,6 @@
 -- The legend of the first pages that are drawn.
-use Rattle.std.proofs.Common.{◌≡◌, ℕ, ◌+◌, ◌-◌, ◌*◌, ◌<◌, ◌&&◌, true, false, List, [], ◌∷◌, ◌++◌, length, refl, ap, ap₂, sym, ◌∙◌, arith, append_assoc, length-append}
-use Rattle.std.specs.Prelude.{◌/◌, cond, nat_le}
-use Rattle.std.specs.List.{flat_map}
-use Rattle.std.proofs.lemmas.Bool.{lt-leb}
-use Rattle.std.proofs.lemmas.List.{append-nil}
-use Rattle.std.proofs.lemmas.List.Concat.{flat_map-append}
-use Rattle.std.proofs.lemmas.List.Sums.{sum_by-append, sum_by-cons}
-use Rattle.pocsag_show.specs.declared.placed.Placed.{Placed}
-use Rattle.pocsag_show.specs.Legend.{HasLegendOf, drawn_in, entry, entry_of, is_drawn, left_out, legend, place_in, stands_before}
+use Rattle.pocsag_show.proofs.Prelude.{◌≡◌, ℕ, ◌+◌, ◌-◌, ◌*◌, ◌<◌, ◌&&◌, true, false, List, [], ◌∷◌, ◌++◌, length, refl, ap, ap₂, sym, ◌∙◌, arith, append_assoc, length-append, cond, nat_le, flat_map, lt-leb, append-nil, flat_map-append, sum_by-append, sum_by-cons, Placed, HasLegendOf, drawn_in, entry, entry_of, is_drawn, left_out, legend, place_in, stands_before}
+use Rattle.std.specs.Prelude.{◌/◌}
 
 flat_map_equal : (f g : Placed → List ℕ) (pls : List Placed) → ((pl : Placed) → f pl ≡ g pl) → flat_map f pls ≡ flat_map g pls
 flat_map_equal f g [] same = refl

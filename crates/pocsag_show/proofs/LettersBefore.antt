@@ -1,15 +1,7 @@
 -- The letters one by one are those at the indices.
-use Rattle.std.proofs.Common.{◌≡◌, ℕ, zero, suc, ◌+◌, ◌-◌, ◌*◌, ◌<◌, Bool, true, false, IsTrue, List, [], ◌∷◌, length, map, take, drop, get_or, slice_index, refl, ap, ap₂, sym, ◌∙◌, arith}
-use Rattle.std.specs.Prelude.{cond}
-use Rattle.std.proofs.lemmas.List.Sums.{sum_by-cons}
-use Rattle.pocsag_words.specs.declared.codeword.Kind.{Kind}
+use Rattle.pocsag_show.proofs.Prelude.{◌≡◌, ℕ, zero, suc, ◌+◌, ◌-◌, ◌*◌, ◌<◌, Bool, true, false, IsTrue, List, [], ◌∷◌, length, map, take, drop, get_or, slice_index, refl, ap, sym, ◌∙◌, arith, cond, sum_by-cons, Kind, Page, HasNoOrphan, pages_from, is_address, letter_after, letter_at, pages_in, letters_with, capital, small}
 use Rattle.pocsag_words.specs.declared.codeword.Kind.TheVariants.{Idle, Address, Message}
-use Rattle.pocsag_pages.specs.declared.page.Page.{Page}
-use Rattle.pocsag_pages.specs.Plain.{HasNoOrphan, pages_from}
 use Rattle.pocsag_pages.specs.Reading.{frame_at}
-use Rattle.pocsag_show.specs.Grid.{is_address, letter_after, letter_at, pages_in}
-use Rattle.pocsag_show.specs.Letters.{letter_in, letters_with, number_after}
-use Rattle.pocsag_show.specs.Numbers.{capital, small}
 
 pages_in-cons : (k : Kind) (ks : List Kind) → pages_in (k ∷ ks) ≡ cond (is_address k) 1 0 + pages_in ks
 pages_in-cons k ks = sum_by-cons (λ (k : Kind). cond (is_address k) 1 0) k ks
@@ -68,11 +60,7 @@ module _ (number_of : ℕ → ℕ) (numbers : List ℕ) where
 
 -- one letter more
 pub letter_more : (number_of : ℕ → ℕ) (index after last number letter : ℕ) (k : Kind) (ks left : List Kind) → left ≡ k ∷ ks
-    → after ≡ index + 1 → number ≡ number_after number_of (after - 1) last k → letter ≡ letter_in number k
+    → after ≡ index + 1 → letter ∷ letters_with number_of (index + 1) number ks ≡ letters_with number_of index last (k ∷ ks)
     → letter ∷ letters_with number_of after number ks ≡ letters_with number_of index last left
-letter_more number_of index after last number letter k ks left first next is letter_is =
-    let i : after - 1 ≡ index = omega arith in
-    let n : number ≡ number_after number_of index last k = is ∙ ap (λ (j : ℕ). number_after number_of j last k) i in
-    ap₂ (λ (x : ℕ) (l : List ℕ). x ∷ l) (letter_is ∙ ap (λ (m : ℕ). letter_in m k) n)
-    (ap₂ (λ (j m : ℕ). letters_with number_of j m ks) next n)
-    ∙ sym (ap (letters_with number_of index last) first)
+letter_more number_of index after last number letter k ks left first next same =
+    ap (λ (i : ℕ). letter ∷ letters_with number_of i number ks) next ∙ (same ∙ sym (ap (letters_with number_of index last) first))

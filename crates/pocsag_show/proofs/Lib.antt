@@ -5,7 +5,7 @@ pub mod LegendPages
 pub mod LettersBefore
 pub mod PageNumbers
 pub mod PlacedReaders
-pub mod Puts
+pub mod Prelude
 pub mod Ranges
 pub mod Shown
 pub mod Texts

@@ -1,23 +1,6 @@
 -- The addresses of pages, those that are smaller than one, and tables of them.
-use Rattle.std.proofs.Common.{◌≡◌, ◌≢◌, ℕ, zero, suc, ◌+◌, ◌/◌, ◌^◌, ◌<◌, ◌≤◌, ◌==◌, List, [], ◌∷◌, length, map, get_or, set, get_or-set_other, replicate, slice_index, true, false, refl, ap, ap₂, sym, inl, inr, ◌∙◌, arith, All}
-use Rattle.std.specs.Prelude.{cond, nat_lt}
-use Rattle.std.specs.List.{count_by}
-use Rattle.std.specs.List.Sorted.{IsPartitionPoint, IsPermutation}
-use Rattle.std.proofs.lemmas.Bool.{cases_eq, cases_lt, eq-eqb, ne_eqb, lt-ltb, le-ltb}
-use Rattle.std.proofs.lemmas.List.Elements.{All-cons, All-head, All-nil, All-tail}
-use Rattle.std.proofs.lemmas.List.Sorted.{sum_by-IsPermutation}
+use Rattle.pocsag_show.proofs.Prelude.{◌≡◌, ◌≢◌, ℕ, zero, suc, ◌+◌, ◌/◌, ◌^◌, ◌<◌, ◌≤◌, ◌==◌, List, [], ◌∷◌, length, map, get_or, set, get_or-set_other, replicate, slice_index, true, false, refl, ap, ap₂, sym, inl, inr, ◌∙◌, arith, All, cond, nat_lt, count_by, IsPartitionPoint, IsPermutation, cases_eq, cases_lt, eq-eqb, ne_eqb, lt-ltb, le-ltb, All-cons, All-head, All-nil, All-tail, sum_by-IsPermutation, count_by-le-length, sum_by-cons, length-replicate, kind_of, Kind, codewords_in, addresses_of, pages_from, Page, pages_below, pages_begun, smaller_in, addresses_ahead, kinds_ahead}
 use Rattle.std.proofs.lemmas.Grind.{get_or-set_at}
-use Rattle.std.proofs.lemmas.List.Sums.{count_by-le-length, sum_by-cons}
-use Rattle.std.proofs.lemmas.List.{length-replicate}
-use Rattle.pocsag_words.specs.Kinds.{kind_of}
-use Rattle.pocsag_words.specs.declared.codeword.Kind.{Kind}
-use Rattle.pocsag_pages.specs.Bytes.{codewords_in}
-use Rattle.pocsag_pages.specs.Pages.{addresses_of}
-use Rattle.pocsag_pages.specs.Plain.{pages_from}
-use Rattle.pocsag_pages.specs.declared.page.Page.{Page}
-use Rattle.pocsag_show.specs.Numbers.{pages_below}
-use Rattle.pocsag_show.specs.PageNumbers.{pages_begun, smaller_in}
-use Rattle.pocsag_show.specs.Kinds.{addresses_ahead, kinds_ahead}
 use Rattle.pocsag_show.specs.declared.kind_reader.KindReader.{KindReader}
 
 -- how many of the addresses are this one

@@ -1,25 +1,7 @@
 -- Pages that are handed out with their places.
-use Rattle.std.proofs.Common.{◌≡◌, ℕ, zero, suc, ◌+◌, ◌^◌, ◌<◌, List, [], ◌∷◌, map, drop, slice_index, refl, ap, ap₂, sym, subst, ◌∙◌, arith, All}
+use Rattle.pocsag_show.proofs.Prelude.{◌≡◌, ℕ, zero, suc, ◌+◌, ◌^◌, ◌<◌, List, [], ◌∷◌, map, drop, slice_index, refl, ap, ap₂, sym, subst, ◌∙◌, arith, All, get_or-drop, All-cons, All-head, All-nil, All-tail, kind_of, Kind, Page, codewords_in, reads_plainly, ReadsAs, codewords_are, starts_from, kinds_read, numbers_in, NumbersPages, number_below, PageNumbers, IsListable, Placed, placed, placed_in, placed_from}
 use Rattle.std.proofs.Math.Seq.{drop-nil}
-use Rattle.std.proofs.lemmas.List.{get_or-drop}
-use Rattle.std.proofs.lemmas.List.Elements.{All-cons, All-head, All-nil, All-tail}
-use Rattle.pocsag_words.specs.Kinds.{kind_of}
-use Rattle.pocsag_words.specs.declared.codeword.Kind.{Kind}
-use Rattle.pocsag_pages.specs.declared.page.Page.{Page}
-use Rattle.pocsag_pages.specs.Bytes.{codewords_in}
-use Rattle.pocsag_pages.proofs.Readings.{reads_plainly}
-use Rattle.pocsag_decode.specs.Faults.{ReadsAs}
-use Rattle.pocsag_decode.proofs.SentBytes.{codewords_are}
-use Rattle.pocsag_show.specs.Grid.{starts_from, starts_of}
-use Rattle.pocsag_show.specs.Judged.{kinds_read}
-use Rattle.pocsag_show.specs.Numbers.{numbers_in}
-use Rattle.pocsag_show.specs.PageNumbers.{NumbersPages, number_below}
-use Rattle.pocsag_show.specs.declared.page_numbers.PageNumbers.{PageNumbers}
 use Rattle.pocsag_show.proofs.PageNumbers.{addresses_small, numbers_are}
-use Rattle.pocsag_pages.specs.Listable.{IsListable}
-use Rattle.pocsag_show.specs.declared.placed.Placed.{Placed}
-use Rattle.pocsag_show.specs.Placed.{placed, placed_in}
-use Rattle.pocsag_show.specs.PlacedReaders.{placed_from}
 use Rattle.pocsag_show.proofs.LettersBefore.{first_of}
 
 -- one further, and then more
@@ -58,4 +40,4 @@ all_placed X ps reading numbers are_numbers index kinds pages first are read =
     subst (All (λ (p : Page). p.address < 2 ^ 21)) (sym plain.pages) (addresses_small reading.codewords 0) in
     let same : kinds ≡ kinds_read reading = are ∙ ap (map kind_of) (codewords_are X reading.codewords reading.sent) in
     ap₂ (λ (starts : List ℕ) (l : List Page). placed_from (number_below numbers) starts l) (ap₂ starts_from first same) read
-    ∙ placed_is (number_below numbers) (starts_of (kinds_read reading)) (numbers_in ps) 0 ps (numbers_are (number_below numbers) ps ps are_numbers small)
+    ∙ placed_is (number_below numbers) (starts_from 0 (kinds_read reading)) (numbers_in ps) 0 ps (numbers_are (number_below numbers) ps ps are_numbers small)

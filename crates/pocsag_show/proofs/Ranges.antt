@@ -1,8 +1,5 @@
 -- Texts that are made number by number.
-use Rattle.std.proofs.Common.{◌≡◌, ℕ, zero, suc, ◌+◌, ◌-◌, ◌<◌, ◌≤◌, max, List, [], ◌∷◌, ◌++◌, refl, ap, ap₂, sym, ◌∙◌, arith, append_assoc}
-use Rattle.std.specs.List.{flat_map, range_with_len}
-use Rattle.std.proofs.lemmas.List.{append-nil}
-use Rattle.std.proofs.lemmas.List.Concat.{flat_map-append}
+use Rattle.pocsag_show.proofs.Prelude.{◌≡◌, ℕ, zero, suc, ◌+◌, ◌-◌, ◌<◌, ◌≤◌, max, List, [], ◌∷◌, ◌++◌, refl, ap, ap₂, sym, ◌∙◌, arith, append_assoc, flat_map, range_with_len, append-nil, flat_map-append}
 
 range_suc : (a n : ℕ) → range_with_len a (suc n) ≡ range_with_len a n ++ (a + n) ∷ []
 range_suc a zero = ap (λ (x : ℕ). x ∷ []) (omega arith)
@@ -53,17 +50,11 @@ flat_map_same f g a (suc n) h =
     ap₂ (λ (x y : List ℕ). x ++ y) (h a (omega arith) (omega arith)) (flat_map_same f g (a + 1) n (λ i from small. h i (omega arith) (omega arith)))
 
 -- the first of the numbers that are left, and none
-pub range_first : (f : ℕ → List ℕ) (low high : ℕ) (rest : List ℕ) → low < high
-    → flat_map f (range_with_len low (high - low)) ++ rest ≡ f low ++ (flat_map f (range_with_len (low + 1) (high - (low + 1))) ++ rest)
-range_first f low high rest within =
-    let n : high - low ≡ suc (high - (low + 1)) = omega arith in
-    ap (λ (m : ℕ). flat_map f (range_with_len low m) ++ rest) n ∙ append_assoc (f low) (flat_map f (range_with_len (low + 1) (high - (low + 1)))) rest
+pub range_first : (f : ℕ → List ℕ) (low high : ℕ) → low < high
+    → flat_map f (range_with_len low (high - low)) ≡ f low ++ flat_map f (range_with_len (low + 1) (high - (low + 1)))
+range_first f low high within =
+    let n : high - low ≡ suc (high - (low + 1)) = omega arith in ap (λ (m : ℕ). flat_map f (range_with_len low m)) n
 
 pub range_over : (f : ℕ → List ℕ) (low high : ℕ) (rest : List ℕ) → high ≤ low → flat_map f (range_with_len low (high - low)) ++ rest ≡ rest
 range_over f low high rest over =
     let n : high - low ≡ 0 = omega arith in ap (λ (m : ℕ). flat_map f (range_with_len low m) ++ rest) n
-
--- the first of the elements that are left
-pub element_first : {X : Type 0} (f : X → List ℕ) (xs ys : List X) (x : X) (rest : List ℕ) → xs ≡ x ∷ ys
-    → flat_map f xs ++ rest ≡ f x ++ (flat_map f ys ++ rest)
-element_first {X = X} f xs ys x rest e = ap (λ (l : List X). flat_map f l ++ rest) e ∙ append_assoc (f x) (flat_map f ys) rest

@@ -1,17 +1,8 @@
 -- What a text that was written, or a part of it, says of the bytes.
-use Rattle.std.proofs.Common.{◌≡◌, ◌≢◌, ℕ, List, map, Result, Ok, Err, refl, sym, subst, inl, inr, arith}
-use Rattle.std.specs.Prelude.{IfErr, OnOk}
-use Rattle.pocsag_words.specs.Kinds.{kind_of}
+use Rattle.pocsag_show.proofs.Prelude.{◌≡◌, ◌≢◌, ℕ, List, map, Result, Ok, Err, refl, sym, subst, inl, inr, arith, IfErr, OnOk, kind_of, Page, took_so_far, NamesFailures, ReadsAs, EmitsAll, Explains, IsTextOf, Shows, ShowsLess, ShowsPart, view_text, View}
 use Rattle.pocsag_words.specs.declared.device.Sink.{Ghosts as Writer}
-use Rattle.pocsag_pages.specs.declared.page.Page.{Page}
-use Rattle.pocsag_decode.proofs.Prefixes.{took_so_far}
-use Rattle.pocsag_decode.specs.Faults.{NamesFailures, ReadsAs}
-use Rattle.pocsag_show.specs.Emission.{EmitsAll}
-use Rattle.pocsag_show.specs.Shows.{Explains, IsTextOf, Shows, ShowsLess, ShowsPart}
-use Rattle.pocsag_show.specs.Views.{view_text}
 use Rattle.pocsag_show.specs.declared.fault.ShowFault.{ShowFault}
 use Rattle.pocsag_show.specs.declared.fault.ShowFault.TheVariants as fault
-use Rattle.pocsag_show.specs.declared.view.View.{View}
 use Rattle.pocsag_show.proofs.Texts.{view_some}
 
 -- nothing was written

@@ -1,35 +1,8 @@
 -- The grid, the listing and the drawing of bytes that were judged, and how they begin.
-use Rattle.std.proofs.Common.{◌≡◌, ℕ, ◌+◌, ◌-◌, ◌*◌, ◌/◌, ◌<◌, List, [], ◌∷◌, ◌++◌, codes, length, map, slice_index, ap, ap₂, sym, subst, ◌∙◌, append_assoc, arith, length-append}
-use Rattle.std.specs.List.{flat_map}
-use Rattle.std.proofs.lemmas.List.{append-nil}
-use Rattle.csv.specs.Writing.{default_writer, row_text}
-use Rattle.csv.specs.Writing.{fields_text, is_blank}
-use Rattle.pocsag_words.specs.Kinds.{kind_of}
-use Rattle.pocsag_words.specs.declared.codeword.Kind.{Kind}
+use Rattle.pocsag_show.proofs.Prelude.{◌≡◌, ℕ, ◌+◌, ◌-◌, ◌*◌, ◌/◌, ◌<◌, List, [], ◌∷◌, ◌++◌, length, map, slice_index, ap, ap₂, sym, subst, ◌∙◌, append_assoc, arith, length-append, flat_map, append-nil, default_writer, row_text, fields_text, is_blank, kind_of, Kind, Page, codewords_in, pages_from, reads_plainly, behind_pages, drawing, drawing_text, frame_lines, heading, opening, page_drawn, row_drawn, text_before, idles_in, letter_at, IsJudged, kinds_read, HasLegendOf, key, legend, legend_lines, letters_with, numbers_in, pages_below, batch_line, batch_lines, batches_in, counts_part, frame_cells, grid_text, head_line, number_column, totals_line, placed_in, place_header, place_listing, place_rows, IsEmitting, end_row, first_row, rows_between, ReadsAs, NumbersPages, number_below, view_text, Judged, Placed, View, Grid, Places, Drawing}
+use Rattle.std.proofs.Common.{codes}
 use Rattle.pocsag_words.specs.declared.device.Sink.{Ghosts as Writer}
-use Rattle.pocsag_pages.specs.declared.page.Page.{Page}
-use Rattle.pocsag_pages.specs.Bytes.{codewords_in}
-use Rattle.pocsag_pages.specs.Plain.{pages_from}
-use Rattle.pocsag_pages.proofs.Readings.{reads_plainly}
-use Rattle.pocsag_show.specs.Drawing.{behind_pages, drawing, drawing_text, frame_lines, heading, opening, page_drawn, row_drawn, rows_and_pages, text_before}
-use Rattle.pocsag_show.specs.Grid.{idles_in, letter_at}
-use Rattle.pocsag_show.specs.Judged.{IsJudged, kinds_read}
-use Rattle.pocsag_show.specs.Legend.{HasLegendOf, key, legend, legend_lines}
-use Rattle.pocsag_show.specs.Letters.{letters_with}
-use Rattle.pocsag_show.specs.Numbers.{numbers_in, pages_below}
-use Rattle.pocsag_show.specs.Picture.{batch_line, batch_lines, batches_in, counts_part, frame_cells, grid_text, head_line, number_column, picture, totals_line}
-use Rattle.pocsag_show.specs.Placed.{placed_in}
-use Rattle.pocsag_show.specs.Places.{place_header, place_listing, place_rows}
-use Rattle.pocsag_show.specs.Emission.{IsEmitting}
-use Rattle.pocsag_show.specs.Rows.{end_row, first_row, rows_between}
-use Rattle.pocsag_decode.specs.Faults.{ReadsAs}
-use Rattle.pocsag_show.specs.PageNumbers.{NumbersPages, number_below}
-use Rattle.pocsag_show.specs.Views.{view_text}
-use Rattle.pocsag_show.specs.declared.judged.Judged.{Judged}
-use Rattle.pocsag_show.specs.declared.placed.Placed.{Placed}
 use Rattle.pocsag_show.specs.declared.rows.Rows.{Rows}
-use Rattle.pocsag_show.specs.declared.view.View.{View}
-use Rattle.pocsag_show.specs.declared.view.View.TheVariants.{Grid, Places, Drawing}
 use Rattle.pocsag_show.proofs.JudgedBytes.{kinds_are, pages_are}
 use Rattle.pocsag_show.proofs.LettersBefore.{length-letters_with, letters_at}
 use Rattle.pocsag_show.proofs.Emitted.{begun}
@@ -87,7 +60,7 @@ module _ (X : List ℕ) (judged : Judged) (j : IsJudged X judged) where
     grid_is : (rows : Rows) → grid_text rows kinds j.pages
         ≡ totals_line judged.counts.batches judged.counts.codewords judged.counts.idles
         ++ (head_line ++ batch_lines (slice_index letters) (first_row rows) (end_row rows (length letters / 16)))
-    unfolding picture
+    unfolding grid_text
     grid_is rows =
         let n = count in
         let same : batches_in kinds ≡ length letters / 16 = ap (λ (m : ℕ). m / 16) (sym n) in
@@ -128,7 +101,7 @@ first_some : (xs ys : List ℕ) → 0 < length xs → 0 < length (xs ++ ys)
 first_some xs ys some = omega (arith, length-append xs ys)
 
 pub view_some : (view : View) (ks : List Kind) (ps : List Page) → 0 < length (view_text view ks ps)
-unfolding picture place_listing drawing drawing_text
+unfolding grid_text place_listing drawing drawing_text
 view_some (Grid rows) ks ps = first_some _ _ (totals_some (batches_in ks) (length ks - idles_in ks) (idles_in ks))
 view_some Places ks ps = first_some (row_text default_writer place_header) (place_rows (placed_in ks ps)) header_some
 view_some (Drawing rows) ks ps =
@@ -146,47 +119,6 @@ listing_begun Out now ks ps text left t are =
     (ap₂ (λ (x y : List ℕ). x ++ y) (sym t) (ap place_rows (sym are) ∙ sym (append-nil (place_rows left))))
     (omega (arith, ap length t, header_some))
 
--- the drawing, whose legend has the first of these pages
-drawn_parts : (heading rows pages frames rest : List ℕ)
-    → heading ++ ((rows ++ (pages ++ frames)) ++ rest) ≡ heading ++ (rows ++ (pages ++ ((frames ++ rest) ++ [])))
-drawn_parts heading rows pages frames rest =
-    ap (λ (l : List ℕ). heading ++ l)
-    (append_assoc rows (pages ++ frames) rest
-    ∙ ap (λ (l : List ℕ). rows ++ l)
-    (append_assoc pages frames rest ∙ ap (λ (l : List ℕ). pages ++ l) (sym (append-nil (frames ++ rest)))))
-
-pub drawing_begun : {S : Type 0} (Out : Writer S) (now : S) (X : List ℕ) (judged : Judged) (j : IsJudged X judged) (rows : Rows)
-    (low high : ℕ) (text : List ℕ) (first pls again : List Placed) → low ≡ first_row rows → high ≡ end_row rows judged.counts.batches
-    → pls ≡ placed_in (kinds_read j.reading) j.pages → again ≡ placed_in (kinds_read j.reading) j.pages → HasLegendOf low high first pls
-    → text ≡ heading low high judged.counts.batches judged.counts.codewords judged.counts.idles (legend_lines low high first)
-    → IsEmitting Out now now (drawing rows (kinds_read j.reading) j.pages) text
-    (flat_map (row_drawn low) (rows_between low high) ++ (flat_map (page_drawn low high) again ++ (behind_pages low high first ++ [])))
-unfolding drawing drawing_text rows_and_pages behind_pages
-drawing_begun Out now X judged j rows low high text first pls again l h are same has t =
-    let ks = kinds_read j.reading in
-    let b = judged.counts.batches in
-    let w = judged.counts.codewords in
-    let i = judged.counts.idles in
-    let placed = placed_in ks j.pages in
-    let equal : again ≡ pls = same ∙ sym are in
-    let lines : legend_lines low high again ≡ legend_lines low high first = ap (legend_lines low high) equal ∙ sym has.lines in
-    let legends : legend low high again ≡ legend low high first = ap (legend low high) equal ∙ sym has.legend in
-    let end = codes "</svg>" ++ (10 ∷ []) in
-    let drawn_rows = flat_map (row_drawn low) (rows_between low high) in
-    let drawn_pages = flat_map (page_drawn low high) again in
-    let due : drawing rows ks j.pages ≡ drawing_text low high b w i again =
-    ap (λ (n : ℕ). drawing_text (first_row rows) (end_row rows n) n (length ks - idles_in ks) (idles_in ks) placed) (batches_are X judged j)
-    ∙ (ap₂ (λ (x y : ℕ). drawing_text (first_row rows) (end_row rows b) b x y placed) (sym j.codewords) (sym j.idles)
-    ∙ (ap₂ (λ (x y : ℕ). drawing_text x y b w i placed) (sym l) (sym h) ∙ ap (drawing_text low high b w i) (sym same))) in
-    begun Out now now (drawing rows ks j.pages) text
-    (drawn_rows ++ (drawn_pages ++ (behind_pages low high first ++ [])))
-    (due
-    ∙ (ap₂ (λ (n : ℕ) (x : List ℕ). heading low high b w i n ++ (rows_and_pages low high again ++ (key (high - low) ++ (x ++ end)))) lines legends
-    ∙ (drawn_parts (heading low high b w i (legend_lines low high first)) drawn_rows drawn_pages (frame_lines (high - low))
-    (key (high - low) ++ (legend low high first ++ end))
-    ∙ ap (λ (x : List ℕ). x ++ (drawn_rows ++ (drawn_pages ++ (behind_pages low high first ++ [])))) (sym t))))
-    (omega (arith, ap length t, heading_some low high b w i (legend_lines low high first)))
-
 -- the pages that a reader hands out
 pub placed_again : (X : List ℕ) (judged : Judged) (j : IsJudged X judged) (pls : List Placed)
     → ((ps : List Page) (reading : ReadsAs judged.bytes.now ps) → NumbersPages ps judged.numbers → pls ≡ placed_in (kinds_read reading) ps)
@@ -194,3 +126,40 @@ pub placed_again : (X : List ℕ) (judged : Judged) (j : IsJudged X judged) (pls
 placed_again X judged j pls left =
     subst (λ (Y : List ℕ). (reading : ReadsAs Y j.pages) → pls ≡ placed_in (kinds_read reading) j.pages) j.bytes
     (λ reading. left j.pages reading j.numbers) j.reading
+
+-- the drawing, whose legend has the first of these pages
+pub drawing_begun : {S : Type 0} (Out : Writer S) (now : S) (X : List ℕ) (judged : Judged) (j : IsJudged X judged) (rows : Rows)
+    (low high : ℕ) (none text : List ℕ) (first kept pls again : List Placed) → low ≡ first_row rows → high ≡ end_row rows judged.counts.batches
+    → ((ps : List Page) (reading : ReadsAs judged.bytes.now ps) → NumbersPages ps judged.numbers → pls ≡ placed_in (kinds_read reading) ps)
+    → ((ps : List Page) (reading : ReadsAs judged.bytes.now ps) → NumbersPages ps judged.numbers → again ≡ placed_in (kinds_read reading) ps)
+    → first ≡ kept → HasLegendOf low high kept pls → none ≡ []
+    → text ≡ none ++ heading low high judged.counts.batches judged.counts.codewords judged.counts.idles (legend_lines low high first)
+    → IsEmitting Out now now (drawing rows (kinds_read j.reading) j.pages) text
+    (flat_map (row_drawn low) (rows_between low high) ++ (flat_map (page_drawn low high) again ++ (behind_pages low high first ++ [])))
+unfolding drawing drawing_text behind_pages
+drawing_begun Out now X judged j rows low high none text first kept pls again l h left_first left all has empty put =
+    let ks = kinds_read j.reading in
+    let b = judged.counts.batches in
+    let w = judged.counts.codewords in
+    let i = judged.counts.idles in
+    let placed = placed_in ks j.pages in
+    let same : again ≡ placed = placed_again X judged j again left in
+    let equal : again ≡ pls = same ∙ sym (placed_again X judged j pls left_first) in
+    let lines : legend_lines low high again ≡ legend_lines low high first =
+    ap (legend_lines low high) equal ∙ (sym has.lines ∙ ap (legend_lines low high) (sym all)) in
+    let legends : legend low high again ≡ legend low high first =
+    ap (legend low high) equal ∙ (sym has.legend ∙ ap (legend low high) (sym all)) in
+    let drawn_rows = flat_map (row_drawn low) (rows_between low high) in
+    let drawn_pages = flat_map (page_drawn low high) again in
+    let head = heading low high b w i (legend_lines low high first) in
+    let t : text ≡ head = put ∙ ap (λ (l : List ℕ). l ++ head) empty in
+    let due : drawing rows ks j.pages ≡ drawing_text low high b w i again =
+    ap (λ (n : ℕ). drawing_text (first_row rows) (end_row rows n) n (length ks - idles_in ks) (idles_in ks) placed) (batches_are X judged j)
+    ∙ (ap₂ (λ (x y : ℕ). drawing_text (first_row rows) (end_row rows b) b x y placed) (sym j.codewords) (sym j.idles)
+    ∙ (ap₂ (λ (x y : ℕ). drawing_text x y b w i placed) (sym l) (sym h) ∙ ap (drawing_text low high b w i) (sym same))) in
+    begun Out now now (drawing rows ks j.pages) text (drawn_rows ++ (drawn_pages ++ (behind_pages low high first ++ [])))
+    (due
+    ∙ ap₂ (λ (x y : List ℕ). x ++ (drawn_rows ++ (drawn_pages ++ y))) (ap (heading low high b w i) lines ∙ sym t)
+    (ap (λ (x : List ℕ). frame_lines (high - low) ++ (key (high - low) ++ (x ++ (codes "</svg>" ++ (10 ∷ []))))) legends
+    ∙ sym (append-nil (behind_pages low high first))))
+    (omega (arith, ap length t, heading_some low high b w i (legend_lines low high first)))

@@ -23,9 +23,6 @@ abbrev pub starts_from : ℕ → List Kind → List ℕ
 starts_from i [] = []
 starts_from i (k ∷ ks) = (if is_address k then i ∷ [] else []) ++ starts_from (i + 1) ks
 
-abbrev pub starts_of : List Kind → List ℕ
-starts_of ks = starts_from 0 ks
-
 -- The letter of a codeword where so many pages began before it, whose numbers are given: a full stop for an idle, the
 -- capital letter of the page that an address codeword begins, the small letter of the page that began last for
 -- a message codeword.

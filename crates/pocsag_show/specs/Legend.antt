@@ -41,21 +41,16 @@ key count =
     ++ (codes "' width='12' height='18'/><text class='n' x='248' y='" ++ (decimal (y + 13)
     ++ (codes "'>synchronisation codeword</text>" ++ (10 ∷ [])))))))))
 
--- An address and a kind, at the end of a page's group.
-unfoldable pub address_named : (x y address : ℕ) → List ℕ
-address_named x y address =
-    codes "<text class='n' x='" ++ (decimal x ++ (codes "' y='" ++ (decimal (y + 13) ++ (codes "'>" ++ (decimal address ++ codes " ")))))
-
-unfoldable pub names : (x y address : ℕ) → List ℕ → List ℕ
-names x y address kind = address_named x y address ++ (kind ++ (codes "</text></g>" ++ (10 ∷ [])))
-
 -- The entry of a page at a place, the first line of the legend with this upper side: its hue, its label, its address
 -- and its kind.
 unfoldable pub entry : (top place : ℕ) → Placed → List ℕ
 entry top place pl =
     let x = 80 + 150 * (place % 3) in
     let y = top + 22 * (place / 3) in
-    opened pl.number ++ (rectangle x y 28 ++ (head x y pl.number ++ names (x + 34) y pl.page.address (kind_field pl.page.function pl.page.payload)))
+    opened pl.number ++ (rectangle x y 28 ++ (head x y pl.number
+    ++ (codes "<text class='n' x='" ++ (decimal (x + 34) ++ (codes "' y='" ++ (decimal (y + 13)
+    ++ (codes "'>" ++ (decimal pl.page.address ++ (codes " " ++ (kind_field pl.page.function pl.page.payload
+    ++ (codes "</text></g>" ++ (10 ∷ []))))))))))))
 
 unfoldable pub entry_of : (low high : ℕ) → List Placed → Placed → List ℕ
 entry_of low high pls pl =

@@ -1,4 +1,3 @@
-pub mod Counted
 pub mod Drawing
 pub mod Emission
 pub mod Escapes
@@ -8,7 +7,6 @@ pub mod Kinds
 pub mod Legend
 pub mod Letters
 pub mod Marks
-pub mod Measures
 pub mod Numbers
 pub mod PageNumbers
 pub mod Picture

@@ -1,7 +1,7 @@
 -- What is drawn of a page in a cell and behind it (this project's own).
-use Rattle.std.specs.Prelude.{ℕ, ◌+◌, List, [], ◌∷◌, ◌++◌, codes}
+use Rattle.std.specs.Prelude.{ℕ, ◌+◌, ◌%◌, List, ◌∷◌, ◌++◌, codes}
 use Rattle.std.specs.Fmt.{decimal}
-use Rattle.pocsag_show.specs.Numbers.{hue, label, small_label}
+use Rattle.pocsag_show.specs.Numbers.{label, small, turn}
 
 -- A rectangle over codewords.
 unfoldable pub rectangle : (x y width : ℕ) → List ℕ
@@ -10,23 +10,18 @@ rectangle x y width =
 
 -- The address codeword: a darker rectangle over all of it but 4 at its right, where the page's tint is seen, and the
 -- label. The baseline of a text is 13 below the upper side of its row.
-unfoldable pub head_opened : (x y : ℕ) → List ℕ
-head_opened x y =
-    codes "<rect class='k' x='" ++ (decimal x ++ (codes "' y='" ++ (decimal y ++ (codes "' width='24' height='18'/><text class='l' x='"
-    ++ (decimal (x + 12) ++ (codes "' y='" ++ (decimal (y + 13) ++ codes "'>")))))))
-
 unfoldable pub head : (x y number : ℕ) → List ℕ
-head x y number = head_opened x y ++ (label number ++ codes "</text>")
+head x y number =
+    codes "<rect class='k' x='" ++ (decimal x ++ (codes "' y='" ++ (decimal y ++ (codes "' width='24' height='18'/><text class='l' x='"
+    ++ (decimal (x + 12) ++ (codes "' y='" ++ (decimal (y + 13)
+    ++ (codes "'>" ++ (label number ++ codes "</text>")))))))))
 
 -- The first codeword of a page's further row, with its label in small.
 unfoldable pub tail : (x y number : ℕ) → List ℕ
 tail x y number =
     codes "<text class='m' x='" ++ (decimal (x + 12) ++ (codes "' y='" ++ (decimal (y + 13) ++ (codes "'>"
-    ++ (small_label number ++ codes "</text>")))))
+    ++ (small number ∷ turn number ++ codes "</text>")))))
 
--- What is of a page stands in a group of its hue.
+-- What is of a page stands in a group of its hue: one of twelve in turn, of which each is far from the next.
 unfoldable pub opened : ℕ → List ℕ
-opened number = codes "<g class='p" ++ (decimal (hue number) ++ codes "'>")
-
-abbrev pub group_end : List ℕ
-group_end = codes "</g>" ++ (10 ∷ [])
+opened number = codes "<g class='p" ++ (decimal (number % 12) ++ codes "'>")

@@ -1,4 +1,4 @@
--- The number of a page, and by it its letter, its label and its hue (this project's own). They are functions of the
+-- The number of a page, and by it its letter and its label (this project's own). They are functions of the
 -- addresses in the transmission alone and not of where a page stands, so two transmissions of one round agree in them.
 use Rattle.std.specs.Prelude.{ℕ, ◌+◌, ◌/◌, ◌%◌, nat_lt, if◌then◌else◌, List, [], ◌∷◌, map}
 use Rattle.std.specs.List.{count_by}
@@ -26,10 +26,3 @@ turn number = if nat_lt number 26 then [] else decimal (number / 26 + 1)
 
 abbrev pub label : ℕ → List ℕ
 label number = capital number ∷ turn number
-
-abbrev pub small_label : ℕ → List ℕ
-small_label number = small number ∷ turn number
-
--- The twelve hues in turn, of which each is far from the next.
-abbrev pub hue : ℕ → ℕ
-hue number = number % 12

@@ -15,25 +15,19 @@ use Rattle.pocsag_show.specs.Rows.{end_row, first_row, rows_between}
 abbrev pub batches_in : List Kind → ℕ
 batches_in ks = length ks / 16
 
--- So many of the codewords of the batches in per cent, to the nearest whole one, a half upwards.
-unfoldable pub share : (idles batches : ℕ) → ℕ
-share idles batches = (100 * idles + 8 * batches) / (16 * batches)
-
--- How many batches, codewords of pages and idle codewords there are, and the share of the idle ones.
+-- How many batches, codewords of pages and idle codewords there are, and the share of the idle ones in per cent, to the
+-- nearest whole one, a half upwards.
 unfoldable pub counts_part : (batches codewords idles : ℕ) → List ℕ
 counts_part batches codewords idles =
     codes "batches " ++ (decimal batches ++ (codes ", codewords " ++ (decimal codewords ++ (codes ", idles "
-    ++ (decimal idles ++ (codes " (" ++ (decimal (share idles batches) ++ codes "%)")))))))
+    ++ (decimal idles ++ (codes " (" ++ (decimal ((100 * idles + 8 * batches) / (16 * batches)) ++ codes "%)")))))))
 
--- How long a transmission of so many batches lasts at a rate in bits a second, and at the three rates, up to the end of
--- the line.
-abbrev pub airtime_at : (batches rate : ℕ) → ℕ
-airtime_at batches rate = airtime (transmission_bits batches) rate
-
+-- How long a transmission of so many batches lasts at the three rates in bits a second, up to the end of the line.
 unfoldable pub airtimes_part : ℕ → List ℕ
 airtimes_part batches =
-    codes ", airtime " ++ (decimal (airtime_at batches 512) ++ (codes " ms at 512 bit/s, " ++ (decimal (airtime_at batches 1200)
-    ++ (codes " ms at 1200 bit/s, " ++ (decimal (airtime_at batches 2400) ++ (codes " ms at 2400 bit/s" ++ (10 ∷ [])))))))
+    let bits = transmission_bits batches in
+    codes ", airtime " ++ (decimal (airtime bits 512) ++ (codes " ms at 512 bit/s, " ++ (decimal (airtime bits 1200)
+    ++ (codes " ms at 1200 bit/s, " ++ (decimal (airtime bits 2400) ++ (codes " ms at 2400 bit/s" ++ (10 ∷ [])))))))
 
 -- The line of totals.
 unfoldable pub totals_line : (batches codewords idles : ℕ) → List ℕ
@@ -62,12 +56,8 @@ batch_line letter batch = number_column (batch + 1) ++ (flat_map (frame_cells le
 unfoldable pub batch_lines : (ℕ → ℕ) → (low high : ℕ) → List ℕ
 batch_lines letter low high = flat_map (batch_line letter) (rows_between low high)
 
--- The text of codewords that fill batches and whose pages have these numbers. The totals are those of all batches.
-unfoldable pub picture : Rows → List ℕ → List Kind → List ℕ
-picture rows numbers ks =
+-- The text of codewords that fill batches and of the pages that they read as. The totals are those of all batches.
+unfoldable pub grid_text : Rows → List Kind → List Page → List ℕ
+grid_text rows ks pages =
     totals_line (batches_in ks) (length ks - idles_in ks) (idles_in ks)
-    ++ (head_line ++ batch_lines (letter_at numbers ks) (first_row rows) (end_row rows (batches_in ks)))
-
--- The same of codewords and the pages that they read as.
-abbrev pub grid_text : Rows → List Kind → List Page → List ℕ
-grid_text rows ks pages = picture rows (numbers_in pages) ks
+    ++ (head_line ++ batch_lines (letter_at (numbers_in pages) ks) (first_row rows) (end_row rows (batches_in ks)))

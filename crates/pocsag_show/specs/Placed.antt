@@ -4,7 +4,7 @@ use Rattle.pocsag_words.specs.declared.codeword.Kind.{Kind}
 use Rattle.pocsag_pages.specs.declared.page.Page.{Page}
 use Rattle.pocsag_pages.specs.Reading.{page_length}
 use Rattle.pocsag_show.specs.declared.placed.Placed.{Placed}
-use Rattle.pocsag_show.specs.Grid.{starts_of}
+use Rattle.pocsag_show.specs.Grid.{starts_from}
 use Rattle.pocsag_show.specs.Numbers.{numbers_in}
 
 -- Each page with the index at which it begins and its number, which stand at its place in two lists; the first page
@@ -16,7 +16,7 @@ placed i starts numbers (p ∷ ps) =
 
 -- The pages of codewords in order of transmission.
 abbrev pub placed_in : List Kind → List Page → List Placed
-placed_in ks ps = placed 0 (starts_of ks) (numbers_in ps) ps
+placed_in ks ps = placed 0 (starts_from 0 ks) (numbers_in ps) ps
 
 -- The index behind the last codeword of a page.
 abbrev pub index_behind : Placed → ℕ

@@ -3,24 +3,6 @@
 use Rattle.std.specs.Prelude.{ℕ, List, [], ◌∷◌, ◌++◌, codes}
 use Rattle.std.specs.Fmt.{decimal}
 
--- Texts, in light, and how they are anchored.
-unfoldable pub text_rules : List ℕ
-text_rules =
-    codes ".pocsag text{fill:#1b1d21;font:11px sans-serif}.pocsag .t{font-size:15px}"
-    ++ codes ".pocsag .m,.pocsag .l{text-anchor:middle}.pocsag .e{text-anchor:end}.pocsag .l{fill:#fff;font-weight:bold}"
-
--- The ground, synchronisation codewords, the hatching of idles and the lines between frames, in light.
-unfoldable pub shape_rules : List ℕ
-shape_rules =
-    codes ".pocsag .b{fill:#fff}.pocsag .s{fill:#777b82}.pocsag .f{fill:none;stroke:#fff;stroke-width:2}"
-    ++ codes ".pocsag .h{stroke:#8a8f98;stroke-width:18;stroke-dasharray:1.4 4.2}"
-
--- What of these differs where dark is preferred.
-unfoldable pub dark_rules : List ℕ
-dark_rules =
-    codes ".pocsag text{fill:#fff}.pocsag .l{fill:#16181c}.pocsag .b{fill:#16181c}.pocsag .s{fill:#8a8f98}"
-    ++ (codes ".pocsag .h{stroke:#6b717b}.pocsag .f{stroke:#16181c}")
-
 -- The colour of what a page of a hue has, and the colours of its codewords and of its address codeword.
 unfoldable pub hue_rule : (hue : ℕ) → (what colour : List ℕ) → List ℕ
 hue_rule hue what colour = codes ".pocsag .p" ++ (decimal hue ++ (what ++ (codes "{fill:#" ++ (colour ++ codes "}"))))
@@ -45,11 +27,22 @@ of_hues rules =
     ++ (rules 10 (codes "f9dca7") (codes "543f01") (codes "4f2d0a") (codes "ffd1ae")
     ++ rules 11 (codes "0195b9") (codes "03485b") (codes "0a8392") (codes "8ee8f7")))))))))))
 
+-- In light: texts and how they are anchored; the ground, synchronisation codewords, the hatching of idles and the lines
+-- between frames; and the hues.
 unfoldable pub light_style : List ℕ
-light_style = text_rules ++ (shape_rules ++ of_hues (λ hue tint dark dark_tint light. hue_rules hue tint dark))
+light_style =
+    codes ".pocsag text{fill:#1b1d21;font:11px sans-serif}.pocsag .t{font-size:15px}"
+    ++ (codes ".pocsag .m,.pocsag .l{text-anchor:middle}.pocsag .e{text-anchor:end}.pocsag .l{fill:#fff;font-weight:bold}"
+    ++ (codes ".pocsag .b{fill:#fff}.pocsag .s{fill:#777b82}.pocsag .f{fill:none;stroke:#fff;stroke-width:2}"
+    ++ (codes ".pocsag .h{stroke:#8a8f98;stroke-width:18;stroke-dasharray:1.4 4.2}"
+    ++ of_hues (λ hue tint dark dark_tint light. hue_rules hue tint dark))))
 
+-- What of these differs where dark is preferred.
 unfoldable pub dark_style : List ℕ
-dark_style = dark_rules ++ of_hues (λ hue tint dark dark_tint light. hue_rules hue dark_tint light)
+dark_style =
+    codes ".pocsag text{fill:#fff}.pocsag .l{fill:#16181c}.pocsag .b{fill:#16181c}.pocsag .s{fill:#8a8f98}"
+    ++ (codes ".pocsag .h{stroke:#6b717b}.pocsag .f{stroke:#16181c}"
+    ++ of_hues (λ hue tint dark dark_tint light. hue_rules hue dark_tint light))
 
 -- Printing is in light.
 unfoldable pub style : List ℕ

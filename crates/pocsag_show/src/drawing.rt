@@ -14,7 +14,7 @@ use crate::emission::{emit, emit_rest};
 use crate::fault::ShowFault;
 use crate::heading::{put_seen_before, put_text_before};
 use crate::judged::Judged;
-use crate::legend::{first_drawn, legend_lines, put_key, put_legend};
+use crate::legend::{first_drawn, legend_lines, put_legend};
 use crate::page_lines::emit_pages;
 use crate::pieces::{put, put_printed};
 use crate::placed::Placed;
@@ -25,30 +25,22 @@ use crate::window::Window;
 use pocsag_words::{FRAMES, Sink};
 use std::alloc::{AllocError, Global};
 
-// Writes a row behind its pages.
-#[tactic(auto, unfolding(crate::specs::Drawing::row_drawn, crate::specs::Drawing::row_drawn_at))]
-fn put_row(text: &mut Vec<u8>, low: usize, row: usize) -> Result<(), AllocError>
-    ensures { OnOk result (text.new.items ≡ text.old.items ++ row_drawn low row) }
-{
-    let number = row as u128 + 1;
-    let y = row_top(low, row);
-    let (middle, base) = (y + 9, y + 13);
-    put_printed(
-        text,
-        format_args!(
-            "<text class='e' x='50' y='{base}'>{number}</text>\
-            <rect class='s' x='60' y='{y}' width='12' height='18'/><path class='h' d='M80 {middle}h448'/>\n"
-        ),
-    )
-}
-
-// Writes the rows that are drawn.
+// Writes the rows that are drawn, behind their pages.
 fn emit_rows<S: Sink>(text: &mut Vec<u8>, sink: &mut S, window: Window) -> Result<(), ShowFault>
     ensures { Emits S.Sink result sink.old sink.new text.old.items text.new.items
         (flat_map (row_drawn window.low) (rows_between window.low window.high)) }
 {
     for row in window.low..window.high {
-        put_row(text, window.low, row)?;
+        let number = row as u128 + 1;
+        let y = row_top(window.low, row);
+        let (middle, base) = (y + 9, y + 13);
+        put_printed(
+            text,
+            format_args!(
+                "<text class='e' x='50' y='{base}'>{number}</text>\
+                <rect class='s' x='60' y='{y}' width='12' height='18'/><path class='h' d='M80 {middle}h448'/>\n"
+            ),
+        )?;
         emit(text, sink)?;
     }
     Ok(())
@@ -85,14 +77,23 @@ fn put_heading(
     put_seen_before(text, window, counts, lines)
 }
 
-// Writes what stands behind the pages.
+// Writes what stands behind the pages: the lines between frames, what hatching and narrow rectangles mean, and the legend.
 fn put_end(text: &mut Vec<u8>, window: Window, drawn: &[Placed]) -> Result<(), AllocError>
     requires { All (λ pl. IsListable pl.page) drawn.now }
     ensures { OnOk result (text.new.items ≡ text.old.items
         ++ behind_pages window.low window.high drawn.now) }
 {
     put_frame_lines(text, window.count())?;
-    put_key(text, window.count())?;
+    let y = 86 + 22 * window.count() as u128;
+    let (middle, base) = (y + 9, y + 13);
+    put_printed(
+        text,
+        format_args!(
+            "<path class='h' d='M80 {middle}h28'/><text class='n' x='114' y='{base}'>idle codeword</text>\
+            <rect class='s' x='230' y='{y}' width='12' height='18'/>\
+            <text class='n' x='248' y='{base}'>synchronisation codeword</text>\n"
+        ),
+    )?;
     put_legend(text, window, drawn)?;
     put(text, b"</svg>\n")
 }

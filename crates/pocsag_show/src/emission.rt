@@ -7,7 +7,8 @@ use pocsag_words::{Sink, write_all};
 // The most bytes of text that wait before they are written, beside those of one page or row.
 const PIECE: usize = 1_048_576;
 
-/// Writes the text so far out where it is long, but for its last byte: while memory may be refused, the text is not whole.
+/// Writes the text so far out if it is long, but keeps its last byte: the text is not whole while memory may be
+/// refused.
 pub(crate) fn emit<S: Sink>(text: &mut Vec<u8>, sink: &mut S) -> Result<(), ShowFault>
     ensures { Emits S.Sink result sink.old sink.new text.old.items text.new.items [] }
 {

@@ -11,7 +11,7 @@ use pocsag_words::{BATCH_CODEWORDS, FRAMES};
 use std::alloc::AllocError;
 
 /// Writes what is reported before the rows: which batches are drawn, the totals and what the drawing is.
-#[tactic(auto, unfolding(crate::specs::Drawing::text_before, crate::specs::Drawing::opening, crate::specs::Drawing::title, crate::specs::Drawing::description, crate::specs::Drawing::explanation))]
+#[tactic(auto, unfolding(crate::specs::Drawing::text_before, crate::specs::Drawing::opening, crate::specs::Drawing::title, crate::specs::Drawing::description))]
 pub(crate) fn put_text_before(
     text: &mut Vec<u8>,
     window: Window,
@@ -69,9 +69,9 @@ fn put_axis(
     Ok(())
 }
 
-/// Writes what is seen before the rows: on the ground which batches are drawn, the counts, and the words frame, slot and
-/// batch with the numbers of the frames and slots.
-#[tactic(auto, unfolding(crate::specs::Drawing::seen_before, crate::specs::Drawing::headed, crate::specs::Drawing::counted, crate::specs::Drawing::axes))]
+/// Writes what is drawn before the rows: on the background which batches are drawn, the counts, and the words frame,
+/// slot and batch with the numbers of the frames and slots.
+#[tactic(auto, unfolding(crate::specs::Drawing::seen_before, crate::specs::Drawing::headed, crate::specs::Drawing::axes))]
 pub(crate) fn put_seen_before(
     text: &mut Vec<u8>,
     window: Window,

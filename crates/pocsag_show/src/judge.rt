@@ -3,13 +3,13 @@ ghost use Rattle.pocsag_show.specs.Shows.{Explains};
 ghost use Rattle.pocsag_show.specs.Judged.{IsJudged};
 ghost use Rattle.pocsag_show.specs.declared.fault.ShowFault.TheVariants as fault;
 
-use crate::codeword_counts::{CodewordCounts, codeword_counts};
 use crate::counts::Counts;
 use crate::fault::ShowFault;
 use crate::judged::Judged;
+use crate::kind_reader::KindReader;
 use crate::page_numbers::PageNumbers;
 use pocsag_decode::judge_bytes;
-use pocsag_words::BATCH_CODEWORDS;
+use pocsag_words::{BATCH_CODEWORDS, Kind};
 use std::alloc::Global;
 
 /// The numbers of the pages of a transmission and the counts of its codewords, or its first fault.
@@ -21,15 +21,19 @@ pub(crate) fn judge(alloc: Global, bytes: &[u8]) -> Result<Judged<'_>, ShowFault
         Ok(()) => {}
         Err(fault) => return Err(ShowFault::Transmission(fault)),
     }
-    let CodewordCounts {
-        codewords,
-        idles,
-        pages,
-    } = codeword_counts(bytes);
+    let mut kinds = KindReader::new(bytes);
+    let (mut idles, mut pages) = (0, 0);
+    while let Some(kind) = kinds.next() {
+        match kind {
+            Kind::Idle => idles += 1,
+            Kind::Address { .. } => pages += 1,
+            Kind::Message(_) => {}
+        }
+    }
     let numbers = PageNumbers::new(alloc, bytes, pages)?;
     let counts = Counts {
-        batches: (codewords / BATCH_CODEWORDS) as u64,
-        codewords: (codewords - idles) as u64,
+        batches: (kinds.index / BATCH_CODEWORDS) as u64,
+        codewords: (kinds.index - idles) as u64,
         idles: idles as u64,
     };
     Ok(Judged {

@@ -1,6 +1,6 @@
 ghost use Rattle.std.specs.Prelude.{◌≡◌, ◌<◌, ◌≤◌, ◌^◌, ◌++◌, IfOk, OnOk, All, length};
 ghost use Rattle.pocsag_pages.specs.Listable.{IsListable};
-ghost use Rattle.pocsag_show.specs.Legend.{HasLegendOf, drawn_in, entry, entry_of, key, legend, legend_lines, place_in, stands_before};
+ghost use Rattle.pocsag_show.specs.Legend.{HasLegendOf, drawn_in, entry, legend, legend_lines, place_in};
 ghost use Rattle.pocsag_show.specs.PlacedReaders.{placed_left};
 
 use crate::marks::{put_head, put_opened, put_rectangle};
@@ -51,19 +51,15 @@ fn drawn_in(window: Window, pages: &[Placed]) -> usize
     count
 }
 
-fn stands_before(placed: &Placed, other: &Placed) -> bool
-    ensures { result ≡ stands_before placed.now other.now }
-{
-    placed.number < other.number || (placed.number == other.number && placed.start < other.start)
-}
-
 // How many of the pages that are drawn stand before this one in the legend.
 fn place_in(window: Window, pages: &[Placed], placed: &Placed) -> usize
     ensures { result ≡ place_in window.low window.high pages.now placed.now }
 {
     let mut count = 0;
     for other in pages {
-        if other.is_drawn(window) && stands_before(other, placed) {
+        let stands_before = other.number < placed.number
+            || (other.number == placed.number && other.start < placed.start);
+        if other.is_drawn(window) && stands_before {
             count += 1;
         }
     }
@@ -79,25 +75,8 @@ pub(crate) fn legend_lines(window: Window, pages: &[Placed]) -> usize
     if count <= MOST { (count + 2) / 3 } else { 1 }
 }
 
-/// Writes what hatching and narrow rectangles mean, under so many rows.
-#[tactic(auto, unfolding(crate::specs::Legend::key))]
-pub(crate) fn put_key(text: &mut Vec<u8>, count: usize) -> Result<(), AllocError>
-    ensures { OnOk result (text.new.items ≡ text.old.items ++ key count) }
-{
-    let y = 86 + 22 * count as u128;
-    let (middle, base) = (y + 9, y + 13);
-    put_printed(
-        text,
-        format_args!(
-            "<path class='h' d='M80 {middle}h28'/><text class='n' x='114' y='{base}'>idle codeword</text>\
-            <rect class='s' x='230' y='{y}' width='12' height='18'/>\
-            <text class='n' x='248' y='{base}'>synchronisation codeword</text>\n"
-        ),
-    )
-}
-
 // Writes the entry of a page at a place of the legend, whose upper side is given.
-#[tactic(auto, unfolding(crate::specs::Legend::entry, crate::specs::Legend::names, crate::specs::Legend::address_named))]
+#[tactic(auto, unfolding(crate::specs::Legend::entry))]
 fn put_entry(text: &mut Vec<u8>, top: u128, place: usize, placed: &Placed) -> Result<(), AllocError>
     requires top { top < 2 ^ 100 }
     requires listable { IsListable placed.now.page }
@@ -118,26 +97,8 @@ fn put_entry(text: &mut Vec<u8>, top: u128, place: usize, placed: &Placed) -> Re
     put(text, b"</text></g>\n")
 }
 
-// Writes the entry of a page that is drawn.
-#[tactic(auto, unfolding(crate::specs::Legend::entry_of))]
-fn put_entry_of(
-    text: &mut Vec<u8>,
-    window: Window,
-    pages: &[Placed],
-    placed: &Placed,
-) -> Result<(), AllocError>
-    requires { IsListable placed.now.page }
-    ensures { OnOk result (text.new.items ≡ text.old.items ++ entry_of window.low window.high pages.now placed.now) }
-{
-    if !placed.is_drawn(window) {
-        return Ok(());
-    }
-    let top = 112 + 22 * window.count() as u128;
-    put_entry(text, top, place_in(window, pages, placed), placed)
-}
-
-/// Writes the legend of the pages that are drawn, where they are few, and else where they are reported.
-#[tactic(auto, unfolding(crate::specs::Legend::legend, crate::specs::Legend::left_out))]
+/// Writes the legend of the pages that are drawn if they are few, or else where they are listed.
+#[tactic(auto, unfolding(crate::specs::Legend::legend, crate::specs::Legend::entry_of, crate::specs::Legend::left_out))]
 pub(crate) fn put_legend(
     text: &mut Vec<u8>,
     window: Window,
@@ -146,8 +107,8 @@ pub(crate) fn put_legend(
     requires { All (λ pl. IsListable pl.page) pages.now }
     ensures { OnOk result (text.new.items ≡ text.old.items ++ legend window.low window.high pages.now) }
 {
+    let top = 112 + 22 * window.count() as u128;
     if drawn_in(window, pages) > MOST {
-        let top = 112 + 22 * window.count() as u128;
         let base = top + 13;
         return put_printed(
             text,
@@ -156,8 +117,10 @@ pub(crate) fn put_legend(
             ),
         );
     }
-    for placed in pages {
-        put_entry_of(text, window, pages, placed)?;
+    for page in pages {
+        if page.is_drawn(window) {
+            put_entry(text, top, place_in(window, pages, page), page)?;
+        }
     }
     Ok(())
 }

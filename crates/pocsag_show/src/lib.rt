@@ -2,7 +2,6 @@
 //! What a transmission looks like: a text grid of its codewords with a letter for each page, a drawing,
 //! and a listing of where its pages stand.
 
-mod codeword_counts;
 mod counts;
 mod drawing;
 mod emission;

@@ -5,7 +5,7 @@ ghost use Rattle.pocsag_decode.specs.Faults.{ReadsAs};
 ghost use Rattle.pocsag_decode.specs.Lines.{IsReady, PutsRow, text_in};
 ghost use Rattle.pocsag_show.specs.Judged.{IsJudged, kinds_read};
 ghost use Rattle.pocsag_show.specs.PlacedReaders.{placed_left};
-ghost use Rattle.pocsag_show.specs.Places.{place_header, place_listing, place_record, place_rows};
+ghost use Rattle.pocsag_show.specs.Places.{place_listing, place_record, place_rows};
 ghost use Rattle.pocsag_show.specs.Emission.{Emits, EmitsAll};
 
 use crate::emission::emit_rest;
@@ -25,25 +25,6 @@ fn put_record(writer: &mut Writer<Vec<u8>>, fields: &[&[u8]; 7]) -> Result<(), A
     ensures { PutsRow result writer.old writer.new (map (λ field. field.now) fields.now) }
 {
     writer.write_fields(fields).map_err(|_| AllocError)
-}
-
-// Writes the header.
-fn put_header(writer: &mut Writer<Vec<u8>>) -> Result<(), AllocError>
-    requires { IsReady writer.old }
-    ensures { PutsRow result writer.old writer.new place_header }
-{
-    put_record(
-        writer,
-        &[
-            b"batch",
-            b"frame",
-            b"slot",
-            b"codewords",
-            b"address",
-            b"kind",
-            b"message",
-        ],
-    )
 }
 
 // Writes the record of a page.
@@ -99,7 +80,16 @@ pub(crate) fn emit_listing<S: Sink>(
         (place_listing (kinds_read j.reading) j.pages) }
 {
     let mut writer = Writer::from_writer(Vec::new(alloc));
-    put_header(&mut writer)?;
+    let header: [&[u8]; 7] = [
+        b"batch",
+        b"frame",
+        b"slot",
+        b"codewords",
+        b"address",
+        b"kind",
+        b"message",
+    ];
+    put_record(&mut writer, &header)?;
     let mut pages = PlacedReader::new(alloc, judged.bytes, &judged.numbers);
     emit_places(alloc, &mut writer, sink, &mut pages)?;
     let Ok(text) = writer.into_inner() else {

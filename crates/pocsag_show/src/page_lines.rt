@@ -2,10 +2,8 @@ ghost use Rattle.std.specs.Prelude.{◌≡◌, ◌<◌, ◌^◌, ◌++◌, OnOk,
 ghost use Rattle.std.specs.List.{flat_map};
 ghost use Rattle.pocsag_pages.specs.Listable.{IsListable};
 ghost use Rattle.pocsag_show.specs.Drawing.{page_drawn, piece};
-ghost use Rattle.pocsag_show.specs.Legend.{end_row_of, first_row_of};
 ghost use Rattle.pocsag_show.specs.PlacedReaders.{placed_left};
 ghost use Rattle.pocsag_show.specs.Emission.{Emits};
-ghost use Rattle.pocsag_show.specs.Rows.{rows_between};
 
 use crate::emission::emit;
 use crate::fault::ShowFault;
@@ -37,24 +35,8 @@ fn put_piece(text: &mut Vec<u8>, low: usize, placed: &Placed, row: usize) -> Res
     }
 }
 
-// Writes what is drawn of a page in the rows in which it has codewords.
-#[tactic(auto, using(crate::proofs::Ranges::put_next, crate::proofs::Ranges::put_all))]
-fn put_pieces(text: &mut Vec<u8>, window: Window, placed: &Placed) -> Result<(), AllocError>
-    requires { window.high < 2 ^ 59 }
-    ensures { OnOk result (text.new.items ≡ text.old.items
-        ++ flat_map (piece window.low placed.now)
-        (rows_between (first_row_of window.low placed.now) (end_row_of window.high placed.now))) }
-{
-    let first = placed.first_row(window);
-    let end = placed.end_row(window);
-    for row in first..end {
-        put_piece(text, window.low, placed, row)?;
-    }
-    Ok(())
-}
-
 // Writes the group of a page that has codewords in the rows that are drawn.
-#[tactic(auto, unfolding(crate::specs::Drawing::page_drawn, crate::specs::Drawing::group, crate::specs::Drawing::page_title))]
+#[tactic(auto, using(crate::proofs::Ranges::put_next, crate::proofs::Ranges::put_all), unfolding(crate::specs::Drawing::page_drawn))]
 fn put_page(
     alloc: Global,
     text: &mut Vec<u8>,
@@ -72,7 +54,11 @@ fn put_page(
     put(text, b"<title>")?;
     put_told(alloc, text, placed)?;
     put(text, b"</title>")?;
-    put_pieces(text, window, placed)?;
+    let first = placed.first_row(window);
+    let end = placed.end_row(window);
+    for row in first..end {
+        put_piece(text, window.low, placed, row)?;
+    }
     put(text, b"</g>\n")
 }
 

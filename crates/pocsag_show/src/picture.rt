@@ -1,5 +1,4 @@
 ghost use Rattle.std.specs.Prelude.{◌≡◌, ℕ, ◌+◌, ◌*◌, ◌<◌, ◌≤◌, ◌++◌, List, OnOk, length, replicate, slice_index};
-ghost use Rattle.std.specs.List.{flat_map, range_with_len};
 ghost use Rattle.pocsag_show.specs.Judged.{IsJudged, kinds_read};
 ghost use Rattle.pocsag_show.specs.Picture.{batch_line, batch_lines, counts_part, frame_cells, grid_text, number_column, totals_line};
 ghost use Rattle.pocsag_show.specs.Emission.{Emits, EmitsAll};
@@ -25,7 +24,7 @@ fn put_spaces(text: &mut Vec<u8>, count: usize) -> Result<(), AllocError>
 }
 
 /// Writes how many batches, codewords of pages and idle codewords there are, and the share of the idle ones.
-#[tactic(auto, unfolding(crate::specs::Picture::counts_part, crate::specs::Picture::share))]
+#[tactic(auto, unfolding(crate::specs::Picture::counts_part))]
 pub(crate) fn put_counts(text: &mut Vec<u8>, counts: Counts) -> Result<(), AllocError>
     requires { 0 < counts.batches }
     ensures { OnOk result (text.new.items ≡ text.old.items
@@ -62,40 +61,22 @@ pub(crate) fn put_totals(text: &mut Vec<u8>, counts: Counts) -> Result<(), Alloc
     )
 }
 
-// Writes a number at the right of three columns, and spaces up to the fifth.
-#[tactic(auto, unfolding(crate::specs::Picture::number_column))]
-fn put_number(text: &mut Vec<u8>, number: u64) -> Result<(), AllocError>
-    ensures { OnOk result (text.new.items ≡ text.old.items ++ number_column number) }
-{
-    let mut buffer = Buffer::new();
-    let digits = buffer.format(number).as_bytes();
-    put_spaces(text, 3usize.saturating_sub(digits.len()))?;
-    put(text, digits)?;
-    put_spaces(text, 2usize.saturating_sub(digits.len().saturating_sub(3)))
-}
-
-// Writes the eight frames of a batch, each with its two cells.
-#[tactic(auto, using(crate::proofs::Ranges::put_more), unfolding(crate::specs::Picture::frame_cells))]
-fn put_frames(text: &mut Vec<u8>, letters: &[u8], batch: usize) -> Result<(), AllocError>
-    requires { 16 * batch + 16 ≤ length letters.now }
-    ensures { OnOk result (text.new.items ≡ text.old.items
-        ++ flat_map (frame_cells (slice_index letters.now) batch) (range_with_len 0 8)) }
-{
-    for frame in 0..FRAMES {
-        let index = BATCH_CODEWORDS * batch + 2 * frame;
-        put(text, &[b' ', letters[index], letters[index + 1]])?;
-    }
-    Ok(())
-}
-
-// Writes the line of a batch.
-#[tactic(auto, unfolding(crate::specs::Picture::batch_line))]
+// Writes the line of a batch: its number at the right of three columns, spaces up to the fifth, and its eight frames, each
+// with its two cells.
+#[tactic(auto, using(crate::proofs::Ranges::put_more), unfolding(crate::specs::Picture::batch_line, crate::specs::Picture::number_column, crate::specs::Picture::frame_cells))]
 fn put_batch(text: &mut Vec<u8>, letters: &[u8], batch: usize) -> Result<(), AllocError>
     requires { 16 * batch + 16 ≤ length letters.now }
     ensures { OnOk result (text.new.items ≡ text.old.items ++ batch_line (slice_index letters.now) batch) }
 {
-    put_number(text, batch as u64 + 1)?;
-    put_frames(text, letters, batch)?;
+    let mut buffer = Buffer::new();
+    let digits = buffer.format(batch as u64 + 1).as_bytes();
+    put_spaces(text, 3usize.saturating_sub(digits.len()))?;
+    put(text, digits)?;
+    put_spaces(text, 2usize.saturating_sub(digits.len().saturating_sub(3)))?;
+    for frame in 0..FRAMES {
+        let index = BATCH_CODEWORDS * batch + 2 * frame;
+        put(text, &[b' ', letters[index], letters[index + 1]])?;
+    }
     put(text, b"\n")
 }
 

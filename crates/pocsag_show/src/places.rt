@@ -1,6 +1,6 @@
 ghost use Rattle.std.specs.Prelude.{◌≡◌, ◌<◌, ◌^◌};
 ghost use Rattle.pocsag_show.specs.Legend.{end_row_of, first_row_of, is_drawn};
-ghost use Rattle.pocsag_show.specs.Measures.{row_top};
+ghost use Rattle.pocsag_show.specs.Drawing.{row_top};
 ghost use Rattle.pocsag_show.specs.Placed.{index_behind};
 
 use crate::placed::Placed;

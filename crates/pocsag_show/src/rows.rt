@@ -7,7 +7,7 @@ use std::fmt::{self, Display, Formatter};
 pub struct Rows {
     /// The first that is drawn.
     pub first: u64,
-    /// The last; where there are fewer batches, the last of these is.
+    /// The last; if there are fewer batches, their last one.
     pub last: u64,
     ghost counted: { 1 ≤ first },
     ghost order: { first ≤ last },

@@ -38,12 +38,11 @@ fn emit_view<S: Sink>(
 
 /// Writes how a transmission is shown: as text, which is a line of totals, a line with the numbers of the frames, and a
 /// line for each batch of the rows with a letter for each codeword; as a listing of where each page stands, which is the
-/// record `batch,frame,slot,codewords,address,kind,message` and then a record for each page in order of transmission; or
-/// as a drawing of the rows, which is SVG 1.1. Nothing is written before all bytes are judged. The text is written as it is
-/// made: beside the bytes it holds the address of each page, or where pages are many a number for each address, a
-/// letter for each codeword of the grid, one page, those of the legend, and text up to 1,048,576 bytes beside that of
-/// one page. After `WriteFault` a prefix was written, after `OutOfMemory` one that is not all of it, and after the
-/// other faults nothing.
+/// record `batch,frame,slot,codewords,address,kind,message` and then a record for each page in order of transmission; or as
+/// a drawing of the rows, which is SVG 1.1. Nothing is written before all bytes are judged. The text is written as it is
+/// made: beside the bytes it holds the address of each page, or where pages are many a number for each address, a letter
+/// for each codeword of the grid, one page, those of the legend, and text up to 1,048,576 bytes beside that of one page.
+/// After `WriteFault` a prefix was written; after `OutOfMemory` a prefix, but not all; after the other faults nothing.
 pub fn show<S: Sink>(alloc: Global, view: View, bytes: &[u8], sink: &mut S) -> Result<(), ShowFault>
     ensures shown { S.is_known → OnOk result (Shows (view_text view) bytes.now (S.taken sink.old) (S.taken sink.new)) }
     ensures part { S.is_known → result ≡ Err ShowFault.WriteFault →

@@ -1,5 +1,5 @@
 ghost use Rattle.std.specs.Prelude.{◌≡◌, ◌-◌};
-ghost use Rattle.pocsag_show.specs.Measures.{height};
+ghost use Rattle.pocsag_show.specs.Drawing.{height};
 ghost use Rattle.pocsag_show.specs.Rows.{end_row, first_row};
 
 use crate::rows::Rows;

@@ -1,6 +1,4 @@
-use Rattle.std.proofs.Common.{ℕ, ◌-◌}
-use Rattle.std.specs.List.{flat_map, range_with_len}
-use Rattle.pocsag_show.specs.Drawing.{row_drawn}
+use Rattle.pocsag_show.proofs.Prelude.{ℕ, ◌-◌, flat_map, range_with_len, row_drawn}
 use Rattle.pocsag_show.proofs.Emitted.{StillEmits}
 use Rattle.pocsag_show.proofs.drawing.emit_rows.Given as goal
 

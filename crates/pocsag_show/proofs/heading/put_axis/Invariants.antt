@@ -1,6 +1,4 @@
-use Rattle.std.proofs.Common.{◌≡◌, ◌+◌, ◌*◌, ◌++◌}
-use Rattle.std.specs.List.{flat_map, range_with_len}
-use Rattle.pocsag_show.specs.Drawing.{axis_number}
+use Rattle.pocsag_show.proofs.Prelude.{◌≡◌, ◌+◌, ◌*◌, ◌++◌, flat_map, range_with_len, axis_number}
 use Rattle.pocsag_show.proofs.heading.put_axis.Given as goal
 
 abbrev pub invariant-loop-number : goal.invariant-loop-number

@@ -1,9 +1,8 @@
-use Rattle.std.proofs.Common.{append_assoc}
-use Rattle.pocsag_show.specs.Drawing.{axes, counted, headed, seen_before}
+use Rattle.pocsag_show.proofs.Prelude.{append_assoc, axes, headed, seen_before}
 use Rattle.pocsag_show.proofs.heading.put_seen_before.Goals as goal
 
 pub returns : goal.returns
-unfolding seen_before headed counted axes
+unfolding seen_before headed axes
 returns c =
     simp append_assoc
     (simp append_assoc at (rw (

@@ -1,9 +1,8 @@
-use Rattle.std.proofs.Common.{append_assoc}
-use Rattle.pocsag_show.specs.Drawing.{description, explanation, opening, title, text_before}
+use Rattle.pocsag_show.proofs.Prelude.{append_assoc, description, opening, title, text_before}
 use Rattle.pocsag_show.proofs.heading.put_text_before.Goals as goal
 
 pub returns : goal.returns
-unfolding text_before opening title description explanation
+unfolding text_before opening title description
 returns c =
     simp append_assoc
     (simp append_assoc at (rw (

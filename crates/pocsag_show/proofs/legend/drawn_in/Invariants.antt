@@ -1,5 +1,4 @@
-use Rattle.std.proofs.Common.{◌≡◌, ◌≤◌, take}
-use Rattle.pocsag_show.specs.Legend.{drawn_in}
+use Rattle.pocsag_show.proofs.Prelude.{◌≡◌, ◌≤◌, take, drawn_in}
 use Rattle.pocsag_show.proofs.legend.drawn_in.Given as goal
 
 abbrev pub invariant-loop-placed : goal.invariant-loop-placed

@@ -1,8 +1,4 @@
-use Rattle.std.proofs.Common.{◌≡◌, [], ◌∷◌, true, false, All, sym, subst, ◌∙◌, arith}
-use Rattle.std.proofs.lemmas.List.Elements.{All-append, All-cons, All-head, All-nil, All-tail}
-use Rattle.pocsag_pages.specs.Listable.{IsListable}
-use Rattle.pocsag_show.specs.PlacedReaders.{placed_left}
-use Rattle.pocsag_show.specs.declared.placed.Placed.{Placed}
+use Rattle.pocsag_show.proofs.Prelude.{◌≡◌, [], ◌∷◌, true, false, All, sym, subst, ◌∙◌, arith, All-append, All-cons, All-head, All-nil, All-tail, IsListable, placed_left, Placed}
 use Rattle.pocsag_show.proofs.LegendPages.{collected_begun, legend_full, legend_whole, one_kept, one_skipped}
 use Rattle.pocsag_show.proofs.legend.first_drawn.Goals as goal
 

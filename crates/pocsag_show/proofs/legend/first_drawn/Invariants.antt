@@ -1,6 +1,4 @@
-use Rattle.std.proofs.Common.{All, length}
-use Rattle.pocsag_pages.specs.Listable.{IsListable}
-use Rattle.pocsag_show.specs.PlacedReaders.{placed_left}
+use Rattle.pocsag_show.proofs.Prelude.{All, length, IsListable, placed_left}
 use Rattle.pocsag_show.proofs.LegendPages.{IsCollected}
 use Rattle.pocsag_show.proofs.legend.first_drawn.Given as goal
 

@@ -1,5 +1,4 @@
-use Rattle.std.proofs.Common.{◌≡◌, ◌≤◌, take}
-use Rattle.pocsag_show.specs.Legend.{place_in}
+use Rattle.pocsag_show.proofs.Prelude.{◌≡◌, ◌≤◌, take, place_in}
 use Rattle.pocsag_show.proofs.legend.place_in.Given as goal
 
 abbrev pub invariant-loop-other : goal.invariant-loop-other

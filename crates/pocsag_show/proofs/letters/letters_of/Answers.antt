@@ -1,10 +1,6 @@
-use Rattle.std.proofs.Common.{ℕ, List, [], ◌∷◌, ◌++◌, ap, ap₂, sym, ◌∙◌, append_assoc}
-use Rattle.std.proofs.lemmas.List.{append-nil}
-use Rattle.pocsag_words.specs.declared.codeword.Kind.{Kind}
-use Rattle.pocsag_show.specs.Kinds.{kinds_ahead}
-use Rattle.pocsag_show.specs.Letters.{letters_with}
-use Rattle.pocsag_show.specs.PageNumbers.{number_below}
+use Rattle.pocsag_show.proofs.Prelude.{◌≡◌, ℕ, ◌-◌, List, [], ◌∷◌, ◌++◌, refl, ap, ap₂, sym, ◌∙◌, append_assoc, arith, append-nil, Kind, kinds_ahead, letters_with, number_below}
 use Rattle.pocsag_show.proofs.LettersBefore.{letter_more}
+use Rattle.pocsag_show.proofs.letters.letters_of.Goals.{in-Idle, in-Address, in-Message}
 use Rattle.pocsag_show.proofs.letters.letters_of.Goals as goal
 
 pub loop-kind-init : goal.loop-kind-init
@@ -18,12 +14,22 @@ loop-kind-preserved c =
     let number_of = number_below c.args.numbers.now in
     let loop = c.loop-kind in
     let kinds = c.next.new.self in
-    let rest = letters_with number_of kinds.index c.number_after-last.result (kinds_ahead kinds) in
+    let read = c.in-Some.ensures in
+    let last = c.match-kind.last in
+    let letter = c.match-kind.letter in
+    let rest = letters_with number_of kinds.index last (kinds_ahead kinds) in
     ap (λ (l : List ℕ). l ++ rest) c.in_ok-push.ensures.items
-    ∙ (append_assoc loop.letters.items (c.letter_in.result ∷ []) rest
+    ∙ (append_assoc loop.letters.items (letter ∷ []) rest
     ∙ (ap (λ (l : List ℕ). loop.letters.items ++ l)
-    (letter_more number_of loop.kinds.index kinds.index loop.last c.number_after-last.result c.letter_in.result c.in-Some.kind
-    (kinds_ahead kinds) (kinds_ahead loop.kinds) c.in-Some.ensures.read c.in-Some.ensures.index c.number_after-last.ensures c.letter_in.ensures)
+    (letter_more number_of loop.kinds.index kinds.index loop.last last letter c.in-Some.kind (kinds_ahead kinds) (kinds_ahead loop.kinds) read.read
+    read.index
+    (elim c.match-kind.branch [
+      | in-Idle w ↦ rw (w.in-Idle.is, w.letter-is, w.last-is) refl
+      | in-Address w ↦
+          let i : kinds.index - 1 ≡ loop.kinds.index = omega (arith, read.index) in
+          rw (w.in-Address.is, w.letter-is, w.last-is, w.letter_of-letter.ensures, w.below-last.ensures, w.address_at.ensures.value, i) refl
+      | in-Message w ↦ rw (w.in-Message.is, w.letter-is, w.last-is, w.letter_of-letter-in-Message.ensures) refl
+    ]))
     ∙ loop.invariant))
 
 pub returns : goal.returns

@@ -1,9 +1,4 @@
-use Rattle.std.proofs.Common.{◌≡◌, ◌++◌, length, map}
-use Rattle.pocsag_words.specs.Kinds.{kind_of}
-use Rattle.pocsag_pages.specs.Bytes.{codewords_in}
-use Rattle.pocsag_show.specs.Kinds.{kinds_ahead}
-use Rattle.pocsag_show.specs.Letters.{letters_with}
-use Rattle.pocsag_show.specs.PageNumbers.{number_below}
+use Rattle.pocsag_show.proofs.Prelude.{◌≡◌, ◌++◌, length, map, kind_of, codewords_in, kinds_ahead, letters_with, number_below}
 use Rattle.pocsag_show.proofs.letters.letters_of.Given as goal
 
 abbrev pub invariant-loop-kind : goal.invariant-loop-kind

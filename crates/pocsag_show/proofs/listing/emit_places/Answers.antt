@@ -1,16 +1,5 @@
-use Rattle.std.proofs.Common.{◌≡◌, List, [], ◌∷◌, ◌++◌, All, Err, length, subst, ap, arith}
-use Rattle.std.specs.List.{flat_map}
-use Rattle.std.proofs.lemmas.List.Elements.{All-head, All-tail}
-use Rattle.std.proofs.lemmas.Result.{err_from_is_err_and}
-use Rattle.pocsag_pages.specs.Listable.{IsListable}
-use Rattle.csv.specs.Writing.{default_writer, row_text}
-use Rattle.pocsag_decode.specs.Lines.{text_in}
-use Rattle.pocsag_show.specs.Places.{place_record}
-use Rattle.pocsag_show.specs.PlacedReaders.{placed_left}
-use Rattle.pocsag_show.specs.Emission.{IsEmitting}
-use Rattle.pocsag_show.specs.declared.placed.Placed.{Placed}
-use Rattle.pocsag_show.proofs.Emitted.{emitted_records, put_behind, records_stopped, refused}
-use Rattle.pocsag_show.proofs.Ranges.{element_first}
+use Rattle.pocsag_show.proofs.Prelude.{◌≡◌, List, [], ◌∷◌, ◌++◌, All, Err, length, subst, ap, arith, flat_map, All-head, All-tail, err_from_is_err_and, IsListable, default_writer, row_text, text_in, place_record, placed_left, IsEmitting, Placed}
+use Rattle.pocsag_show.proofs.Emitted.{emitted_records, next_put, records_stopped, refused}
 use Rattle.pocsag_show.proofs.listing.emit_places.Goals as goal
 
 pub put_place-requires-clause-listable : goal.put_place-requires-clause-listable
@@ -33,10 +22,8 @@ loop-placed-preserved g c =
           All-tail (λ (pl : Placed). IsListable pl.page) c.in-Some.placed left
           (subst (All (λ (pl : Placed). IsListable pl.page)) first loop.invariant.listable);
       emits = λ start all rest u.
-          let put = put_behind g.S.Sink start loop.sink all (text_in loop.writer) (text_in c.put_place.new.writer) (f c.in-Some.placed)
-          (flat_map f left ++ rest)
-          (subst (IsEmitting g.S.Sink start loop.sink all (text_in loop.writer)) (element_first f (placed_left loop.pages) left c.in-Some.placed rest first)
-          (loop.invariant.emits start all rest u)) c.in_ok-put_place.ensures.1 in
+          let put = next_put g.S.Sink start loop.sink all _ rest (f c.in-Some.placed) (ap (flat_map f) first) (loop.invariant.emits start all rest u)
+          c.in_ok-put_place.ensures.1 in
           emitted_records g.S.Sink start loop.sink all c.write_many_records.new.sink (text_in c.put_place.new.writer)
           (text_in c.write_many_records.new.writer) (flat_map f left ++ rest) put (done.kept put.some) done.told done.grown done.failures.0;
     }
@@ -67,10 +54,8 @@ returns-in_err-write_many_records g c =
     let done = c.in_err-write_many_records.ensures in
     rw (p.1, p.2) (λ start all rest u.
     records_stopped g.S.Sink start loop.sink c.write_many_records.new.sink all (text_in c.put_place.new.writer) (flat_map f left ++ rest) _
-    (put_behind g.S.Sink start loop.sink all (text_in loop.writer) (text_in c.put_place.new.writer) (f c.in-Some.placed)
-    (flat_map f left ++ rest)
-    (subst (IsEmitting g.S.Sink start loop.sink all (text_in loop.writer)) (element_first f (placed_left loop.pages) left c.in-Some.placed rest first)
-    (loop.invariant.emits start all rest u)) c.in_ok-put_place.ensures.1)
+    (next_put g.S.Sink start loop.sink all _ rest (f c.in-Some.placed) (ap (flat_map f) first) (loop.invariant.emits start all rest u)
+    c.in_ok-put_place.ensures.1)
     done.part (λ is. done.untouched (ap Err is)) (λ is. done.failures.1 (ap Err is)))
 
 pub returns : goal.returns

@@ -1,11 +1,4 @@
-use Rattle.std.proofs.Common.{All, length}
-use Rattle.std.specs.List.{flat_map}
-use Rattle.pocsag_pages.specs.Listable.{IsListable}
-use Rattle.pocsag_show.specs.Places.{place_record}
-use Rattle.csv.specs.Writing.{default_writer, row_text}
-use Rattle.pocsag_decode.specs.Lines.{IsReady, text_in}
-use Rattle.pocsag_show.specs.PlacedReaders.{placed_left}
-use Rattle.pocsag_show.specs.declared.placed.Placed.{Placed}
+use Rattle.pocsag_show.proofs.Prelude.{All, length, flat_map, IsListable, place_record, default_writer, row_text, IsReady, text_in, placed_left, Placed}
 use Rattle.pocsag_show.proofs.Emitted.{StillEmits}
 use Rattle.pocsag_show.proofs.listing.emit_places.Given as goal
 

@@ -1,14 +1,5 @@
-use Rattle.std.proofs.Common.{◌≡◌, List, [], ◌∷◌, ◌++◌, All, length, subst, ap, arith}
-use Rattle.std.specs.List.{flat_map}
-use Rattle.std.proofs.lemmas.List.Elements.{All-head, All-tail}
-use Rattle.std.proofs.lemmas.Result.{err_from_is_err_and}
-use Rattle.pocsag_pages.specs.Listable.{IsListable}
-use Rattle.pocsag_show.specs.Drawing.{page_drawn}
-use Rattle.pocsag_show.specs.PlacedReaders.{placed_left}
-use Rattle.pocsag_show.specs.Emission.{IsEmitting}
-use Rattle.pocsag_show.specs.declared.placed.Placed.{Placed}
-use Rattle.pocsag_show.proofs.Emitted.{put_behind, refused}
-use Rattle.pocsag_show.proofs.Ranges.{element_first}
+use Rattle.pocsag_show.proofs.Prelude.{◌≡◌, List, [], ◌∷◌, ◌++◌, All, length, subst, ap, arith, flat_map, All-head, All-tail, err_from_is_err_and, IsListable, page_drawn, placed_left, IsEmitting, Placed}
+use Rattle.pocsag_show.proofs.Emitted.{next_put, refused}
 use Rattle.pocsag_show.proofs.page_lines.emit_pages.Goals as goal
 
 pub put_page-requires-clause-listable : goal.put_page-requires-clause-listable
@@ -29,10 +20,8 @@ loop-placed-preserved g c =
           All-tail (λ (pl : Placed). IsListable pl.page) c.in-Some.placed left
           (subst (All (λ (pl : Placed). IsListable pl.page)) first loop.invariant.listable);
       emits = λ start all rest u.
-          c.in_ok-emit.ensures start all (flat_map f left ++ rest)
-          (put_behind g.S.Sink start loop.sink all loop.text.items _ (f c.in-Some.placed) (flat_map f left ++ rest)
-          (subst (IsEmitting g.S.Sink start loop.sink all loop.text.items) (element_first f (placed_left loop.pages) left c.in-Some.placed rest first)
-          (loop.invariant.emits start all rest u)) c.in_ok-put_page.ensures);
+          c.in_ok-emit.ensures start all _
+          (next_put g.S.Sink start loop.sink all _ rest (f c.in-Some.placed) (ap (flat_map f) first) (loop.invariant.emits start all rest u) c.in_ok-put_page.ensures);
     }
 
 pub loop-placed-smaller : goal.loop-placed-smaller
@@ -59,10 +48,8 @@ returns-in_err-emit g c =
     let left = placed_left c.next_placed.new.self in
     let first : placed_left loop.pages ≡ c.in-Some.placed ∷ left = rw c.in-Some.is at c.in_ok-placed.ensures in
     rw (p.1, p.2) (λ start all rest u.
-    c.in_err-emit.ensures start all (flat_map f left ++ rest)
-    (put_behind g.S.Sink start loop.sink all loop.text.items _ (f c.in-Some.placed) (flat_map f left ++ rest)
-    (subst (IsEmitting g.S.Sink start loop.sink all loop.text.items) (element_first f (placed_left loop.pages) left c.in-Some.placed rest first)
-    (loop.invariant.emits start all rest u)) c.in_ok-put_page.ensures))
+    c.in_err-emit.ensures start all _
+    (next_put g.S.Sink start loop.sink all _ rest (f c.in-Some.placed) (ap (flat_map f) first) (loop.invariant.emits start all rest u) c.in_ok-put_page.ensures))
 
 pub returns : goal.returns
 returns g c = λ start all rest u.

@@ -1,8 +1,4 @@
-use Rattle.std.proofs.Common.{All, length}
-use Rattle.std.specs.List.{flat_map}
-use Rattle.pocsag_pages.specs.Listable.{IsListable}
-use Rattle.pocsag_show.specs.Drawing.{page_drawn}
-use Rattle.pocsag_show.specs.PlacedReaders.{placed_left}
+use Rattle.pocsag_show.proofs.Prelude.{All, length, flat_map, IsListable, page_drawn, placed_left}
 use Rattle.pocsag_show.proofs.Emitted.{StillEmits}
 use Rattle.pocsag_show.proofs.page_lines.emit_pages.Given as goal
 

@@ -1,5 +1,4 @@
-use Rattle.std.proofs.Common.{◌≡◌, ◌++◌, take}
-use Rattle.std.specs.List.{flat_map}
+use Rattle.pocsag_show.proofs.Prelude.{◌≡◌, ◌++◌, take, flat_map}
 use Rattle.pocsag_show.specs.Escapes.{escaped}
 use Rattle.pocsag_show.proofs.page_text.put_told.Given as goal
 

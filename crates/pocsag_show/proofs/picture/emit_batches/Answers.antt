@@ -1,9 +1,5 @@
-use Rattle.std.proofs.Common.{◌+◌, ◌-◌, slice_index, ◌++◌, subst, arith}
-use Rattle.std.specs.List.{flat_map, range_with_len}
-use Rattle.std.proofs.lemmas.Result.{err_from_is_err_and}
-use Rattle.pocsag_show.specs.Picture.{batch_line, batch_lines}
-use Rattle.pocsag_show.specs.Emission.{IsEmitting}
-use Rattle.pocsag_show.proofs.Emitted.{put_behind, refused}
+use Rattle.pocsag_show.proofs.Prelude.{slice_index, subst, arith, err_from_is_err_and, batch_line, batch_lines, IsEmitting}
+use Rattle.pocsag_show.proofs.Emitted.{next_put, refused}
 use Rattle.pocsag_show.proofs.Ranges.{range_first, range_over}
 use Rattle.pocsag_show.proofs.picture.emit_batches.Goals as goal
 
@@ -12,11 +8,9 @@ unfolding batch_lines
 loop-batch-preserved g c = λ start all rest u.
     let loop = c.loop-batch in
     let f = batch_line (slice_index c.args.letters.now) in
-    let left = flat_map f (range_with_len (loop.batch + 1) (c.args.window.high - (loop.batch + 1))) ++ rest in
-    c.in_ok-emit.ensures start all left
-    (put_behind g.S.Sink start loop.sink all loop.text.items _ (f loop.batch) left
-    (subst (IsEmitting g.S.Sink start loop.sink all loop.text.items) (range_first f loop.batch c.args.window.high rest (omega arith))
-    (loop.invariant start all rest u)) c.in_ok-put_batch.ensures)
+    c.in_ok-emit.ensures start all _
+    (next_put g.S.Sink start loop.sink all _ rest (f loop.batch) (range_first f loop.batch c.args.window.high (omega arith)) (loop.invariant start all rest u)
+    c.in_ok-put_batch.ensures)
 
 pub returns-in_err-put_batch : goal.returns-in_err-put_batch
 unfolding batch_lines
@@ -31,11 +25,9 @@ returns-in_err-emit g c =
     let loop = c.loop-batch in
     let f = batch_line (slice_index c.args.letters.now) in
     rw (p.1, p.2) (λ start all rest u.
-    let left = flat_map f (range_with_len (loop.batch + 1) (c.args.window.high - (loop.batch + 1))) ++ rest in
-    c.in_err-emit.ensures start all left
-    (put_behind g.S.Sink start loop.sink all loop.text.items _ (f loop.batch) left
-    (subst (IsEmitting g.S.Sink start loop.sink all loop.text.items) (range_first f loop.batch c.args.window.high rest (omega arith))
-    (loop.invariant start all rest u)) c.in_ok-put_batch.ensures))
+    c.in_err-emit.ensures start all _
+    (next_put g.S.Sink start loop.sink all _ rest (f loop.batch) (range_first f loop.batch c.args.window.high (omega arith)) (loop.invariant start all rest u)
+    c.in_ok-put_batch.ensures))
 
 pub returns : goal.returns
 unfolding batch_lines

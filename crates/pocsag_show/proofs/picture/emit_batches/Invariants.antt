@@ -1,6 +1,4 @@
-use Rattle.std.proofs.Common.{ℕ, ◌-◌, slice_index}
-use Rattle.std.specs.List.{flat_map, range_with_len}
-use Rattle.pocsag_show.specs.Picture.{batch_line}
+use Rattle.pocsag_show.proofs.Prelude.{ℕ, ◌-◌, slice_index, flat_map, range_with_len, batch_line}
 use Rattle.pocsag_show.proofs.Emitted.{StillEmits}
 use Rattle.pocsag_show.proofs.picture.emit_batches.Given as goal
 

@@ -1,10 +1,4 @@
-use Rattle.std.proofs.Common.{ℕ, ◌/◌, List, [], ◌++◌, ap, sym, subst, ◌∙◌}
-use Rattle.std.proofs.lemmas.Result.{err_from_is_err_and}
-use Rattle.pocsag_show.specs.Judged.{kinds_read}
-use Rattle.pocsag_show.specs.Picture.{grid_text, totals_line}
-use Rattle.pocsag_show.specs.Emission.{IsEmitting}
-use Rattle.pocsag_show.specs.Rows.{end_row}
-use Rattle.pocsag_show.specs.declared.view.View.TheVariants.{Grid}
+use Rattle.pocsag_show.proofs.Prelude.{ℕ, ◌/◌, List, [], ◌++◌, ap, sym, subst, ◌∙◌, err_from_is_err_and, kinds_read, grid_text, totals_line, IsEmitting, end_row, Grid}
 use Rattle.pocsag_show.proofs.Emitted.{refused_first}
 use Rattle.pocsag_show.proofs.Texts.{grid_begun, view_some}
 use Rattle.pocsag_show.proofs.picture.emit_grid.Goals as goal

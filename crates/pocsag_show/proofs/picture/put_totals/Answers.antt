@@ -1,5 +1,4 @@
-use Rattle.std.proofs.Common.{append_assoc}
-use Rattle.pocsag_show.specs.Picture.{airtimes_part, totals_line}
+use Rattle.pocsag_show.proofs.Prelude.{append_assoc, airtimes_part, totals_line}
 use Rattle.pocsag_show.proofs.picture.put_totals.Goals as goal
 
 pub returns : goal.returns

@@ -1,8 +1,4 @@
-use Rattle.std.proofs.Common.{sym, subst}
-use Rattle.pocsag_show.specs.Judged.{kinds_read}
-use Rattle.pocsag_show.specs.Emission.{EmitsAll}
-use Rattle.pocsag_show.specs.Views.{view_text}
-use Rattle.pocsag_show.specs.declared.view.View.{View}
+use Rattle.pocsag_show.proofs.Prelude.{sym, subst, kinds_read, EmitsAll, view_text, View}
 use Rattle.pocsag_show.proofs.views.emit_view.Goals as goal
 
 pub returns-in-Grid : goal.returns-in-Grid

@@ -1,6 +1,4 @@
-use Rattle.std.proofs.Common.{◌≡◌, subst}
-use Rattle.std.proofs.lemmas.Result.{err_from_is_err_and}
-use Rattle.pocsag_show.specs.Shows.{Explains}
+use Rattle.pocsag_show.proofs.Prelude.{◌≡◌, subst, err_from_is_err_and, Explains}
 use Rattle.pocsag_show.specs.declared.fault.ShowFault.TheVariants as fault
 use Rattle.pocsag_show.proofs.Shown.{explained, failures_named, others_none, shows, shows_less, shows_nothing, shows_part}
 use Rattle.pocsag_show.proofs.views.show.Goals as goal

@@ -1,7 +1,4 @@
-use Rattle.std.proofs.Common.{◌≡◌, ℕ, ◌/◌, List, length, map, drop, refl, sym, ap, ◌∙◌}
-use Rattle.std.specs.Int.{from_be_bytes, w32}
-use Rattle.pocsag_words.specs.Kinds.{kind_of}
-use Rattle.pocsag_pages.specs.Bytes.{after_preamble, unsynced, words_of}
+use Rattle.pocsag_show.proofs.Prelude.{◌≡◌, ℕ, ◌/◌, List, length, map, drop, refl, sym, ap, ◌∙◌, from_be_bytes, w32, kind_of, after_preamble, unsynced, words_of}
 use Rattle.pocsag_pager.proofs.WholeWords.{chunk_words}
 use Rattle.pocsag_show.proofs.KindsAhead.{sync_skipped}
 use Rattle.pocsag_show.proofs.kind_reader.KindReader.new.Goals as goal

@@ -1,8 +1,4 @@
-use Rattle.std.proofs.Common.{◌≡◌, ◌+◌, ◌/◌, ◌<◌, [], ◌∷◌, length, get_or, refl, sym, ap, ◌∙◌, arith}
-use Rattle.std.specs.Int.{from_be_bytes, w32}
-use Rattle.pocsag_words.specs.Kinds.{kind_of}
-use Rattle.pocsag_words.specs.declared.codeword.Kind.{Kind}
-use Rattle.pocsag_decode.specs.PageReaders.{kinds_left}
+use Rattle.pocsag_show.proofs.Prelude.{◌≡◌, ◌+◌, ◌/◌, ◌<◌, [], ◌∷◌, length, get_or, refl, sym, ap, ◌∙◌, arith, from_be_bytes, w32, kind_of, Kind, kinds_left}
 use Rattle.pocsag_show.proofs.KindsAhead.{kind_read}
 use Rattle.pocsag_show.proofs.kind_reader.KindReader.next.Goals as goal
 

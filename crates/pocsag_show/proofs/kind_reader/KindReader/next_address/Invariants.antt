@@ -1,5 +1,4 @@
-use Rattle.std.proofs.Common.{◌≡◌, length}
-use Rattle.pocsag_show.specs.Kinds.{addresses_ahead, kinds_ahead}
+use Rattle.pocsag_show.proofs.Prelude.{◌≡◌, length, addresses_ahead, kinds_ahead}
 use Rattle.pocsag_show.proofs.kind_reader.KindReader.next_address.Given as goal
 
 abbrev pub invariant-loop-kind : goal.invariant-loop-kind

@@ -1,5 +1,4 @@
-use Rattle.std.proofs.Common.{drop, sym, ap, ◌∙◌}
-use Rattle.pocsag_show.specs.Grid.{starts_from}
+use Rattle.pocsag_show.proofs.Prelude.{drop, sym, ap, ◌∙◌, starts_from}
 use Rattle.pocsag_show.proofs.kind_reader.KindReader.next_start.Goals as goal
 
 pub returns-clause-left : goal.returns-clause-left

@@ -1,5 +1,4 @@
-use Rattle.std.proofs.Common.{◌≡◌, length}
-use Rattle.pocsag_show.specs.Kinds.{kinds_ahead, starts_ahead}
+use Rattle.pocsag_show.proofs.Prelude.{◌≡◌, length, kinds_ahead, starts_ahead}
 use Rattle.pocsag_show.proofs.kind_reader.KindReader.next_start.Given as goal
 
 abbrev pub invariant-loop-kind : goal.invariant-loop-kind

@@ -1,9 +1,4 @@
-use Rattle.std.proofs.Common.{rules, ◌≡◌, sym, subst, ◌∙◌, ap}
-use Rattle.std.specs.Prelude.{nat_lt}
-use Rattle.std.specs.List.Sorted.{IsNonDecreasing}
-use Rattle.std.proofs.lemmas.List.Sorted.{IsPartitionPoint-from_clause, IsPartitionedBy-ltb}
-use Rattle.pocsag_show.specs.PageNumbers.{number_below, smaller_in}
-use Rattle.pocsag_show.specs.declared.page_numbers.PageNumbers.{PageNumbers}
+use Rattle.pocsag_show.proofs.Prelude.{rules, ◌≡◌, sym, subst, ◌∙◌, ap, nat_lt, IsNonDecreasing, IsPartitionPoint-from_clause, IsPartitionedBy-ltb, number_below, smaller_in, PageNumbers}
 use Rattle.pocsag_show.proofs.PageNumbers.{smaller_first}
 use Rattle.pocsag_show.proofs.page_numbers.PageNumbers.below.Goals as goal
 

@@ -1,11 +1,4 @@
-use Rattle.std.proofs.Common.{◌≡◌, ℕ, ◌+◌, ◌<◌, ◌≤◌, List, length, get_or, set, refl, sym, ap, ◌∙◌, arith}
-use Rattle.std.proofs.lemmas.List.{get_or_default, length-map, length-set}
-use Rattle.std.proofs.lemmas.List.Sums.{count_by-le-length}
-use Rattle.std.specs.Prelude.{nat_lt}
-use Rattle.pocsag_pages.specs.Pages.{addresses_of}
-use Rattle.pocsag_pages.specs.declared.page.Page.{Page}
-use Rattle.pocsag_show.specs.Kinds.{addresses_ahead}
-use Rattle.pocsag_show.specs.PageNumbers.{pages_begun, smaller_in}
+use Rattle.pocsag_show.proofs.Prelude.{◌≡◌, ℕ, ◌+◌, ◌<◌, ◌≤◌, List, length, get_or, set, refl, sym, ap, ◌∙◌, arith, get_or_default, length-map, length-set, count_by-le-length, nat_lt, addresses_of, Page, addresses_ahead, pages_begun, smaller_in}
 use Rattle.pocsag_show.proofs.PageNumbers.{all_ahead, smaller_next, address_counted, counted_fits, equal_in, none_smaller, numbering_more, pages_below_are, all_zeros}
 use Rattle.pocsag_show.proofs.page_numbers.PageNumbers.table.Goals as goal
 

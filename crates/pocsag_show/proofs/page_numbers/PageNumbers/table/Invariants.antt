@@ -1,7 +1,4 @@
-use Rattle.std.proofs.Common.{◌≡◌, ℕ, ◌+◌, ◌^◌, length, slice_index}
-use Rattle.pocsag_pages.specs.Pages.{addresses_of}
-use Rattle.pocsag_show.specs.Kinds.{addresses_ahead}
-use Rattle.pocsag_show.specs.PageNumbers.{pages_begun}
+use Rattle.pocsag_show.proofs.Prelude.{◌≡◌, ℕ, ◌+◌, ◌^◌, length, slice_index, addresses_of, addresses_ahead, pages_begun}
 use Rattle.pocsag_show.proofs.PageNumbers.{IsNumbering, equal_in}
 use Rattle.pocsag_show.proofs.page_numbers.PageNumbers.table.Given as goal
 

@@ -1,8 +1,4 @@
-use Rattle.std.proofs.Common.{◌≡◌, List, ℕ, ◌++◌, ap, sym, ◌∙◌}
-use Rattle.std.proofs.lemmas.List.{append-nil}
-use Rattle.std.proofs.lemmas.List.Sorted.{IsNonDecreasingBy-from_sort}
-use Rattle.pocsag_pages.specs.Pages.{addresses_of}
-use Rattle.pocsag_show.specs.PageNumbers.{pages_begun}
+use Rattle.pocsag_show.proofs.Prelude.{◌≡◌, List, ℕ, ◌++◌, ap, sym, ◌∙◌, append-nil, IsNonDecreasingBy-from_sort, addresses_of, pages_begun}
 use Rattle.pocsag_show.proofs.PageNumbers.{sorted_below}
 use Rattle.pocsag_show.proofs.page_numbers.SortedAddresses.new.Goals as goal
 

@@ -1,7 +1,4 @@
-use Rattle.std.proofs.Common.{◌≡◌, ◌++◌, length}
-use Rattle.pocsag_pages.specs.Pages.{addresses_of}
-use Rattle.pocsag_show.specs.Kinds.{addresses_ahead}
-use Rattle.pocsag_show.specs.PageNumbers.{pages_begun}
+use Rattle.pocsag_show.proofs.Prelude.{◌≡◌, ◌++◌, length, addresses_of, addresses_ahead, pages_begun}
 use Rattle.pocsag_show.proofs.page_numbers.SortedAddresses.new.Given as goal
 
 abbrev pub invariant-loop-address : goal.invariant-loop-address

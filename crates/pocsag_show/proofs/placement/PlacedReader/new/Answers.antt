@@ -1,8 +1,4 @@
-use Rattle.std.proofs.Common.{sym, subst, All}
-use Rattle.pocsag_pages.specs.Listable.{IsListable}
-use Rattle.pocsag_decode.specs.PageReaders.{pages_left}
-use Rattle.pocsag_show.specs.Kinds.{kinds_ahead, starts_ahead}
-use Rattle.pocsag_show.specs.PageNumbers.{number_below}
+use Rattle.pocsag_show.proofs.Prelude.{sym, subst, All, IsListable, pages_left, kinds_ahead, starts_ahead, number_below}
 use Rattle.pocsag_show.proofs.PlacedReaders.{all_placed, listable_placed}
 use Rattle.pocsag_show.proofs.placement.PlacedReader.new.Goals as goal
 

@@ -1,9 +1,4 @@
-use Rattle.std.proofs.Common.{◌≡◌, ℕ, List, ◌∷◌, ap, ap₂, sym, ◌∙◌}
-use Rattle.pocsag_decode.specs.PageReaders.{pages_left}
-use Rattle.pocsag_show.specs.Kinds.{starts_ahead}
-use Rattle.pocsag_show.specs.PageNumbers.{number_below}
-use Rattle.pocsag_show.specs.PlacedReaders.{placed_from}
-use Rattle.pocsag_show.specs.declared.placed.Placed.{Placed}
+use Rattle.pocsag_show.proofs.Prelude.{◌≡◌, ℕ, List, ◌∷◌, ap, ap₂, sym, ◌∙◌, pages_left, starts_ahead, number_below, placed_from, Placed}
 use Rattle.pocsag_show.proofs.placement.PlacedReader.next_placed.Goals as goal
 
 pub returns : goal.returns

@@ -1,10 +1,5 @@
-use Rattle.std.proofs.Common.{◌≡◌, ◌+◌, ◌^◌, ◌<◌, ◌≤◌, length, map}
-use Rattle.pocsag_words.specs.Kinds.{kind_of}
-use Rattle.pocsag_pages.specs.Bytes.{codewords_in}
-use Rattle.pocsag_pages.specs.Plain.{pages_from}
-use Rattle.pocsag_show.specs.Grid.{idles_in}
-use Rattle.pocsag_show.specs.Kinds.{kinds_ahead}
-use Rattle.pocsag_show.proofs.codeword_counts.codeword_counts.Given as goal
+use Rattle.pocsag_show.proofs.Prelude.{◌≡◌, ◌+◌, ◌^◌, ◌<◌, ◌≤◌, length, map, kind_of, codewords_in, pages_from, idles_in, kinds_ahead}
+use Rattle.pocsag_show.proofs.judge.judge.Given as goal
 
 abbrev pub invariant-loop-kind : goal.invariant-loop-kind
 invariant-loop-kind l =

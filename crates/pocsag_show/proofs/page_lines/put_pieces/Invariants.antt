@@ -1,9 +1,0 @@
-use Rattle.std.proofs.Common.{◌≡◌, ◌-◌, ◌≤◌, max, ◌++◌}
-use Rattle.std.specs.List.{flat_map, range_with_len}
-use Rattle.pocsag_show.specs.Drawing.{piece}
-use Rattle.pocsag_show.proofs.page_lines.put_pieces.Given as goal
-
-abbrev pub invariant-loop-row : goal.invariant-loop-row
-invariant-loop-row l =
-    (l.text.items ≡ l.fn.text.items ++ flat_map (piece l.window.low l.placed) (range_with_len l.first (l.row - l.first)))
-    × (l.row ≤ max l.first l.end)
