@@ -1,13 +1,10 @@
 -- What a writer takes of a text that is written as it is made.
-use Rattle.std.proofs.Common.{◌≡◌, ℕ, ◌+◌, ◌-◌, ◌<◌, Bool, true, false, List, [], ◌∷◌, ◌++◌, length, take, OnOk, Result, Ok, Err, refl, sym, ap, ◌∙◌, subst, arith, append_assoc, append-nil, length-append}
+use Rattle.pocsag_findings.proofs.Prelude.{◌≡◌, ℕ, ◌+◌, ◌-◌, ◌<◌, Bool, true, false, List, [], ◌∷◌, ◌++◌, length, take, OnOk, refl, sym, ap, ◌∙◌, subst, arith, append_assoc, length-append, take-append-le, End, BeginsWith, GivesVerdict, drawing_head, verdict_members, verdict_words, Adds, HasAdded, TookLessOfVerdict, TookPartOfVerdict, TookVerdict}
+use Rattle.std.proofs.Common.{Result, Ok, Err, append-nil}
 use Rattle.std.proofs.Math.Seq.{take-append-add, take-length}
-use Rattle.std.proofs.lemmas.List.{take-append-le}
 use Rattle.pocsag_words.specs.Devices.{HasFailed, TookPrefix}
 use Rattle.pocsag_words.specs.declared.device.Sink.{Ghosts as Writer}
-use Rattle.pocsag_words.specs.declared.ending.End.{End}
-use Rattle.pocsag_findings.specs.Beginnings.{BeginsWith, GivesVerdict, drawing_head, verdict_members, verdict_words}
 use Rattle.pocsag_findings.proofs.Beginnings.{begins_more}
-use Rattle.pocsag_findings.specs.Writing.{Adds, HasAdded, TookLessOfVerdict, TookPartOfVerdict, TookVerdict}
 use Rattle.pocsag_findings.specs.declared.fault.ExplanationFault.{ExplanationFault}
 use Rattle.pocsag_findings.specs.declared.fault.ExplanationFault.TheVariants as fault
 use Rattle.pocsag_findings.specs.declared.format.Format.{Format}

@@ -1,9 +1,6 @@
 -- How formatted texts begin.
-use Rattle.std.proofs.Common.{◌≡◌, ℕ, Bool, true, cond, nat_eq, List, ◌++◌, ◌∙◌, append_assoc, subst}
-use Rattle.std.specs.Prelude.{Option, Some, IfSome, Result, Ok, Err, IfOk, codes}
+use Rattle.pocsag_findings.proofs.Prelude.{◌≡◌, ℕ, Bool, true, cond, nat_eq, List, ◌++◌, ◌∙◌, append_assoc, subst, Option, Some, IfSome, Result, Ok, Err, IfOk, codes, End, BeginsWith, drawing_head, end_name, end_words, verdict_members, verdict_words}
 use Rattle.std.specs.Fmt.{decimal}
-use Rattle.pocsag_words.specs.declared.ending.End.{End}
-use Rattle.pocsag_findings.specs.Beginnings.{BeginsWith, drawing_head, end_name, end_words, verdict_members, verdict_words}
 
 -- what holds of the text that is written holds of the text that there is
 module _ {S E : Type 0} (bytes : S → List ℕ) (r : Result S E) (output : Option (List ℕ)) (writes : IfOk r (λ s. IfSome output (λ bs. bytes s ≡ bs))) where

@@ -1,19 +1,7 @@
 -- The levels of a walk, and a node that is taken.
-use Rattle.pocsag_findings.proofs.Prelude.{◌≡◌, ℕ, ◌+◌, ◌<◌, ◌≤◌, ◌++◌, ◌∷◌, [], List, Bool, false, ◌∙◌, ap, sym, refl, true, arith, nat_lt, cond, length, Classes, End, Limits, Stated, Way, BoundTree, BoundTrees, overload, split, cut, close, unexamined, none, more}
-use Rattle.std.proofs.Common.{append_assoc}
-use Rattle.std.specs.Prelude.{All, drop, if◌then◌else◌}
-use Rattle.std.proofs.Math.ListN.{get_or}
-use Rattle.std.proofs.lemmas.Bool.Decides.{nat_tests}
-use Rattle.std.proofs.lemmas.List.{append-nil, drop_all, drop_more}
-use Rattle.std.proofs.lemmas.List.Elements.{All-push}
-use Rattle.pocsag_tree.specs.Views.{bound_tree_of}
-use Rattle.pocsag_slots.specs.Ways.{ways_across, ways_to_close}
-use Rattle.pocsag_findings.specs.declared.level.Child.{Child}
-use Rattle.pocsag_findings.specs.declared.level.Level.{Level}
+use Rattle.pocsag_findings.proofs.Prelude.{◌≡◌, ℕ, ◌+◌, ◌<◌, ◌≤◌, ◌++◌, ◌∷◌, [], List, Bool, false, ◌∙◌, ap, sym, refl, true, arith, nat_lt, cond, length, Classes, End, Limits, Stated, Way, BoundTree, BoundTrees, overload, split, cut, close, unexamined, none, more, append_assoc, drop, if◌then◌else◌, get_or, nat_tests, append-nil, drop_all, drop_more, All-push, bound_tree_of, ways_across, ways_to_close, Child, Level, each_unjudged, finding_of, findings_below, findings_by, findings_within, unjudged_below, unjudged_finding, unjudged_within, position_by, found_at, found_from, is_unreached, levels_left, stated_at}
+use Rattle.std.specs.Prelude.{All}
 use Rattle.pocsag_findings.specs.declared.position.Position.{Position}
-use Rattle.pocsag_findings.specs.Findings.{each_unjudged, finding_of, findings_below, findings_by, findings_within, unjudged_below, unjudged_finding, unjudged_within}
-use Rattle.pocsag_findings.specs.Descents.{position_by}
-use Rattle.pocsag_findings.specs.Walks.{found_at, found_from, is_unreached, levels_left, stated_at}
 
 -- below the depth nothing is listed
 each_deeper : (depth above : ℕ) → nat_lt above depth ≡ false → (ts : BoundTrees) → each_unjudged depth above ts ≡ []
@@ -78,12 +66,12 @@ module _ (k : Classes) (end : End) (b depth : ℕ) where
   pub child_taken : (old levels new : List Level) (level : Level) (child : Child) (rest : List Stated) →
       old ≡ levels ++ level ∷ [] → new ≡ levels ++ record level { next = level.next + 1 } ∷ [] → level.next < length level.children.items →
       child ≡ get_or level.children.items level.next child →
-      found_at k end b depth (position_by k b level.limits level.above child.step) (bound_tree_of child.tree.now)
+      found_at k end b depth (position_by k b level.limits level.above child.descent) (bound_tree_of child.tree.now)
       ++ levels_left k end b depth new ≡ rest →
       levels_left k end b depth old ≡ rest
   child_taken old levels new level child rest was is h taken all =
       let l : Limits = level.limits in
-      let first : List Stated = found_at k end b depth (position_by k b l level.above child.step) (bound_tree_of child.tree.now) in
+      let first : List Stated = found_at k end b depth (position_by k b l level.above child.descent) (bound_tree_of child.tree.now) in
       let others : List Stated = found_from k end b depth l level.above (drop (level.next + 1) level.children.items) in
       let row : drop level.next level.children.items ≡ child ∷ drop (level.next + 1) level.children.items =
       rw (drop_more level.children.items level.next child h, ← taken) refl in

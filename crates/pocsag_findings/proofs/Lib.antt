@@ -6,4 +6,3 @@ pub mod Levels
 pub mod Narrows
 pub mod Prelude
 pub mod Shares
-pub mod SlotColumns

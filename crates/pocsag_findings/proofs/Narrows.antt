@@ -1,9 +1,6 @@
 -- The classes that limits narrow, class by class.
-use Rattle.pocsag_findings.proofs.Prelude.{◌≡◌, ℕ, ◌+◌, ◌++◌, ◌∷◌, [], List, Bool, refl, cond, Classes, Limits}
-use Rattle.pocsag_slots.specs.Sums.{joined_below}
-use Rattle.pocsag_slots.proofs.WayLemmas.{joined_more}
+use Rattle.pocsag_findings.proofs.Prelude.{◌≡◌, ℕ, ◌+◌, ◌++◌, ◌∷◌, [], List, Bool, refl, cond, Classes, Limits, joined_below, joined_more, early_limits, is_narrower, narrowed_by}
 use Rattle.pocsag_findings.specs.declared.finding.Narrowed.{Narrowed}
-use Rattle.pocsag_findings.specs.Rules.{early_limits, is_narrower, narrowed_by}
 
 pub narrowed_next : (k : Classes) (l : Limits) (c : ℕ) (early : Narrowed) (is : Bool) (found next : List Narrowed) →
     early ≡ early_limits k l c → is ≡ is_narrower early → found ≡ joined_below c (narrowed_by k l) →

@@ -1,10 +1,6 @@
 -- The shares of classes in the least load of a set, class by class.
-use Rattle.pocsag_findings.proofs.Prelude.{◌≡◌, ℕ, ◌+◌, ◌++◌, ◌∷◌, [], List, refl, cond, nat_lt, slice_index, Classes, Limits}
-use Rattle.pocsag_slots.specs.Loads.{least_of_class}
-use Rattle.pocsag_slots.specs.Sums.{joined_below}
-use Rattle.pocsag_slots.proofs.WayLemmas.{joined_more}
+use Rattle.pocsag_findings.proofs.Prelude.{◌≡◌, ℕ, ◌+◌, ◌++◌, ◌∷◌, [], List, refl, cond, nat_lt, slice_index, Classes, Limits, least_of_class, joined_below, joined_more, share_of}
 use Rattle.pocsag_findings.specs.declared.finding.Share.{Share}
-use Rattle.pocsag_findings.specs.Rules.{share_of}
 
 pub share_next : (k : Classes) (l : Limits) (set c least : ℕ) (found next : List Share) → least ≡ least_of_class k l set c →
     found ≡ joined_below c (share_of k l set) →

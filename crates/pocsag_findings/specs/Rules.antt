@@ -72,17 +72,10 @@ shares_at k l unexamined = []
 abbrev pub column_of : Classes → Limits → ℕ → Column
 column_of k l slot = record { least = least_of_set k l (2 ^ slot); room = slice_index l.cap slot }
 
--- The columns of the sixteen slots, in order.
-abbrev pub columns_of : Classes → Limits → List Column
-columns_of k l = map (column_of k l) (range_with_len 0 slot_count)
-
--- How deep the nodes are of which columns are found: the root, which has depth 1, and the nodes right below it.
-abbrev pub drawn_depth : ℕ
-drawn_depth = 2
-
--- The columns that are found of a node below so many: those of its limits where it stands high enough, and else none.
+-- The columns that are found of a node below so many: those of the sixteen slots, in order, of the root, which has depth 1,
+-- and of the nodes right below it, and else none.
 abbrev pub columns_at : Classes → Limits → ℕ → List Column
-columns_at k l above = cond (nat_lt above drawn_depth) (columns_of k l) []
+columns_at k l above = cond (nat_lt above 2) (map (column_of k l) (range_with_len 0 slot_count)) []
 
 -- Whether the end asks for something of the last codeword.
 abbrev pub asks_for_last : End → Bool

@@ -40,7 +40,7 @@ found_at k end b depth p t =
 -- the children.
 abbrev pub found_from : Classes → End → ℕ → ℕ → Limits → ℕ → List Child → List Stated
 found_from k end b depth l above =
-    flat_map (λ child. found_at k end b depth (position_by k b l above child.step) (bound_tree_of child.tree.now))
+    flat_map (λ child. found_at k end b depth (position_by k b l above child.descent) (bound_tree_of child.tree.now))
 
 -- The findings of the children that are left of these nodes, the last node first.
 abbrev pub levels_left : Classes → End → ℕ → ℕ → List Level → List Stated
@@ -53,4 +53,4 @@ levels_left k end b depth (level ∷ below) =
 pub record IsSound (context : NodeContext) (level : Level) : Type 0 where
   pub ordered : AreInOrder context.classes.now level.limits
   pub above : level.above < context.depth
-  pub allowed : All (λ child. MayDescend context.classes.now context.batches level.limits child.step) level.children.items
+  pub allowed : All (λ child. MayDescend context.classes.now context.batches level.limits child.descent) level.children.items

@@ -21,7 +21,7 @@ const AXIS: &str = "\
 <text class='e' x='74' y='126'>at least</text>\
 <text class='e' x='74' y='140'>room</text>\n";
 
-/// The number of codewords to which the highest bar stands, on the scale on which all columns of the findings have place.
+/// The number of codewords of the highest bar, on a scale in which all columns of the findings fit.
 pub(crate) fn most_of(findings: &[Finding]) -> u64 {
     let mut most = 1;
     for finding in findings {
@@ -38,7 +38,7 @@ fn top(most: u64, codewords: u64) -> u64 {
     GROUND.saturating_sub(height)
 }
 
-/// Adds the columns that were found of a node, with the slots or boundaries that it names marked.
+/// Adds the columns of a node, and marks the slots or boundaries that it names.
 pub(crate) fn push_columns(
     text: &mut String,
     most: u64,

@@ -81,46 +81,32 @@ impl Sheet {
             numbering.step(finding.depth)?;
             if finding.columns.len() > 0 {
                 write_node_line(&mut line, explanation.refuted, &numbering, finding)?;
-                self.put_node(line.as_str(), most, finding)?;
+                self.text.push_str("<g class='d'>\n")?;
+                self.put_words(line.as_str())?;
+                let top = self.height;
+                write!(self.text, "<g transform='translate(0 {top})'>\n")?;
+                push_columns(&mut self.text, most, finding)?;
+                self.height = self.height.saturating_add(COLUMNS_HEIGHT);
+                self.text.push_str("</g></g>\n")?;
             }
         }
         Ok(())
     }
-
-    // Adds a node: its line, and its columns on the scale of so many codewords.
-    fn put_node(&mut self, line: &str, most: u64, finding: &Finding) -> Result<(), AllocError> {
-        self.text.push_str("<g class='d'>\n")?;
-        self.put_words(line)?;
-        let top = self.height;
-        write!(self.text, "<g transform='translate(0 {top})'>\n")?;
-        push_columns(&mut self.text, most, finding)?;
-        self.height = self.height.saturating_add(COLUMNS_HEIGHT);
-        self.text.push_str("</g></g>\n")
-    }
 }
 
-// The verdict; if the checker does not accept the certificate, the first node that does not hold too.
-fn heading(alloc: Global, explanation: &Explanation<'_>) -> Result<String, AllocError>
-    ensures { IfOk result (λ text. BeginsWith
-        (verdict_words explanation.now.is_shown explanation.now.refuted.end explanation.now.batches)
-        (string_bytes text)) }
-{
-    let mut text = first_words(alloc, explanation)?;
-    if !explanation.is_shown {
-        let refused = refused_node_words(alloc, explanation)?;
-        text.push_str(": ")?;
-        text.push_str(refused.as_str())?;
-    }
-    Ok(text)
-}
-
-/// The explanation as SVG 1.1: the nodes of which columns are found, one below the other, on one scale.
+/// The explanation as SVG 1.1: the verdict, if the checker does not accept the certificate the first node that does not hold
+/// too, and the nodes of which columns are found, one below the other, on one scale.
 pub(crate) fn drawing(alloc: Global, explanation: &Explanation<'_>) -> Result<String, OutOfMemory>
     ensures { IfOk result (λ text. (height : ℕ) × BeginsWith (drawing_head height
         ++ verdict_words explanation.now.is_shown explanation.now.refuted.end explanation.now.batches)
         (string_bytes text)) }
 {
-    let heading = heading(alloc, explanation)?;
+    let mut heading = first_words(alloc, explanation)?;
+    if !explanation.is_shown {
+        let refused = refused_node_words(alloc, explanation)?;
+        heading.push_str(": ")?;
+        heading.push_str(refused.as_str())?;
+    }
     let heading = heading.as_str();
     let mut sheet = Sheet {
         text: String::new(alloc),

@@ -15,7 +15,7 @@ pub enum Reached {
     Unreached,
 }
 
-/// What the pages of one class cover of a set of slots at the least.
+/// The least that the pages of one class cover of a set of slots.
 #[derive(Clone, Copy)]
 pub struct Share {
     pub class: u8,

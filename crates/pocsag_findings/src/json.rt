@@ -29,7 +29,7 @@ pub(crate) fn verdict(alloc: Global, explanation: &Explanation<'_>) -> Result<St
     format!(in alloc; r#"{{"shown":{is_shown},"end":"{end}","batches":{batches},"#)
 }
 
-/// Writes the members after them, with the nodes no deeper than so.
+/// Writes the members after them, with the nodes down to this depth.
 pub(crate) fn write_members<O: Sink>(
     alloc: Global,
     explanation: &Explanation<'_>,
@@ -44,7 +44,17 @@ pub(crate) fn write_members<O: Sink>(
         path: Vec::new(alloc),
     };
     while let Some(finding) = walk.next()? {
-        push_node(&mut text, &mut numbering, &finding)?;
+        numbering.step(finding.depth)?;
+        // The root, which stands at depth 1, is the first.
+        let comma = if finding.depth > 1 { "," } else { "" };
+        let reached = ReachedFacts(finding.reached);
+        let holds = finding.holds;
+        let limits = LimitFacts(&finding);
+        let fact = NodeFacts(&finding);
+        write!(
+            text,
+            r#"{comma}{{"node":"{numbering}","reached":{reached},"holds":{holds},"limits":{limits},"fact":{fact}}}"#
+        )?;
         flush_text(&mut text, PIECE, out)?;
     }
     text.push_str("]}\n")?;
@@ -72,24 +82,6 @@ fn first_members(alloc: Global, explanation: &Explanation<'_>) -> Result<String,
     }
     text.push_str(",\"listed\":[")?;
     Ok(text)
-}
-
-// Adds the next node; the root, which stands at depth 1, is the first.
-fn push_node(
-    text: &mut String,
-    numbering: &mut Numbering,
-    finding: &Finding,
-) -> Result<(), AllocError> {
-    numbering.step(finding.depth)?;
-    let comma = if finding.depth > 1 { "," } else { "" };
-    let reached = ReachedFacts(finding.reached);
-    let holds = finding.holds;
-    let limits = LimitFacts(finding);
-    let fact = NodeFacts(finding);
-    write!(
-        text,
-        r#"{comma}{{"node":"{numbering}","reached":{reached},"holds":{holds},"limits":{limits},"fact":{fact}}}"#
-    )
 }
 
 // How a node is reached from the one above it.

@@ -1,10 +1,9 @@
-ghost use Rattle.std.specs.Prelude.{◌≡◌, ◌&&◌, ◌<◌, nat_lt, IfOk, slice_index};
+ghost use Rattle.std.specs.Prelude.{◌≡◌, ◌&&◌, nat_lt, IfOk};
 ghost use Rattle.pocsag_slots.specs.Loads.{AreInOrder};
 ghost use Rattle.pocsag_slots.specs.Classes.{class_count};
 ghost use Rattle.pocsag_slots.specs.Ways.{class_certain};
 ghost use Rattle.pocsag_tree.specs.Views.{bound_tree_of};
-ghost use Rattle.pocsag_findings.specs.declared.finding.Fact.TheVariants.{Split};
-ghost use Rattle.pocsag_findings.specs.Rules.{column_of, columns_at, columns_of, early_limits, fact_holds, fact_of, is_narrower, least_of_set, narrowed_of, shares_at, shares_of};
+ghost use Rattle.pocsag_findings.specs.Rules.{columns_at, fact_holds, fact_of, is_narrower, least_of_set, narrowed_of, shares_at};
 
 use crate::finding::{Column, Fact, Narrowed, Share};
 use crate::position::NodeContext;
@@ -56,19 +55,7 @@ fn least_of_set(classes: &Classes, limits: &Limits, set: u16) -> u64
     least_load(classes, limits, set)
 }
 
-// What must stand in the slot under the limits, and the room in it.
-fn column_of(context: &NodeContext, limits: &Limits, slot: u8) -> Column
-    requires ordered { AreInOrder context.now.classes.now limits.now }
-    requires slot { slot < 16 }
-    ensures { result ≡ column_of context.now.classes.now limits.now slot }
-{
-    Column {
-        least: least_of_set(context.classes, limits, 1 << slot),
-        room: limits.cap[slot as usize],
-    }
-}
-
-// The columns that are found of a node below so many.
+// The columns that are found of a node below so many: what must stand in each slot under the limits, and the room in it.
 pub(crate) fn columns_at(
     context: &NodeContext,
     limits: &Limits,
@@ -82,7 +69,10 @@ pub(crate) fn columns_at(
         return Ok(found);
     }
     for slot in 0..SLOTS as u8 {
-        found.push(column_of(context, limits, slot))?;
+        found.push(Column {
+            least: least_of_set(context.classes, limits, 1 << slot),
+            room: limits.cap[slot as usize],
+        })?;
     }
     Ok(found)
 }

@@ -19,7 +19,7 @@ use std::alloc::Global;
 // A child of a node: what leads to it, and its tree.
 #[derive(Clone, Copy)]
 pub(crate) struct Child<'a> {
-    pub(crate) step: Descent,
+    pub(crate) descent: Descent,
     pub(crate) tree: &'a Tree,
 }
 
@@ -38,18 +38,18 @@ fn unjudged_children<'a>(alloc: Global, tree: &'a Tree) -> Result<Vec<Child<'a>>
     ensures found { IfOk result (λ children. (k : Classes) (end : End) (b depth : ℕ) (l : Limits) (above : ℕ) →
         found_from k end b depth l above children.items ≡ unjudged_below depth above (bound_tree_of tree.now)) }
     ensures allowed { IfOk result (λ children. (k : Classes) (b : ℕ) (l : Limits) →
-        All (λ child. MayDescend k b l child.step) children.items) }
+        All (λ child. MayDescend k b l child.descent) children.items) }
 {
     let mut found = Vec::new(alloc);
     match tree {
         Tree::Overload(_) | Tree::Open => Ok(found),
         Tree::Split { below, from, .. } => {
             found.push(Child {
-                step: Descent::Unjudged,
+                descent: Descent::Unjudged,
                 tree: below,
             })?;
             found.push(Child {
-                step: Descent::Unjudged,
+                descent: Descent::Unjudged,
                 tree: from,
             })?;
             Ok(found)
@@ -57,7 +57,7 @@ fn unjudged_children<'a>(alloc: Global, tree: &'a Tree) -> Result<Vec<Child<'a>>
         Tree::Cut { children, .. } | Tree::Close { children } => {
             for child in children {
                 found.push(Child {
-                    step: Descent::Unjudged,
+                    descent: Descent::Unjudged,
                     tree: child,
                 })?;
             }
@@ -83,7 +83,7 @@ pub(crate) fn children_of<'a>(
         (bound_tree_of tree.now)
         else unjudged_below depth above (bound_tree_of tree.now))) }
     ensures allowed { IfOk result (λ children.
-        All (λ child. MayDescend context.now.classes.now context.now.batches limits.now child.step) children.items) }
+        All (λ child. MayDescend context.now.classes.now context.now.batches limits.now child.descent) children.items) }
 {
     if !holds {
         return unjudged_children(context.alloc, tree);
@@ -99,11 +99,11 @@ pub(crate) fn children_of<'a>(
         } => {
             let (class, m) = (*class, *m);
             found.push(Child {
-                step: Descent::Low { class, m },
+                descent: Descent::Low { class, m },
                 tree: below,
             })?;
             found.push(Child {
-                step: Descent::High { class, m },
+                descent: Descent::High { class, m },
                 tree: from,
             })?;
             Ok(found)
@@ -130,12 +130,12 @@ fn children_by<'a>(
         found_from k end b depth l above found.items
         ≡ findings_by k end b depth l above ways.now (bounds_of children.now)) }
     ensures allowed { IfOk result (λ found. (k : Classes) (b : ℕ) (l : Limits) → 0 < b → All (MayTake k l) ways.now →
-        All (λ child. MayDescend k b l child.step) found.items) }
+        All (λ child. MayDescend k b l child.descent) found.items) }
 {
     let mut found = Vec::new(alloc);
     for (index, child) in children.iter().enumerate() {
         found.push(Child {
-            step: Descent::Take(ways[index]),
+            descent: Descent::Take(ways[index]),
             tree: child,
         })?;
     }

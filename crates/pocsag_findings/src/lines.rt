@@ -15,7 +15,7 @@ pub(crate) struct Margins {
     pub(crate) first: usize,
     /// How far right each other line begins.
     pub(crate) others: usize,
-    /// How many characters stand in a line at the most, where its words are no longer.
+    /// The most characters of a line, unless a single word is longer.
     pub(crate) width: usize,
 }
 
@@ -48,7 +48,7 @@ pub(crate) fn push_lines(
     text.push_str("\n")
 }
 
-/// Writes the text so far where it is at least so long, and empties it.
+/// Writes and empties the text so far, if it has at least this many bytes.
 pub(crate) fn flush_text<O: Sink>(
     text: &mut String,
     least: usize,

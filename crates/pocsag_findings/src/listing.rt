@@ -11,8 +11,8 @@ use pocsag_tree::Certificate;
 use pocsag_words::OutOfMemory;
 use std::alloc::Global;
 
-/// What is found of the nodes of a certificate no deeper than so, each node before its children, in the order of
-/// the certificate, for a round of these classes. The classes are to be counted for the certificate's end.
+/// What is found of the nodes of a certificate down to this depth, each node before its children, in the order of the
+/// certificate, for a round of these classes. The classes must be counted for the certificate's end.
 pub fn findings(
     alloc: Global,
     classes: &Classes,

@@ -9,7 +9,7 @@ pub(crate) struct Numbering {
 }
 
 impl Numbering {
-    /// Goes on to the next node, which stands so deep.
+    /// Goes on to the next node, at this depth.
     pub(crate) fn step(&mut self, depth: u32) -> Result<(), AllocError> {
         let above = depth.saturating_sub(1) as usize;
         let before = self.path.get(above).copied().unwrap_or(0);

@@ -24,7 +24,7 @@ const LEAST: usize = 50;
 // How much further right the second line of a text begins.
 const HANG: usize = 4;
 
-/// The margins of a text that is indented so far.
+/// The margins of a text with this indentation.
 pub(crate) fn margins(indent: usize) -> Margins {
     Margins {
         first: indent,
@@ -33,9 +33,9 @@ pub(crate) fn margins(indent: usize) -> Margins {
     }
 }
 
-/// Writes what follows the first words: a line for each finding no deeper than so, and one for its limits where they say more
-/// than those of the root; how many nodes are not listed, and the conclusion. Or, if the checker does not accept the
-/// certificate, the first node that does not hold.
+/// Writes what follows the first words: a line for each finding down to this depth, and one for its limits if they say more
+/// than those of the root; the number of nodes that are not listed; and the conclusion. Or, if the checker does not accept
+/// the certificate, the first node that does not hold.
 pub(crate) fn write_outline<O: Sink>(
     alloc: Global,
     explanation: &Explanation<'_>,
@@ -67,7 +67,13 @@ pub(crate) fn write_outline<O: Sink>(
         flush_text(&mut text, PIECE, out)?;
         listed = listed.saturating_add(1);
     }
-    push_conclusion(&mut text, explanation, listed)?;
+    let below = explanation.nodes.saturating_sub(listed);
+    if below > 0 {
+        let nodes = Counted(below, "node");
+        write!(text, ".. {nodes} below\n")?;
+    }
+    let closing = Conclusion(explanation.refuted);
+    write!(text, "{closing}\n")?;
     flush_text(&mut text, 0, out)
 }
 
@@ -90,21 +96,6 @@ fn push_node(
         push_lines(text, margins(indent.saturating_add(2)), words.as_str())?;
     }
     Ok(())
-}
-
-// Adds how many nodes are not listed, and the conclusion.
-fn push_conclusion(
-    text: &mut String,
-    explanation: &Explanation<'_>,
-    listed: u64,
-) -> Result<(), AllocError> {
-    let below = explanation.nodes.saturating_sub(listed);
-    if below > 0 {
-        let nodes = Counted(below, "node");
-        write!(text, ".. {nodes} below\n")?;
-    }
-    let closing = Conclusion(explanation.refuted);
-    write!(text, "{closing}\n")
 }
 
 /// What a certificate shows, as its last sentence: `so 2 batches do not suffice`.

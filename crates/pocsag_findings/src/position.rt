@@ -7,7 +7,7 @@ use pocsag_slots::{Classes, Limits, Way, below_split, from_split, narrow};
 use pocsag_words::End;
 use std::alloc::Global;
 
-/// What the nodes are judged for, and how deep they are listed: the batches are one fewer than the certificate's.
+/// What the nodes are judged for, and how deep they are listed. The batches are one fewer than the certificate's.
 #[derive(Clone, Copy)]
 pub(crate) struct NodeContext<'a> {
     pub(crate) alloc: Global,

@@ -103,7 +103,7 @@ impl<'a> Explanation<'a> {
         findings(alloc, classes, self.certificate, DRAWN_DEPTH)
     }
 
-    /// The findings of the nodes no deeper than so.
+    /// The findings of the nodes down to this depth.
     pub(crate) fn walk(&self, depth: u32) -> Result<Walk<'a>, OutOfMemory> {
         let mut context = self.context;
         context.depth = depth;

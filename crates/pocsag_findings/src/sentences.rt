@@ -16,7 +16,7 @@ const MOST_SHARES: usize = 8;
 // The class of the address codewords alone that may end a closed transmission, those of frame 7.
 const LAST_ALONE: u8 = CLASSES as u8 - 1;
 
-/// How a node is reached, behind its number; nothing of the root.
+/// How a node is reached, after its number; nothing for the root.
 #[derive(Clone, Copy)]
 pub(crate) struct WayWords<'a>(pub(crate) Refuted<'a>, pub(crate) Reached);
 
@@ -37,7 +37,7 @@ impl Display for WayWords<'_> {
     }
 }
 
-/// What a node says whose rule holds, and else why its rule does not hold.
+/// What a node says if its rule holds, or else why the rule does not hold.
 #[derive(Clone, Copy)]
 pub(crate) struct Sentence<'a>(pub(crate) Refuted<'a>, pub(crate) &'a Finding);
 

@@ -111,7 +111,7 @@ pub(crate) fn smaller_side(set: u16) -> u16
     }
 }
 
-/// What stands behind the boundaries that are named of a cut: that they are its smaller side, where they are not its set.
+/// What follows the boundaries that a cut names: that they are its smaller side, if they are not its set.
 pub(crate) fn side_note(set: u16) -> &'static str
     ensures { result.now ≡ side_note set }
 {

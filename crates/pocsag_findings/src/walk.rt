@@ -14,7 +14,7 @@ use pocsag_slots::all_limits;
 use pocsag_tree::Tree;
 use pocsag_words::OutOfMemory;
 
-/// The findings of a certificate no deeper than so, each node before its children, one after the other.
+/// The findings of a certificate down to a depth, one after the other, each node before its children.
 #[derive(Drop)]
 pub(crate) struct Walk<'a> {
     context: NodeContext<'a>,
@@ -36,7 +36,7 @@ impl<'a> Walk<'a> {
         if context.depth > 0 {
             let mut children = Vec::new(context.alloc);
             children.push(Child {
-                step: Descent::Start,
+                descent: Descent::Start,
                 tree,
             })?;
             levels.push(Level {
@@ -49,7 +49,8 @@ impl<'a> Walk<'a> {
         Ok(Walk { context, levels })
     }
 
-    /// The finding that comes next, or none where none is left. After an error it is not known what is left.
+    /// The finding that comes next, or none where none is left. After an error nothing is known of the remaining
+    /// findings.
     pub(crate) fn next(&mut self) -> Result<Option<Finding>, OutOfMemory>
         ensures { IfOk result (λ found. MatchOption found
             ((findings_left self.old ≡ []) × (findings_left self.new ≡ []))
@@ -57,9 +58,9 @@ impl<'a> Walk<'a> {
     {
         while let Some(mut level) = self.levels.pop() {
             if level.next < level.children.len() {
-                let Child { step, tree } = level.children[level.next];
+                let Child { descent, tree } = level.children[level.next];
                 level.next += 1;
-                let place = step.position(&self.context, &level.limits, level.above);
+                let place = descent.position(&self.context, &level.limits, level.above);
                 self.levels.push(level)?;
                 return Ok(Some(self.enter(&place, tree)?));
             }

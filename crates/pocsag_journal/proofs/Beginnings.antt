@@ -1,9 +1,5 @@
 -- How bytes begin: with the first line, as a part of it, or otherwise.
-use Rattle.std.proofs.Common.{◌≡◌, ◌≢◌, inl, inr, ℕ, Bool, true, false, List, [], ◌++◌, sym, ap, ◌∙◌, true≢false}
-use Rattle.std.proofs.lemmas.List.{append-nil}
-use Rattle.csv.specs.Writing.{default_writer, row_text}
-use Rattle.pocsag_journal.specs.Runs.{first_record}
-use Rattle.pocsag_journal.specs.Journals.{IsBegun, IsFirstCut}
+use Rattle.pocsag_journal.proofs.Prelude.{◌≡◌, ◌≢◌, inl, inr, ℕ, Bool, true, false, List, [], ◌++◌, sym, ap, ◌∙◌, true≢false, append-nil, default_writer, row_text, first_record, IsBegun, IsFirstCut}
 
 -- what is before the first line's end, and is not all of it
 pub cut_of : (bytes line rest : List ℕ) → line ≡ row_text default_writer first_record → line ≡ bytes ++ rest →

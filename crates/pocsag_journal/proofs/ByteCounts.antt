@@ -1,9 +1,5 @@
 -- How many bytes a journal has.
-use Rattle.std.proofs.Common.{◌≡◌, ℕ, ◌+◌, ◌*◌, ◌≤◌, List, ◌++◌, length, arith, ◌∙◌, ap}
-use Rattle.std.specs.Prelude.{min}
-use Rattle.std.proofs.lemmas.List.{length-append}
-use Rattle.pocsag_journal.specs.Journals.{journal_limit}
-use Rattle.pocsag_journal.specs.Growth.{times_needed}
+use Rattle.pocsag_journal.proofs.Prelude.{◌≡◌, ℕ, ◌+◌, ◌*◌, ◌≤◌, List, ◌++◌, length, arith, ◌∙◌, ap, min, length-append, journal_limit, times_needed}
 
 -- a product that is cut at its greatest value is no more than the product
 pub times_at_most : (before text : List ℕ) (len times count : ℕ) → len ≡ length before → len ≤ times → count ≡ length text →

@@ -1,14 +1,6 @@
 -- Counts, and the fields that spell them.
-use Rattle.std.proofs.Common.{◌≡◌, ◌↔◌, ℕ, ◌<◌, ◌≤◌, ◌^◌, List, drop, length, arith, refl, subst, sym}
-use Rattle.std.specs.Prelude.{Option, Some, None}
-use Rattle.std.specs.Fmt.{decimal}
-use Rattle.std.specs.Str.{IsUtf8}
-use Rattle.std.proofs.lemmas.Fmt.{IsAscii-decimal}
+use Rattle.pocsag_journal.proofs.Prelude.{◌≡◌, ◌↔◌, ℕ, ◌<◌, ◌≤◌, ◌^◌, List, drop, length, arith, refl, subst, sym, Option, Some, None, decimal, IsUtf8, IsAscii-decimal, Page, IsNumberIn, SpellsCount, IsEdit, asked_of, sent_record}
 use Rattle.std.proofs.lemmas.Str.{IsUtf8-from_ascii}
-use Rattle.pocsag_pages.specs.declared.page.Page.{Page}
-use Rattle.pocsag_shell.proofs.StagedFiles.{IsNumberIn}
-use Rattle.pocsag_journal.specs.Edited.{SpellsCount}
-use Rattle.pocsag_journal.specs.Runs.{IsEdit, asked_of, sent_record}
 
 pub counted : (field : List ℕ) (r : Option ℕ) → IsNumberIn field r → (count : ℕ) → (r ≡ Some count) ↔ SpellsCount field count
 counted field r reads n = (

@@ -1,24 +1,11 @@
 -- A draft that gains a page, and one that gives some up.
-use Rattle.std.proofs.Common.{◌≡◌, ℕ, ◌<◌, ◌-◌, Bool, true, false, cond, List, [], ◌∷◌, ◌++◌, arith, drop, length, nat_eq, take, refl, sym, ap, ◌∙◌, subst, length-append}
-use Rattle.std.specs.Prelude.{Option, Some, None, option_map, slice_get}
+use Rattle.pocsag_journal.proofs.Prelude.{◌≡◌, ℕ, ◌<◌, ◌-◌, Bool, true, false, cond, List, [], ◌∷◌, ◌++◌, arith, drop, length, nat_eq, take, refl, sym, ap, ◌∙◌, subst, Option, Some, None, option_map, slice_get, keys_of, values_of, lookup, lookup_entry, remove_entry, same_Some, drop-map, length-drop, map-append, take_all, demoted, lru_cache, put_entries, AreGood, addresses_of, page_fault_of, page_limit, Page, good_last, addresses_push, good_push, add_fault, fault_beside, without, not_found, values_push, AreKeyed, without_is, MayFollow, IsDraft}
+use Rattle.std.proofs.Common.{length-append}
 use Rattle.std.specs.Option.{option_map_or}
-use Rattle.std.specs.Map.{keys_of, values_of, lookup, lookup_entry, remove_entry}
-use Rattle.std.proofs.lemmas.Option.{same_Some}
-use Rattle.std.proofs.lemmas.List.{drop-map, length-drop, map-append, take_all}
 use Rattle.std.proofs.lemmas.Map.Entries.{length-values_of}
-use Rattle.lru.specs.LruCache.{demoted, lru_cache, put_entries}
 use Rattle.lru.proofs.Pairs.{lookup-lookup_entry}
-use Rattle.pocsag_pages.specs.Pages.{AreGood, addresses_of, page_fault_of, page_limit}
 use Rattle.pocsag_pages.specs.declared.fault.PageFault.{PageFault}
-use Rattle.pocsag_pages.specs.declared.page.Page.{Page}
-use Rattle.pocsag_pages.proofs.FirstPages.{good_last}
-use Rattle.pocsag_pages.proofs.GrownRounds.{addresses_push, good_push}
-use Rattle.pocsag_plan.specs.OpenRound.{add_fault, fault_beside, without}
 use Rattle.pocsag_plan.specs.declared.refusal.AddFault.TheVariants as fault
-use Rattle.pocsag_plan.proofs.Edits.{not_found, values_push}
-use Rattle.pocsag_plan.proofs.Entries.{AreKeyed, without_is}
-use Rattle.pocsag_plan.proofs.Refusals.{MayFollow}
-use Rattle.pocsag_journal.specs.Drafts.{IsDraft}
 use Rattle.pocsag_journal.proofs.EditedPages.{MayStand, left_stand, none_stand}
 use Rattle.pocsag_journal.proofs.Refusals.{same_nat}
 
@@ -106,10 +93,6 @@ pub first_page : (es : List (ℕ × Page)) (ps : List Page) (o : Option (ℕ × 
     option_map (λ (e : ℕ × Page). e.1) o ≡ slice_get ps 0
 first_page [] ps o view e = rw (e, ← view) refl
 first_page (d ∷ es) ps o view e = rw (e, ← view) refl
-
-pub none_first : (ps : List Page) → None ≡ slice_get ps 0 → ps ≡ []
-none_first [] e = refl
-none_first (p ∷ ps) e = absurd (cc e)
 
 pub some_first : (ps : List Page) (p : Page) → Some p ≡ slice_get ps 0 → ps ≡ p ∷ drop 1 ps
 some_first [] p e = absurd (cc e)

@@ -1,13 +1,5 @@
 -- Runs of edits.
-use Rattle.std.proofs.Common.{◌≡◌, inl, inr, ℕ, cond, List, [], ◌∷◌, ◌++◌, arith, drop, refl, sym, ap, ◌∙◌, subst}
-use Rattle.std.specs.Prelude.{Option, Some, None, codes}
-use Rattle.std.specs.Str.{bytes_eq}
-use Rattle.std.proofs.lemmas.Bool.{cases_Bool}
-use Rattle.std.proofs.lemmas.Fmt.{decimal_injective}
-use Rattle.pocsag_pages.specs.PageFile.{Row}
-use Rattle.pocsag_pages.specs.declared.page.Page.{Page}
-use Rattle.pocsag_plan.specs.OpenRound.{without}
-use Rattle.pocsag_journal.specs.Runs.{Asked, IsDone, IsEdit, IsRun, add, asked_of, cancel, clear, sent}
+use Rattle.pocsag_journal.proofs.Prelude.{◌≡◌, inl, inr, ℕ, cond, List, [], ◌∷◌, ◌++◌, arith, drop, refl, sym, ap, ◌∙◌, subst, Option, Some, None, codes, bytes_eq, cases_Bool, decimal_injective, Row, Page, without, Asked, IsDone, IsEdit, IsRun, add, asked_of, cancel, clear, sent}
 use Rattle.pocsag_journal.proofs.Fields.{edit_record, is_word}
 
 -- an edit is that of a record of one of four kinds

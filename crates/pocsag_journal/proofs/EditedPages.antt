@@ -1,17 +1,7 @@
 -- What an edit keeps of all pages: that they may stand in one round, and what is so of each.
-use Rattle.std.proofs.Common.{◌≡◌, ℕ, ◌≤◌, Bool, true, false, cond, not, List, [], ◌∷◌, length, nat_eq, All, sym, subst, arith, length-append}
-use Rattle.std.specs.Prelude.{None, Ok, filter}
-use Rattle.std.specs.List.{AllByRecursion, IsDistinct}
-use Rattle.std.proofs.lemmas.List.{length-drop}
-use Rattle.std.proofs.lemmas.List.Elements.{All-drop, All-filter, All-nil, All-push}
-use Rattle.pocsag_pages.specs.PageFile.{page_of_fields}
-use Rattle.pocsag_pages.specs.Pages.{AreGood, addresses_of, page_fault_of, page_limit}
-use Rattle.pocsag_pages.specs.declared.page.Page.{Page}
-use Rattle.pocsag_pages.proofs.FirstPages.{good_last}
-use Rattle.pocsag_pages.proofs.GrownRounds.{good_none, good_push}
-use Rattle.pocsag_plan.specs.OpenRound.{without}
-use Rattle.pocsag_plan.proofs.Refusals.{may_follow}
-use Rattle.pocsag_journal.specs.Edited.{IsAdded, IsCancelled, IsSent}
+use Rattle.pocsag_journal.proofs.Prelude.{◌≡◌, ℕ, ◌≤◌, Bool, true, false, cond, not, List, [], ◌∷◌, length, nat_eq, All, sym, subst, arith, None, Ok, filter, AllByRecursion, length-drop, All-drop, All-filter, All-nil, All-push, page_of_fields, AreGood, addresses_of, page_fault_of, page_limit, Page, good_last, good_none, good_push, without, may_follow, IsAdded, IsCancelled, IsSent}
+use Rattle.std.proofs.Common.{length-append}
+use Rattle.std.specs.List.{IsDistinct}
 
 -- pages that pass a test are as good as all of them
 all_kept : (P : ℕ → Type 0) (stays : Page → Bool) (ps : List Page) → AllByRecursion P (addresses_of ps) →

@@ -1,14 +1,7 @@
 -- A record is one line exactly where none of its fields has a line feed.
-use Rattle.std.proofs.Common.{◌≡◌, ◌≢◌, ℕ, ◌==◌, Bool, cond, inl, inr, List, [], ◌∷◌, ◌++◌, refl, sym, ◌∙◌, subst, arith, append_assoc, append-nil}
-use Rattle.std.specs.List.{AllByRecursion}
-use Rattle.std.proofs.lemmas.Bool.{cases_Bool}
-use Rattle.std.proofs.lemmas.List.{append_cancel_right}
-use Rattle.csv.specs.Machine.{line_feed}
-use Rattle.csv.specs.Writing.{default_writer, escaped, field_text, fields_text, is_blank, needs_quotes, quoted, row_body, row_text}
-use Rattle.pocsag_pages.specs.PageFile.{Row}
-use Rattle.pocsag_journal.specs.Journals.{IsLine}
+use Rattle.pocsag_journal.proofs.Prelude.{◌≡◌, ◌≢◌, ℕ, ◌==◌, Bool, cond, inl, inr, List, [], ◌∷◌, ◌++◌, refl, sym, ◌∙◌, subst, arith, append_assoc, AllByRecursion, cases_Bool, append_cancel_right, line_feed, default_writer, escaped, field_text, fields_text, is_blank, needs_quotes, quoted, row_body, row_text, Row, IsLine, HasNoLineFeed}
+use Rattle.std.proofs.Common.{append-nil}
 use Rattle.pocsag_pages.specs.RecordTexts.{IsFieldText, IsRowText}
-use Rattle.pocsag_journal.specs.LineTexts.{HasNoLineFeed}
 use Rattle.pocsag_pages.specs.RecordTexts.IsFieldText.{bare, between_quotes}
 use Rattle.pocsag_pages.specs.RecordTexts.IsRowText.{before, last}
 

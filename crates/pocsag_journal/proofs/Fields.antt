@@ -1,15 +1,8 @@
 -- What the fields of a record ask for.
-use Rattle.std.proofs.Common.{◌≡◌, ◌≢◌, inl, inr, ℕ, zero, suc, ◌<◌, true, false, List, [], ◌∷◌, length, refl, sym, ap, arith, codes}
-use Rattle.std.specs.Prelude.{Option, Some, None}
-use Rattle.std.specs.Str.{bytes_eq}
-use Rattle.std.proofs.lemmas.Bool.{false_from_ne_true}
-use Rattle.std.proofs.lemmas.Slice.Eq.{bytes_eq-Decides}
-use Rattle.csv.specs.Records.{field_at}
+use Rattle.pocsag_journal.proofs.Prelude.{◌≡◌, ◌≢◌, inl, inr, ℕ, zero, suc, ◌<◌, true, false, List, [], ◌∷◌, length, refl, sym, ap, arith, Option, Some, None, bytes_eq, false_from_ne_true, bytes_eq-Decides, field_at, Row, SpellsCount, Asked, add, asked_of, cancel, clear, first_record, sent}
+use Rattle.std.proofs.Common.{codes}
 use Rattle.pocsag_words.specs.declared.ending.End.{End}
-use Rattle.pocsag_pages.specs.PageFile.{Row}
 use Rattle.pocsag_journal.specs.Asks.{AsksNone, AsksNoPlan, AsksPlan, IsPlanEnd, end_word, list_record}
-use Rattle.pocsag_journal.specs.Edited.{SpellsCount}
-use Rattle.pocsag_journal.specs.Runs.{Asked, add, asked_of, cancel, clear, first_record, sent}
 
 pub has_field : (row : Row) (i : ℕ) → i < length row → None ≡ field_at row i → ⊥
 unfolding field_at

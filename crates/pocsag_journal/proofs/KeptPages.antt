@@ -1,21 +1,5 @@
 -- What a journal stands for once an edit more is kept.
-use Rattle.std.proofs.Common.{◌≡◌, ◌≢◌, inl, inr, false, true≢false, ℕ, ◌-◌, arith, List, [], ◌∷◌, ◌++◌, length, refl, sym, ap, ◌∙◌, subst}
-use Rattle.std.proofs.lemmas.List.{append-nil, length-append}
-use Rattle.std.specs.Prelude.{Some, slice_get}
-use Rattle.std.proofs.lemmas.Option.{same_Some}
-use Rattle.std.specs.Fmt.{decimal}
-use Rattle.csv.specs.Writing.{default_writer, row_text}
-use Rattle.pocsag_pages.specs.PageFile.{Row}
-use Rattle.pocsag_pages.specs.declared.page.Page.{Page}
-use Rattle.pocsag_decode.specs.Listing.{kind_field}
-use Rattle.pocsag_decode.specs.PageFiles.{whole_message}
-use Rattle.pocsag_journal.specs.Edited.{IsAdded}
-use Rattle.pocsag_journal.specs.Runs.{IsEdit, IsRefusedFor, IsRun, asked_of, wants_memory}
-use Rattle.pocsag_journal.specs.declared.refusal.Refusal.{Refusal}
-use Rattle.pocsag_journal.specs.Runs.{first_record}
-use Rattle.pocsag_journal.specs.LineTexts.{IsWholeLine}
-use Rattle.pocsag_journal.specs.Journals.{AddsLine, IsAdd, IsLine, ListsPages, Represents, add_record, rows_text}
-use Rattle.pocsag_journal.specs.Faults.{IsUnspelled}
+use Rattle.pocsag_journal.proofs.Prelude.{◌≡◌, ◌≢◌, inl, inr, false, true≢false, ℕ, ◌-◌, arith, List, [], ◌∷◌, ◌++◌, length, refl, sym, ap, ◌∙◌, subst, append-nil, length-append, Some, slice_get, same_Some, decimal, default_writer, row_text, Row, Page, kind_field, whole_message, IsAdded, IsEdit, IsRefusedFor, IsRun, asked_of, wants_memory, Refusal, first_record, IsWholeLine, AddsLine, IsAdd, IsLine, ListsPages, Represents, add_record, rows_text, IsUnspelled}
 use Rattle.pocsag_journal.proofs.EditRuns.{edit_once, run_on}
 use Rattle.pocsag_journal.proofs.TextLines.{same_row}
 use Rattle.pocsag_journal.proofs.Prefixes.{all_more, journal_more}

@@ -12,6 +12,7 @@ pub mod LineLengths
 pub mod LinedPages
 pub mod Moments
 pub mod Prefixes
+pub mod Prelude
 pub mod Readings
 pub mod Refusals
 pub mod Replays

@@ -1,10 +1,6 @@
 -- Bytes among which no line feed is found.
-use Rattle.std.proofs.Common.{◌≡◌, ◌≢◌, ℕ, true, false, List, [], ◌∷◌, refl, sym, ◌∙◌}
-use Rattle.std.proofs.lemmas.Bool.{or_parts}
+use Rattle.pocsag_journal.proofs.Prelude.{◌≡◌, ◌≢◌, ℕ, true, false, List, [], ◌∷◌, refl, sym, ◌∙◌, or_parts, list_any, line_feed, HasNoLineFeed}
 use Rattle.std.specs.Prelude.{◌==◌}
-use Rattle.std.specs.List.{list_any}
-use Rattle.csv.specs.Machine.{line_feed}
-use Rattle.pocsag_journal.specs.LineTexts.{HasNoLineFeed}
 
 other_byte : (b : ℕ) → (b == line_feed) ≡ false → b ≢ line_feed
 other_byte b n e = let t : (b == line_feed) ≡ true = rw e refl in cc (sym t ∙ n)

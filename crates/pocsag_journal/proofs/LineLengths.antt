@@ -1,28 +1,11 @@
 -- How long the text of an edit is.
-use Rattle.std.proofs.Common.{◌≡◌, ℕ, ◌+◌, ◌*◌, ◌≤◌, Bool, true, false, cond, List, [], ◌∷◌, length, arith, refl, ap}
-use Rattle.std.specs.Prelude.{Option, Some, None, Result, Ok, Err, IfOk, codes, ◌||◌, nat_eq, nat_lt}
-use Rattle.std.specs.Fmt.{decimal}
-use Rattle.std.specs.Str.{bytes_eq}
-use Rattle.std.proofs.lemmas.Bool.{or_parts}
-use Rattle.std.proofs.lemmas.Bool.Decides.{nat_tests}
-use Rattle.std.proofs.lemmas.Fmt.{length-decimal-le}
-use Rattle.std.proofs.lemmas.List.{length-append}
-use Rattle.csv.specs.Writing.{default_writer, fields_text, is_blank, row_text}
-use Rattle.pocsag_text.specs.declared.fault.TextFault.{TextFault}
+use Rattle.pocsag_journal.proofs.Prelude.{◌≡◌, ℕ, ◌+◌, ◌*◌, ◌≤◌, Bool, true, false, cond, List, [], ◌∷◌, length, arith, refl, ap, Option, Some, None, Result, Ok, Err, IfOk, codes, ◌||◌, nat_lt, decimal, bytes_eq, or_parts, nat_tests, length-decimal-le, length-append, default_writer, fields_text, is_blank, row_text, TextFault, alpha_payload, is_bad_byte, numeric_payload, text_fault, unless, field_short, page_at, paged, value_of, ◌>>=◌, Row, address_digits, address_of, fault_if, kind_of_field, of_text, or_fault, page_of_fields, payload_of, is_reserved, FieldFault, Page, Asked, IsDone, IsEdit, add, cancel, clear, sent, kept_line_limit}
+use Rattle.std.specs.Prelude.{nat_eq}
 use Rattle.pocsag_text.specs.Characters.{is_bad_digit}
-use Rattle.pocsag_text.specs.Text.{alpha_payload, is_bad_byte, numeric_payload, text_fault, unless}
 use Rattle.pocsag_text.proofs.Payloads.{fault_none}
-use Rattle.pocsag_decode.proofs.PageRows.{field_short}
-use Rattle.pocsag_decode.proofs.SpellablePages.{page_at, paged, value_of}
-use Rattle.pocsag_pages.specs.PageFile.{◌>>=◌, Row, address_digits, address_of, fault_if, kind_of_field, of_text, or_fault, page_of_fields, payload_of}
-use Rattle.pocsag_pages.specs.Pages.{is_reserved}
-use Rattle.pocsag_pages.specs.declared.fault.FieldFault.{FieldFault}
 use Rattle.pocsag_pages.specs.declared.fault.FieldFault.TheVariants as field
-use Rattle.pocsag_pages.specs.declared.page.Page.{Page}
-use Rattle.pocsag_journal.specs.Runs.{Asked, IsDone, IsEdit, add, cancel, clear, sent}
 use Rattle.pocsag_journal.proofs.EditRuns.{edit_of}
 use Rattle.pocsag_journal.proofs.Fields.{edit_record, is_word}
-use Rattle.pocsag_journal.specs.Growth.{kept_line_limit}
 
 -- the fields of an edit
 two_length : (word address : List ℕ) →

@@ -1,34 +1,11 @@
 -- Pages that lines add have lines.
-use Rattle.std.proofs.Common.{◌≡◌, ◌≢◌, ℕ, zero, suc, ◌+◌, ◌^◌, ◌<◌, ◌==◌, Bool, true, false, cond, inl, inr, List, [], ◌∷◌, ◌++◌, length, replicate, All, refl, sym, subst, arith, codes, length-append}
-use Rattle.std.specs.Prelude.{None, Some, Result, Ok, Err, IfOk}
-use Rattle.std.specs.List.{AllByRecursion}
-use Rattle.std.specs.Fmt.{decimal}
-use Rattle.std.specs.Str.{bytes_eq}
-use Rattle.std.proofs.lemmas.Bool.{cases_Bool}
-use Rattle.std.proofs.lemmas.Fmt.{decimal_by_steps}
-use Rattle.std.proofs.lemmas.List.Elements.{All-head, All-nil, All-tail}
-use Rattle.csv.specs.Machine.{line_feed}
-use Rattle.csv.specs.Writing.{default_writer, row_text}
-use Rattle.pocsag_text.specs.declared.fault.TextFault.{TextFault}
-use Rattle.pocsag_text.specs.Text.{alpha_payload, numeric_payload, trim_end, trimmed_onto}
+use Rattle.pocsag_journal.proofs.Prelude.{◌≡◌, ◌≢◌, ℕ, zero, suc, ◌+◌, ◌^◌, ◌<◌, ◌==◌, Bool, true, false, cond, inl, inr, List, [], ◌∷◌, ◌++◌, length, replicate, All, refl, sym, subst, arith, None, Some, Result, Ok, Err, IfOk, AllByRecursion, decimal, bytes_eq, cases_Bool, decimal_by_steps, All-head, All-nil, All-tail, line_feed, default_writer, row_text, TextFault, alpha_payload, numeric_payload, trim_end, trimmed_onto, ◌>>=◌, Row, address_of, fault_if, kind_of_field, of_record, of_text, or_fault, page_of, page_of_fields, payload_of, is_reserved, page_fault_of, FieldFault, Page, kind_field, message_field, whole_message, free_address, record_back, one_name, page_at, page_spellable, paged, value_of, no_fault, HasNoLine, AddsLine, IsLine, IsRead, add_record, HasNoLineFeed, Asked, IsDone, IsEdit, IsRun, add, asked_of, cancel, clear, sent}
+use Rattle.std.proofs.Common.{codes, length-append}
 use Rattle.pocsag_text.proofs.RoundTrips.{numeric_text-back}
-use Rattle.pocsag_pages.specs.PageFile.{◌>>=◌, Row, address_of, fault_if, kind_of_field, of_record, of_text, or_fault, page_of, page_of_fields, payload_of}
-use Rattle.pocsag_pages.specs.Pages.{is_reserved, page_fault_of}
-use Rattle.pocsag_pages.specs.declared.fault.FieldFault.{FieldFault}
 use Rattle.pocsag_pages.specs.declared.fault.FieldFault.TheVariants as field
-use Rattle.pocsag_pages.specs.declared.page.Page.{Page}
 use Rattle.pocsag_pages.proofs.GoodPages.{good_page}
-use Rattle.pocsag_decode.specs.Listing.{kind_field, message_field}
-use Rattle.pocsag_decode.specs.PageFiles.{whole_message}
 use Rattle.pocsag_decode.proofs.ListedFields.{characters_listed}
-use Rattle.pocsag_decode.proofs.PageRows.{free_address, record_back}
-use Rattle.pocsag_decode.proofs.SpellablePages.{one_name, page_at, page_spellable, paged, value_of}
-use Rattle.pocsag_plan.proofs.Refusals.{no_fault}
-use Rattle.pocsag_journal.specs.Faults.{HasNoLine}
-use Rattle.pocsag_journal.specs.Journals.{AddsLine, IsLine, IsRead, add_record}
-use Rattle.pocsag_journal.specs.LineTexts.{HasNoLineFeed}
 use Rattle.pocsag_journal.specs.PageLines.{HasLine, HaveLines}
-use Rattle.pocsag_journal.specs.Runs.{Asked, IsDone, IsEdit, IsRun, add, asked_of, cancel, clear, sent}
 use Rattle.pocsag_journal.proofs.EditRuns.{edit_of}
 use Rattle.pocsag_journal.proofs.Fields.{edit_record}
 use Rattle.pocsag_journal.proofs.EditedPages.{Keeps, added_keeps, cancelled_keeps, cleared_keeps, none_stand, sent_keeps}

@@ -1,6 +1,5 @@
 -- How what a crash may leave goes on from call to call.
-use Rattle.std.proofs.Common.{inl, inr, ⊎_elim, ℕ, List, arith}
-use Rattle.pocsag_journal.specs.Moments.{Elapses, LeavesOnly}
+use Rattle.pocsag_journal.proofs.Prelude.{inl, inr, ⊎_elim, ℕ, List, arith, Elapses, LeavesOnly}
 
 module _ {D : Type 0} (moment : D → ℕ) (left_since : D → ℕ → List ℕ → Type 0) where
   -- before the first call

@@ -1,13 +1,5 @@
 -- What a prefix of a journal is read as.
-use Rattle.std.proofs.Common.{◌≡◌, ◌≢◌, ◌⊎◌, inl, inr, ℕ, List, [], ◌∷◌, ◌++◌, refl, sym, ap, ◌∙◌, subst, append_assoc}
-use Rattle.std.proofs.lemmas.List.{append-nil}
-use Rattle.std.specs.List.{AllByRecursion}
-use Rattle.csv.specs.Machine.{line_feed}
-use Rattle.csv.specs.Writing.{default_writer, row_text}
-use Rattle.pocsag_pages.specs.PageFile.{Row}
-use Rattle.pocsag_journal.specs.LineTexts.{HasNoLineFeed, IsWholeLine}
-use Rattle.pocsag_journal.specs.Runs.{first_record}
-use Rattle.pocsag_journal.specs.Journals.{IsLine, IsRead, ReadsFirst, journal_text, rows_text}
+use Rattle.pocsag_journal.proofs.Prelude.{◌≡◌, ◌≢◌, ◌⊎◌, inl, inr, ℕ, List, [], ◌∷◌, ◌++◌, refl, sym, ap, ◌∙◌, subst, append_assoc, append-nil, AllByRecursion, line_feed, default_writer, row_text, Row, HasNoLineFeed, IsWholeLine, first_record, IsLine, IsRead, ReadsFirst, journal_text, rows_text}
 use Rattle.pocsag_journal.proofs.TextLines.{first_line}
 use Rattle.pocsag_journal.proofs.Readings.{one_reading, read_on}
 

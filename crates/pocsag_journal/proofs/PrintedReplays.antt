@@ -1,10 +1,6 @@
 -- What is reported of bytes explains why they are not read.
-use Rattle.std.proofs.Common.{◌≡◌, ℕ, List, subst}
-use Rattle.std.specs.Prelude.{IfErr, Result, Ok, Err}
-use Rattle.pocsag_journal.specs.Faults.{ExplainsReplay, IsPrinted}
-use Rattle.pocsag_journal.specs.declared.fault.JournalFault.{JournalFault}
+use Rattle.pocsag_journal.proofs.Prelude.{◌≡◌, ℕ, List, subst, IfErr, Result, Ok, Err, ExplainsReplay, IsPrinted, JournalFault, Replayed}
 use Rattle.pocsag_journal.specs.declared.fault.JournalFault.TheVariants as fault
-use Rattle.pocsag_journal.specs.declared.replay.Replayed.{Replayed}
 
 told_replay : (bytes : List ℕ) (before after : ℕ) (f : JournalFault) → IsPrinted bytes f → ExplainsReplay bytes before after f
 told_replay bytes before after fault.ReadFault h = absurd h

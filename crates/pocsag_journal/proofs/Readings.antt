@@ -1,14 +1,5 @@
 -- What bytes are read as.
-use Rattle.std.proofs.Common.{◌≡◌, inl, inr, ℕ, List, [], ◌∷◌, ◌++◌, refl, sym, ap, ◌∙◌, subst, append_assoc}
-use Rattle.std.proofs.lemmas.List.{append-nil}
-use Rattle.std.specs.List.{AllByRecursion}
-use Rattle.csv.specs.Writing.{default_writer, row_text}
-use Rattle.pocsag_pages.specs.PageFile.{Row}
-use Rattle.pocsag_pages.specs.declared.page.Page.{Page}
-use Rattle.pocsag_journal.specs.Runs.{IsEdit, IsRun}
-use Rattle.pocsag_journal.specs.LineTexts.{HasNoLineFeed, IsWholeLine}
-use Rattle.pocsag_journal.specs.Runs.{first_record}
-use Rattle.pocsag_journal.specs.Journals.{IsBadLine, IsBegun, IsLine, IsRead, journal_text, rows_text}
+use Rattle.pocsag_journal.proofs.Prelude.{◌≡◌, inl, inr, ℕ, List, [], ◌∷◌, ◌++◌, refl, sym, ap, ◌∙◌, subst, append_assoc, append-nil, AllByRecursion, default_writer, row_text, Row, Page, IsEdit, IsRun, HasNoLineFeed, IsWholeLine, first_record, IsBadLine, IsBegun, IsLine, IsRead, journal_text, rows_text}
 use Rattle.pocsag_journal.proofs.EditRuns.{run_once, run_parts}
 use Rattle.pocsag_journal.proofs.TextLines.{Left, align, first_line, no_whole_line, same_line}
 

@@ -1,18 +1,7 @@
 -- What is refused is no edit of these pages, or memory was wanting.
-use Rattle.std.proofs.Common.{◌≡◌, ◌⊎◌, inl, inr, ℕ, zero, suc, ◌<◌, true, List, [], ◌∷◌, length, refl, sym, ap, ◌∙◌, subst, arith, slice_index_or}
-use Rattle.std.specs.Prelude.{Option, Some, None, Ok, Contains, nat_eq}
-use Rattle.std.proofs.lemmas.Bool.{or_right}
-use Rattle.pocsag_pages.specs.Pages.{has_address}
-use Rattle.pocsag_pages.specs.PageFile.{page_of_fields}
-use Rattle.pocsag_pages.specs.declared.page.Page.{Page}
-use Rattle.pocsag_pages.specs.declared.fault.FieldFault.{FieldFault}
-use Rattle.pocsag_plan.specs.OpenRound.{add_fault, fault_or_memory}
+use Rattle.pocsag_journal.proofs.Prelude.{◌≡◌, ◌⊎◌, inl, inr, ℕ, zero, suc, ◌<◌, true, List, [], ◌∷◌, length, refl, sym, ap, ◌∙◌, subst, arith, slice_index_or, Option, Some, None, Ok, Contains, or_right, has_address, page_of_fields, Page, FieldFault, add_fault, fault_or_memory, IsAdded, Asked, IsDone, IsReason, add, cancel, clear, sent, wants_memory, Refusal}
+use Rattle.std.specs.Prelude.{nat_eq}
 use Rattle.pocsag_plan.specs.declared.refusal.AddFault.{AddFault}
-use Rattle.pocsag_journal.specs.Edited.{IsAdded, IsEditRefused}
-use Rattle.pocsag_journal.specs.Runs.{IsDone, IsReason, asked_by_line, wants_memory}
-use Rattle.pocsag_journal.specs.declared.edits.Line.{Line}
-use Rattle.pocsag_journal.specs.declared.edits.Line.TheVariants as line
-use Rattle.pocsag_journal.specs.declared.refusal.Refusal.{Refusal}
 use Rattle.pocsag_journal.specs.declared.refusal.Refusal.TheVariants as refusal
 
 pub same_nat : (n : ℕ) → nat_eq n n ≡ true
@@ -34,22 +23,15 @@ by_fault a k m pages page f (Some g) e t h = inr (λ after d.
     let same : page ≡ d.page = cc (e, d.spelled) in
     cc (sym t ∙ ap (λ (q : Page). add_fault pages q) same ∙ d.free))
 
-pub refused_asking : (asking : Line) (pages : List Page) (why : Refusal) → IsEditRefused asking pages why →
-    (wants_memory why ≡ true) ⊎ ((after : List Page) → IsDone (asked_by_line asking) pages after → ⊥)
-refused_asking (line.Add a k m) pages (refusal.Field f) (inl h) = inl (ap (λ (g : FieldFault). wants_memory (refusal.Field g)) h.0)
-refused_asking (line.Add a k m) pages (refusal.Field f) (inr e) = inr (λ after d. cc (e, d.spelled))
-refused_asking (line.Add a k m) pages (refusal.Add f) h = by_fault a.now k.now m.now pages h.0 f (add_fault pages h.0) h.1 refl h.2
-refused_asking (line.Add a k m) pages why h = absurd h
-refused_asking (line.Cancel a) pages (refusal.Cancel f) h = inr (λ after d.
-    cc (there pages d.page d.there, h d.page.address d.spelled))
-refused_asking (line.Cancel a) pages why h = absurd h
-refused_asking (line.Sent n) pages (refusal.Cancel f) h = inr (λ after d. let few = h d.count d.spelled in omega (arith, few, d.there))
-refused_asking (line.Sent n) pages why h = absurd h
-refused_asking line.Clear pages why h = absurd h
-refused_asking asking pages why h = inr (λ after d. d)
-
--- why a line is refused is why the edit is that it asks for
-pub reason_asking : (asking : Line) (pages : List Page) (why : Refusal) → IsEditRefused asking pages why →
-    IsReason (asked_by_line asking) pages why
-reason_asking line.Clear pages why h = h
-reason_asking asking pages why h = h
+pub not_done : (asked : Option Asked) (pages : List Page) (why : Refusal) → IsReason asked pages why →
+    (wants_memory why ≡ true) ⊎ ((after : List Page) → IsDone asked pages after → ⊥)
+not_done None pages why h = inr (λ after d. d)
+not_done (Some (add a k m)) pages (refusal.Field f) (inl h) = inl (ap (λ (g : FieldFault). wants_memory (refusal.Field g)) h.0)
+not_done (Some (add a k m)) pages (refusal.Field f) (inr e) = inr (λ after d. cc (e, d.spelled))
+not_done (Some (add a k m)) pages (refusal.Add f) h = by_fault a k m pages h.0 f (add_fault pages h.0) h.1 refl h.2
+not_done (Some (add a k m)) pages why h = absurd h
+not_done (Some (cancel a)) pages (refusal.Cancel f) h = inr (λ after d. cc (there pages d.page d.there, h d.page.address d.spelled))
+not_done (Some (cancel a)) pages why h = absurd h
+not_done (Some (sent n)) pages (refusal.Cancel f) h = inr (λ after d. let few = h d.count d.spelled in omega (arith, few, d.there))
+not_done (Some (sent n)) pages why h = absurd h
+not_done (Some clear) pages why h = absurd h

@@ -1,28 +1,10 @@
 -- Lines that are the text of edits.
-use Rattle.std.proofs.Common.{◌≡◌, ◌≢◌, ◌⊎◌, inl, inr, ℕ, ◌+◌, ◌<◌, ◌≤◌, add-one, arith, append_assoc, length, Bool, true, false, cond, List, [], ◌∷◌, ◌++◌, refl, sym, ap, ◌∙◌, subst}
-use Rattle.std.specs.List.{AllByRecursion}
-use Rattle.std.specs.Prelude.{Option, Some, None, IsSome, codes, option_map}
+use Rattle.pocsag_journal.proofs.Prelude.{◌≡◌, ◌≢◌, ◌⊎◌, inl, inr, ℕ, ◌+◌, ◌<◌, ◌≤◌, add-one, arith, append_assoc, length, Bool, true, false, cond, List, [], ◌∷◌, ◌++◌, refl, sym, ap, ◌∙◌, subst, AllByRecursion, Option, Some, None, IsSome, codes, option_map, bytes_eq, append-nil, length-append, same_Some, bytes_eq-Decides, Read, line_feed, next_record, default_config, strip_bom, default_writer, row_text, read-write, read-write-many, Row, Page, Asked, IsDone, IsEdit, IsRefusedFor, IsRun, asked_of, cancel, clear, sent, wants_memory, Refusal, HasNoLineFeed, IsWholeLine, first_record, IsBefore, GivesRow, IsBadLine, IsFirstCut, IsLine, MakesLine, Replays, journal_text, rows_text}
 use Rattle.std.specs.Borrow.{Bor}
-use Rattle.std.specs.Str.{bytes_eq}
-use Rattle.std.proofs.lemmas.List.{append-nil, length-append}
-use Rattle.std.proofs.lemmas.Option.{same_Some}
-use Rattle.std.proofs.lemmas.Slice.Eq.{bytes_eq-Decides}
-use Rattle.csv.specs.Machine.{Read, line_feed, next_record}
-use Rattle.csv.specs.Reading.{default_config, strip_bom}
-use Rattle.csv.specs.Writing.{default_writer, row_text}
 use Rattle.csv.specs.declared.parser.State.TheVariants as st
 use Rattle.csv.specs.declared.reader.Reader.{Reader}
-use Rattle.csv.proofs.RoundTrip.{read-write, read-write-many}
-use Rattle.pocsag_pages.specs.PageFile.{Row}
 use Rattle.pocsag_pages.specs.Rows.{IsAtRecord}
-use Rattle.pocsag_pages.specs.declared.page.Page.{Page}
-use Rattle.pocsag_journal.specs.Runs.{Asked, IsDone, IsEdit, IsRefusedFor, IsRun, asked_of, cancel, clear, sent, wants_memory}
-use Rattle.pocsag_journal.specs.declared.refusal.Refusal.{Refusal}
-use Rattle.pocsag_journal.specs.LineTexts.{HasNoLineFeed, IsWholeLine}
-use Rattle.pocsag_journal.specs.Runs.{first_record}
 use Rattle.pocsag_journal.proofs.Fields.{is_word}
-use Rattle.pocsag_journal.specs.Readers.{IsBefore, GivesRow}
-use Rattle.pocsag_journal.specs.Journals.{IsBadLine, IsFirstCut, IsLine, MakesLine, Replays, journal_text, rows_text}
 use Rattle.pocsag_journal.proofs.EditRuns.{run_on}
 use Rattle.pocsag_journal.proofs.Prefixes.{all_more, journal_more, short}
 use Rattle.pocsag_journal.proofs.TextLines.{back_is, first_line}

@@ -1,19 +1,9 @@
 -- Lines of a text, and the records that they are.
-use Rattle.std.proofs.Common.{◌≡◌, ◌≢◌, ℕ, zero, suc, ◌+◌, ◌<◌, List, [], ◌∷◌, ◌++◌, length, take, arith, add-one, refl, sym, ap, ◌∙◌, subst, append_assoc, append-nil, Some, Bool, true, ◌==◌}
-use Rattle.std.proofs.lemmas.Bool.{eqb-true}
-use Rattle.std.specs.Prelude.{Option, None, codes, slice_index}
+use Rattle.pocsag_journal.proofs.Prelude.{◌≡◌, ◌≢◌, ℕ, zero, suc, ◌+◌, ◌<◌, List, [], ◌∷◌, ◌++◌, length, take, arith, add-one, refl, sym, ap, ◌∙◌, subst, append_assoc, Bool, true, ◌==◌, eqb-true, Option, None, codes, slice_index, AllByRecursion, Read, line_feed, next_record, default_config, default_writer, fields_text, is_blank, read_back, row_text, read-write, Row, HasNoLineFeed, IsWholeLine, first_record, IsLine, rows_text}
+use Rattle.std.proofs.Common.{append-nil, Some}
 use Rattle.memchr.specs.Find.{NoneBefore, Passes, is_byte}
-use Rattle.std.specs.List.{AllByRecursion}
-use Rattle.csv.specs.Machine.{Read, line_feed, next_record}
-use Rattle.csv.specs.Reading.{default_config}
-use Rattle.csv.specs.Writing.{default_writer, fields_text, is_blank, read_back, row_text}
 use Rattle.csv.specs.declared.parser.State.TheVariants as st
-use Rattle.csv.proofs.RoundTrip.{read-write}
-use Rattle.pocsag_pages.specs.PageFile.{Row}
-use Rattle.pocsag_journal.specs.LineTexts.{HasNoLineFeed, IsWholeLine}
 use Rattle.pocsag_journal.proofs.LineFeeds.{none_found}
-use Rattle.pocsag_journal.specs.Runs.{first_record}
-use Rattle.pocsag_journal.specs.Journals.{IsLine, rows_text}
 
 -- two texts that begin with a line each and are equal begin with the same line
 pub split_lines : (a b xs ys : List ℕ) → HasNoLineFeed a → HasNoLineFeed b → a ++ line_feed ∷ xs ≡ b ++ line_feed ∷ ys →

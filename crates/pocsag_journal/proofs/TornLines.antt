@@ -1,18 +1,7 @@
 -- What is read of a journal behind which a line was being written, and of one that is written anew.
-use Rattle.std.proofs.Common.{◌≡◌, ◌⊎◌, inl, inr, ⊎_elim, ℕ, ◌+◌, ◌*◌, ◌≤◌, List, [], ◌∷◌, ◌++◌, length, drop, arith, sym, ap, ◌∙◌, subst, append-nil, length-append, take-append-drop}
-use Rattle.std.specs.List.{AllByRecursion}
-use Rattle.csv.specs.Writing.{default_writer, fields_text, is_blank, row_text}
-use Rattle.pocsag_pages.specs.PageFile.{Row}
-use Rattle.pocsag_pages.specs.declared.page.Page.{Page}
-use Rattle.pocsag_journal.specs.Keepers.{ReadsAsEither}
-use Rattle.pocsag_journal.specs.Moments.{Elapses, LeavesOnly}
-use Rattle.pocsag_journal.specs.Runs.{IsEdit, IsRun, first_record}
-use Rattle.pocsag_journal.specs.LineTexts.{HasNoLineFeed, IsWholeLine}
+use Rattle.pocsag_journal.proofs.Prelude.{◌≡◌, ◌⊎◌, inl, inr, ⊎_elim, ℕ, ◌+◌, ◌*◌, ◌≤◌, List, [], ◌∷◌, ◌++◌, length, drop, arith, sym, ap, ◌∙◌, subst, take-append-drop, AllByRecursion, default_writer, fields_text, is_blank, row_text, Row, Page, ReadsAsEither, Elapses, LeavesOnly, IsEdit, IsRun, first_record, HasNoLineFeed, IsWholeLine, IsTorn, RestartsAs, kept_line_limit, IsAdd, ListsPages, Represents, journal_limit, rows_text, IsHeld, disk_of}
+use Rattle.std.proofs.Common.{append-nil, length-append}
 use Rattle.pocsag_journal.proofs.Moments.{goes_on, started}
-use Rattle.pocsag_journal.specs.Crashes.{IsTorn, LeavesOr, RestartsAs}
-use Rattle.pocsag_journal.specs.Growth.{kept_line_limit}
-use Rattle.pocsag_journal.specs.Journals.{IsAdd, ListsPages, Represents, journal_limit, rows_text}
-use Rattle.pocsag_journal.specs.Views.{IsHeld, disk_of}
 use Rattle.pocsag_journal.specs.Restarts.{held_restarts, restarts}
 use Rattle.pocsag_journal.specs.declared.journal.Journal.{Journal}
 use Rattle.pocsag_journal.proofs.LineLengths.{line_length}
@@ -112,7 +101,7 @@ module _ {D : Type 0} (moment : D → ℕ) (left_since : D → ℕ → List ℕ 
   -- from what a crash may have left before on
   pub put_anew : (disk new : D) (text : List ℕ) (pages : List Page) →
       ((left : List ℕ) → left_since disk (moment disk) left → may_leave disk left) → ListsPages text pages → length pages ≤ 20000 →
-      LeavesOr text (may_leave disk) (may_leave new) → Elapses (moment disk) (moment new) (left_since disk) (left_since new) (may_leave new) →
+      ((left : List ℕ) → may_leave new left → may_leave disk left ⊎ (left ≡ text)) → Elapses (moment disk) (moment new) (left_since disk) (left_since new) (may_leave new) →
       LeavesOnly moment left_since disk new (λ left. may_leave disk left ⊎ RestartsAs left pages)
   put_anew disk new text pages only listed few leaves time =
       goes_on moment left_since disk disk new (λ left. may_leave disk left ⊎ RestartsAs left pages) (may_leave new)

@@ -15,14 +15,6 @@ pub record IsTorn (line old left : List ℕ) : Type 0 where
   pub few : length part ≤ length line
   pub kind : (part ≡ take (length part) line) ⊎ HasNoLineFeed part
 
--- What a crash leaves now comes by this step from what one might have left before.
-abbrev pub LeavesAfter : (step : List ℕ → List ℕ → Type 0) → (old new : List ℕ → Type 0) → Type 0
-LeavesAfter step old new = (left : List ℕ) → new left → (was : List ℕ) × old was × step was left
-
--- What a crash leaves now, one might have left before, or it is these bytes.
-abbrev pub LeavesOr : (bytes : List ℕ) → (old new : List ℕ → Type 0) → Type 0
-LeavesOr bytes old new = (left : List ℕ) → new left → old left ⊎ (left ≡ bytes)
-
 -- *Restart*: a start reads the bytes as edits, each accepted in its turn, which lead from no pages to these.
 pub record RestartsAs (bytes : List ℕ) (pages : List Page) : Type 0 where
   pub rows : List Row

@@ -1,15 +1,17 @@
 -- Edits as records of CSV, and runs of them (this project's own).
-use Rattle.std.specs.Prelude.{◌≡◌, ◌⊎◌, ℕ, Bool, true, false, if◌then◌else◌, List, [], ◌∷◌, codes, Option, Some, None}
+use Rattle.std.specs.Prelude.{◌≡◌, ◌⊎◌, ℕ, ◌<◌, Bool, true, false, if◌then◌else◌, List, [], ◌∷◌, length, codes, Option, Some, None, Ok, Err, IsOk}
 use Rattle.std.specs.Fmt.{decimal}
 use Rattle.std.specs.Str.{bytes_eq}
-use Rattle.pocsag_pages.specs.PageFile.{Row}
+use Rattle.pocsag_pages.specs.PageFile.{Row, address_of, page_of_fields}
+use Rattle.pocsag_pages.specs.Pages.{has_address}
 use Rattle.pocsag_pages.specs.declared.page.Page.{Page}
-use Rattle.pocsag_journal.specs.Edited.{IsAddRefused, IsAdded, IsCancelRefused, IsCancelled, IsSent, IsSentRefused}
+use Rattle.pocsag_journal.specs.Edited.{IsAdded, IsCancelled, IsSent, SpellsCount}
 use Rattle.pocsag_journal.specs.declared.edits.Line.{Line}
 use Rattle.pocsag_journal.specs.declared.edits.Line.TheVariants as line
 use Rattle.pocsag_journal.specs.declared.refusal.Refusal.{Refusal}
 use Rattle.pocsag_journal.specs.declared.refusal.Refusal.TheVariants as refusal
 use Rattle.pocsag_pages.specs.declared.fault.FieldFault.TheVariants as field
+use Rattle.pocsag_plan.specs.OpenRound.{add_fault, fault_or_memory}
 use Rattle.pocsag_plan.specs.declared.refusal.AddFault.TheVariants as adding
 
 -- The first record of a journal: it names the format and its version.
@@ -76,13 +78,19 @@ wants_memory _ = false
 abbrev pub IsRefusedFor : Row → List Page → Refusal → Type 0
 IsRefusedFor row pages why = (wants_memory why ≡ true) ⊎ ((after : List Page) → ¬ IsEdit row pages after)
 
--- The reason for which an edit is refused: its page, its address, or that there is no such edit.
+-- The reason for which an edit is refused: there is no such edit; the fields of an `add` spell no page, or something stands against
+-- the page that they spell, or memory was wanting for it; the field of a `cancel` spells no address, or that of no page; or that of a
+-- `sent` no count, or that of more pages than there are.
 abbrev pub IsReason : Option Asked → List Page → Refusal → Type 0
 IsReason None pages why = why ≡ refusal.Unknown
-IsReason (Some (add address kind message)) pages why = IsAddRefused address kind message pages why
-IsReason (Some (cancel address)) pages why = IsCancelRefused address pages why
-IsReason (Some (sent count)) pages why = IsSentRefused count pages why
-IsReason (Some clear) pages why = ⊥
+IsReason (Some (add address kind message)) pages (refusal.Field f) =
+    ((f ≡ field.OutOfMemory) × IsOk (page_of_fields address kind message)) ⊎ (page_of_fields address kind message ≡ Err f)
+IsReason (Some (add address kind message)) pages (refusal.Add f) =
+    (page : Page) × (page_of_fields address kind message ≡ Ok page) × (f ≡ fault_or_memory (add_fault pages page))
+IsReason (Some (cancel spelling)) pages (refusal.Cancel absent) =
+    (address : ℕ) → address_of spelling ≡ Some address → has_address pages address ≡ false
+IsReason (Some (sent count)) pages (refusal.Cancel absent) = (n : ℕ) → SpellsCount count n → length pages < n
+IsReason _ pages why = ⊥
 
 -- The record is refused as an edit for this reason.
 abbrev pub IsReasonFor : Row → List Page → Refusal → Type 0

@@ -1,14 +1,14 @@
-ghost use Rattle.std.specs.Prelude.{◌≡◌, ◌≤◌, ◌<◌, ◌++◌, ℕ, List, length, Err, IfOk, OnOk};
+ghost use Rattle.std.specs.Prelude.{◌≡◌, ◌≤◌, ◌<◌, ◌⊎◌, ◌++◌, ℕ, List, length, Err, IfOk, OnOk};
 ghost use Rattle.pocsag_words.specs.Devices.{CountsFailures, Delivers, HasFailed};
 ghost use Rattle.pocsag_journal.specs.Moments.{Elapses, IsSafe};
-ghost use Rattle.pocsag_journal.specs.Crashes.{IsTorn, LeavesAfter, LeavesOr};
+ghost use Rattle.pocsag_journal.specs.Crashes.{IsTorn};
 
 use pocsag_pages::WholeFault;
 use pocsag_words::DeviceFault;
 use std::alloc::Global;
 
-/// What a journal is on, as a file of a disk is: it holds bytes, and at any moment, during a call or between two, it may
-/// crash, which leaves some of what was written.
+/// What a journal is on, such as a file of a disk. It holds bytes. It may crash at any moment, during a call or between
+/// two, which leaves some of what was written.
 pub trait Disk {
     // Whether contracts know its bytes.
     ghost is_known: { Type 0 };
@@ -39,7 +39,7 @@ pub trait Disk {
     ghost only_now: { (disk : Self) (left : List ℕ) → is_known → left_since disk (moment disk) left →
         may_leave disk left };
 
-    /// Reads all that it holds, of which so many bytes are allowed.
+    /// Reads all that it holds, at most this many bytes.
     fn read(&mut self, alloc: Global, most: usize) -> Result<Vec<u8>, WholeFault>
         ensures whole { is_known → IfOk result (λ bytes. bytes.items ≡ held self.old) }
         ensures fits { IfOk result (λ bytes. length bytes.items ≤ most) }
@@ -52,16 +52,17 @@ pub trait Disk {
         ensures failed { is_known → result ≡ Err WholeFault.ReadFault →
             HasFailed (failures self.old) (failures self.new) };
 
-    /// Writes a line behind what it holds. Before `sync` a crash may leave the line torn.
+    /// Appends a line to what it holds. Before `sync` a crash may leave the line torn.
     fn append(&mut self, line: &[u8]) -> Result<(), DeviceFault>
         ensures delivers { is_known → Delivers result (held self.old) (held self.new) line.now }
-        ensures crash { is_known → LeavesAfter (IsTorn line.now) (may_leave self.old) (may_leave self.new) }
+        ensures crash { is_known → (left : List ℕ) → may_leave self.new left →
+            (was : List ℕ) × may_leave self.old was × IsTorn line.now was left }
         ensures time { is_known → Elapses (moment self.old) (moment self.new)
             (left_since self.old) (left_since self.new) (may_leave self.new) }
         ensures sound { is_known → is_sound self.old → is_sound self.new }
         ensures failures { is_known → CountsFailures result (failures self.old) (failures self.new) };
 
-    /// Puts all that it holds where no crash takes it away, if none of these calls failed before.
+    /// Makes all that it holds survive a crash, if none of these calls failed before.
     fn sync(&mut self) -> Result<(), DeviceFault>
         ensures safe { is_known → is_sound self.old → OnOk result (IsSafe (held self.new) (may_leave self.new)) }
         ensures sound { is_known → is_sound self.old → OnOk result (is_sound self.new) }
@@ -76,7 +77,8 @@ pub trait Disk {
         ensures held { is_known → OnOk result (held self.new ≡ text.now) }
         ensures safe { is_known → OnOk result (IsSafe text.now (may_leave self.new)) }
         ensures sound { is_known → OnOk result (is_sound self.new) }
-        ensures crash { is_known → LeavesOr text.now (may_leave self.old) (may_leave self.new) }
+        ensures crash { is_known → (left : List ℕ) → may_leave self.new left →
+            may_leave self.old left ⊎ (left ≡ text.now) }
         ensures time { is_known → Elapses (moment self.old) (moment self.new)
             (left_since self.old) (left_since self.new) (may_leave self.new) }
         ensures failures { is_known → CountsFailures result (failures self.old) (failures self.new) };

@@ -1,6 +1,5 @@
 ghost use Rattle.std.specs.Prelude.{◌≡◌, IfErr, IfOk, OnErr, OnOk};
 ghost use Rattle.csv.specs.Records.{fields_of};
-ghost use Rattle.pocsag_journal.specs.Edited.{IsAddRefused, IsAdded, IsEditRefused, IsMade};
 ghost use Rattle.pocsag_journal.specs.Runs.{IsEdit, IsReasonFor, IsRefusedFor, sent_record};
 
 use crate::editable::Editable;
@@ -12,8 +11,8 @@ use pocsag_plan::{Book, NotThere};
 use pocsag_words::OutOfMemory;
 use std::alloc::Global;
 
-/// Makes the edit of the round that a record is. It is refused for want of memory, or where the record is no edit that
-/// these pages accept; the round is then as it was.
+/// Makes the edit of the round that a record is. It is refused if memory is refused, or if the record is no edit that
+/// these pages accept. The round is then as it was.
 pub fn edit_row(alloc: Global, book: &mut Book, row: &ByteRecord) -> Result<(), Refusal>
     ensures made { OnOk result (IsEdit (fields_of row.now) book.old book.new) }
     ensures refused { IfErr result (IsRefusedFor (fields_of row.now) book.old) }
@@ -34,29 +33,18 @@ pub(crate) fn edit_record<P: Editable>(
     ensures reason { IfErr result (IsReasonFor (fields_of row.now) (P.pages pages.old)) }
     ensures unchanged { OnErr result (P.pages pages.new ≡ P.pages pages.old) }
 {
-    edit(alloc, pages, line_of(row))
-}
-
-/// The record of the edit that takes so many first pages out.
-pub fn sent_row(alloc: Global, count: u32) -> Result<ByteRecord, OutOfMemory>
-    ensures { IfOk result (λ row. fields_of row ≡ sent_record count) }
-{
-    let count = format!(in alloc; "{count}")?;
-    Ok(ByteRecord::from_fields(alloc, &[b"sent", count.as_bytes()])?)
-}
-
-/// Makes an edit of the pages, which are as they were where it is refused.
-pub(crate) fn edit<P: Editable>(alloc: Global, pages: &mut P, line: Line<'_>) -> Result<(), Refusal>
-    ensures made { OnOk result (IsMade line.entry (P.pages pages.old) (P.pages pages.new)) }
-    ensures refused { IfErr result (IsEditRefused line.entry (P.pages pages.old)) }
-    ensures unchanged { OnErr result (P.pages pages.new ≡ P.pages pages.old) }
-{
-    match line {
+    match line_of(row) {
         Line::Add {
             address,
             kind,
             message,
-        } => add_fields(alloc, pages, address, kind, message),
+        } => match page_of_fields(alloc, address, kind, message) {
+            Ok(page) => match pages.put(page) {
+                Ok(()) => Ok(()),
+                Err(fault) => Err(Refusal::Add(fault)),
+            },
+            Err(fault) => Err(Refusal::Field(fault)),
+        },
         // What spells no address is that of no page.
         Line::Cancel { address: field } => {
             let Some(address) = parse_address(field) else {
@@ -83,23 +71,10 @@ pub(crate) fn edit<P: Editable>(alloc: Global, pages: &mut P, line: Line<'_>) ->
     }
 }
 
-fn add_fields<P: Editable>(
-    alloc: Global,
-    pages: &mut P,
-    address: &[u8],
-    kind: &[u8],
-    message: &[u8],
-) -> Result<(), Refusal>
-    ensures made { OnOk result (IsAdded address.now kind.now message.now (P.pages pages.old) (P.pages pages.new)) }
-    ensures refused { IfErr result (IsAddRefused address.now kind.now message.now (P.pages pages.old)) }
-    ensures unchanged { OnErr result (P.pages pages.new ≡ P.pages pages.old) }
+/// The record of the edit that takes so many first pages out.
+pub fn sent_row(alloc: Global, count: u32) -> Result<ByteRecord, OutOfMemory>
+    ensures { IfOk result (λ row. fields_of row ≡ sent_record count) }
 {
-    let page = match page_of_fields(alloc, address, kind, message) {
-        Ok(page) => page,
-        Err(fault) => return Err(Refusal::Field(fault)),
-    };
-    match pages.put(page) {
-        Ok(()) => Ok(()),
-        Err(fault) => Err(Refusal::Add(fault)),
-    }
+    let count = format!(in alloc; "{count}")?;
+    Ok(ByteRecord::from_fields(alloc, &[b"sent", count.as_bytes()])?)
 }

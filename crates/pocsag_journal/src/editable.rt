@@ -16,7 +16,7 @@ pub(crate) trait Editable {
     fn page_count(&self) -> usize
         ensures { result ≡ length (pages self.now) };
 
-    /// Puts a page behind the others, or tells the first fault, as `Book::add` does. A refusal changes nothing.
+    /// Adds a page after the others, or returns the first fault, as `Book::add` does. A refusal changes nothing.
     fn put(&mut self, page: Page) -> Result<(), AddFault>
         ensures added { OnOk result (pages self.new ≡ pages self.old ++ page ∷ []) }
         ensures taken { OnOk result (add_fault (pages self.old) page ≡ None) }
@@ -30,7 +30,7 @@ pub(crate) trait Editable {
         ensures not_there { OnErr result (has_address (pages self.old) address ≡ false) }
         ensures unchanged { OnErr result (pages self.new ≡ pages self.old) };
 
-    /// Takes the first pages out, so many, or all where there are fewer.
+    /// Takes this many first pages out, or all if there are fewer.
     fn take_first(&mut self, count: usize)
         ensures { pages self.new ≡ drop count (pages self.old) };
 

@@ -29,7 +29,7 @@ pub enum Line<'a> {
     Cancel {
         address: &'a [u8],
     },
-    /// `sent,COUNT`: so many first pages are taken out.
+    /// `sent,COUNT`: takes this many first pages out.
     Sent {
         count: &'a [u8],
     },
@@ -50,7 +50,7 @@ pub enum Line<'a> {
     Unknown,
 }
 
-/// The record of a line, a carriage return at its end passed over.
+/// The record of a line, without a carriage return at its end.
 pub fn record_of(alloc: Global, line: &[u8]) -> Result<ByteRecord, Refusal>
     // The line is what the product would write for the record, or differs from it in quoting alone.
     ensures spelled { IfOk result (λ row. IsRowText (fields_of row) (record_text line.now)) }

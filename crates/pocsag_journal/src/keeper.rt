@@ -80,8 +80,8 @@ pub trait Keeper {
         ensures succeeded { counts → OnOk result (failures self.new ≡ failures self.old) }
         ensures lost { IfErr result (λ e. file_status e ≡ 3) };
 
-    /// Is called between two lines. What it took is put shorter where that is due, and stands for the same pages; where
-    /// memory is wanting for that, it is put off.
+    /// Called between two lines. If it is due, what it took is made shorter, for the same pages. Refused memory puts
+    /// that off.
     fn compact_if_due(&mut self, alloc: Global, book: &Book) -> Result<bool, FileFault>
         ensures stands { represents self.old book.now → OnOk result (represents self.new book.now) }
         ensures compacted { is_known → represents self.old book.now →

@@ -5,7 +5,7 @@ ghost use Rattle.pocsag_journal.specs.LineTexts.{without_return};
 
 use pocsag_pages::{QuoteState, behind_mark};
 
-/// Where a line stands at its end, a byte order mark at its head passed over.
+/// The state of the quotes at the end of a line, without a byte order mark at its head.
 pub fn quote_state_of(line: &[u8]) -> QuoteState
     ensures { result ≡ quote_state_from QuoteState.Start (strip_bom line.now) }
 {

@@ -5,10 +5,10 @@ use pocsag_plan::{AddFault, NotThere};
 use pocsag_shell::FileFault;
 use thiserror::Error;
 
-/// Why what a line asks for beside an edit was not done.
+/// Why a line that asks for something else than an edit was refused.
 #[derive(Clone, Copy, Debug, Error)]
 pub enum UndoneFault {
-    /// One of the two files of a plan.
+    /// A fault of one of the two files of a plan.
     #[error(transparent)]
     File(FileFault),
     #[error("there are no pages")]
@@ -16,7 +16,7 @@ pub enum UndoneFault {
     /// The search stopped: at least so many batches are needed, and one more would do.
     #[error("search limit reached: at least {least} batches, {found} would do")]
     SearchLimit { least: u32, found: u32 },
-    /// Not even the first page fits into the batches of a slot: it is sent in so many.
+    /// Not even the first page fits into the batches of a slot: it needs this many.
     #[error("page 1 needs {0} batches")]
     FirstPage(u32),
     #[error("out of memory")]
@@ -29,7 +29,7 @@ pub enum Refusal {
     Unknown,
     /// A quote of the line's last field is not closed.
     InQuotes,
-    /// A quote stands inside a field that is not in quotes, or something that is no comma behind a field's quotes.
+    /// A quote is inside a field without quotes, or something other than a comma follows a closing quote.
     StrayQuote,
     /// The fields spell no page.
     Field(FieldFault),
@@ -43,7 +43,7 @@ pub enum Refusal {
 impl Refusal {
     ghost use Rattle.pocsag_journal.specs.Runs.{wants_memory};
 
-    /// Whether an edit was refused for want of memory.
+    /// Whether an edit was refused because memory was refused.
     pub fn wants_memory(self) -> bool
         ensures { result ≡ wants_memory self }
     {

@@ -37,8 +37,8 @@ pub struct Replayed {
     pub torn: usize,
 }
 
-/// Reads the journal that a source holds up to its end. A torn end is passed over, also one in the first line; bytes that
-/// begin otherwise than a journal are reported as none, and a line behind the first that is none of a journal by its number.
+/// Reads the journal that a source holds up to its end. A torn end is skipped, also one in the first line. Bytes that do not
+/// begin as a journal are refused as none; a later line that is no line of a journal is refused with its number.
 pub fn read_journal<S: Source>(alloc: Global, source: &mut S) -> Result<Replayed, JournalFault>
     ensures read { S.is_known → IfOk result
         (λ replayed. Replays (S.held source.old) replayed.edits replayed.torn replayed.book) }

@@ -1,4 +1,4 @@
-use Rattle.std.proofs.Common.{string_bytes}
+use Rattle.pocsag_findings.proofs.Prelude.{string_bytes}
 use Rattle.pocsag_findings.proofs.Beginnings.{title_begins}
 use Rattle.pocsag_findings.proofs.drawing.page.Goals as goal
 

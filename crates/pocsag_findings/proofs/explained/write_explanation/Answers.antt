@@ -1,6 +1,4 @@
-use Rattle.std.proofs.Common.{◌≡◌, ◌++◌, List, ℕ, ap, ◌∙◌, string_bytes}
-use Rattle.std.proofs.lemmas.Result.{on_ok_weaker}
-use Rattle.pocsag_findings.specs.Beginnings.{GivesVerdict}
+use Rattle.pocsag_findings.proofs.Prelude.{◌≡◌, ◌++◌, List, ℕ, ap, ◌∙◌, string_bytes, on_ok_weaker, GivesVerdict}
 use Rattle.pocsag_findings.proofs.Adding.{less_of_verdict, none_of_verdict, part_of_verdict, verdict_taken}
 use Rattle.pocsag_findings.proofs.explained.write_explanation.Given.{Over}
 use Rattle.pocsag_findings.proofs.explained.write_explanation.Goals as goal

@@ -1,4 +1,4 @@
-use Rattle.std.proofs.Common.{string_bytes, refl, rules}
+use Rattle.pocsag_findings.proofs.Prelude.{string_bytes, refl, rules}
 use Rattle.pocsag_findings.proofs.Beginnings.{members_begin}
 use Rattle.pocsag_findings.proofs.json.verdict.Goals.{in-Open, in-Closed, in-Idle}
 use Rattle.pocsag_findings.proofs.json.verdict.Goals as goal

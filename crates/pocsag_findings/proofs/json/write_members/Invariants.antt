@@ -1,6 +1,5 @@
 use Rattle.std.specs.Prelude.{length}
-use Rattle.pocsag_findings.specs.Ahead.{findings_left}
-use Rattle.pocsag_findings.specs.Writing.{HasAdded}
+use Rattle.pocsag_findings.proofs.Prelude.{findings_left, HasAdded}
 use Rattle.pocsag_findings.proofs.json.write_members.Given as goal
 
 abbrev pub invariant-loop-numbering : goal.invariant-loop-numbering

@@ -1,6 +1,6 @@
-use Rattle.std.specs.Prelude.{◌≡◌, map}
+use Rattle.pocsag_findings.proofs.Prelude.{map, column_of}
+use Rattle.std.specs.Prelude.{◌≡◌}
 use Rattle.std.specs.List.{range_with_len}
-use Rattle.pocsag_findings.specs.Rules.{column_of}
 use Rattle.pocsag_findings.proofs.judgement.columns_at.Given as goal
 
 -- the columns of the slots so far

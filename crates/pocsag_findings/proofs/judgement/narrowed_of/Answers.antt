@@ -1,8 +1,5 @@
-use Rattle.pocsag_findings.proofs.Prelude.{refl, sym, ◌∙◌}
-use Rattle.std.proofs.Common.{rules}
-use Rattle.std.proofs.lemmas.List.{append-nil}
+use Rattle.pocsag_findings.proofs.Prelude.{refl, sym, ◌∙◌, rules, append-nil, joined_none}
 use Rattle.pocsag_findings.proofs.Narrows.{narrowed_next}
-use Rattle.pocsag_slots.proofs.WayLemmas.{joined_none}
 use Rattle.pocsag_findings.proofs.judgement.narrowed_of.Goals as goal
 use Rattle.pocsag_findings.proofs.judgement.narrowed_of.Goals.{then-is_narrower+in_ok-push, else-is_narrower}
 

@@ -1,6 +1,5 @@
 use Rattle.std.specs.Prelude.{◌≡◌}
-use Rattle.pocsag_slots.specs.Sums.{joined_below}
-use Rattle.pocsag_findings.specs.Rules.{narrowed_by}
+use Rattle.pocsag_findings.proofs.Prelude.{joined_below, narrowed_by}
 use Rattle.pocsag_findings.proofs.judgement.narrowed_of.Given as goal
 
 -- the classes so far

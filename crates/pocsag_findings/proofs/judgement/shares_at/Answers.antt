@@ -1,9 +1,5 @@
-use Rattle.pocsag_findings.proofs.Prelude.{◌≡◌, arith, false, nat_lt, sym, true, ◌∙◌}
-use Rattle.std.proofs.Common.{rules}
-use Rattle.std.proofs.lemmas.Bool.Decides.{nat_tests}
-use Rattle.std.proofs.lemmas.List.{append-nil}
+use Rattle.pocsag_findings.proofs.Prelude.{◌≡◌, arith, false, nat_lt, sym, true, ◌∙◌, rules, nat_tests, append-nil, joined_none}
 use Rattle.pocsag_findings.proofs.Shares.{share_next}
-use Rattle.pocsag_slots.proofs.WayLemmas.{joined_none}
 use Rattle.pocsag_findings.proofs.judgement.shares_at.Goals as goal
 use Rattle.pocsag_findings.proofs.judgement.shares_at.Goals.{then-least-gt0+in_ok-push, else-least-gt0}
 

@@ -1,6 +1,5 @@
 use Rattle.std.specs.Prelude.{◌≡◌}
-use Rattle.pocsag_slots.specs.Sums.{joined_below}
-use Rattle.pocsag_findings.specs.Rules.{share_of}
+use Rattle.pocsag_findings.proofs.Prelude.{joined_below, share_of}
 use Rattle.pocsag_findings.proofs.judgement.shares_at.Given as goal
 
 -- the shares of the classes so far

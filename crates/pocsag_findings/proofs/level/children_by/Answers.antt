@@ -1,7 +1,4 @@
-use Rattle.pocsag_findings.proofs.Prelude.{arith, refl}
-use Rattle.std.proofs.lemmas.List.Elements.{All-get_or, All-push}
-use Rattle.pocsag_slots.specs.Ways.{MayTake}
-use Rattle.pocsag_findings.specs.Descents.{MayDescend}
+use Rattle.pocsag_findings.proofs.Prelude.{arith, refl, All-get_or, All-push, MayTake, MayDescend}
 use Rattle.pocsag_findings.proofs.Children.{way_more}
 use Rattle.pocsag_findings.proofs.level.children_by.Goals as goal
 
@@ -13,7 +10,7 @@ loop-index-preserved c =
           c.index-children-index.result _ _ _ _ (omega arith) c.loop-index-test.true refl c.index-children-index.is refl refl
           c.in_ok-push.ensures.items (c.loop-index.invariant.found k end b depth l above);
       allowed =
-          λ k b l batches ways. rw c.in_ok-push.ensures.items (All-push (λ child. MayDescend k b l child.step) _ _
+          λ k b l batches ways. rw c.in_ok-push.ensures.items (All-push (λ child. MayDescend k b l child.descent) _ _
           (c.loop-index.invariant.allowed k b l batches ways)
           (batches, All-get_or (MayTake k l) c.args.ways.now c.loop-index.index _ (omega arith) ways));
     }

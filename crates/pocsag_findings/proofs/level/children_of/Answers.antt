@@ -1,5 +1,4 @@
-use Rattle.pocsag_findings.proofs.Prelude.{ap, sym, length, ◌∙◌, bound_tree_of-close, bound_tree_of-cut, count_of_bounds}
-use Rattle.std.proofs.lemmas.Result.{IfOk-weaker}
+use Rattle.pocsag_findings.proofs.Prelude.{ap, sym, length, ◌∙◌, bound_tree_of-close, bound_tree_of-cut, count_of_bounds, IfOk-weaker}
 use Rattle.pocsag_findings.proofs.Children.{held_close, held_cut}
 use Rattle.pocsag_findings.proofs.level.children_of.Goals as goal
 

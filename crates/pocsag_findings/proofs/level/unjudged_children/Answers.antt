@@ -1,6 +1,4 @@
-use Rattle.pocsag_findings.proofs.Prelude.{refl}
-use Rattle.std.proofs.lemmas.List.Elements.{All-push}
-use Rattle.pocsag_findings.specs.Descents.{MayDescend}
+use Rattle.pocsag_findings.proofs.Prelude.{refl, All-push, MayDescend}
 use Rattle.pocsag_findings.proofs.Children.{unjudged_more}
 use Rattle.pocsag_findings.proofs.level.unjudged_children.Goals as goal
 
@@ -13,5 +11,5 @@ loop-child-preserved c =
           (c.loop-child.invariant.found k end b depth l above);
       allowed =
           λ k b l. rw c.in_ok-push-in-Cut.ensures.items
-          (All-push (λ child. MayDescend k b l child.step) _ _ (c.loop-child.invariant.allowed k b l) tt);
+          (All-push (λ child. MayDescend k b l child.descent) _ _ (c.loop-child.invariant.allowed k b l) tt);
     }

@@ -1,4 +1,4 @@
-use Rattle.std.proofs.lemmas.Result.{err_from_is_err_and}
+use Rattle.pocsag_findings.proofs.Prelude.{err_from_is_err_and}
 use Rattle.pocsag_findings.proofs.Adding.{adds_failed}
 use Rattle.pocsag_findings.proofs.lines.flush_text.Goals as goal
 

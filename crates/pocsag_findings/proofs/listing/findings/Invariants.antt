@@ -1,8 +1,4 @@
-use Rattle.std.proofs.Common.{◌≡◌, ◌++◌, length}
-use Rattle.pocsag_tree.specs.Views.{bound_tree_of}
-use Rattle.pocsag_findings.specs.Ahead.{findings_left}
-use Rattle.pocsag_findings.specs.Findings.{findings_of}
-use Rattle.pocsag_findings.specs.Views.{all_stated}
+use Rattle.pocsag_findings.proofs.Prelude.{◌≡◌, ◌++◌, length, bound_tree_of, findings_left, findings_of, all_stated}
 use Rattle.pocsag_findings.proofs.listing.findings.Given as goal
 
 -- the findings so far, and those that are left, are all of them

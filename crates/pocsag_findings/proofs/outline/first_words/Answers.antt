@@ -1,4 +1,4 @@
-use Rattle.std.proofs.Common.{string_bytes, refl, rules}
+use Rattle.pocsag_findings.proofs.Prelude.{string_bytes, refl, rules}
 use Rattle.pocsag_findings.proofs.Beginnings.{words_begin}
 use Rattle.pocsag_findings.proofs.outline.first_words.Goals.{then-batches-eq1, else-batches-eq1, in-Open, in-Closed, in-Idle}
 use Rattle.pocsag_findings.proofs.outline.first_words.Goals as goal

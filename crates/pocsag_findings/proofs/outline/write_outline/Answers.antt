@@ -1,4 +1,4 @@
-use Rattle.std.proofs.lemmas.Result.{err_from_is_err_and}
+use Rattle.pocsag_findings.proofs.Prelude.{err_from_is_err_and}
 use Rattle.pocsag_findings.proofs.Adding.{added_on, adds_on}
 use Rattle.pocsag_findings.proofs.outline.write_outline.Goals as goal
 

@@ -1,6 +1,5 @@
 use Rattle.std.specs.Prelude.{length}
-use Rattle.pocsag_findings.specs.Ahead.{findings_left}
-use Rattle.pocsag_findings.specs.Writing.{HasAdded}
+use Rattle.pocsag_findings.proofs.Prelude.{findings_left, HasAdded}
 use Rattle.pocsag_findings.proofs.outline.write_outline.Given as goal
 
 abbrev pub invariant-loop-walk : goal.invariant-loop-walk

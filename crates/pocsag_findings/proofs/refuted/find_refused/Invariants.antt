@@ -1,5 +1,5 @@
 use Rattle.std.specs.Prelude.{length}
-use Rattle.pocsag_findings.specs.Ahead.{findings_left}
+use Rattle.pocsag_findings.proofs.Prelude.{findings_left}
 use Rattle.pocsag_findings.proofs.refuted.find_refused.Given as goal
 
 abbrev pub decreases-loop-walk : goal.decreases-loop-walk

@@ -1,7 +1,4 @@
-use Rattle.std.proofs.Common.{rules, ◌≡◌, ℕ, ◌-◌, List, ◌++◌, ap, length, subst, sym, ◌∙◌}
-use Rattle.std.specs.Prelude.{Some, slice_get}
-use Rattle.csv.specs.Records.{fields_of}
-use Rattle.pocsag_journal.specs.LineTexts.{IsWholeLine}
+use Rattle.pocsag_journal.proofs.Prelude.{rules, ◌≡◌, ℕ, ◌-◌, List, ◌++◌, ap, length, subst, sym, ◌∙◌, Some, slice_get, fields_of, IsWholeLine}
 use Rattle.pocsag_journal.proofs.KeptPages.{added_row, adds_line, no_edit, no_last, not_refused}
 use Rattle.pocsag_journal.proofs.compaction.add_line.Goals as goal
 

@@ -1,9 +1,5 @@
-use Rattle.std.proofs.Common.{◌≡◌, false, ℕ, ◌<◌, ◌≤◌, ◌++◌, List, [], ◌∷◌, length, get_or, take, drop, ◌+◌, arith, ap, ◌∙◌, subst, sym, take-append-drop}
-use Rattle.std.proofs.lemmas.List.{drop_more, length-take-le, take_more}
+use Rattle.pocsag_journal.proofs.Prelude.{◌≡◌, false, ℕ, ◌<◌, ◌≤◌, ◌++◌, List, [], ◌∷◌, length, get_or, take, drop, ◌+◌, arith, ap, ◌∙◌, subst, sym, take-append-drop, drop_more, length-take-le, take_more, Page, HasNoLine, IsUnspelled, ListsPages}
 use Rattle.std.proofs.Math.Seq.{take-length}
-use Rattle.pocsag_pages.specs.declared.page.Page.{Page}
-use Rattle.pocsag_journal.specs.Faults.{HasNoLine, IsUnspelled}
-use Rattle.pocsag_journal.specs.Journals.{ListsPages}
 use Rattle.pocsag_journal.proofs.KeptPages.{listed_first, listed_on}
 use Rattle.pocsag_journal.proofs.LinedPages.{not_unlined}
 use Rattle.pocsag_journal.proofs.compaction.text_of_pages.Goals.{In_ok-is_added}

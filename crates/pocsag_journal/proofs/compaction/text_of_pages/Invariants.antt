@@ -1,5 +1,4 @@
-use Rattle.std.proofs.Common.{◌≡◌, take}
-use Rattle.pocsag_journal.specs.Journals.{ListsPages}
+use Rattle.pocsag_journal.proofs.Prelude.{◌≡◌, take, ListsPages}
 use Rattle.pocsag_journal.proofs.compaction.text_of_pages.Given as goal
 
 -- the text so far lists the pages so far

@@ -1,26 +1,30 @@
-use Rattle.std.proofs.Common.{◌≡◌, ◌⊎◌, true, List, subst}
-use Rattle.std.specs.Prelude.{IfErr, Option, Result, Ok, Err}
-use Rattle.pocsag_pages.specs.declared.page.Page.{Page}
-use Rattle.pocsag_journal.specs.Edited.{IsEditRefused}
-use Rattle.pocsag_journal.specs.Runs.{Asked, IsDone, IsReason, asked_by_line, wants_memory}
-use Rattle.pocsag_journal.specs.declared.edits.Line.{Line}
-use Rattle.pocsag_journal.specs.declared.refusal.Refusal.{Refusal}
-use Rattle.pocsag_journal.proofs.Refusals.{reason_asking, refused_asking}
+use Rattle.pocsag_journal.proofs.Prelude.{◌≡◌, ◌⊎◌, true, false, ℕ, List, arith, subst, fields_of, Option, Some, has_address, Page, Asked, IsDone, IsSent, asked_of, cancel, sent, wants_memory}
+use Rattle.pocsag_journal.specs.declared.refusal.Refusal.TheVariants as refusal
+use Rattle.pocsag_journal.proofs.Refusals.{not_done}
+use Rattle.pocsag_journal.proofs.edit.edit_record.Goals.{in-Ok-take_out, in-Err-take_out}
 use Rattle.pocsag_journal.proofs.edit.edit_record.Goals as goal
 
-refused : (r : Result (Unit {0}) Refusal) (asking : Line) (o : Option Asked) (pages : List Page) → asked_by_line asking ≡ o →
-    IfErr r (IsEditRefused asking pages) → IfErr r (λ e. (wants_memory e ≡ true) ⊎ ((after : List Page) → IsDone o pages after → ⊥))
-refused (Ok u) asking o pages same h = tt
-refused (Err e) asking o pages same h =
-    subst (λ (q : Option Asked). (wants_memory e ≡ true) ⊎ ((after : List Page) → IsDone q pages after → ⊥)) same (refused_asking asking pages e h)
+pub returns-after-take_out-clause-refused : goal.returns-after-take_out-clause-refused
+returns-after-take_out-clause-refused g c =
+    let pages : List Page = g.P.Editable.pages c.args.pages.now in
+    elim c.match-take_out.branch [
+      | in-Ok-take_out w ↦ rw w.result-is tt
+      | in-Err-take_out w ↦
+          rw w.result-is
+          (subst (λ (o : Option Asked). (wants_memory (refusal.Cancel w.in-Err-take_out.absent) ≡ true) ⊎ ((after : List Page) → IsDone o pages after → ⊥))
+          c.in-Cancel.ensures.edit
+          (not_done (Some (cancel c.in-Cancel.field.now)) pages (refusal.Cancel w.in-Err-take_out.absent)
+          (λ address spelled.
+          let same : c.in-Some.address ≡ address = cc (spelled, c.in-Some.ensures.value) in
+          subst (λ (a : ℕ). has_address pages a ≡ false) same w.in-Err-take_out.ensures.not_there)))
+    ]
 
-pub returns-clause-refused : goal.returns-clause-refused
-returns-clause-refused g c = refused c.edit.result c.line_of.result _ (g.P.Editable.pages c.args.pages.now) c.line_of.ensures.edit c.edit.ensures.refused
-
-reason : (r : Result (Unit {0}) Refusal) (asking : Line) (o : Option Asked) (pages : List Page) → asked_by_line asking ≡ o →
-    IfErr r (IsEditRefused asking pages) → IfErr r (IsReason o pages)
-reason (Ok u) asking o pages same h = tt
-reason (Err e) asking o pages same h = subst (λ (q : Option Asked). IsReason q pages e) same (reason_asking asking pages e h)
-
-pub returns-clause-reason : goal.returns-clause-reason
-returns-clause-reason g c = reason c.edit.result c.line_of.result _ (g.P.Editable.pages c.args.pages.now) c.line_of.ensures.edit c.edit.ensures.refused
+pub returns-in-Some-spelled_count-clause-made : goal.returns-in-Some-spelled_count-clause-made
+returns-in-Some-spelled_count-clause-made g c =
+    let taken : IsSent c.in-Sent.field.now (g.P.Editable.pages c.args.pages.now) (g.P.Editable.pages c.take_first.new.self) = record {
+      count = c.in-Some-spelled_count.count;
+      spelled = (c.spelled_count.ensures c.in-Some-spelled_count.count).0 c.in-Some-spelled_count.is;
+      there = omega (arith, c.if-count-page_count.true, c.page_count.ensures);
+      rest = c.take_first.ensures;
+    } in
+    subst (λ (o : Option Asked). IsDone o (g.P.Editable.pages c.args.pages.now) (g.P.Editable.pages c.take_first.new.self)) c.in-Sent.ensures.edit taken

@@ -1,6 +1,5 @@
-use Rattle.std.proofs.Common.{◌∷◌, [], codes, length, refl, arith, ap}
-use Rattle.csv.specs.Records.{field_at, fields_of}
-use Rattle.pocsag_journal.specs.Runs.{clear}
+use Rattle.pocsag_journal.proofs.Prelude.{◌∷◌, [], length, refl, arith, ap, field_at, fields_of, clear}
+use Rattle.std.proofs.Common.{codes}
 use Rattle.pocsag_journal.proofs.Fields.{edit_only, none_of_few, not_clear, row_is}
 use Rattle.pocsag_journal.proofs.edits.bare_line.Goals as goal
 

@@ -1,6 +1,4 @@
-use Rattle.std.proofs.Common.{◌≡◌, ℕ, List, arith, refl, subst}
-use Rattle.csv.specs.Records.{fields_of}
-use Rattle.pocsag_journal.specs.Edited.{SpellsCount}
+use Rattle.pocsag_journal.proofs.Prelude.{◌≡◌, ℕ, List, arith, refl, subst, fields_of, SpellsCount}
 use Rattle.pocsag_journal.proofs.Fields.{has_field, none_of_more, plan_fields}
 use Rattle.pocsag_journal.proofs.edits.front_line.Goals as goal
 

@@ -1,4 +1,5 @@
-use Rattle.std.proofs.Common.{◌≡◌, None, ap, length, sym, ◌∙◌, arith}
+use Rattle.pocsag_journal.proofs.Prelude.{◌≡◌, ap, length, sym, ◌∙◌, arith}
+use Rattle.std.proofs.Common.{None}
 use Rattle.pocsag_journal.proofs.Fields.{plan_fields}
 use Rattle.pocsag_journal.proofs.edits.line_of.Goals.{in-1, in-2, in-3, in-4, in-5, in_default}
 use Rattle.pocsag_journal.proofs.edits.line_of.Goals as goal

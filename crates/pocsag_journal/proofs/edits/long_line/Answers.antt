@@ -1,6 +1,4 @@
-use Rattle.std.proofs.Common.{◌∙◌, arith}
-use Rattle.csv.specs.Records.{fields_of}
-use Rattle.pocsag_journal.specs.Runs.{add}
+use Rattle.pocsag_journal.proofs.Prelude.{◌∙◌, arith, fields_of, add}
 use Rattle.pocsag_journal.proofs.Fields.{edit_only, has_field, none_of_more, not_add, plan_fields}
 use Rattle.pocsag_journal.proofs.edits.long_line.Goals as goal
 

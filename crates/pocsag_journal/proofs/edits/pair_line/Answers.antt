@@ -1,6 +1,4 @@
-use Rattle.std.proofs.Common.{ap, length, refl, arith}
-use Rattle.csv.specs.Records.{field_at, fields_of}
-use Rattle.pocsag_journal.specs.Runs.{cancel, first_record, sent}
+use Rattle.pocsag_journal.proofs.Prelude.{ap, length, refl, arith, field_at, fields_of, cancel, first_record, sent}
 use Rattle.pocsag_journal.proofs.Fields.{edit_only, has_field, none_of_few, not_sent, row_is}
 use Rattle.pocsag_journal.proofs.edits.pair_line.Goals.{else-is_at-3-via-then-is_at-3+else-is_at-4, else-is_at-3-via-else-is_at-3}
 use Rattle.pocsag_journal.proofs.edits.pair_line.Goals as goal

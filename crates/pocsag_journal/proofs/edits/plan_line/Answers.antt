@@ -1,4 +1,4 @@
-use Rattle.csv.specs.Records.{fields_of}
+use Rattle.pocsag_journal.proofs.Prelude.{fields_of}
 use Rattle.pocsag_journal.proofs.Fields.{none_of_more, plan_fields, plan_is, plan_length}
 use Rattle.pocsag_journal.proofs.edits.plan_line.Goals as goal
 

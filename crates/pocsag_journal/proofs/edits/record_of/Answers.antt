@@ -1,10 +1,6 @@
-use Rattle.std.proofs.Common.{◌≡◌, ap, refl, sym, ◌∙◌, subst, inl, inr}
-use Rattle.csv.specs.Reading.{strip_bom}
-use Rattle.pocsag_pages.specs.QuoteStates.{MayEnd, quote_state_from}
+use Rattle.pocsag_journal.proofs.Prelude.{◌≡◌, ap, refl, sym, ◌∙◌, subst, inl, inr, strip_bom, MayEnd, quote_state_from, record_text, text_of}
 use Rattle.pocsag_pages.specs.declared.quote_state.QuoteState.{QuoteState}
 use Rattle.pocsag_pages.specs.declared.quote_state.QuoteState.TheVariants as at
-use Rattle.pocsag_journal.specs.LineTexts.{record_text}
-use Rattle.pocsag_pages.proofs.QuoteStates.{text_of}
 use Rattle.pocsag_pages.proofs.RowTexts.{empty_is, may_end, no_row, open_quote, row_is}
 use Rattle.pocsag_pages.proofs.Strays.{stray_byte, stray_quote}
 use Rattle.pocsag_journal.proofs.edits.record_of.Goals.{After-quote_state_of}

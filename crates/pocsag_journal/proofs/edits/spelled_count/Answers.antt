@@ -1,6 +1,4 @@
-use Rattle.std.proofs.Common.{◌≡◌, refl, arith, rules}
-use Rattle.std.specs.Str.{IsUtf8}
-use Rattle.pocsag_shell.proofs.StagedFiles.{first_some, none_read, none_read_of, parsed}
+use Rattle.pocsag_journal.proofs.Prelude.{◌≡◌, refl, arith, rules, IsUtf8, first_some, none_read, none_read_of, parsed}
 use Rattle.pocsag_journal.proofs.Counts.{counted, no_text}
 use Rattle.pocsag_journal.proofs.edits.spelled_count.Goals as goal
 

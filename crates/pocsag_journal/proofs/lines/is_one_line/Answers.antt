@@ -1,6 +1,5 @@
-use Rattle.std.proofs.Common.{◌≡◌, []}
+use Rattle.pocsag_journal.proofs.Prelude.{◌≡◌, [], append-nil}
 use Rattle.pocsag_journal.proofs.TextLines.{alone, is_none, no_whole_line, none_is, nothing_behind}
-use Rattle.std.proofs.lemmas.List.{append-nil}
 use Rattle.pocsag_journal.proofs.lines.is_one_line.Goals as goal
 
 pub returns-in-Some : goal.returns-in-Some

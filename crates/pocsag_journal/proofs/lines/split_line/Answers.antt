@@ -1,5 +1,4 @@
-use Rattle.std.proofs.Common.{subst, sym}
-use Rattle.pocsag_journal.specs.LineTexts.{IsWholeLine}
+use Rattle.pocsag_journal.proofs.Prelude.{subst, sym, IsWholeLine}
 use Rattle.pocsag_journal.proofs.TextLines.{line_found}
 use Rattle.pocsag_journal.proofs.lines.split_line.Goals as goal
 

@@ -1,8 +1,5 @@
-use Rattle.std.proofs.Common.{◌≡◌, [], drop, ap, sym, ◌∙◌, rules, arith}
-use Rattle.std.proofs.lemmas.List.{drop_all}
+use Rattle.pocsag_journal.proofs.Prelude.{◌≡◌, [], drop, ap, sym, ◌∙◌, rules, arith, drop_all, quote_state_from, at_the_end, one_byte}
 use Rattle.pocsag_pages.specs.declared.quote_state.QuoteState.TheVariants as at
-use Rattle.pocsag_pages.specs.QuoteStates.{quote_state_from}
-use Rattle.pocsag_pages.proofs.QuoteStates.{at_the_end, one_byte}
 use Rattle.pocsag_journal.proofs.quote.quote_state_of.Goals as goal
 
 pub loop-byte-preserved : goal.loop-byte-preserved

@@ -1,13 +1,5 @@
-use Rattle.std.proofs.Common.{ℕ, List, [], ap, ◌∙◌, subst, sym, length}
-use Rattle.std.specs.Prelude.{IfErr, IfOk, MatchResult, Result, Ok, Err}
-use Rattle.pocsag_pages.specs.PageFile.{Row}
-use Rattle.pocsag_pages.specs.declared.page.Page.{Page}
-use Rattle.pocsag_journal.specs.Runs.{IsRun}
-use Rattle.pocsag_journal.specs.Faults.{IsPrinted, IsPrintedOf}
-use Rattle.pocsag_journal.specs.Journals.{IsRead, Replays, ReplaysAs}
-use Rattle.pocsag_journal.specs.declared.fault.JournalFault.{JournalFault}
+use Rattle.pocsag_journal.proofs.Prelude.{ℕ, List, [], ap, ◌∙◌, subst, sym, length, IfErr, IfOk, MatchResult, Result, Ok, Err, Row, Page, IsRun, IsPrinted, IsPrintedOf, IsRead, Replays, ReplaysAs, JournalFault, Replayed}
 use Rattle.pocsag_journal.specs.declared.fault.JournalFault.TheVariants as fault
-use Rattle.pocsag_journal.specs.declared.replay.Replayed.{Replayed}
 use Rattle.pocsag_journal.proofs.EditRuns.{run_once}
 use Rattle.pocsag_journal.proofs.Readings.{begun, no_bad_line, one_reading}
 use Rattle.pocsag_journal.proofs.PrintedReplays.{told_of}

@@ -1,8 +1,4 @@
-use Rattle.std.proofs.Common.{Bool, ℕ, List, ◌++◌, length, drop, ap, arith, subst, sym, ◌∙◌, true≢false}
-use Rattle.std.specs.Prelude.{Some, None, codes}
-use Rattle.std.proofs.lemmas.Bool.Decides.{Decides-eqb}
-use Rattle.std.proofs.lemmas.Slice.Eq.{starts_is, strip_prefix_is}
-use Rattle.pocsag_journal.specs.Journals.{IsBegun}
+use Rattle.pocsag_journal.proofs.Prelude.{Bool, ℕ, List, ◌++◌, length, drop, ap, arith, subst, sym, ◌∙◌, true≢false, Some, None, codes, Decides-eqb, starts_is, strip_prefix_is, IsBegun}
 use Rattle.pocsag_journal.proofs.Beginnings.{cut_of, not_begun}
 use Rattle.pocsag_journal.proofs.Replays.{nothing_read}
 use Rattle.pocsag_journal.proofs.replay.replay.Goals.{After-starts_with-2}

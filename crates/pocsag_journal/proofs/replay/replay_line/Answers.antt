@@ -1,4 +1,4 @@
-use Rattle.std.proofs.Common.{sym, ◌∙◌}
+use Rattle.pocsag_journal.proofs.Prelude.{sym, ◌∙◌}
 use Rattle.pocsag_journal.proofs.Replays.{behind_edit, edit_made, edit_refused, none_made, other_text}
 use Rattle.pocsag_journal.proofs.replay.replay_line.Goals as goal
 

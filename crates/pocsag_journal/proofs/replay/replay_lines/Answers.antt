@@ -1,8 +1,4 @@
-use Rattle.std.proofs.Common.{Bool, List, arith, length, subst, sym}
-use Rattle.csv.specs.Records.{fields_of}
-use Rattle.pocsag_pages.specs.declared.page.Page.{Page}
-use Rattle.pocsag_journal.specs.Journals.{MakesLine, Replays}
-use Rattle.pocsag_journal.specs.Readers.{IsBefore}
+use Rattle.pocsag_journal.proofs.Prelude.{Bool, List, arith, length, subst, sym, fields_of, Page, MakesLine, Replays, IsBefore}
 use Rattle.pocsag_journal.proofs.Replays.{before_first, behind_first, made_bad, made_end, made_first, made_on, shorter}
 use Rattle.pocsag_journal.proofs.replay.replay_lines.Goals as goal
 

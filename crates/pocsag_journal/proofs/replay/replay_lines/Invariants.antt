@@ -1,4 +1,4 @@
-use Rattle.std.proofs.Common.{length}
+use Rattle.pocsag_journal.proofs.Prelude.{length}
 use Rattle.pocsag_journal.proofs.Replays.{Replaying}
 use Rattle.pocsag_journal.proofs.replay.replay_lines.Given as goal
 

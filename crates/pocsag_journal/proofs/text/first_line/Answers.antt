@@ -1,5 +1,4 @@
-use Rattle.std.proofs.Common.{refl}
-use Rattle.csv.specs.Writing.{fields_text, is_blank}
+use Rattle.pocsag_journal.proofs.Prelude.{refl, fields_text, is_blank}
 use Rattle.pocsag_journal.proofs.text.first_line.Goals as goal
 
 pub returns : goal.returns

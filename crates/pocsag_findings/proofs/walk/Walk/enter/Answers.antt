@@ -1,7 +1,4 @@
-use Rattle.pocsag_findings.proofs.Prelude.{◌≡◌, ℕ, ◌+◌, ◌++◌, ◌∷◌, [], List, ◌∙◌, ap, sym, Classes, End, Stated}
-use Rattle.pocsag_tree.specs.Views.{bound_tree_of}
-use Rattle.pocsag_findings.specs.Views.{stated}
-use Rattle.pocsag_findings.specs.Walks.{found_from, levels_left}
+use Rattle.pocsag_findings.proofs.Prelude.{◌≡◌, ℕ, ◌+◌, ◌++◌, ◌∷◌, [], List, ◌∙◌, ap, sym, Classes, End, Stated, bound_tree_of, stated, found_from, levels_left}
 use Rattle.pocsag_findings.proofs.Levels.{level_more, node_taken, none_deeper}
 use Rattle.pocsag_findings.proofs.walk.Walk.enter.Goals as goal
 

@@ -1,8 +1,4 @@
-use Rattle.pocsag_findings.proofs.Prelude.{sym, ◌∙◌, ◌+◌, arith}
-use Rattle.std.specs.Prelude.{Some}
-use Rattle.std.proofs.lemmas.List.Elements.{All-pop}
-use Rattle.pocsag_findings.specs.declared.level.Level.{Level}
-use Rattle.pocsag_findings.specs.Walks.{IsSound}
+use Rattle.pocsag_findings.proofs.Prelude.{sym, ◌∙◌, ◌+◌, arith, Some, All-pop, Level, IsSound}
 use Rattle.pocsag_findings.proofs.Levels.{all_pushed, child_taken, level_passed}
 use Rattle.pocsag_findings.proofs.walk.Walk.next.Goals as goal
 

@@ -1,5 +1,4 @@
-use Rattle.std.proofs.Common.{◌≡◌, length}
-use Rattle.pocsag_findings.specs.Ahead.{findings_left}
+use Rattle.pocsag_findings.proofs.Prelude.{◌≡◌, length, findings_left}
 use Rattle.pocsag_findings.proofs.walk.Walk.next.Given as goal
 
 -- the levels that were removed had no children left

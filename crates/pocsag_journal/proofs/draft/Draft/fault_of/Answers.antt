@@ -1,7 +1,4 @@
-use Rattle.std.proofs.Common.{◌<◌, ◌≤◌, true, false, length, sym, arith}
-use Rattle.pocsag_pages.specs.Pages.{page_limit}
-use Rattle.pocsag_plan.proofs.Edits.{there_is}
-use Rattle.pocsag_plan.proofs.Refusals.{duplicate_fault, full_fault, no_fault}
+use Rattle.pocsag_journal.proofs.Prelude.{◌<◌, ◌≤◌, true, false, length, sym, arith, page_limit, there_is, duplicate_fault, full_fault, no_fault}
 use Rattle.pocsag_journal.proofs.Drafts.{broken_fault, length_as}
 use Rattle.pocsag_journal.proofs.draft.Draft.fault_of.Goals as goal
 

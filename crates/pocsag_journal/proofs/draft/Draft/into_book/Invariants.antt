@@ -1,4 +1,4 @@
-use Rattle.std.proofs.Common.{◌≡◌, ◌++◌, length}
+use Rattle.pocsag_journal.proofs.Prelude.{◌≡◌, ◌++◌, length}
 use Rattle.pocsag_journal.proofs.draft.Draft.into_book.Given as goal
 
 -- the book has the first pages, and the draft the others

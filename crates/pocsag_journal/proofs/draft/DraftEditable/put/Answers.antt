@@ -1,10 +1,4 @@
-use Rattle.std.proofs.Common.{◌≡◌, List, [], ℕ, ◌∷◌, ◌++◌, nat_eq, ap, sym, ◌∙◌, subst}
-use Rattle.std.specs.Map.{values_of}
-use Rattle.lru.specs.LruCache.{LruCache, demoted}
-use Rattle.pocsag_pages.specs.declared.page.Page.{Page}
-use Rattle.pocsag_plan.proofs.Edits.{values_push}
-use Rattle.pocsag_plan.proofs.Refusals.{MayFollow, may_follow}
-use Rattle.pocsag_journal.specs.Drafts.{IsDraft}
+use Rattle.pocsag_journal.proofs.Prelude.{◌≡◌, List, [], ℕ, ◌∷◌, ◌++◌, nat_eq, ap, sym, ◌∙◌, subst, values_of, LruCache, demoted, Page, values_push, MayFollow, may_follow, IsDraft}
 use Rattle.pocsag_journal.proofs.Drafts.{grown_draft, grown_entries}
 use Rattle.pocsag_journal.proofs.draft.DraftEditable.put.Goals as goal
 

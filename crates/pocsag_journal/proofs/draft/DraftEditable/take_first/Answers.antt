@@ -1,5 +1,4 @@
-use Rattle.std.proofs.Common.{◌∙◌, ap, drop}
-use Rattle.std.proofs.lemmas.List.{drop-drop}
+use Rattle.pocsag_journal.proofs.Prelude.{◌∙◌, ap, drop, drop-drop}
 use Rattle.pocsag_journal.proofs.draft.DraftEditable.take_first.Goals as goal
 
 pub loop-preserved : goal.loop-preserved

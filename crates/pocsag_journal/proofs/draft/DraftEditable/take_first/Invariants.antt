@@ -1,4 +1,4 @@
-use Rattle.std.proofs.Common.{◌≡◌, drop}
+use Rattle.pocsag_journal.proofs.Prelude.{◌≡◌, drop}
 use Rattle.pocsag_journal.proofs.draft.DraftEditable.take_first.Given as goal
 
 abbrev pub invariant-loop : goal.invariant-loop

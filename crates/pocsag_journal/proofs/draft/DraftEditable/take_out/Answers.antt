@@ -1,9 +1,5 @@
-use Rattle.std.proofs.Common.{◌≡◌, List, ℕ, false, Contains, ap, sym, ◌∙◌, subst}
-use Rattle.std.specs.Prelude.{is_some}
-use Rattle.lru.specs.LruCache.{LruCache}
-use Rattle.pocsag_pages.specs.declared.page.Page.{Page}
-use Rattle.pocsag_plan.proofs.Edits.{rest_is, there_is, was_there}
-use Rattle.pocsag_plan.proofs.Entries.{nothing_out, takes_out}
+use Rattle.pocsag_journal.proofs.Prelude.{◌≡◌, List, ℕ, false, ap, sym, ◌∙◌, subst, is_some, LruCache, Page, rest_is, there_is, was_there, nothing_out, takes_out}
+use Rattle.std.proofs.Common.{Contains}
 use Rattle.pocsag_journal.proofs.Drafts.{shrunk_draft}
 use Rattle.pocsag_journal.proofs.draft.DraftEditable.take_out.Goals as goal
 use Rattle.pocsag_journal.proofs.draft.DraftEditable.take_out.Goals.{in-Some, in-None}

@@ -1,9 +1,5 @@
-use Rattle.std.proofs.Common.{◌⊎◌, ℕ, ◌≤◌, List, length, sym, ap, ◌∙◌, subst}
-use Rattle.pocsag_pages.specs.declared.page.Page.{Page}
-use Rattle.pocsag_journal.specs.Journals.{ListsPages, journal_limit}
+use Rattle.pocsag_journal.proofs.Prelude.{◌⊎◌, ℕ, ◌≤◌, List, length, sym, ap, ◌∙◌, subst, Page, ListsPages, journal_limit, RestartsAs, LeavesOnly}
 use Rattle.pocsag_journal.proofs.TornLines.{listed_short, put_anew}
-use Rattle.pocsag_journal.specs.Crashes.{RestartsAs}
-use Rattle.pocsag_journal.specs.Moments.{LeavesOnly}
 use Rattle.pocsag_journal.proofs.journal.Journal.compact.Goals.{After-replace}
 use Rattle.pocsag_journal.proofs.journal.Journal.compact.Goals as goal
 

@@ -1,5 +1,4 @@
-use Rattle.std.proofs.Common.{◌∙◌}
-use Rattle.pocsag_journal.specs.Views.{disk_of}
+use Rattle.pocsag_journal.proofs.Prelude.{◌∙◌, disk_of}
 use Rattle.pocsag_journal.proofs.PrintedReplays.{told_of}
 use Rattle.pocsag_journal.proofs.journal.Journal.read.Goals as goal
 

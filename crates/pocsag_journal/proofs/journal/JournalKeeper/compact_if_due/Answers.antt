@@ -1,8 +1,4 @@
-use Rattle.std.proofs.Common.{ℕ, List, refl, ◌∙◌, subst}
-use Rattle.pocsag_pages.specs.declared.page.Page.{Page}
-use Rattle.pocsag_journal.specs.Growth.{IsDue, small}
-use Rattle.pocsag_journal.specs.Journals.{ListsPages}
-use Rattle.pocsag_journal.specs.Views.{disk_of}
+use Rattle.pocsag_journal.proofs.Prelude.{ℕ, List, refl, ◌∙◌, subst, Page, IsDue, small, ListsPages, disk_of}
 use Rattle.pocsag_journal.proofs.ByteCounts.{times_at_most}
 use Rattle.pocsag_journal.proofs.journal.JournalKeeper.compact_if_due.Goals as goal
 

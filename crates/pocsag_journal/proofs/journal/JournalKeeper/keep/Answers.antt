@@ -1,15 +1,5 @@
-use Rattle.std.proofs.Common.{◌≡◌, inl, ℕ, ◌+◌, ◌≤◌, arith, List, ◌++◌, length, sym, ap, ◌∙◌, subst}
-use Rattle.csv.specs.Records.{fields_of}
-use Rattle.csv.specs.Writing.{default_writer, row_text}
-use Rattle.pocsag_journal.specs.Keepers.{ReadsAsEither}
-use Rattle.pocsag_journal.specs.LineTexts.{IsWholeLine}
+use Rattle.pocsag_journal.proofs.Prelude.{◌≡◌, inl, ℕ, ◌+◌, ◌≤◌, arith, List, ◌++◌, length, sym, ap, ◌∙◌, subst, fields_of, default_writer, row_text, ReadsAsEither, IsWholeLine, IsTorn, RestartsAs, LeavesOnly, IsEdit, IsHeld, disk_of, Page, journal_limit}
 use Rattle.pocsag_journal.proofs.Moments.{goes_on}
-use Rattle.pocsag_journal.specs.Crashes.{IsTorn, RestartsAs}
-use Rattle.pocsag_journal.specs.Moments.{LeavesOnly}
-use Rattle.pocsag_journal.specs.Runs.{IsEdit}
-use Rattle.pocsag_journal.specs.Views.{IsHeld, disk_of}
-use Rattle.pocsag_pages.specs.declared.page.Page.{Page}
-use Rattle.pocsag_journal.specs.Journals.{journal_limit}
 use Rattle.pocsag_journal.proofs.ByteCounts.{sum_is}
 use Rattle.pocsag_journal.proofs.KeptPages.{stands_on}
 use Rattle.pocsag_journal.proofs.TornLines.{on_journal, torn_reads, unwritten}
