@@ -4,11 +4,11 @@
 use pocsag_centre::Centre;
 use pocsag_open::RoundGroup;
 use pocsag_receiver::Receiver;
-use pocsag_shell::{Both, Shape, run};
+use pocsag_shell::{CommandSpec, GroupPair, run};
 use pocsag_sound::Sound;
 use std::process::ExitCode;
 
-const POCSAG: Shape = Shape {
+const POCSAG: CommandSpec = CommandSpec {
     name: "pocsag",
     about: "\
 Plans POCSAG transmissions with the fewest batches, and proves that fewer do not
@@ -35,6 +35,6 @@ Example:
 };
 
 fn main(rt: HostRuntime) -> ExitCode {
-    let groups = &Both(Centre, Both(Receiver, Both(Sound, RoundGroup)));
+    let groups = &GroupPair(Centre, GroupPair(Receiver, GroupPair(Sound, RoundGroup)));
     ExitCode::from(run(&rt, &POCSAG, groups))
 }

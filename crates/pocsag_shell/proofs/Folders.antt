@@ -1,7 +1,6 @@
 -- How what a crash may leave goes on from call to call of a folder.
-use Rattle.std.proofs.Common.{◌≡◌, inl, inr, ⊎_elim, ℕ, List, Option, None, Some, rules, refl, arith, sym, ◌∙◌}
-use Rattle.pocsag_shell.specs.declared.folder.Folder.{Ghosts}
-use Rattle.pocsag_shell.specs.Folders.{IsOnDisk, Left, MayGo, MayMove, StepsBy, Stored, on_disk}
+use Rattle.pocsag_shell.proofs.Prelude.{◌≡◌, inl, inr, ⊎_elim, ℕ, List, Option, None, rules, refl, arith, sym, ◌∙◌, Ghosts, IsOnDisk, Left, MayGo, MayMove, StepsBy, Stored, on_disk}
+use Rattle.std.proofs.Common.{Some}
 
 no_bytes : (bytes : Option (List ℕ)) → on_disk bytes ≡ None → bytes ≡ None
 no_bytes None is = refl

@@ -1,8 +1,6 @@
 -- One read of a source over what was read.
-use Rattle.std.proofs.Common.{◌≡◌, ℕ, ◌+◌, List, ◌++◌, length, sym, ◌∙◌, ap}
+use Rattle.pocsag_shell.proofs.Prelude.{◌≡◌, ℕ, ◌+◌, List, ◌++◌, length, sym, ◌∙◌, ap, take-append_seam, drop-drop, take-append-drop}
 use Rattle.std.proofs.Math.ListN.{drop, take}
-use Rattle.std.proofs.Math.Seq.{take-append_seam}
-use Rattle.std.proofs.lemmas.List.{drop-drop, take-append-drop}
 
 -- What stood at the place is what was copied, and what stands behind it.
 pub one_read : (place count : ℕ) (bytes copied rest : List ℕ) → copied ≡ take count (drop place bytes) → length copied ≡ count →

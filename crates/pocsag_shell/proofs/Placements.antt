@@ -1,11 +1,6 @@
 -- Files that are put at their places one behind the other.
-use Rattle.std.proofs.Common.{◌≡◌, ◌≢◌, inl, inr, ◌⊎◌, ⊎_elim, ℕ, ◌≤◌, ◌-◌, List, [], ◌∷◌, Option, None, suc, zero, take, drop, length, slice_index_or, Bool, IsFalse, arith, refl, sym, ap, subst, ◌∙◌}
+use Rattle.pocsag_shell.proofs.Prelude.{◌≡◌, ◌≢◌, inl, inr, ◌⊎◌, ⊎_elim, ℕ, ◌≤◌, ◌-◌, List, [], ◌∷◌, Option, None, suc, zero, take, drop, length, slice_index_or, Bool, IsFalse, arith, refl, sym, ap, subst, ◌∙◌, HasFailed, take_rest, Ghosts, StagedFile, HaveOwnPaths, ShareNoPath, IsDistinct, IsGone, IsNoPathOf, IsBack, IsPut, IsStaged, IsSameButKept, IsSameButTwo, KeepsNone, IsOnDisk, Left, MayGo, MayMove, MayPut, MayPutAll, StandBeside, Stored, kept_at, place_of, staged_at, on_disk}
 use Rattle.std.specs.List.{AllByRecursion}
-use Rattle.pocsag_words.specs.Devices.{HasFailed}
-use Rattle.std.proofs.lemmas.List.{take_rest}
-use Rattle.pocsag_shell.specs.declared.folder.Folder.{Ghosts}
-use Rattle.pocsag_shell.specs.declared.staged_file.StagedFile.{StagedFile}
-use Rattle.pocsag_shell.specs.Folders.{HaveOwnPaths, ShareNoPath, IsDistinct, IsGone, IsNoPathOf, IsBack, IsPut, IsStaged, IsSameButKept, IsSameButTwo, KeepsNone, IsOnDisk, Left, MayGo, MayMove, MayPut, MayPutAll, StandBeside, Stored, kept_at, place_of, staged_at, on_disk}
 use Rattle.pocsag_shell.proofs.Folders.{Steps, call_more, renamed, still_on_disk}
 
 all_by : {X : Type 0} {P Q : X → Type 0} → ((x : X) → P x → Q x) → (xs : List X) → AllByRecursion P xs → AllByRecursion Q xs

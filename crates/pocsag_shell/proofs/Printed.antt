@@ -1,20 +1,6 @@
 -- What a writer took of a text that was reported.
-use Rattle.std.proofs.Common.{◌≡◌, ℕ, ◌≤◌, List, ◌++◌, length, take, sym, ap, ◌∙◌, Result, Ok, Err, append_assoc, length-append, length-take, arith}
-use Rattle.std.proofs.lemmas.List.{take-append-le, take_all}
-use Rattle.std.specs.Result.{IsErr, OnErr, OnOk}
-use Rattle.pocsag_words.specs.Devices.{Delivers, TookPrefix}
-
-took_whole : (before after printed : List ℕ) → after ≡ before ++ printed → TookPrefix before after printed
-took_whole before after printed whole = (
-  omega (arith, length-append before printed, ap length whole),
-  ap (take (length after)) (sym whole) ∙ take_all (length after) after (omega arith),
-)
-
--- all of it, or a prefix
-pub took_prefix : {X E : Type 0} (r : Result X E) (before after printed : List ℕ) → OnOk r (after ≡ before ++ printed) →
-    OnErr r (TookPrefix before after printed) → TookPrefix before after printed
-took_prefix (Ok _) before after printed whole part = took_whole before after printed whole
-took_prefix (Err _) before after printed whole part = part
+use Rattle.pocsag_shell.proofs.Prelude.{◌≡◌, ℕ, ◌≤◌, List, ◌++◌, length, take, sym, ap, ◌∙◌, Result, Ok, Err, length-take, arith, take-append-le, IsErr, Delivers, TookPrefix}
+use Rattle.std.proofs.Common.{append_assoc}
 
 -- what was taken and kept goes on with the next text
 pub kept_on : (due taken kept text rest taken' kept' : List ℕ) → taken ++ (kept ++ (text ++ rest)) ≡ due

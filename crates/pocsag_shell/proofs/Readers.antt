@@ -1,15 +1,11 @@
 -- Commands over the bytes that a reader holds.
-use Rattle.std.proofs.Common.{◌≡◌, ℕ, ◌≤◌, List, ◌++◌, length, inl, inr, Result, Ok, Err, refl, ◌∙◌}
-use Rattle.std.specs.Prelude.{IfErr, IfNone, IfOk, IfSome}
+use Rattle.pocsag_shell.proofs.Prelude.{◌≡◌, ℕ, ◌≤◌, List, ◌++◌, length, inl, inr, Result, Ok, Err, refl, ◌∙◌, IfNone, IfSome, EndedWell, EndedWith, printed_by, IsStreamOf, Ran, Work, done, lost, refused, stopped, ErrorStream}
+use Rattle.std.specs.Prelude.{IfErr, IfOk}
 use Rattle.pocsag_words.specs.Frame.{input_limit}
 use Rattle.pocsag_words.specs.declared.device.Sink.{Ghosts as Writer}
 use Rattle.pocsag_words.specs.declared.device.Source.{Ghosts as Reader}
-use Rattle.pocsag_shell.specs.ErrorStreams.{EndedWell, EndedWith, printed_by}
 use Rattle.pocsag_shell.proofs.Runs.{ran_streamed}
 use Rattle.pocsag_shell.specs.Readers.{IsUncut, WasNotRead, Task, over_bytes, over_reader}
-use Rattle.pocsag_shell.specs.Runs.{IsStreamOf, Ran, Work}
-use Rattle.pocsag_shell.specs.Runs.Ran.{done, lost, refused, stopped}
-use Rattle.pocsag_shell.specs.declared.error_stream.ErrorStream.{ErrorStream}
 use Rattle.pocsag_shell.specs.declared.fault.FileFault.{FileFault}
 
 -- one command did what another does, which prints and explains no less

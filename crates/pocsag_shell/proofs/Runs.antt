@@ -1,12 +1,7 @@
 -- What a command is that was run over its devices: one whose answer is due was run as is required.
-use Rattle.std.proofs.Common.{◌≡◌, ℕ, inl, inr, Result, Ok, Err}
-use Rattle.std.specs.Result.{IfErr, IfOk}
+use Rattle.pocsag_shell.proofs.Prelude.{◌≡◌, ℕ, inl, inr, Result, Ok, Err, IfErr, IfOk, EndedWell, EndedWith, IsAnswerOf, IsStreamOf, Ran, Work, answering, done, lost, refused, stopped, ErrorStream}
 use Rattle.pocsag_words.specs.declared.device.Sink.{Ghosts as Writer}
-use Rattle.pocsag_shell.specs.ErrorStreams.{EndedWell, EndedWith}
-use Rattle.pocsag_shell.specs.Runs.{IsAnswerOf, IsStreamOf, Ran, Work, answering}
-use Rattle.pocsag_shell.specs.Runs.Ran.{done, lost, refused, stopped}
 use Rattle.pocsag_shell.specs.declared.answer.CommandAnswer.{CommandAnswer}
-use Rattle.pocsag_shell.specs.declared.error_stream.ErrorStream.{ErrorStream}
 
 module _ {F O E : Type 0} (work : Work F) {Out : Writer O} {Err' : Writer E} {status : ℕ} {out out' : O} {err err' : ErrorStream F E} where
   -- what `print_answer` printed of an answer

@@ -6,14 +6,14 @@ use crate::fault::{Failure, FileFault};
 use crate::lines::put_whole;
 use pocsag_words::Sink;
 
-/// What a command over bytes answers: the exit status that it ends with, and the text that it prints.
+/// The result of a command over bytes: its exit status, and the text that it prints.
 #[derive(Drop)]
 pub struct CommandAnswer {
     pub status: u8,
     pub text: Vec<u8>,
 }
 
-/// Prints what a command answers, or tells its fault. Returns the exit status.
+/// Prints the text of a command, or its fault. Returns the exit status.
 pub fn print_answer<F: Failure + From<FileFault> + Drop, O: Sink, E: Sink + Drop>(
     answer: Result<CommandAnswer, F>,
     out: &mut O,

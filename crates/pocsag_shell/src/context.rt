@@ -2,7 +2,7 @@ ghost use Rattle.std.specs.IoError.{error_kind};
 ghost use Rattle.std.specs.Prelude.{◌≡◌, ◌≢◌, IfErr, IfOk, IsErrOf, Ok, OnErr};
 
 use crate::devices::WriterSink;
-use crate::diagnostics::{Diagnostics, OVER_LIMIT, OWN_REFUSAL, RefusedCall};
+use crate::diagnostics::{Diagnostics, RefusalCause};
 use crate::fault::{Failure, FileFault};
 use crate::files::one_file;
 use crate::lines::print_fault;
@@ -35,7 +35,8 @@ impl<'a> Context<'a> {
             if error.kind() == ErrorKind::OutOfMemory {
                 return FileFault::OutOfMemory;
             }
-            self.diagnostics.meet(role, error.raw_os_error());
+            self.diagnostics
+                .note_system_error(role, error.raw_os_error());
             FileFault::Device
         })
     }
@@ -46,7 +47,8 @@ impl<'a> Context<'a> {
         ensures fault { OnErr done (IsErrOf result FileFault.Write) }
     {
         done.map_err(|error| {
-            self.diagnostics.meet(role, error.raw_os_error());
+            self.diagnostics
+                .note_system_error(role, error.raw_os_error());
             FileFault::Write
         })
     }
@@ -61,8 +63,8 @@ impl<'a> Context<'a> {
         WriterSink::new(self.rt.stderr(), Role::Output, self.diagnostics)
     }
 
-    /// Keeps a note for `tell_more`, in place of an earlier one, if the user gave `--verbose`. It keeps none if memory
-    /// runs out.
+    /// Keeps a note for `print_more`, in place of an earlier one, if the user gave `--verbose`. It keeps none if
+    /// memory runs out.
     pub fn note<D: Display + Drop>(&self, text: D) {
         if self.diagnostics.is_asked() {
             let _ = self
@@ -92,26 +94,28 @@ impl<'a> Context<'a> {
     fn refused_call_text(
         &self,
         names: Names<'_>,
-        refused_call: RefusedCall,
+        (role, cause): (Role, RefusalCause),
     ) -> Result<String, AllocError> {
-        let place = names.place(refused_call.role);
-        match refused_call.code {
-            Some(OWN_REFUSAL) => match one_file(self.rt, names) {
+        let place = names.place(role);
+        match cause {
+            RefusalCause::Own => match one_file(self.rt, names) {
                 Some((one, other)) => { format!(in self.alloc; "{one} and {other} are one file") }
                 None => format!(in self.alloc; "{place}"),
             },
-            Some(OVER_LIMIT) => { format!(in self.alloc; "{place}: more than {FILE_LIMIT} bytes") }
-            Some(code) => {
+            RefusalCause::OverLimit => {
+                format!(in self.alloc; "{place}: more than {FILE_LIMIT} bytes")
+            }
+            RefusalCause::System(Some(code)) => {
                 let reason = io::Error::from_raw_os_error(code);
                 format!(in self.alloc; "{place}: {reason}")
             }
-            None => {
+            RefusalCause::System(None) => {
                 format!(in self.alloc; "{place}: the system took nothing and told no reason")
             }
         }
     }
 
-    /// Forgets which file the system refused, which is no fault of a command that did what it was asked.
+    /// Forgets which file the system refused, since a command that did what it was asked has no fault.
     pub fn forget_refused_call(&self) {
         let _ = self.diagnostics.take_refused_call();
     }

@@ -1,19 +1,15 @@
 use crate::role::Role;
 use std::cell::{Cell, RefCell};
 
-/// In place of the system's error number: the command itself refuses the file.
-pub(crate) const OWN_REFUSAL: i32 = 0;
-
-/// The same of a file that is too large.
-pub(crate) const OVER_LIMIT: i32 = -1;
-
-/// The system refused a call on a file or a stream, or the command refuses the file.
+/// Why a file or a stream was refused.
 #[derive(Clone, Copy)]
-pub(crate) struct RefusedCall {
-    /// What the file is to the command.
-    pub(crate) role: Role,
-    /// The system's error number, if it gave one.
-    pub(crate) code: Option<i32>,
+pub(crate) enum RefusalCause {
+    /// The system refused a call, and gave this error number, if it gave one.
+    System(Option<i32>),
+    /// The command itself refuses the file.
+    Own,
+    /// The file is too large.
+    OverLimit,
 }
 
 /// What one call of the program keeps for the line that `--verbose` adds: the last call that the system refused, and a
@@ -21,7 +17,7 @@ pub(crate) struct RefusedCall {
 #[derive(Drop)]
 pub struct Diagnostics {
     is_asked: bool,
-    refused_call: Cell<Option<RefusedCall>>,
+    refused_call: Cell<Option<(Role, RefusalCause)>>,
     pub(crate) note: RefCell<Option<String>>,
 }
 
@@ -36,27 +32,26 @@ impl Diagnostics {
     }
 
     /// Records that the system refused a call on a file or a stream.
-    pub fn meet(&self, role: Role, code: Option<i32>) {
-        self.refused_call.set(Some(RefusedCall { role, code }));
+    pub fn note_system_error(&self, role: Role, code: Option<i32>) {
+        self.refused_call
+            .set(Some((role, RefusalCause::System(code))));
     }
 
     /// Records that the command refuses a file, unless the system refused a call before.
-    pub fn refuse(&self, role: Role) {
-        let refused = RefusedCall {
-            role,
-            code: Some(OWN_REFUSAL),
-        };
-        let refused_call = self.take_refused_call().unwrap_or(refused);
+    pub fn note_refusal(&self, role: Role) {
+        let refused_call = self
+            .take_refused_call()
+            .unwrap_or((role, RefusalCause::Own));
         self.refused_call.set(Some(refused_call));
     }
 
     /// Records that a file is too large.
     pub fn refuse_large(&self, role: Role) {
-        self.meet(role, Some(OVER_LIMIT));
+        self.refused_call.set(Some((role, RefusalCause::OverLimit)));
     }
 
     /// The last refused call. It is forgotten.
-    pub(crate) fn take_refused_call(&self) -> Option<RefusedCall> {
+    pub(crate) fn take_refused_call(&self) -> Option<(Role, RefusalCause)> {
         self.refused_call.replace(None)
     }
 

@@ -21,8 +21,8 @@ impl<F: Failure + Drop, S: Sink + Drop> ErrorStream<F, S> {
         ErrorStream { sink, fault: None }
     }
 
-    /// Ends a command: writes the line of its fault, if there is one, and keeps the fault. If the writer fails the line is lost, or
-    /// all but its front. Returns the exit status.
+    /// Ends a command: writes the line of its fault, if there is one, and keeps the fault. If the writer fails, the line is lost,
+    /// or only its beginning is written. Returns the exit status.
     pub fn end(&mut self, done: Result<u8, F>) -> u8
         ensures done { IfOk done (λ status. (result ≡ status) × EndedWell self.old self.new) }
         ensures fault { IfErr done (EndedWith F.status_is S.Sink self.old self.new result) }

@@ -2,7 +2,7 @@ use crate::context::Context;
 use crate::devices::{ReaderSource, WriterSink};
 use crate::fault::FileFault;
 use crate::lines::put_whole;
-use crate::loaded::Loaded;
+use crate::loaded::LoadedFile;
 use crate::paths::{Named, are_one, name_one_file};
 use crate::role::{NAMED_ROLES, NamedFile, Names, Role};
 use crate::streams::{Input, Output};
@@ -31,7 +31,7 @@ pub(crate) const IS_FOLDER: i32 = 21;
 
 /// The two outputs of a plan.
 #[derive(Drop)]
-pub struct Outputs<S: Sink + Drop> {
+pub struct Outputs<S: Drop> {
     /// Takes the transmission.
     pub tx: S,
     /// Takes the certificate.
@@ -62,7 +62,7 @@ pub fn open_source<'a>(
             let file = context.opened(role, fs::open(context.rt, path))?;
             let is_journal = matches!(role, Role::Journal);
             if is_journal && context.opened(role, file.metadata())?.is_dir() {
-                context.diagnostics.meet(role, Some(IS_FOLDER));
+                context.diagnostics.note_system_error(role, Some(IS_FOLDER));
                 return Err(FileFault::Device);
             }
             Input::File(file)
@@ -77,12 +77,12 @@ pub fn load<R: Read>(
     context: Context<'_>,
     source: &mut ReaderSource<'_, R>,
     limit: usize,
-) -> Result<Loaded, FileFault> {
+) -> Result<LoadedFile, FileFault> {
     let mut bytes = Vec::new(context.alloc);
     let mut piece = [0u8; PIECE];
     while bytes.len() < limit {
         let Ok(count) = source.read(&mut piece) else {
-            return Ok(Loaded::new(context.alloc, bytes, true));
+            return Ok(LoadedFile::new(context.alloc, bytes, true));
         };
         if count == 0 {
             break;
@@ -90,14 +90,14 @@ pub fn load<R: Read>(
         bytes.extend_from_slice(&piece[..count])?;
     }
     if bytes.len() > FILE_LIMIT {
-        context.diagnostics.refuse_large(source.role());
+        context.diagnostics.refuse_large(source.role);
     }
-    Ok(Loaded::new(context.alloc, bytes, false))
+    Ok(LoadedFile::new(context.alloc, bytes, false))
 }
 
 /// Whether what a command writes of a file is kept until it is whole, and not written as it is made: the file has at most so many
 /// bytes, or could not be read to its end.
-pub fn is_kept(file: &Loaded, most: usize) -> bool {
+pub fn is_kept(file: &LoadedFile, most: usize) -> bool {
     match file.lent() {
         Some(bytes) => bytes.len() <= most,
         None => true,
@@ -110,7 +110,7 @@ pub fn load_file(
     role: Role,
     path: Option<&str>,
     limit: usize,
-) -> Result<Loaded, FileFault> {
+) -> Result<LoadedFile, FileFault> {
     let mut source = open_source(context, role, path)?;
     load(context, &mut source, limit)
 }
@@ -120,7 +120,7 @@ pub fn load_both(
     context: Context<'_>,
     pages: &str,
     cert: &str,
-) -> Result<(Loaded, Loaded), FileFault> {
+) -> Result<(LoadedFile, LoadedFile), FileFault> {
     if pages == STANDARD && cert == STANDARD {
         return Err(FileFault::EqualPaths);
     }
@@ -131,19 +131,15 @@ pub fn load_both(
 }
 
 /// The two files of a plan, opened with the bytes that they have.
-#[derive(Drop)]
-pub struct Opened {
-    tx: Output<File>,
-    cert: Output<File>,
-}
+pub type OpenedFiles = Outputs<Output<File>>;
 
-impl Opened {
+impl Outputs<Output<File>> {
     /// Empties both.
     pub fn emptied<'a>(
         self,
         context: Context<'a>,
     ) -> Result<Outputs<WriterSink<'a, Output<File>>>, FileFault> {
-        let Opened { tx, cert } = self;
+        let Outputs { tx, cert } = self;
         empty(context, Role::Transmission, &tx)?;
         empty(context, Role::Certificate, &cert)?;
         Ok(Outputs {
@@ -186,7 +182,7 @@ pub fn open_outputs(
     pages: Option<&str>,
     tx: &str,
     cert: &str,
-) -> Result<Opened, FileFault> {
+) -> Result<OpenedFiles, FileFault> {
     let mut found = FoundFiles::new(pages, tx, cert);
     found.refuse(context)?;
     let opened_tx = open_output(context, Role::Transmission, tx)?;
@@ -194,7 +190,7 @@ pub fn open_outputs(
     found.refuse(context)?;
     let opened_cert = open_output(context, Role::Certificate, cert)?;
     found.refuse(context)?;
-    Ok(Opened {
+    Ok(Outputs {
         tx: opened_tx,
         cert: opened_cert,
     })

@@ -1,5 +1,5 @@
 use crate::context::Context;
-use crate::words::{LineWord, Shape};
+use crate::words::{ArgSpec, CommandSpec};
 use clap::{ArgMatches, Error};
 use std::alloc::AllocError;
 
@@ -16,9 +16,9 @@ pub struct Call<'a, 'm> {
 #[derive(Drop)]
 pub struct Tables {
     /// The commands, in the order of help.
-    pub commands: Vec<Shape>,
+    pub commands: Vec<CommandSpec>,
     /// The words that the program takes without a command.
-    pub words: Vec<LineWord>,
+    pub words: Vec<ArgSpec>,
 }
 
 /// A group of commands.
@@ -26,9 +26,11 @@ pub trait Group {
     /// Adds the group's tables to those of the groups before it.
     fn add_to(&self, tables: &mut Tables) -> Result<(), AllocError>;
 
-    /// The error text for words of the group that stand in front of a command, if there are any. `found` holds the words of
+    /// The error text for words of the group that stand in front of a command, if there are any. `_found` holds the words of
     /// the program.
-    fn misplaced(&self, found: &ArgMatches<'_>) -> Option<&'static str>;
+    fn misplaced(&self, _found: &ArgMatches<'_>) -> Option<&'static str> {
+        None
+    }
 
     /// Carries out a call and returns the exit status, or an error in the words. `None` means that the call is not for this
     /// group.
@@ -36,9 +38,9 @@ pub trait Group {
 }
 
 /// Two groups as one. Help lists the commands of the first in front.
-pub struct Both<A: Group, B: Group>(pub A, pub B);
+pub struct GroupPair<A: Group, B: Group>(pub A, pub B);
 
-impl<A: Group, B: Group> Group for Both<A, B> {
+impl<A: Group, B: Group> Group for GroupPair<A, B> {
     fn add_to(&self, tables: &mut Tables) -> Result<(), AllocError> {
         self.0.add_to(tables)?;
         self.1.add_to(tables)

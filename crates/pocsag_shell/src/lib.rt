@@ -35,14 +35,14 @@ pub use diagnostics::Diagnostics;
 pub use error_stream::ErrorStream;
 pub use fault::{Failure, FileFault};
 pub use files::{
-    CERT_READ, KEPT_BYTES, Opened, Outputs, PAGES_READ, is_kept, is_regular, is_regular_or_none,
-    load, load_both, load_file, open_output, open_outputs, open_source, refuse_input,
-    refuse_one_file, refuse_shared, write_over,
+    CERT_READ, KEPT_BYTES, OpenedFiles, Outputs, PAGES_READ, is_kept, is_regular,
+    is_regular_or_none, load, load_both, load_file, open_output, open_outputs, open_source,
+    refuse_input, refuse_one_file, refuse_shared, write_over,
 };
 pub use folder::Folder;
-pub use group::{Both, Call, Group, Tables};
+pub use group::{Call, Group, GroupPair, Tables};
 pub use lines::{print_fault, print_numbers, put_whole};
-pub use loaded::Loaded;
+pub use loaded::LoadedFile;
 pub use memory_streams::MemoryStreams;
 pub use page_note::{Excerpt, first_asked, note_record};
 pub use paths::{Named, equal_paths, refuse_equal};
@@ -55,6 +55,6 @@ pub use system_folder::{SystemFolder, put_staged};
 pub use tables::command;
 pub use transmission::read_transmission;
 pub use words::{
-    ALWAYS, ALWAYS_FLAG, CERT, CERT_PLACE, Content, EXPECT, FLAG, Given, KEEP, KEEP_FLAG, LineWord,
-    PAGES, PAGES_PLACE, PLACE, STANDARD, STRICT, SVG, Shape, TX, TX_PLACE, path_of,
+    ALWAYS, ALWAYS_FLAG, ArgForm, ArgSpec, ArgType, CERT, CERT_PLACE, CommandSpec, EXPECT, FLAG,
+    KEEP, KEEP_FLAG, PAGES, PAGES_PLACE, PLACE, STANDARD, STRICT, SVG, TX, TX_PLACE, path_of,
 };

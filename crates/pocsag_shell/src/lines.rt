@@ -70,8 +70,8 @@ pub fn print_numbers<S: Sink>(
     put_whole(sink, line.as_str().as_bytes())
 }
 
-/// Writes the line of a fault to standard error and returns the exit status. If standard error fails the line is lost, or all
-/// but its front.
+/// Writes the line of a fault to standard error and returns the exit status. If standard error fails, the line is lost, or
+/// only its beginning is written.
 pub fn print_fault<S: Sink, F: Failure>(err: &mut S, fault: F) -> u8
     ensures line { TookLine S.Sink err.old err.new }
     ensures value { result ≡ F.status_is fault }

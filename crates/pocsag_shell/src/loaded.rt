@@ -4,10 +4,10 @@ use pocsag_words::{DeviceFault, Source};
 use std::alloc::Global;
 use std::mem;
 
-/// What was read of a file or a stream, as a source over memory: its bytes up to its end, or, where the system refused to read
-/// on, those in front of that place, at which every call fails.
+/// What was read of a file or a stream, as a source over memory: its bytes up to its end, or, if the system refused to read
+/// on, those before that place, at which every call fails.
 #[derive(Drop)]
-pub struct Loaded {
+pub struct LoadedFile {
     alloc: Global,
     bytes: Vec<u8>,
     // How many of them were read.
@@ -18,18 +18,18 @@ pub struct Loaded {
     ghost within: { place ≤ length bytes.items },
 }
 
-impl Loaded {
+impl LoadedFile {
     ghost use Rattle.std.specs.Prelude.{◌≡◌};
     ghost use Rattle.pocsag_shell.specs.Loads.{left_in, loads_are_cut, loads_called, loads_failed};
 
     /// The source of these bytes, behind which the system refused to read on if it is cut.
-    pub fn new(alloc: Global, bytes: Vec<u8>, is_cut: bool) -> Loaded
+    pub fn new(alloc: Global, bytes: Vec<u8>, is_cut: bool) -> LoadedFile
         ensures held { left_in result ≡ bytes.items }
         ensures cut { loads_are_cut result ≡ is_cut }
         ensures calls { loads_called result ≡ 0 }
         ensures failures { loads_failed result ≡ 0 }
     {
-        Loaded {
+        LoadedFile {
             alloc,
             bytes,
             place: 0,
@@ -40,7 +40,7 @@ impl Loaded {
     }
 }
 
-impl Source for Loaded {
+impl Source for LoadedFile {
     ghost use Rattle.pocsag_shell.specs.Loads.{left_in, loads_are_cut, loads_called, loads_failed};
 
     ghost is_known = { Unit {0} };

@@ -22,9 +22,9 @@ impl<F: Failure + From<FileFault> + PartialEq + Drop> MemoryStreams<F> {
         }
     }
 
-    /// Prints what the streams took, and behind it the line of `--verbose`. `done` is the exit status of the command, or a fault of
-    /// the files that it was to run over or has to write. A writer over memory fails where memory is refused, and nowhere else, so
-    /// its fault is reported as want of memory. Returns the exit status.
+    /// Prints what the streams took, and behind it the line of `--verbose`. `done` is the exit status of the command, or a fault
+    /// of the files that it was to run over or has to write. A writer over memory fails where memory is refused, and nowhere
+    /// else, so its fault is reported as refused memory. Returns the exit status.
     pub fn end(self, context: Context<'_>, names: Names<'_>, done: Result<u8, F>) -> u8 {
         let MemoryStreams { out, err } = self;
         let errors = &mut context.err();

@@ -7,7 +7,7 @@ use crate::lines::print_fault;
 use crate::role::Role;
 use crate::streams::hold_closed;
 use crate::tables::program;
-use crate::words::{Shape, VERBOSE};
+use crate::words::{CommandSpec, VERBOSE};
 use clap::error::ErrorKind;
 use clap::{ArgMatches, Command, Error};
 use std::alloc::AllocError;
@@ -19,26 +19,26 @@ const NOT_TEXT: &str = "invalid UTF-8 was detected in one or more arguments";
 
 /// Reads the words of the command line and has a group carry out what they ask for. `shape` holds the program's name and
 /// what help says of it. Returns the exit status.
-pub fn run<G: Group>(rt: &HostRuntime, shape: &Shape, group: &G) -> u8 {
+pub fn run<G: Group>(rt: &HostRuntime, spec: &CommandSpec, group: &G) -> u8 {
     let _input = hold_closed(rt, "/proc/self/fd/0", true);
     let _output = hold_closed(rt, "/proc/self/fd/1", false);
     let _errors = hold_closed(rt, "/proc/self/fd/2", false);
-    run_words(rt, shape, group).unwrap_or_else(|error| print_clap_error(rt, &error))
+    run_words(rt, spec, group).unwrap_or_else(|error| print_clap_error(rt, &error))
 }
 
 // Parses the words of the command line, where all are texts, and has the group carry them out. The first is the program's own name.
-fn run_words<G: Group>(rt: &HostRuntime, shape: &Shape, group: &G) -> Result<u8, Error> {
+fn run_words<G: Group>(rt: &HostRuntime, spec: &CommandSpec, group: &G) -> Result<u8, Error> {
     let words: Vec<String> = match env::args(rt) {
         Ok(args) => args.collect(rt.alloc())?,
         Err(error) if error.kind() == IoErrorKind::OutOfMemory => {
             return Err(Error::from(AllocError));
         }
         Err(_) => {
-            let mut program = program(rt.alloc(), shape, group)?;
+            let mut program = program(rt.alloc(), spec, group)?;
             return Err(program.error(ErrorKind::ValueValidation, NOT_TEXT)?);
         }
     };
-    let mut program = program(rt.alloc(), shape, group)?;
+    let mut program = program(rt.alloc(), spec, group)?;
     let matches = program.try_get_matches_from_mut(words.as_slice())?;
     answer(rt, group, &mut program, &matches)
 }

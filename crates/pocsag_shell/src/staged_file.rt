@@ -49,7 +49,7 @@ impl StagedFile {
             let named = Named::at(context.rt, path.as_str());
             for file in made {
                 if named == Some(file.named) {
-                    context.diagnostics.refuse(role);
+                    context.diagnostics.note_refusal(role);
                     return Err(FileFault::EqualPaths);
                 }
             }
@@ -115,7 +115,7 @@ fn create(
         found => Some(context.opened(role, found)?),
     };
     if old.as_ref().is_some_and(|old| old.is_dir()) {
-        context.diagnostics.meet(role, Some(IS_FOLDER));
+        context.diagnostics.note_system_error(role, Some(IS_FOLDER));
         return Err(FileFault::Write);
     }
     // A killed process with the same number may have left one.
@@ -137,7 +137,9 @@ fn create(
     if let Some(old) = &old {
         if let Err(error) = copy_ownership(&file, old) {
             let _ = fs::remove_file(rt, path);
-            context.diagnostics.meet(role, error.raw_os_error());
+            context
+                .diagnostics
+                .note_system_error(role, error.raw_os_error());
             return Err(FileFault::Owner);
         }
     }

@@ -2,7 +2,8 @@ use std::fs::{self, File, OpenOptions};
 use std::io::{self, IsTerminal, Read, Stdin, Stdout, Write};
 
 /// Keeps the number of a closed standard stream from the files that the program opens, as long as what it returns is there. The
-/// stream stays one that cannot be used: where the program is to read it, it can only be written, and else only be read.
+/// stream stays one that cannot be used: one that the program would read can only be written, and one that it would write can
+/// only be read.
 pub(crate) fn hold_closed(rt: &HostRuntime, stream: &str, is_read: bool) -> Option<File> {
     if fs::metadata(rt, stream).is_ok() {
         return None;
@@ -74,14 +75,6 @@ impl TextOutput {
     }
 }
 
-// What is printed on a terminal for a byte of text.
-fn printable(byte: u8) -> u8 {
-    if byte.is_ascii_control() && byte != b'\n' {
-        return b'?';
-    }
-    byte
-}
-
 impl Write for TextOutput {
     fn write(&mut self, buf: &[u8]) -> io::Result<usize> {
         if !self.is_terminal {
@@ -90,7 +83,9 @@ impl Write for TextOutput {
         let mut shown = [0u8; PIECE];
         let count = buf.len().min(PIECE);
         for place in 0..count {
-            shown[place] = printable(buf[place]);
+            let byte = buf[place];
+            let is_steering = byte.is_ascii_control() && byte != b'\n';
+            shown[place] = if is_steering { b'?' } else { byte };
         }
         self.stdout.write(&shown[..count])
     }

@@ -72,12 +72,6 @@ impl<'a> SystemFolder<'a> {
         Ok(())
     }
 
-    // Makes a copy, and brings its bytes to the disk.
-    fn copy(&self, from: &String, to: &String) -> io::Result<()> {
-        fs::copy(self.context.rt, from.as_str(), to.as_str())?;
-        fs::open(self.context.rt, to.as_str())?.sync_all()
-    }
-
     // Locks a place against other runs that put a file there. What is locked is a file of its own beside the place, whose
     // removal ends the lock: what stands at the place is replaced.
     fn lock(&mut self, role: Role, place: &String) -> Result<(), FileFault> {
@@ -129,8 +123,12 @@ impl Folder for SystemFolder<'_> {
         let context = self.context;
         let _ = fs::remove_file(context.rt, to.as_str());
         let linked = match fs::hard_link(context.rt, from.as_str(), to.as_str()) {
-            // Some file systems have no second names.
-            Err(error) if error.kind() != ErrorKind::NotFound => { self.copy(from, to) }
+            // Some file systems have no second names: a copy stands in, with its bytes on the disk.
+            Err(error) if error.kind() != ErrorKind::NotFound => {
+                fs::copy(context.rt, from.as_str(), to.as_str())
+                    .and_then(|_| fs::open(context.rt, to.as_str()))
+                    .and_then(|copied| copied.sync_all())
+            }
             linked => linked,
         };
         match linked {

@@ -1,24 +1,24 @@
 //! Builds the parser of the command line from the tables of words.
 
 use crate::group::{Group, Tables};
-use crate::words::{Content, Given, LineWord, Shape, VERBOSE_FLAG};
+use crate::words::{ArgForm, ArgSpec, ArgType, CommandSpec, VERBOSE_FLAG};
 use clap::{Arg, ArgAction, Command, value_parser};
 use std::alloc::{AllocError, Global};
 
 // The version of the program, and the line that `rt version` prints for the toolchain that proved it.
-const VERSION: &str = "1.2.0-rc.6, proved by rattle-kit-13f logic dac8208d650f15bf";
+const VERSION: &str = "1.2.0-rc.7, proved by rattle-kit-13f logic dac8208d650f15bf";
 
-fn argument<'a>(alloc: Global, word: &LineWord) -> Result<Arg<'a>, AllocError> {
+fn argument<'a>(alloc: Global, word: &ArgSpec) -> Result<Arg<'a>, AllocError> {
     let argument = Arg::new(alloc, word.id);
     let argument = match word.content {
-        Content::Text => argument,
-        Content::Number => argument.value_parser(value_parser!(u32)),
-        Content::Choice(names) => argument.value_parser(names),
+        ArgType::Text => argument,
+        ArgType::Number => argument.value_parser(value_parser!(u32)),
+        ArgType::Choice(names) => argument.value_parser(names),
     };
     let argument = match word.given {
-        Given::Place => argument,
-        Given::Flag => argument.long(word.id).action(ArgAction::SetTrue),
-        Given::Option(name, defaults) => argument
+        ArgForm::Place => argument,
+        ArgForm::Flag => argument.long(word.id).action(ArgAction::SetTrue),
+        ArgForm::Option(name, defaults) => argument
             .long(word.id)
             .value_name(name)
             .default_values(defaults),
@@ -31,30 +31,22 @@ fn argument<'a>(alloc: Global, word: &LineWord) -> Result<Arg<'a>, AllocError> {
         .conflicts_with_all(word.excludes)
 }
 
-// The arguments of words.
-fn arguments<'a>(alloc: Global, words: &[LineWord]) -> Result<Vec<Arg<'a>>, AllocError> {
-    let mut arguments = Vec::new(alloc);
-    for word in words {
-        arguments.push(argument(alloc, word)?)?;
-    }
-    Ok(arguments)
-}
-
 /// Builds a command.
-pub fn command<'a>(alloc: Global, shape: &Shape) -> Result<Command<'a>, AllocError> {
-    let arguments = arguments(alloc, shape.words)?;
-    let command = Command::new(alloc, shape.name).about(shape.about);
-    match shape.manual {
-        Some(manual) => command.after_help(manual),
-        None => command,
+pub fn command<'a>(alloc: Global, spec: &CommandSpec) -> Result<Command<'a>, AllocError> {
+    let mut command = Command::new(alloc, spec.name).about(spec.about);
+    if let Some(manual) = spec.manual {
+        command = command.after_help(manual);
     }
-    .args(arguments)
+    for word in spec.words {
+        command = command.arg(argument(alloc, word)?)?;
+    }
+    Ok(command)
 }
 
 /// Builds the program. It takes what the group takes, and `--verbose`.
 pub(crate) fn program<'a, G: Group>(
     alloc: Global,
-    shape: &Shape,
+    spec: &CommandSpec,
     group: &G,
 ) -> Result<Command<'a>, AllocError> {
     let mut tables = Tables {
@@ -63,12 +55,12 @@ pub(crate) fn program<'a, G: Group>(
     };
     group.add_to(&mut tables)?;
     tables.words.push(VERBOSE_FLAG)?;
-    let mut program = command(alloc, shape)?
-        .version(VERSION)
-        .bin_name(shape.name)?
-        .args(arguments(alloc, tables.words.as_slice())?)?;
-    for shape in &tables.commands {
-        program = program.subcommand(command(alloc, shape)?)?;
+    let mut program = command(alloc, spec)?.version(VERSION).bin_name(spec.name)?;
+    for word in &tables.words {
+        program = program.arg(argument(alloc, word)?)?;
+    }
+    for spec in &tables.commands {
+        program = program.subcommand(command(alloc, spec)?)?;
     }
     Ok(program)
 }

@@ -15,7 +15,7 @@ pub fn path_of(word: &str) -> Option<&str>
 
 /// How the user gives a word.
 #[derive(Clone, Copy)]
-pub enum Given {
+pub enum ArgForm {
     /// By its place.
     Place,
     /// `--id`.
@@ -26,7 +26,7 @@ pub enum Given {
 
 /// What a word may be.
 #[derive(Clone, Copy)]
-pub enum Content {
+pub enum ArgType {
     Text,
     Number,
     /// One of these names.
@@ -35,11 +35,11 @@ pub enum Content {
 
 /// A word of a command line.
 #[derive(Clone, Copy)]
-pub struct LineWord {
+pub struct ArgSpec {
     pub id: &'static str,
     pub help: &'static str,
-    pub given: Given,
-    pub content: Content,
+    pub given: ArgForm,
+    pub content: ArgType,
     /// Whether the user must give it.
     pub is_required: bool,
     /// Whether it may also stand behind the name of a command.
@@ -52,20 +52,20 @@ pub struct LineWord {
 
 /// A command and its words, in the order of help.
 #[derive(Clone, Copy)]
-pub struct Shape {
+pub struct CommandSpec {
     pub name: &'static str,
     pub about: &'static str,
     /// The text of help behind the words.
     pub manual: Option<&'static str>,
-    pub words: &'static [LineWord],
+    pub words: &'static [ArgSpec],
 }
 
 /// The defaults of a word by its place.
-pub const PLACE: LineWord = LineWord {
+pub const PLACE: ArgSpec = ArgSpec {
     id: "",
     help: "",
-    given: Given::Place,
-    content: Content::Text,
+    given: ArgForm::Place,
+    content: ArgType::Text,
     is_required: true,
     is_global: false,
     needs: &[],
@@ -73,8 +73,8 @@ pub const PLACE: LineWord = LineWord {
 };
 
 /// The defaults of a flag or an option.
-pub const FLAG: LineWord = LineWord {
-    given: Given::Flag,
+pub const FLAG: ArgSpec = ArgSpec {
+    given: ArgForm::Flag,
     is_required: false,
     ..PLACE
 };
@@ -97,25 +97,25 @@ pub const SVG: &str = "svg";
 
 pub(crate) const VERBOSE: &str = "verbose";
 
-pub const PAGES_PLACE: LineWord = LineWord {
+pub const PAGES_PLACE: ArgSpec = ArgSpec {
     id: PAGES,
     help: "The page file, CSV with the header address,kind,message",
     ..PLACE
 };
 
-pub const TX_PLACE: LineWord = LineWord {
+pub const TX_PLACE: ArgSpec = ArgSpec {
     id: TX,
     help: "The transmission",
     ..PLACE
 };
 
-pub const CERT_PLACE: LineWord = LineWord {
+pub const CERT_PLACE: ArgSpec = ArgSpec {
     id: CERT,
     help: "The certificate",
     ..PLACE
 };
 
-pub const ALWAYS_FLAG: LineWord = LineWord {
+pub const ALWAYS_FLAG: ArgSpec = ArgSpec {
     id: ALWAYS,
     help: "\
 Answers every round. If the search reaches its limit,
@@ -123,7 +123,7 @@ the plan may have one batch more than its bound",
     ..FLAG
 };
 
-pub const KEEP_FLAG: LineWord = LineWord {
+pub const KEEP_FLAG: ArgSpec = ArgSpec {
     id: KEEP,
     help: "\
 Keeps the old TX and CERT until both new files are
@@ -131,7 +131,7 @@ whole, and then renames the new ones to TX and CERT",
     ..FLAG
 };
 
-pub(crate) const VERBOSE_FLAG: LineWord = LineWord {
+pub(crate) const VERBOSE_FLAG: ArgSpec = ArgSpec {
     id: VERBOSE,
     help: "\
 Adds one line on standard error: which file the system

@@ -3,8 +3,8 @@ use crate::wav::run_wav;
 use crate::words::{BIT_RATE, INVERT, LEAD, SAMPLES, SOUND_COMMANDS, TAIL, WAV};
 use clap::{ArgMatches, Error};
 use pocsag_shell::{
-    Call, Context, ErrorStream, Group, Loaded, MemoryStreams, Names, PAGES_READ, Role, TX, Tables,
-    load_file, path_of,
+    Call, Context, ErrorStream, Group, LoadedFile, MemoryStreams, Names, PAGES_READ, Role, TX,
+    Tables, load_file, path_of,
 };
 use pocsag_wav::{Keying, NoSound};
 use pocsag_words::Source;
@@ -53,16 +53,16 @@ fn load_keyed(
     context: Context<'_>,
     keying: Result<Keying, NoSound>,
     tx: &str,
-) -> Result<(Keying, Loaded), SoundFault> {
+) -> Result<(Keying, LoadedFile), SoundFault> {
     let keying = keying?;
     let loaded = load_file(context, Role::Transmission, path_of(tx), PAGES_READ)?;
     Ok((keying, loaded))
 }
 
 // Writes the sound of a transmission to standard output.
-fn key(context: Context<'_>, keying: Keying, mut tx: Loaded, names: Names<'_>) -> u8 {
+fn key(context: Context<'_>, keying: Keying, mut tx: LoadedFile, names: Names<'_>) -> u8 {
     // A fault from here on is one of the transmission, or of standard output.
-    context.diagnostics.refuse(Role::Transmission);
+    context.diagnostics.note_refusal(Role::Transmission);
     if is_short(keying, &tx) {
         let mut streams = MemoryStreams::new(context.alloc);
         let status = run_wav(
@@ -84,7 +84,7 @@ fn key(context: Context<'_>, keying: Keying, mut tx: Loaded, names: Names<'_>) -
 }
 
 // Whether the sound is short enough to be kept in memory.
-fn is_short(keying: Keying, tx: &Loaded) -> bool {
+fn is_short(keying: Keying, tx: &LoadedFile) -> bool {
     let Some(bytes) = tx.lent() else {
         return true;
     };

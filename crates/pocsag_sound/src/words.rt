@@ -1,6 +1,6 @@
 //! The words of `wav`, and what help says of them.
 
-use pocsag_shell::{Content, FLAG, Given, LineWord, Shape, TX_PLACE};
+use pocsag_shell::{ArgForm, ArgSpec, ArgType, CommandSpec, FLAG, TX_PLACE};
 
 pub(crate) const WAV: &str = "wav";
 
@@ -26,49 +26,49 @@ Example:
   pocsag wav tx.bin > tx.wav
   pocsag plan pages.csv - cert.bin | pocsag wav - --rate 512 | aplay";
 
-const BIT_RATE_OPTION: LineWord = LineWord {
+const BIT_RATE_OPTION: ArgSpec = ArgSpec {
     id: BIT_RATE,
     help: "Bits a second: 512, 1200 or 2400",
-    given: Given::Option("R", &["1200"]),
-    content: Content::Number,
+    given: ArgForm::Option("R", &["1200"]),
+    content: ArgType::Number,
     ..FLAG
 };
 
-const SAMPLES_OPTION: LineWord = LineWord {
+const SAMPLES_OPTION: ArgSpec = ArgSpec {
     id: SAMPLES,
     help: "Samples a second, from R to 192000",
-    given: Given::Option("S", &["48000"]),
-    content: Content::Number,
+    given: ArgForm::Option("S", &["48000"]),
+    content: ArgType::Number,
     ..FLAG
 };
 
-const INVERT_FLAG: LineWord = LineWord {
+const INVERT_FLAG: ArgSpec = ArgSpec {
     id: INVERT,
     help: "Makes a bit 0 low and a bit 1 high",
     ..FLAG
 };
 
-const LEAD_OPTION: LineWord = LineWord {
+const LEAD_OPTION: ArgSpec = ArgSpec {
     id: LEAD,
     help: "\
 Sends N bits of preamble in place of those of TX: 576 or
 more, a multiple of 8",
-    given: Given::Option("N", &[]),
-    content: Content::Number,
+    given: ArgForm::Option("N", &[]),
+    content: ArgType::Number,
     ..FLAG
 };
 
-const TAIL_OPTION: LineWord = LineWord {
+const TAIL_OPTION: ArgSpec = ArgSpec {
     id: TAIL,
     help: "\
 Ends with MS milliseconds of silence, rounded up to whole
 bits, in place of the time of a batch",
-    given: Given::Option("MS", &[]),
-    content: Content::Number,
+    given: ArgForm::Option("MS", &[]),
+    content: ArgType::Number,
     ..FLAG
 };
 
-pub(crate) const SOUND_COMMANDS: &[Shape] = &[Shape {
+pub(crate) const SOUND_COMMANDS: &[CommandSpec] = &[CommandSpec {
     name: WAV,
     about: "Writes a transmission as sound, for a transmitter or a receiver",
     manual: Some(WAV_MANUAL),

@@ -1,5 +1,4 @@
-use Rattle.std.proofs.Common.{refl, sym}
-use Rattle.pocsag_shell.specs.Runs.Ran.{done, lost, refused}
+use Rattle.pocsag_shell.proofs.Prelude.{refl, sym, done, lost, refused}
 use Rattle.pocsag_shell.proofs.answer.print_answer.Goals as goal
 
 pub returns-in-Err : goal.returns-in-Err

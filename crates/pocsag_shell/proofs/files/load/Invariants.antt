@@ -1,4 +1,4 @@
-use Rattle.std.proofs.Common.{◌-◌, length}
+use Rattle.pocsag_shell.proofs.Prelude.{◌-◌, length}
 use Rattle.pocsag_shell.proofs.files.load.Given as goal
 
 -- each read takes one byte at least of those that may still be read

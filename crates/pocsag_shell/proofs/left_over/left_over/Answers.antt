@@ -1,6 +1,4 @@
-use Rattle.std.proofs.Common.{◌≡◌, ap, ◌∙◌, List, ℕ, ◌++◌, sym, true}
-use Rattle.std.specs.Prelude.{codes}
-use Rattle.std.proofs.lemmas.List.{append_cancel_right}
+use Rattle.pocsag_shell.proofs.Prelude.{◌≡◌, ap, ◌∙◌, List, ℕ, ◌++◌, sym, true, codes, append_cancel_right}
 use Rattle.pocsag_shell.proofs.StagedFiles.{kept_of, lock_kept, lock_made, made_of, not_kept, not_made, text_is, two_endings}
 use Rattle.pocsag_shell.proofs.left_over.left_over.Goals as goal
 

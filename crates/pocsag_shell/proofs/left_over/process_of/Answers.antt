@@ -1,5 +1,5 @@
-use Rattle.std.proofs.Common.{◌≡◌, ℕ, List, ◌++◌, sym, ap, ◌∙◌}
-use Rattle.std.specs.Prelude.{None, Some}
+use Rattle.pocsag_shell.proofs.Prelude.{◌≡◌, ℕ, List, ◌++◌, sym, ap, ◌∙◌, Some}
+use Rattle.std.specs.Prelude.{None}
 use Rattle.pocsag_shell.proofs.StagedFiles.{where_none, split_dot, staged, without_dot, without_ending, without_number}
 use Rattle.pocsag_shell.proofs.left_over.process_of.Goals as goal
 

@@ -1,4 +1,4 @@
-use Rattle.std.proofs.Common.{refl, arith}
+use Rattle.pocsag_shell.proofs.Prelude.{refl, arith}
 use Rattle.pocsag_shell.proofs.StagedFiles.{first_some, none_read, none_read_of, parsed}
 use Rattle.pocsag_shell.proofs.left_over.written_number.Goals as goal
 

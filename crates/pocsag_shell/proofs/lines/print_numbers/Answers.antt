@@ -1,6 +1,4 @@
-use Rattle.std.proofs.Common.{◌++◌, ◌∙◌, ◌+◌, drop, drop_of_length-le, map, ap, sym, arith}
-use Rattle.std.proofs.lemmas.List.{drop_more}
-use Rattle.pocsag_shell.specs.Notes.{numbered_text}
+use Rattle.pocsag_shell.proofs.Prelude.{◌++◌, ◌∙◌, ◌+◌, drop, drop_of_length-le, map, ap, sym, arith, drop_more, numbered_text}
 use Rattle.pocsag_shell.proofs.Printed.{kept_on, kept_took, part_lost, rest_put}
 use Rattle.pocsag_shell.proofs.lines.print_numbers.Goals as goal
 

@@ -1,5 +1,4 @@
-use Rattle.std.proofs.Common.{◌≡◌, ◌≤◌, ◌++◌, drop, length, map}
-use Rattle.pocsag_shell.specs.Notes.{numbered_text}
+use Rattle.pocsag_shell.proofs.Prelude.{◌≡◌, ◌≤◌, ◌++◌, drop, length, map, numbered_text}
 use Rattle.pocsag_shell.proofs.lines.print_numbers.Given as goal
 
 abbrev pub invariant-loop-pair : goal.invariant-loop-pair

@@ -1,5 +1,5 @@
-use Rattle.std.proofs.Common.{◌≡◌, ◌++◌, take, map, codes}
-use Rattle.pocsag_shell.specs.Notes.{plain}
+use Rattle.pocsag_shell.proofs.Prelude.{◌≡◌, ◌++◌, take, map, plain}
+use Rattle.std.proofs.Common.{codes}
 use Rattle.pocsag_shell.proofs.note.print_note.Given as goal
 
 -- the line is its front and the bytes so far

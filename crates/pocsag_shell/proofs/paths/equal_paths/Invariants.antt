@@ -1,4 +1,4 @@
-use Rattle.std.proofs.Common.{ℕ, ◌<◌, map}
+use Rattle.pocsag_shell.proofs.Prelude.{ℕ, ◌<◌, map}
 use Rattle.pocsag_shell.specs.Paths.{IsNamedBefore}
 use Rattle.pocsag_shell.proofs.paths.equal_paths.Given as goal
 

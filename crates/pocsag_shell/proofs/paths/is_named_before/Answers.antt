@@ -1,5 +1,4 @@
-use Rattle.std.proofs.Common.{◌≡◌, ℕ, ◌<◌, List, [], length, map, get_or, Bor, sym, ◌∙◌, arith, below_more, refl}
-use Rattle.std.proofs.lemmas.List.{get_or-map}
+use Rattle.pocsag_shell.proofs.Prelude.{◌≡◌, ℕ, ◌<◌, List, [], length, map, get_or, Bor, sym, ◌∙◌, arith, below_more, refl, get_or-map}
 use Rattle.std.proofs.lemmas.Slice.Eq.{bytes_eq-Decides}
 use Rattle.pocsag_shell.proofs.paths.is_named_before.Goals as goal
 

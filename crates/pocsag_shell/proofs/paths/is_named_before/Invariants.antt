@@ -1,4 +1,4 @@
-use Rattle.std.proofs.Common.{◌≡◌, ℕ, ◌<◌, [], map, get_or}
+use Rattle.pocsag_shell.proofs.Prelude.{◌≡◌, ℕ, ◌<◌, [], map, get_or}
 use Rattle.pocsag_shell.proofs.paths.is_named_before.Given as goal
 
 -- none of the paths so far

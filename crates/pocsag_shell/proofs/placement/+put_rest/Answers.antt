@@ -1,4 +1,4 @@
-use Rattle.std.proofs.Common.{refl}
+use Rattle.pocsag_shell.proofs.Prelude.{refl}
 use Rattle.pocsag_shell.proofs.Placements.{back_first, back_last, back_step, beside_first, beside_rest, first_step, put_last, rest_step, split}
 use Rattle.pocsag_shell.proofs.placement.+put_rest.Goals as goal
 

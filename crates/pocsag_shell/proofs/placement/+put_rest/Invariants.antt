@@ -1,4 +1,4 @@
-use Rattle.std.proofs.Common.{length}
+use Rattle.pocsag_shell.proofs.Prelude.{length}
 use Rattle.pocsag_shell.proofs.placement.+put_rest.Given as goal
 
 abbrev pub decreases-put_rest : goal.decreases-put_rest

@@ -1,5 +1,4 @@
-use Rattle.std.proofs.Common.{inl, inr, ⊎_elim, ◌∙◌}
-use Rattle.pocsag_shell.specs.Folders.{place_of}
+use Rattle.pocsag_shell.proofs.Prelude.{inl, inr, ⊎_elim, ◌∙◌, place_of}
 use Rattle.pocsag_shell.proofs.Folders.{call_more}
 use Rattle.pocsag_shell.proofs.placement.bring_back.Goals as goal
 

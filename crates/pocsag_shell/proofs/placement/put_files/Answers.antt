@@ -1,4 +1,4 @@
-use Rattle.std.proofs.Common.{inl}
+use Rattle.pocsag_shell.proofs.Prelude.{inl}
 use Rattle.std.proofs.lemmas.Bool.{not-false}
 use Rattle.pocsag_shell.proofs.Placements.{all_gone, back_cleared, beside_cleared, cleared_step, put_cleared}
 use Rattle.pocsag_shell.proofs.placement.put_files.Goals as goal

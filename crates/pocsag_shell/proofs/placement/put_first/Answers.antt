@@ -1,7 +1,4 @@
-use Rattle.std.proofs.Common.{◌≡◌, inl, inr, ⊎_elim, List, Option, ℕ, Bool, IsFalse, None, ◌∙◌, sym}
-use Rattle.pocsag_shell.specs.declared.folder.Folder.{Ghosts}
-use Rattle.pocsag_shell.specs.declared.staged_file.StagedFile.{StagedFile}
-use Rattle.pocsag_shell.specs.Folders.{IsDistinct, IsSame, IsSameBut, IsStaged, MayMove, MayPut, kept_at, place_of, staged_at}
+use Rattle.pocsag_shell.proofs.Prelude.{◌≡◌, inl, inr, ⊎_elim, List, Option, ℕ, Bool, IsFalse, None, ◌∙◌, sym, Ghosts, StagedFile, IsDistinct, IsSame, IsSameBut, IsStaged, MayMove, MayPut, kept_at, place_of, staged_at}
 use Rattle.pocsag_shell.proofs.Folders.{Steps, call_more, still_on_disk}
 use Rattle.pocsag_shell.proofs.placement.put_first.Goals as goal
 

@@ -1,8 +1,7 @@
-use Rattle.std.proofs.Common.{ℕ, List, ◌∙◌, ap, arith}
+use Rattle.pocsag_shell.proofs.Prelude.{ℕ, List, ◌∙◌, ap, arith, length-take-le}
 use Rattle.std.proofs.Math.ListN.{drop, take}
-use Rattle.std.proofs.lemmas.List.{length-take-le}
 use Rattle.pocsag_shell.proofs.Loads.{one_read}
-use Rattle.pocsag_shell.proofs.loaded.LoadedSource.read.Goals as goal
+use Rattle.pocsag_shell.proofs.loaded.LoadedFileSource.read.Goals as goal
 
 pub returns-clause-moved : goal.returns-clause-moved
 returns-clause-moved c = λ t.
