@@ -1,20 +1,8 @@
 -- The pages of a queue that are set aside, and the others.
-use Rattle.std.proofs.Common.{◌≡◌, ℕ, ◌<◌, ◌≤◌, Bool, true, false, not, ◌&&◌, inl, inr, List, [], ◌∷◌, ◌++◌, All, length, nat_eq, filter, refl, sym, ap, subst, ◌∙◌, arith}
-use Rattle.std.specs.Prelude.{None}
-use Rattle.std.specs.List.{AllByRecursion, IsDistinct, list_any}
-use Rattle.std.proofs.lemmas.Bool.{cases_Bool}
-use Rattle.std.proofs.lemmas.List.Elements.{All-filter, All-weaker}
+use Rattle.pocsag_centre.proofs.Prelude.{◌≡◌, ℕ, ◌<◌, ◌≤◌, Bool, true, false, not, ◌&&◌, inl, inr, List, [], ◌∷◌, ◌++◌, All, length, nat_eq, filter, refl, sym, ap, subst, ◌∙◌, arith, None, AllByRecursion, list_any, cases_Bool, All-filter, All-weaker, Page, IsListable, AreGood, addresses_of, page_fault_of, page_limit, IsQueue, good_page, IsSpellable, page_file, IsPageFileOf, FrontAsked, aside_of, fits_alone, is_aside, is_parted, planned_of}
+use Rattle.std.specs.List.{IsDistinct}
 use Rattle.std.proofs.lemmas.List.Sums.{count_by-le-length, length-filter}
-use Rattle.pocsag_pages.specs.declared.page.Page.{Page}
-use Rattle.pocsag_pages.specs.Listable.{IsListable}
-use Rattle.pocsag_pages.specs.Pages.{AreGood, addresses_of, page_fault_of, page_limit}
-use Rattle.pocsag_pages.specs.Queues.{IsQueue}
-use Rattle.pocsag_pages.proofs.GoodPages.{good_page}
-use Rattle.pocsag_decode.specs.PageFiles.{IsSpellable, page_file}
-use Rattle.pocsag_centre.specs.FrontFiles.{IsPageFileOf}
 use Rattle.pocsag_centre.proofs.QueueRounds.{AreReadBack, held_back}
-use Rattle.pocsag_centre.specs.declared.front.FrontAsked.{FrontAsked}
-use Rattle.pocsag_centre.specs.Oversized.{aside_of, fits_alone, is_aside, is_parted, planned_of}
 
 -- pages that a test takes out of others
 module _ (f : Page → Bool) where

@@ -1,16 +1,9 @@
 -- What is told of page files that are cut.
-use Rattle.std.proofs.Common.{◌≡◌, ◌≢◌, ◌⊎◌, inl, inr}
-use Rattle.pocsag_words.specs.Devices.{HasFailed, IsOfCut}
+use Rattle.pocsag_centre.proofs.Prelude.{◌≡◌, ◌≢◌, ◌⊎◌, inl, inr, HasFailed, IsOfCut, RoundFault, StreamFault, FailedCut, IsUncut, fault_of_stream, MayBeToldOfCut, CentreFault}
 use Rattle.pocsag_words.specs.declared.device.Source.{Ghosts as Reader}
-use Rattle.pocsag_pages.specs.declared.fault.RoundFault.{RoundFault}
 use Rattle.pocsag_pages.specs.declared.fault.RoundFault.TheVariants as round
 use Rattle.pocsag_plan.specs.declared.fault.PlanFault.TheVariants as planning
-use Rattle.pocsag_plan.specs.declared.fault.StreamFault.{StreamFault}
 use Rattle.pocsag_plan.specs.declared.fault.StreamFault.TheVariants as stream
-use Rattle.pocsag_shell.specs.Readers.{FailedCut, IsUncut}
-use Rattle.pocsag_centre.specs.Faults.{fault_of_stream}
-use Rattle.pocsag_centre.specs.Works.{MayBeToldOfCut}
-use Rattle.pocsag_centre.specs.declared.fault.CentreFault.{CentreFault}
 use Rattle.pocsag_centre.specs.declared.fault.CentreFault.TheVariants as fault
 
 module _ {P : Type 0} (Pages : Reader P) (pages : P) where

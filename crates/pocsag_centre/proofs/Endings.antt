@@ -1,16 +1,11 @@
 -- What the last bytes of a transmission say, and how many batches it has.
-use Rattle.std.proofs.Common.{◌≡◌, ℕ, ◌+◌, ◌*◌, ◌-◌, ◌/◌, ◌%◌, ◌^◌, ◌<◌, ◌≤◌, ◌≢◌, List, [], ◌∷◌, ◌++◌, ◌↔◌, length, map, take, drop, get_or, replicate, All, refl, sym, ap, ◌∙◌, subst, inl, inr, arith, eq-eqb, append_assoc}
+use Rattle.pocsag_centre.proofs.Prelude.{◌≡◌, ℕ, ◌+◌, ◌*◌, ◌-◌, ◌/◌, ◌%◌, ◌^◌, ◌<◌, ◌≤◌, ◌≢◌, List, [], ◌∷◌, ◌++◌, length, map, take, drop, get_or, replicate, All, refl, sym, ap, ◌∙◌, subst, inl, inr, arith, eq-eqb, append_assoc, flat_map, cases_eq, cases_lt, le-ltb, lt-ltb, ne_eqb, drop_at, get_or-drop, length-append, length-take-le, take-append-drop, All-head, All-tail, idle_word, kind_of, BeginsNoMessage, EndsIdle, EndsWhole}
+use Rattle.std.proofs.Common.{◌↔◌}
 use Rattle.std.specs.Int.{from_be_bytes, to_be_bytes, w32}
-use Rattle.std.specs.List.{flat_map}
-use Rattle.std.proofs.lemmas.Bool.{cases_eq, cases_lt, le-ltb, lt-ltb, ne_eqb}
-use Rattle.std.proofs.lemmas.List.{drop_at, get_or-drop, length-append, length-take-le, take-append-drop}
-use Rattle.std.proofs.lemmas.List.Elements.{All-head, All-tail}
 use Rattle.std.proofs.lemmas.Nat.{from_be_bytes-to_be_bytes_4}
 use Rattle.pocsag_words.specs.Codeword.{IsCodeword}
-use Rattle.pocsag_words.specs.Kinds.{idle_word, kind_of}
 use Rattle.pocsag_words.specs.declared.codeword.Kind.TheVariants.{Idle}
 use Rattle.pocsag_pages.specs.Bytes.{Sent, after_preamble, body_bytes, leading, sync_word, synced}
-use Rattle.pocsag_pages.specs.Reading.{BeginsNoMessage, EndsIdle, EndsWhole}
 use Rattle.pocsag_pages.proofs.Lengths.{body_length, synced_count}
 use Rattle.pocsag_decode.proofs.Preambles.{BeginsOther, after_is, count_is}
 

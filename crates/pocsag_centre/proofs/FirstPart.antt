@@ -1,30 +1,11 @@
 -- The front of a page file that was read, and what is written of it.
-use Rattle.std.proofs.Common.{◌≡◌, ℕ, ◌<◌, ◌≤◌, refl, List, [], ◌++◌, length, min, take, sym, ap, subst, ◌∙◌, arith}
-use Rattle.std.proofs.lemmas.List.{length-take-le, take_at, take_min}
-use Rattle.pocsag_pages.specs.declared.page.Page.{Page}
-use Rattle.pocsag_pages.specs.PageList.{unless_empty}
-use Rattle.pocsag_pages.specs.Queues.{firsts, left_of}
+use Rattle.pocsag_centre.proofs.Prelude.{◌≡◌, ℕ, ◌<◌, ◌≤◌, refl, List, [], ◌++◌, length, min, take, sym, ap, subst, ◌∙◌, arith, length-take-le, take_at, take_min, Page, unless_empty, firsts, left_of, page_file, End, BoundTree, written_text, bound_tree_of, Search, FrontPlan, IsFrontFor, IsLongestFront, IsWhyNoMore, IsPlanFor, HeadlineOf, asked_headline, beyond_of, certificate_text, front_text, IsFrontDue, IsFrontOf, IsFrontOfPages, IsFrontRead, IsFrontWritten, IsPageFileOf, IsWhyWritten, sent_of, why_text, aside_text, below_text, left_text, plan_text, aside_of, planned_of, FrontAsked, Err, IsFalse, IsTrue, None, Ok, Option}
 use Rattle.pocsag_pages.specs.declared.fault.RoundFault.TheVariants as fault
-use Rattle.pocsag_pages.proofs.QueueRows.{some_queue}
-use Rattle.pocsag_decode.specs.PageFiles.{page_file}
-use Rattle.pocsag_words.specs.declared.ending.End.{End}
-use Rattle.pocsag_tree.specs.BoundTrees.{BoundTree}
-use Rattle.pocsag_tree.specs.CertificateText.{written_text}
-use Rattle.pocsag_tree.specs.Views.{bound_tree_of}
+use Rattle.pocsag_pages.proofs.Judgements.{some_queue}
 use Rattle.pocsag_tree.specs.declared.shape.Certificate.{Certificate}
 use Rattle.pocsag_plan.specs.declared.search.OnLimit.TheVariants.{Fewest}
-use Rattle.pocsag_plan.specs.declared.search.Search.{Search}
-use Rattle.pocsag_plan.specs.declared.front.FrontPlan.{FrontPlan}
-use Rattle.pocsag_plan.specs.Fronts.{IsFrontFor, IsLongestFront, IsWhyNoMore}
 use Rattle.pocsag_plan.specs.Headline.{RoundHeadline}
-use Rattle.pocsag_plan.specs.Plans.{IsPlanFor}
-use Rattle.pocsag_plan.specs.Streams.{HeadlineOf}
-use Rattle.pocsag_plan.proofs.Due.{asked_headline}
-use Rattle.pocsag_centre.specs.FrontFiles.{beyond_of, certificate_text, front_text, IsFrontDue, IsFrontOf, IsFrontOfPages, IsFrontRead, IsFrontWritten, IsPageFileOf, IsWhyWritten, sent_of, why_text}
-use Rattle.pocsag_centre.specs.Lines.{aside_text, below_text, left_text, plan_text}
-use Rattle.pocsag_centre.specs.Oversized.{aside_of, planned_of}
-use Rattle.pocsag_centre.specs.declared.front.FrontAsked.{FrontAsked}
-use Rattle.std.specs.Prelude.{Err, IsFalse, IsTrue, None, Ok, Option, Some}
+use Rattle.std.specs.Prelude.{Some}
 
 pub first_is : (R F S : List Page) (n : ℕ) → F ++ S ≡ R → n ≡ length F → F ≡ take n R
 first_is R F S n parts long = sym (subst (λ (v : List Page). take n v ≡ F) parts (take_at F S n (sym long)))

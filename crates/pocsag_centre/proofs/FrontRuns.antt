@@ -1,34 +1,16 @@
 -- Why no front of a page file is planned, and what `plan --at-most` leaves of its files.
-use Rattle.std.proofs.Common.{◌≡◌, ◌≢◌, ◌⊎◌, ℕ, List, [], ◌++◌, length, refl, sym, subst, inl, inr, Some}
-use Rattle.std.specs.Prelude.{IsFalse, IsOk, IsTrue, Err, Ok}
-use Rattle.pocsag_shell.specs.Readers.{FailedCut}
+use Rattle.pocsag_centre.proofs.Prelude.{◌≡◌, ◌≢◌, ◌⊎◌, ℕ, List, [], ◌++◌, length, refl, sym, subst, inl, inr, Some, IsFalse, IsOk, IsTrue, Err, Ok, FailedCut, Page, RoundFault, firsts, held_pages, bound_tree_of, page_file, ExplainsFront, HeadlineOf, IsCertificate, IsTransmission, IsUnsent, WritesAllOf, WritesCertificatePartOf, WritesInTurn, WritesPartOf, StreamFault, FrontPlan, fault_of_front, ExplainsHeld, IsExpected, beyond_of, certificate_text, IsFrontOf, IsFrontRead, IsFrontWritten, why_text, cert_failed, others_failed, tx_failed, aside_text, below_text, left_text, plan_text, planned_of, FrontAsked}
 use Rattle.pocsag_words.specs.declared.device.Sink.{Ghosts as Writer}
 use Rattle.pocsag_words.specs.declared.device.Source.{Ghosts as Reader}
-use Rattle.pocsag_pages.specs.declared.page.Page.{Page}
-use Rattle.pocsag_pages.specs.declared.fault.RoundFault.{RoundFault}
 use Rattle.pocsag_pages.specs.declared.fault.RoundFault.TheVariants as round
-use Rattle.pocsag_pages.specs.Queues.{firsts, held_pages}
-use Rattle.pocsag_tree.specs.Views.{bound_tree_of}
-use Rattle.pocsag_decode.specs.PageFiles.{page_file}
 use Rattle.pocsag_branch.specs.Found.{IsNodeLimit}
-use Rattle.pocsag_plan.specs.Fronts.{ExplainsFront}
-use Rattle.pocsag_plan.specs.Streams.{HeadlineOf, IsCertificate, IsTransmission, IsUnsent, WritesAllOf, WritesCertificatePartOf, WritesInTurn, WritesPartOf}
 use Rattle.pocsag_plan.specs.declared.fault.NoFront.{NoFront}
 use Rattle.pocsag_plan.specs.declared.fault.NoFront.TheVariants as front
 use Rattle.pocsag_plan.specs.declared.fault.PlanFault.TheVariants as planning
-use Rattle.pocsag_plan.specs.declared.fault.StreamFault.{StreamFault}
 use Rattle.pocsag_plan.specs.declared.fault.StreamFault.TheVariants as stream
-use Rattle.pocsag_plan.specs.declared.front.FrontPlan.{FrontPlan}
 use Rattle.pocsag_shell.specs.declared.fault.FileFault.TheVariants as file
-use Rattle.pocsag_centre.specs.Faults.{fault_of_front}
-use Rattle.pocsag_centre.specs.Checks.{ExplainsHeld, IsExpected}
-use Rattle.pocsag_centre.specs.FrontFiles.{beyond_of, certificate_text, IsFrontOf, IsFrontRead, IsFrontWritten, why_text}
 use Rattle.pocsag_centre.specs.FrontWorks.{ExplainsFrontFiles, ExplainsOthers, ExplainsUnplanned, IsFrontBegun, IsFrontDone, TookAll}
-use Rattle.pocsag_centre.specs.FrontWorks.ExplainsFrontFiles.{cert_failed, others_failed, tx_failed}
-use Rattle.pocsag_centre.specs.Lines.{aside_text, below_text, left_text, plan_text}
-use Rattle.pocsag_centre.specs.Oversized.{planned_of}
 use Rattle.pocsag_centre.specs.declared.fault.CentreFault.TheVariants as fault
-use Rattle.pocsag_centre.specs.declared.front.FrontAsked.{FrontAsked}
 use Rattle.pocsag_centre.specs.declared.front.FrontFiles.{FrontFiles}
 use Rattle.pocsag_centre.proofs.FirstPart.{front_of, front_sent}
 

@@ -1,15 +1,8 @@
 -- What is printed of a verdict.
-use Rattle.std.proofs.Common.{◌≡◌, ℕ, Bool, IsTrue, List, false, true, Ok, refl}
-use Rattle.std.specs.Prelude.{◌↔◌}
+use Rattle.pocsag_centre.proofs.Prelude.{◌≡◌, ℕ, Bool, List, false, true, refl, ◌↔◌, End, Page, verdict, BoundTree, IsText, NoneHasFewer, PrintsVerdict, verdict_status}
+use Rattle.std.proofs.Common.{IsTrue, Ok}
 use Rattle.pocsag_words.specs.declared.device.Source.{Ghosts as Reader}
-use Rattle.pocsag_words.specs.declared.ending.End.{End}
-use Rattle.pocsag_pages.specs.declared.page.Page.{Page}
-use Rattle.pocsag_pages.specs.PageFile.{verdict}
-use Rattle.pocsag_tree.specs.BoundTrees.{BoundTree}
-use Rattle.pocsag_tree.specs.CertificateText.{IsText}
 use Rattle.pocsag_check.specs.Acceptance.{IsAcceptedFor}
-use Rattle.pocsag_plan.specs.Plans.{NoneHasFewer}
-use Rattle.pocsag_centre.specs.Judgements.{PrintsVerdict, verdict_status}
 
 module _ {P C : Type 0} (Pages : Reader P) (Cert : Reader C) (pages : P) (cert : C) (R : List Page) (end : End) (batches : ℕ) (tree : BoundTree)
     (read : Pages.is_known → verdict (Pages.held pages) ≡ Ok R) (spelled : Cert.is_known → IsText end batches tree (Cert.held cert))

@@ -6,6 +6,7 @@ pub mod FrontRuns
 mod Judged
 pub mod PlanFaults
 pub mod Plans
+pub mod Prelude
 pub mod QueueRounds
 pub mod ReportLines
 pub mod Verified

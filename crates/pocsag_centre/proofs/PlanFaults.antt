@@ -1,21 +1,12 @@
 -- Why `plan` prints nothing, by the fault of its stream.
-use Rattle.std.proofs.Common.{◌≡◌, ◌≢◌, ◌⊎◌, ℕ, List, Err, Some, inl, inr, refl}
+use Rattle.pocsag_centre.proofs.Prelude.{◌≡◌, ◌≢◌, ◌⊎◌, ℕ, List, Some, inl, inr, refl, verdict, RoundFault, bound_tree_of, ExplainsStream, IsCertificate, IsTransmission, WritesCertificatePart, WritesInTurn, WritesPart, StreamFault, Search, FailedCut, fault_of_stream, ExplainsPlanFiles, PlanFiles}
+use Rattle.std.proofs.Common.{Err}
 use Rattle.pocsag_words.specs.declared.device.Sink.{Ghosts as Writer}
 use Rattle.pocsag_words.specs.declared.device.Source.{Ghosts as Reader}
-use Rattle.pocsag_pages.specs.PageFile.{verdict}
-use Rattle.pocsag_pages.specs.declared.fault.RoundFault.{RoundFault}
 use Rattle.pocsag_pages.specs.declared.fault.RoundFault.TheVariants as round
-use Rattle.pocsag_tree.specs.Views.{bound_tree_of}
-use Rattle.pocsag_plan.specs.Streams.{ExplainsStream, IsCertificate, IsTransmission, WritesCertificatePart, WritesInTurn, WritesPart}
 use Rattle.pocsag_plan.specs.Verdicts.{ExplainsRound}
 use Rattle.pocsag_plan.specs.declared.fault.PlanFault.TheVariants as planning
-use Rattle.pocsag_plan.specs.declared.fault.StreamFault.{StreamFault}
 use Rattle.pocsag_plan.specs.declared.fault.StreamFault.TheVariants as stream
-use Rattle.pocsag_plan.specs.declared.search.Search.{Search}
-use Rattle.pocsag_shell.specs.Readers.{FailedCut}
-use Rattle.pocsag_centre.specs.Faults.{fault_of_stream}
-use Rattle.pocsag_centre.specs.Works.{ExplainsPlanFiles}
-use Rattle.pocsag_centre.specs.declared.plan.PlanFiles.{PlanFiles}
 
 of_file : (file : List ℕ) (f : RoundFault) → f ≢ round.ReadFault → (f ≡ round.OutOfMemory) ⊎ (f ≡ round.ReadFault) ⊎ (verdict file ≡ Err f) → ExplainsRound file f
 of_file file f other (inl e) = inl e

@@ -1,18 +1,11 @@
 -- What was planned and reported.
-use Rattle.std.proofs.Common.{◌≡◌, ℕ, List, ◌++◌, Ok, refl}
-use Rattle.pocsag_pages.specs.PageFile.{verdict}
-use Rattle.pocsag_pages.specs.declared.page.Page.{Page}
-use Rattle.pocsag_tree.specs.Views.{bound_tree_of}
-use Rattle.pocsag_plan.specs.declared.bounded.Bounded.{Bounded}
-use Rattle.pocsag_plan.specs.declared.search.Search.{Search}
-use Rattle.pocsag_plan.specs.Plans.{IsPlanFor}
-use Rattle.pocsag_plan.specs.Streams.{IsOfRound, WritesBounded}
-use Rattle.pocsag_plan.proofs.Due.{tight_plan, tight_stream}
+use Rattle.pocsag_centre.proofs.Prelude.{◌≡◌, ℕ, List, ◌++◌, refl, verdict, Page, bound_tree_of, Search, IsPlanFor, IsOfRound, WritesBounded, tight_plan, tight_stream, below_text, plan_text}
+use Rattle.std.proofs.Common.{Ok}
+use Rattle.pocsag_plan.specs.declared.bounded.BoundedPlan.{BoundedPlan}
 use Rattle.pocsag_centre.specs.Commands.{Planned, PlannedAndPrinted, PrintedPlan}
-use Rattle.pocsag_centre.specs.Lines.{below_text, plan_text}
 use Rattle.pocsag_centre.specs.Refusals.{default_search}
 
-pub told_plan : (file : List ℕ) (R : List Page) (bounded : Bounded) → verdict file ≡ Ok R → IsPlanFor default_search R bounded →
+pub told_plan : (file : List ℕ) (R : List Page) (bounded : BoundedPlan) → verdict file ≡ Ok R → IsPlanFor default_search R bounded →
     (text : List ℕ) → text ≡ plan_text bounded.plan.pages bounded.plan.batches → PrintedPlan file text
 told_plan file R bounded read is text printed = record {
   plan = bounded.plan;
@@ -20,7 +13,7 @@ told_plan file R bounded read is text printed = record {
   printed = printed;
 }
 
-module _ (file : List ℕ) (search : Search) (tx tx' cert cert' : List ℕ) (bounded : Bounded)
+module _ (file : List ℕ) (search : Search) (tx tx' cert cert' : List ℕ) (bounded : BoundedPlan)
     (of : IsOfRound file (λ round. IsPlanFor search round bounded))
     (writes : WritesBounded file search.end bounded.plan.batches bounded.bound (bound_tree_of bounded.plan.tree) tx tx' cert cert') where
   pub planned : Planned file search tx tx' cert cert'

@@ -1,24 +1,10 @@
 -- The round of a queue, and a round as a queue: what is sent of it and what is left.
-use Rattle.std.proofs.Common.{◌≡◌, ℕ, ◌≤◌, Bool, true, false, ◌||◌, inl, inr, List, [], ◌∷◌, ◌++◌, All, length, nat_eq, refl, sym, ap, subst, ◌∙◌, arith, append_assoc}
-use Rattle.std.specs.Prelude.{None, Ok}
-use Rattle.std.specs.List.{AllByRecursion, IsDistinct, list_any}
-use Rattle.std.proofs.lemmas.Bool.{cases_Bool, or_right}
+use Rattle.pocsag_centre.proofs.Prelude.{◌≡◌, ℕ, ◌≤◌, Bool, true, false, ◌||◌, inl, inr, List, [], ◌∷◌, ◌++◌, All, length, nat_eq, refl, sym, ap, subst, ◌∙◌, arith, append_assoc, None, Ok, AllByRecursion, list_any, cases_Bool, or_right, append-nil, All-weaker, map-append, Page, IsListable, unless_empty, AreGood, addresses_of, has_address, page_fault_of, page_limit, verdict, IsQueue, firsts, firsts_after, held_pages, is_sent, left_after, left_of, queue_verdict, good_page, IsSpellable, page_file, IsPageFileOf}
+use Rattle.std.specs.List.{IsDistinct}
 use Rattle.std.proofs.lemmas.Bool.Decides.{nat_tests}
-use Rattle.std.proofs.lemmas.List.{append-nil}
-use Rattle.std.proofs.lemmas.List.Elements.{All-weaker}
 use Rattle.std.proofs.lemmas.List.Folds.{list_any-append}
-use Rattle.std.proofs.lemmas.List.{map-append}
-use Rattle.pocsag_pages.specs.declared.page.Page.{Page}
-use Rattle.pocsag_pages.specs.Listable.{IsListable}
-use Rattle.pocsag_pages.specs.PageList.{unless_empty}
-use Rattle.pocsag_pages.specs.Pages.{AreGood, addresses_of, has_address, page_fault_of, page_limit}
-use Rattle.pocsag_pages.specs.PageFile.{verdict}
-use Rattle.pocsag_pages.specs.Queues.{IsQueue, firsts, firsts_after, held_pages, is_sent, left_after, left_of, queue_verdict}
-use Rattle.pocsag_pages.proofs.GoodPages.{good_page}
 use Rattle.pocsag_pages.proofs.QueueParts.{first_new, firsts_none, left_all, left_few, left_kept, left_none, left_sent}
-use Rattle.pocsag_decode.specs.PageFiles.{IsSpellable, page_file}
 use Rattle.pocsag_decode.proofs.PageRows.{free_address}
-use Rattle.pocsag_centre.specs.FrontFiles.{IsPageFileOf}
 
 -- a round has one page for each address
 firsts_same : (before ps : List Page) → AreGood (before ++ ps) → firsts_after before ps ≡ ps

@@ -1,8 +1,6 @@
 -- The seven lines of a report, as texts with numbers.
-use Rattle.std.proofs.Common.{◌≡◌, ℕ, List, [], ◌∷◌, ◌++◌, refl, ap, ◌∙◌, append_assoc}
-use Rattle.std.specs.Prelude.{codes}
+use Rattle.pocsag_centre.proofs.Prelude.{◌≡◌, ℕ, List, [], ◌∷◌, ◌++◌, refl, ap, ◌∙◌, append_assoc, codes, first_lines, last_lines, line_of, report_text}
 use Rattle.std.specs.Fmt.{decimal}
-use Rattle.pocsag_plan.specs.Reports.{first_lines, last_lines, line_of, report_text}
 use Rattle.pocsag_plan.specs.declared.airtime.Report.{Report}
 use Rattle.pocsag_shell.specs.Notes.{numbered_text}
 

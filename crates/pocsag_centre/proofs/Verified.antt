@@ -1,45 +1,21 @@
 -- What was read back, and what was found in its place.
-use Rattle.std.proofs.Common.{◌≡◌, ◌≢◌, ℕ, ◌<◌, ◌≤◌, ◌==◌, ◌&&◌, Bool, true, false, eq-eqb, tests, List, length, get_or, map, refl, sym, ap, ◌∙◌, subst, inl, inr, arith}
-use Rattle.std.specs.Prelude.{◌⊎◌, Contains, Err, IfErr, IfOk, IsPermutation, Ok, OnOk, Result}
+use Rattle.pocsag_centre.proofs.Prelude.{◌≡◌, ◌≢◌, ℕ, ◌<◌, ◌≤◌, ◌==◌, ◌&&◌, Bool, true, false, eq-eqb, tests, List, length, get_or, map, refl, sym, ap, ◌∙◌, subst, inl, inr, arith, Contains, Err, IfErr, IfOk, IsPermutation, Ok, OnOk, Result, MatchOrdering, nat_cmp, ordering_index, IsNonDecreasingBy, bytes_eq-Decides, cases_eq, cases_lt, get_or_default, length-map, Contains-permutation, IsPermutation-sym, length_permutation, All-weaker, RoundFault, Page, IsRound, AreApart, EndsAs, IsBatchList, apart_pages, BoundTree, IsText, NoneHasFewer, HasFailed, IsOfCut, kind_of, End, ReadsAs, Search, FailedCut, IsStreamOf, CentreFault, PlanFiles}
+use Rattle.std.specs.Prelude.{◌⊎◌}
 use Rattle.std.specs.Cmp.{ranks}
 use Rattle.std.specs.Cmp.Lexicographic.{pointwise}
-use Rattle.std.specs.Ordering.{MatchOrdering, nat_cmp, ordering_index}
 use Rattle.std.specs.declared.cmp.Ordering.{Ordering}
 use Rattle.std.specs.declared.cmp.Ordering.TheVariants.{Less, Greater}
-use Rattle.std.specs.List.Sorted.{IsNonDecreasingBy}
-use Rattle.std.proofs.lemmas.Slice.Eq.{bytes_eq-Decides}
-use Rattle.std.proofs.lemmas.Bool.{cases_eq, cases_lt}
-use Rattle.std.proofs.lemmas.List.{get_or_default, length-map}
-use Rattle.std.proofs.lemmas.List.Sorted.{Contains-permutation, IsPermutation-sym, length_permutation}
-use Rattle.std.proofs.lemmas.List.Elements.{All-weaker}
-use Rattle.pocsag_pages.specs.declared.fault.RoundFault.{RoundFault}
 use Rattle.pocsag_pages.specs.declared.fault.RoundFault.TheVariants as round_fault
-use Rattle.pocsag_pages.specs.declared.page.Page.{Page}
-use Rattle.pocsag_pages.specs.Pages.{IsRound}
-use Rattle.pocsag_pages.specs.Reading.{AreApart, EndsAs, IsBatchList}
-use Rattle.pocsag_pages.proofs.GoodPages.{apart_pages}
 use Rattle.pocsag_tree.specs.Answers.{given_before, IsFault, IsRefusal}
-use Rattle.pocsag_tree.specs.BoundTrees.{BoundTree}
-use Rattle.pocsag_tree.specs.CertificateText.{IsText}
 use Rattle.pocsag_tree.specs.Parts.{HasFirst}
 use Rattle.pocsag_tree.specs.declared.refusals.CertificateFault.{CertificateFault}
 use Rattle.pocsag_tree.specs.declared.refusals.CertificateFault.TheVariants as tree_fault
-use Rattle.pocsag_plan.specs.Plans.{NoneHasFewer}
-use Rattle.pocsag_words.specs.Devices.{HasFailed, IsOfCut}
-use Rattle.pocsag_words.specs.Kinds.{kind_of}
 use Rattle.pocsag_words.specs.declared.device.Sink.{Ghosts as Writer}
 use Rattle.pocsag_words.specs.declared.device.Source.{Ghosts as Reader}
-use Rattle.pocsag_words.specs.declared.ending.End.{End}
 use Rattle.pocsag_slots.proofs.Rearranged.{rearranged}
-use Rattle.pocsag_decode.specs.Faults.{ReadsAs}
-use Rattle.pocsag_plan.specs.declared.search.Search.{Search}
-use Rattle.pocsag_shell.specs.Readers.{FailedCut}
-use Rattle.pocsag_shell.specs.Runs.{IsStreamOf}
 use Rattle.pocsag_centre.specs.Verification.{AreAmong, HasRival, IsTransmissionOf, ShowsExpected, Verified, WasNoCertificate, WasNoRound, verifies, verifies_round}
 use Rattle.pocsag_centre.specs.Verification.ExplainsVerifying.{no_round, unverified}
-use Rattle.pocsag_centre.specs.declared.fault.CentreFault.{CentreFault}
 use Rattle.pocsag_centre.specs.declared.fault.CentreFault.TheVariants as fault
-use Rattle.pocsag_centre.specs.declared.plan.PlanFiles.{PlanFiles}
 use Rattle.pocsag_centre.proofs.CutFiles.{failed_cut, told_of_round, told_of_whole}
 
 moved_pages : (ps qs : List Page) → IsPermutation ps qs → (R : List Page) → AreAmong qs R → AreAmong ps R

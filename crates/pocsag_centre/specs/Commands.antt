@@ -3,7 +3,7 @@ use Rattle.std.specs.Prelude.{◌≡◌, ℕ, List, ◌++◌}
 use Rattle.pocsag_words.specs.declared.ending.End.TheVariants.{Open}
 use Rattle.pocsag_tree.specs.Views.{bound_tree_of}
 use Rattle.pocsag_plan.specs.declared.answer.Plan.{Plan}
-use Rattle.pocsag_plan.specs.declared.bounded.Bounded.{Bounded}
+use Rattle.pocsag_plan.specs.declared.bounded.BoundedPlan.{BoundedPlan}
 use Rattle.pocsag_plan.specs.declared.search.Search.{Search}
 use Rattle.pocsag_plan.specs.Plans.{IsPlanFor}
 use Rattle.pocsag_plan.specs.Streams.{IsOfRound, IsPlanOf, Writes, WritesBounded}
@@ -19,7 +19,7 @@ pub record PrintedPlan (file text : List ℕ) : Type 0 where
 -- page file's round; and what the headline says where the bound is the batches, as it is where only the fewest batches are an
 -- answer.
 pub record Planned (file : List ℕ) (search : Search) (tx_before tx_after cert_before cert_after : List ℕ) : Type 0 where
-  pub bounded : Bounded
+  pub bounded : BoundedPlan
   pub plan_of : IsOfRound file (λ round. IsPlanFor search round bounded)
   pub writes : WritesBounded file search.end bounded.plan.batches bounded.bound (bound_tree_of bounded.plan.tree) tx_before tx_after cert_before cert_after
   pub headline : bounded.bound ≡ bounded.plan.batches

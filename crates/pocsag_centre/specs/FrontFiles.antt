@@ -4,7 +4,8 @@
 use Rattle.std.specs.Prelude.{◌≡◌, ◌⊎◌, ℕ, ◌+◌, ◌<◌, ◌≤◌, Bool, false, List, [], ◌++◌, length, take, Option, Some, None, IsFalse, IsOk, IsTrue, Result, Ok, Err}
 use Rattle.pocsag_pages.specs.declared.page.Page.{Page}
 use Rattle.pocsag_pages.specs.declared.fault.RoundFault.{RoundFault}
-use Rattle.pocsag_pages.specs.Queues.{firsts, held_pages, left_of}
+use Rattle.pocsag_pages.specs.PageFile.{held_pages}
+use Rattle.pocsag_pages.specs.Queues.{firsts, left_of}
 use Rattle.pocsag_pages.specs.PageList.{unless_empty}
 use Rattle.pocsag_tree.specs.BoundTrees.{BoundTree}
 use Rattle.pocsag_tree.specs.CertificateText.{HasText, IsWrittenText, written_text}
@@ -16,7 +17,7 @@ use Rattle.pocsag_check.specs.Acceptance.{IsAcceptedFor}
 use Rattle.pocsag_branch.specs.Found.{IsNodeLimit}
 use Rattle.pocsag_plan.specs.declared.search.OnLimit.TheVariants.{Fewest, Always}
 use Rattle.pocsag_plan.specs.declared.search.Search.{Search}
-use Rattle.pocsag_plan.specs.declared.bounded.Bounded.{Bounded}
+use Rattle.pocsag_plan.specs.declared.bounded.BoundedPlan.{BoundedPlan}
 use Rattle.pocsag_plan.specs.declared.front.FrontPlan.{FrontPlan}
 use Rattle.pocsag_plan.specs.Fronts.{FirstNeeds, IsFrontFor, IsLongestFront, IsUndecidedFor, IsWhyNoMore, StopsAtFront}
 use Rattle.pocsag_plan.specs.Headline.{RoundHeadline}
@@ -40,7 +41,7 @@ why_text batches None = []
 why_text batches (Some bound) = undecided_text batches bound
 
 -- The lines on a front of at most so many batches.
-abbrev pub front_text : Bounded → (left batches : ℕ) → (beyond : Option ℕ) → List ℕ
+abbrev pub front_text : BoundedPlan → (left batches : ℕ) → (beyond : Option ℕ) → List ℕ
 front_text bounded left batches beyond =
     plan_text bounded.plan.pages bounded.plan.batches ++ below_text bounded.plan.batches bounded.bound ++ left_text left
     ++ why_text batches beyond
@@ -99,7 +100,7 @@ pub record IsFrontDue (asked : FrontAsked) (pages : List Page) (count : ℕ) (re
   -- The front: the first pages of the round, as many as so many batches carry; and their plan.
   pub front : IsFrontFor asked.search (firsts pages) asked.batches count
   pub longest : asked.search.on_limit ≡ Fewest → IsLongestFront asked.search.end (firsts pages) asked.batches count
-  pub bounded : Bounded
+  pub bounded : BoundedPlan
   pub pages_of : bounded.plan.pages ≡ count
   pub plan_of : IsPlanFor asked.search (take count (firsts pages)) bounded
   pub within : bounded.plan.batches ≤ asked.batches

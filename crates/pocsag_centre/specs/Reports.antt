@@ -4,7 +4,7 @@ use Rattle.std.specs.List.{flat_map}
 use Rattle.pocsag_pages.specs.PageFile.{verdict}
 use Rattle.pocsag_pages.specs.declared.page.Page.{Page}
 use Rattle.pocsag_plan.specs.declared.airtime.Report.{Report}
-use Rattle.pocsag_plan.specs.declared.bounded.Bounded.{Bounded}
+use Rattle.pocsag_plan.specs.declared.bounded.BoundedPlan.{BoundedPlan}
 use Rattle.pocsag_plan.specs.declared.frames.FrameRoom.{FrameRoom}
 use Rattle.pocsag_plan.specs.Plans.{IsPlanFor}
 use Rattle.pocsag_plan.specs.Reports.{IsPlannable, IsRate, IsReport, report_text}
@@ -20,7 +20,7 @@ use Rattle.pocsag_centre.specs.declared.report.ReportAsked.{ReportAsked}
 pub record IsReportPrinted (asked : ReportAsked) (file text : List ℕ) : Type 0 where
   pub round : List Page
   pub read : verdict file ≡ Ok round
-  pub bounded : Bounded
+  pub bounded : BoundedPlan
   pub plan_of : IsPlanFor asked.search round bounded
   pub report : Report
   pub report_of : IsReport bounded.plan asked.rate report

@@ -44,7 +44,7 @@ pub(crate) struct PlanArgs<'a> {
     pub(crate) search: SearchArgs,
     /// Whether the files are read back.
     pub(crate) verify: bool,
-    /// Whether what stands there before is kept until all files are whole.
+    /// Whether the old files are kept until all new ones are whole.
     pub(crate) keep: bool,
     /// What bounds the front, where not all pages need to be planned.
     pub(crate) front: Option<FrontLimit>,
@@ -105,7 +105,7 @@ fn front_in(found: &ArgMatches<'_>) -> Option<FrontLimit> {
     Some(FrontLimit::Airtime { ms, rate })
 }
 
-/// The order of the words of `plan`; none where a word is not there, which clap has seen to.
+/// What the words of `plan` ask for. `None` if a word is missing, which clap has refused before.
 pub(crate) fn plan_args<'a>(found: &ArgMatches<'a>) -> Option<PlanArgs<'a>> {
     Some(PlanArgs {
         pages: path_of(found.get_str(PAGES)?),

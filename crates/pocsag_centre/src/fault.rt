@@ -29,7 +29,7 @@ pub enum CentreFault {
     /// The search stopped: at least so many batches are needed, and one more would do.
     #[error("search limit reached: at least {0} batches, {1} would do")]
     SearchLimit(u32, u32),
-    /// Not even the first page fits into the batches that a front may have: it needs so many.
+    /// Not even the first page fits into the batches that a front may have: it needs this many.
     #[error("page 1 needs {0} batches")]
     FirstPage(u32),
     #[error("the rate must be 512, 1200 or 2400")]

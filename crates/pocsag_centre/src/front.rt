@@ -17,9 +17,11 @@ ghost use Rattle.pocsag_shell.specs.declared.fault.FileFault.TheVariants as file
 
 use crate::checks::{refuse_bad_limit, refuse_other_count};
 use crate::fault::CentreFault;
-use crate::oversized::{Parted, part_pages};
+use crate::oversized::{PageParts, part_pages};
 use crate::plan::print_bounded;
-use pocsag_decode::{page_files_are_read_back, pages_of_files_are_spellable, write_page_file};
+use pocsag_decode::{
+    recall_page_files_are_read_back, recall_pages_of_files_are_spellable, write_page_file,
+};
 use pocsag_pages::{Page, Round, first_pages, left_pages, read_pages};
 use pocsag_plan::{FrontPlan, NoFront, PlanFault, Search, longest_front, send};
 use pocsag_shell::{CommandAnswer, ErrorStream, FileFault, print_answer, print_numbers, put_whole};
@@ -78,8 +80,8 @@ struct FrontOutput {
 /// `plan PAGES TX CERT --at-most B`: plans the longest front of a page file's round that so many batches carry, as is asked: its
 /// transmission, the certificate of its bound, the page files of the others and of those that are set aside, and why there is not
 /// one page more; and reports the counts. Faults in order: `BadLimit`, before the file is read; `Round`; `Unexpected`, where the
-/// file holds another number of pages than is expected; `FirstPage`, where not even the first page fits; `SearchLimit`; want of
-/// memory. Returns the exit status.
+/// file holds another number of pages than is expected; `FirstPage`, where not even the first page fits; `SearchLimit`; or
+/// refused memory. Returns the exit status.
 pub fn run_front<P: Source + Drop, S: Sink + Drop, O: Sink, E: Sink + Drop>(
     alloc: Global,
     asked: FrontAsked,
@@ -140,12 +142,12 @@ pub(crate) fn read_front<P: Source>(
     ensures cut { IfErr result (MayBeToldOfCut P.Source pages.old) }
     ensures explained { IfErr result (ExplainsUnplanned P.Source asked pages.old pages.new) }
 {
-    page_files_are_read_back();
-    pages_of_files_are_spellable();
+    recall_page_files_are_read_back();
+    recall_pages_of_files_are_spellable();
     refuse_bad_limit(asked.search)?;
     let queue = read_pages(alloc, asked.may_wait, pages)?;
     refuse_other_count(queue.len() as u32, asked.expect)?;
-    let Ok(Parted { planned, aside }) = part_pages(alloc, asked, queue) else {
+    let Ok(PageParts { planned, aside }) = part_pages(alloc, asked, queue) else {
         return Err(CentreFault::File(FileFault::OutOfMemory));
     };
     let front = queue_front(alloc, asked, planned)?;

@@ -9,10 +9,9 @@ use crate::plan::{DEFAULT_SEARCH, run_input};
 use crate::plan_files::{Streams, front_asked, plan_command, refuse_before, refuse_unmet, written};
 use crate::report::{ReportAsked, run_report};
 use crate::slot::{SlotAsked, run_slot_report};
-use crate::texts::{BAD_SLOT, EARLY_STRICT};
 use crate::words::{
-    CHECK, CHECK_COMMAND, EXPLAIN, EXPLAIN_COMMAND, OVERSIZED, PLAN, PLAN_COMMAND, REPORT,
-    REPORT_COMMAND, REST, STRICT_FLAG, WHY,
+    BAD_SLOT, CHECK, CHECK_COMMAND, EARLY_STRICT, EXPLAIN, EXPLAIN_COMMAND, OVERSIZED, PLAN,
+    PLAN_COMMAND, REPORT, REPORT_COMMAND, REST, STRICT_FLAG, WHY,
 };
 use clap::{ArgMatches, Error};
 use pocsag_findings::Format;
@@ -71,7 +70,7 @@ impl Group for Centre {
             Err(fault) => Some(*fault),
         };
         if let Some(Some(role)) = fault.map(|fault| fault.refused()) {
-            context.diagnostics.refuse(role);
+            context.diagnostics.note_refusal(role);
         }
         Some(Ok(streams.end(context, names_of(call), done)))
     }

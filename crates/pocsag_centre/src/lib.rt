@@ -17,7 +17,6 @@ mod plan_files;
 mod readback;
 mod report;
 mod slot;
-mod texts;
 mod words;
 
 pub use check::run_check;

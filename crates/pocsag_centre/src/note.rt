@@ -2,11 +2,11 @@ use crate::args::{FrontLimit, PlanArgs};
 use crate::fault::CentreFault;
 use crate::front::FrontAsked;
 use pocsag_pages::{QuoteFault, quote_fault};
-use pocsag_shell::{Context, Loaded, NamedFile, Role, STANDARD, note_record};
+use pocsag_shell::{Context, LoadedFile, NamedFile, Role, STANDARD, note_record};
 use pocsag_words::Source;
 
 /// The first misplaced quote of a page file, which `--strict` would refuse, where `--verbose` asks for it.
-pub(crate) fn quote_asked(context: Context<'_>, pages: &Loaded) -> Option<QuoteFault> {
+pub(crate) fn quote_asked(context: Context<'_>, pages: &LoadedFile) -> Option<QuoteFault> {
     if !context.diagnostics.is_asked() {
         return None;
     }
@@ -18,7 +18,7 @@ pub(crate) fn quote_asked(context: Context<'_>, pages: &Loaded) -> Option<QuoteF
 pub(crate) fn note_file(
     context: Context<'_>,
     path: Option<&str>,
-    pages: &Loaded,
+    pages: &LoadedFile,
     quote: Option<QuoteFault>,
     fault: Option<CentreFault>,
 ) {

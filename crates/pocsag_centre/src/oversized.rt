@@ -10,24 +10,24 @@ use std::alloc::Global;
 
 /// The pages of a page file that are planned, and those that are set aside.
 #[derive(Drop)]
-pub(crate) struct Parted {
+pub(crate) struct PageParts {
     pub(crate) planned: Vec<Page>,
     pub(crate) aside: Vec<Page>,
 }
 
-/// `--oversized`: parts pages. Those that alone need more batches than are asked for are set aside, unless all do: then none is, and
-/// a plan of them refuses the first page.
+/// `--oversized`: divides the pages. Those that alone need more batches than are asked for are set aside, unless all do: then
+/// none is, and a plan of them refuses the first page.
 pub(crate) fn part_pages(
     alloc: Global,
     asked: FrontAsked,
     queue: Vec<Page>,
-) -> Result<Parted, OutOfMemory>
+) -> Result<PageParts, OutOfMemory>
     ensures planned { IfOk result (λ parted. parted.planned.items ≡ planned_of asked queue.items) }
     ensures aside { IfOk result (λ parted. parted.aside.items ≡ aside_of asked queue.items) }
 {
     let mut aside = Vec::new(alloc);
     if !is_parted(asked, queue.as_slice()) {
-        return Ok(Parted {
+        return Ok(PageParts {
             planned: queue,
             aside,
         });
@@ -40,7 +40,7 @@ pub(crate) fn part_pages(
             aside.push(page)?;
         }
     }
-    Ok(Parted { planned, aside })
+    Ok(PageParts { planned, aside })
 }
 
 // Whether pages of these are set aside: that is asked for, and some page fits alone.

@@ -18,7 +18,7 @@ use crate::fault::CentreFault;
 use crate::lines::{print_below, print_plan};
 use pocsag_pages::{Round, read_round};
 use pocsag_plan::{
-    Bounded, DEFAULT_LIMIT, OnLimit, PlanFault, Search, StreamFault, bounded_plan, plan,
+    BoundedPlan, DEFAULT_LIMIT, OnLimit, PlanFault, Search, StreamFault, bounded_plan, plan,
     plan_stream, plan_stream_always,
 };
 use pocsag_shell::{CommandAnswer, ErrorStream, FileFault, print_answer};
@@ -47,10 +47,11 @@ pub struct PlanFiles<P: Drop, T: Drop, C: Drop> {
 #[derive(Drop)]
 pub(crate) struct RoundPlan {
     pub(crate) round: Round,
-    pub(crate) bounded: Bounded,
+    pub(crate) bounded: BoundedPlan,
 }
 
-/// Reads a page file and plans its round as is asked. Faults in order: `Round`, `BadLimit`, `SearchLimit`; want of memory.
+/// Reads a page file and plans its round as is asked. Faults in order: `Round`, `BadLimit`, `SearchLimit`; or refused
+/// memory.
 pub(crate) fn read_plan<P: Source>(
     alloc: Global,
     pages: &mut P,
@@ -70,7 +71,7 @@ pub(crate) fn read_plan<P: Source>(
 }
 
 // The plan that is asked for: of the fewest batches, or one that no round is refused.
-fn plan_asked(alloc: Global, round: &Round, search: Search) -> Result<Bounded, PlanFault>
+fn plan_asked(alloc: Global, round: &Round, search: Search) -> Result<BoundedPlan, PlanFault>
     ensures plan { IfOk result (IsPlanFor search round.now) }
     ensures limited { OnOk result (IsNodeLimit search.limit) }
     ensures fault { IfErr result (ExplainsPlan search.on_limit search.end round.now search.limit) }
@@ -78,7 +79,7 @@ fn plan_asked(alloc: Global, round: &Round, search: Search) -> Result<Bounded, P
     match search.on_limit {
         OnLimit::Fewest => {
             let plan = plan(alloc, round, search.limit, search.end)?;
-            Ok(Bounded {
+            Ok(BoundedPlan {
                 bound: plan.batches,
                 plan,
                 stopped: None,
@@ -159,7 +160,7 @@ fn stream_asked<P: Source, T: Sink, C: Sink>(
     tx: &mut T,
     cert: &mut C,
     search: Search,
-) -> Result<Bounded, StreamFault>
+) -> Result<BoundedPlan, StreamFault>
     ensures headline { P.is_known → T.is_known → C.is_known → IfOk result (λ bounded.
         WritesBounded (P.held pages.old) search.end bounded.plan.batches bounded.bound
         (bound_tree_of bounded.plan.tree)
@@ -189,7 +190,7 @@ fn stream_asked<P: Source, T: Sink, C: Sink>(
     match on_limit {
         OnLimit::Fewest => {
             let plan = plan_stream(alloc, pages, tx, cert, limit, end)?;
-            Ok(Bounded {
+            Ok(BoundedPlan {
                 bound: plan.batches,
                 plan,
                 stopped: None,
@@ -200,7 +201,7 @@ fn stream_asked<P: Source, T: Sink, C: Sink>(
 }
 
 /// Prints the counts of a plan, and its bound where that is below the batches.
-pub(crate) fn print_bounded<O: Sink>(bounded: &Bounded, out: &mut O) -> Result<(), FileFault>
+pub(crate) fn print_bounded<O: Sink>(bounded: &BoundedPlan, out: &mut O) -> Result<(), FileFault>
     ensures delivers { O.is_known → Delivers result (O.taken out.old) (O.taken out.new)
         (plan_text bounded.now.plan.pages bounded.now.plan.batches
         ++ below_text bounded.now.plan.batches bounded.now.bound) }

@@ -12,9 +12,9 @@ use crate::readback::{WrittenFront, run_verify, run_verify_front};
 use pocsag_pages::{FILE_LIMIT, QuoteFault};
 use pocsag_plan::{is_node_limit, most_batches};
 use pocsag_shell::{
-    CERT_READ, Context, FileFault, KEPT_BYTES, Loaded, MemoryStreams, Output, Outputs, PAGES_READ,
-    Role, STANDARD, StagedFile, first_asked, is_kept, is_regular, is_regular_or_none, load,
-    load_file, open_output, open_outputs, open_source, path_of, put_staged, put_whole,
+    CERT_READ, Context, FileFault, KEPT_BYTES, LoadedFile, MemoryStreams, Output, Outputs,
+    PAGES_READ, Role, STANDARD, StagedFile, first_asked, is_kept, is_regular, is_regular_or_none,
+    load, load_file, open_output, open_outputs, open_source, path_of, put_staged, put_whole,
     refuse_equal, refuse_input, refuse_one_file, refuse_shared, write_over,
 };
 use pocsag_words::{GrowingSink, MemorySink, Sink, Source};
@@ -46,7 +46,7 @@ const MORE: &str = "\n\nFor more information, try 'pocsag plan --help'.\n";
 pub(crate) fn refuse_unmet(
     context: Context<'_>,
     path: Option<&str>,
-    pages: &Loaded,
+    pages: &LoadedFile,
     asked: SearchArgs,
 ) -> Result<Option<QuoteFault>, CentreFault> {
     let Some(file) = pages.lent() else {
@@ -73,11 +73,12 @@ pub(crate) fn refuse_unmet(
     }
 }
 
-/// The same before a front is planned, which counts the pages itself, but behind the limit of its search.
+/// The same before a front is planned. If the limit of the search is in range, the plan of the front counts the pages
+/// itself.
 pub(crate) fn refuse_before(
     context: Context<'_>,
     path: Option<&str>,
-    pages: &Loaded,
+    pages: &LoadedFile,
     asked: SearchArgs,
 ) -> Result<Option<QuoteFault>, CentreFault> {
     let mut asked = asked;
@@ -221,7 +222,7 @@ fn write_plan<O: Sink>(
 fn plan_loaded<T: Sink + Drop, C: Sink + Drop, O: Sink>(
     context: Context<'_>,
     args: PlanArgs<'_>,
-    files: &mut PlanFiles<Loaded, T, C>,
+    files: &mut PlanFiles<LoadedFile, T, C>,
     streams: &mut Streams,
     out: &mut O,
 ) -> Result<u8, CentreFault> {
@@ -238,8 +239,8 @@ fn plan_loaded<T: Sink + Drop, C: Sink + Drop, O: Sink>(
     Ok(status)
 }
 
-/// The exit status of a command that wrote to devices. The fault of one that failed is no want of memory, as that of a writer
-/// over memory is.
+/// The exit status of a command that wrote to devices. If a device failed, the fault is reported as its own, and not as
+/// refused memory, as it is for a writer over memory.
 pub(crate) fn written(streams: &Streams, status: u8) -> Result<u8, CentreFault> {
     match streams.err.fault() {
         Some(CentreFault::File(FileFault::Write)) => Err(CentreFault::File(FileFault::Write)),
@@ -334,7 +335,7 @@ fn put_front_files<S: Sink + Drop>(
     context: Context<'_>,
     others: Vec<(Role, Output<File>)>,
     mut outputs: Outputs<S>,
-    files: FrontFiles<Loaded, GrowingSink>,
+    files: FrontFiles<LoadedFile, GrowingSink>,
 ) -> Result<(), FileFault> {
     let (rest, why) = (files.rest.into_bytes(), files.why.into_bytes());
     let aside = files.aside.into_bytes();

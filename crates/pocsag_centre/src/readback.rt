@@ -5,7 +5,7 @@ ghost use Rattle.pocsag_words.specs.Kinds.{kind_of};
 ghost use Rattle.pocsag_pages.specs.Bytes.{Sent};
 ghost use Rattle.pocsag_pages.specs.PageFile.{verdict};
 ghost use Rattle.pocsag_pages.specs.Pages.{IsRound};
-ghost use Rattle.pocsag_pages.specs.Reading.{EndsAs, EndsIdle};
+ghost use Rattle.pocsag_pages.specs.Reading.{EndsAs};
 ghost use Rattle.pocsag_tree.specs.Views.{bound_tree_of};
 ghost use Rattle.pocsag_shell.specs.Readers.{IsSoOfHeld};
 ghost use Rattle.pocsag_shell.specs.Runs.{IsStreamOf, Ran};
@@ -15,7 +15,7 @@ ghost use Rattle.pocsag_centre.specs.Verification.{AreAmong, ExplainsReadback, E
 
 use crate::fault::CentreFault;
 use crate::front::FrontAsked;
-use crate::oversized::{Parted, part_pages};
+use crate::oversized::{PageParts, part_pages};
 use crate::plan::PlanFiles;
 use pocsag_check::check;
 use pocsag_decode::decode;
@@ -93,7 +93,7 @@ fn read_sent<P: Source>(
     ensures failed { result ≡ Err RoundFault.ReadFault → HasFailed (P.failures pages.old) (P.failures pages.new) }
 {
     let queue = read_pages(alloc, sent.asked.may_wait, pages)?;
-    let Ok(Parted { planned, aside: _ }) = part_pages(alloc, sent.asked, queue) else {
+    let Ok(PageParts { planned, aside: _ }) = part_pages(alloc, sent.asked, queue) else {
         return Err(RoundFault::OutOfMemory);
     };
     let Ok(round) = first_pages(alloc, planned.as_slice()) else {
@@ -191,7 +191,8 @@ fn read_back(alloc: Global, bytes: &[u8], round: &Round, end: End) -> Result<usi
     if !ends_as(end, bytes) {
         return Err(CentreFault::NotTheEnd);
     }
-    Ok(batches_of(bytes))
+    // So many whole batches follow the leading bytes AA.
+    Ok(bytes.len().saturating_sub(preamble_len(bytes)) / BATCH_BYTES)
 }
 
 // Whether a certificate for the bound is due beside a transmission of so many batches.
@@ -204,13 +205,6 @@ fn is_due(bound: usize, batches: usize, on_limit: OnLimit) -> bool
     }
 }
 
-// How many whole batches follow the leading bytes AA.
-fn batches_of(bytes: &[u8]) -> usize
-    ensures { (codewords : List ℕ) → (sent : Sent bytes.now codewords) → result ≡ sent.batches }
-{
-    bytes.len().saturating_sub(preamble_len(bytes)) / BATCH_BYTES
-}
-
 // Whether the last codeword of a transmission may be its last: for the closed end it is no message codeword,
 // whose first bit is 1, and for the idle end it is the idle one.
 fn ends_as(end: End, bytes: &[u8]) -> bool
@@ -220,16 +214,11 @@ fn ends_as(end: End, bytes: &[u8]) -> bool
     match end {
         End::Open => true,
         End::Closed => bytes.len() >= 4 && bytes[bytes.len() - 4] < 128,
-        End::Idle => is_idle_last(bytes),
+        End::Idle => {
+            let from = bytes.len().saturating_sub(4);
+            &bytes[from..] == IDLE_BYTES.as_slice()
+        }
     }
-}
-
-// Whether the last word of a transmission is the idle codeword.
-fn is_idle_last(bytes: &[u8]) -> bool
-    ensures { (codewords : List ℕ) → Sent bytes.now codewords → IsTrue result ↔ EndsIdle (map kind_of codewords) }
-{
-    let from = bytes.len().saturating_sub(4);
-    &bytes[from..] == IDLE_BYTES.as_slice()
 }
 
 // Whether the pages of a round are as many as those that were sent, and each is among these, which are in order of

@@ -21,10 +21,10 @@ pub struct SlotAsked {
     pub front: FrontAsked,
 }
 
-/// `report PAGES --rate R --at-most B`: reports what `plan` with `--at-most B` would send, and writes no file: what the transmission
-/// of the front takes on the air at a rate, its bound where that is below the batches, how many pages are left, what is shown of one
-/// page more, and how many pages are set aside. Faults in order: those of `run_front`, and `BadRate` behind them. Returns the exit
-/// status.
+/// `report PAGES --rate R --at-most B`: reports what `plan` with `--at-most B` would send, and writes no file: what the
+/// transmission of the front takes on the air at a rate, its bound where that is below the batches, how many pages are left, what
+/// is shown of one page more, and how many pages are set aside. Faults in order: those of `run_front`, then `BadRate`. Returns
+/// the exit status.
 pub fn run_slot_report<P: Source, O: Sink, E: Sink + Drop>(
     alloc: Global,
     asked: SlotAsked,

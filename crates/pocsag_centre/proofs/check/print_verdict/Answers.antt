@@ -1,8 +1,4 @@
-use Rattle.std.proofs.Common.{inl, inr, refl, false}
-use Rattle.std.proofs.lemmas.Result.{err_from_is_err_and}
-use Rattle.pocsag_tree.specs.Views.{bound_tree_of}
-use Rattle.pocsag_centre.specs.Judgements.{IsVerdictLine}
-use Rattle.pocsag_centre.specs.Lines.{bound_text, verdict_text}
+use Rattle.pocsag_centre.proofs.Prelude.{inl, inr, refl, false, err_from_is_err_and, bound_tree_of, IsVerdictLine, bound_text, verdict_text}
 use Rattle.pocsag_centre.proofs.Judged.{not_shown_told, shown_told}
 use Rattle.pocsag_centre.proofs.check.print_verdict.Goals as goal
 

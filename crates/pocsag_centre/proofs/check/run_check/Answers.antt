@@ -1,4 +1,4 @@
-use Rattle.pocsag_shell.proofs.Runs.{ran_streamed}
+use Rattle.pocsag_centre.proofs.Prelude.{ran_streamed}
 use Rattle.pocsag_centre.proofs.check.run_check.Goals as goal
 
 pub returns : goal.returns

@@ -1,19 +1,11 @@
-use Rattle.std.proofs.Common.{◌≡◌, ℕ, List, Err, Bool, ap, inl, inr, refl}
-use Rattle.std.proofs.lemmas.Result.{err_from_is_err_and}
-use Rattle.pocsag_words.specs.Devices.{HasFailed}
+use Rattle.pocsag_centre.proofs.Prelude.{◌≡◌, ℕ, List, Bool, ap, inl, inr, refl, err_from_is_err_and, HasFailed, End, bound_tree_of, IsStreamOf, Work, fault_of_explanation, ExplainsJudging, verdict_status, judges, streaming, CentreFault}
+use Rattle.std.proofs.Common.{Err}
 use Rattle.pocsag_words.specs.declared.device.Sink.{Ghosts as Writer}
-use Rattle.pocsag_words.specs.declared.ending.End.{End}
-use Rattle.pocsag_tree.specs.Views.{bound_tree_of}
 use Rattle.pocsag_findings.specs.Beginnings.{GivesVerdict}
 use Rattle.pocsag_findings.specs.Writing.{TookLessOfVerdict, TookPartOfVerdict}
 use Rattle.pocsag_findings.specs.declared.fault.ExplanationFault.{ExplanationFault}
 use Rattle.pocsag_findings.specs.declared.fault.ExplanationFault.TheVariants as explanation
 use Rattle.pocsag_findings.specs.declared.format.Format.{Format}
-use Rattle.pocsag_shell.specs.Runs.{IsStreamOf, Work}
-use Rattle.pocsag_centre.specs.Faults.{fault_of_explanation}
-use Rattle.pocsag_centre.specs.Judgements.{ExplainsJudging, verdict_status}
-use Rattle.pocsag_centre.specs.Works.{judges, streaming}
-use Rattle.pocsag_centre.specs.declared.fault.CentreFault.{CentreFault}
 use Rattle.pocsag_centre.specs.declared.fault.CentreFault.TheVariants as fault
 use Rattle.pocsag_shell.specs.declared.fault.FileFault.TheVariants as file_fault
 use Rattle.pocsag_centre.proofs.Judged.{not_shown_told, shown_told, verdict_told}

@@ -1,6 +1,4 @@
-use Rattle.std.proofs.Common.{refl}
-use Rattle.std.proofs.lemmas.Result.{err_from_is_err_and}
-use Rattle.pocsag_centre.specs.FrontWorks.ExplainsFrontFiles.{unwritten}
+use Rattle.pocsag_centre.proofs.Prelude.{refl, err_from_is_err_and, unwritten}
 use Rattle.pocsag_centre.proofs.FrontRuns.{front_done, others_told, unsent_told}
 use Rattle.pocsag_centre.proofs.front.answer_of_front.Goals as goal
 

@@ -1,10 +1,4 @@
-use Rattle.std.proofs.Common.{◌≡◌, ◌++◌, List, refl, sym, ap, subst, ◌∙◌}
-use Rattle.std.proofs.lemmas.Bool.{not-true}
-use Rattle.std.proofs.lemmas.Result.{err_from_is_err_and}
-use Rattle.pocsag_pages.specs.declared.page.Page.{Page}
-use Rattle.pocsag_pages.specs.Pages.{AreGood}
-use Rattle.pocsag_pages.specs.Queues.{firsts, left_of}
-use Rattle.pocsag_plan.specs.Fronts.{ExplainsFront}
+use Rattle.pocsag_centre.proofs.Prelude.{◌≡◌, ◌++◌, List, refl, sym, ap, subst, ◌∙◌, not-true, err_from_is_err_and, Page, AreGood, firsts, left_of, ExplainsFront}
 use Rattle.pocsag_centre.proofs.FirstPart.{first_is, front_of_pages}
 use Rattle.pocsag_centre.proofs.QueueRounds.{round_firsts, round_left}
 use Rattle.pocsag_centre.proofs.front.queue_front.Goals as goal

@@ -1,16 +1,5 @@
-use Rattle.std.proofs.Common.{◌≡◌, Err, List, All, length, not, sym, ap, subst, rules}
-use Rattle.std.proofs.lemmas.List.Elements.{All-filter}
-use Rattle.std.proofs.lemmas.Result.{err_from_is_err_and}
-use Rattle.pocsag_pages.specs.declared.page.Page.{Page}
-use Rattle.pocsag_pages.specs.Listable.{IsListable}
-use Rattle.pocsag_pages.specs.Pages.{AreGood}
-use Rattle.pocsag_pages.specs.Queues.{IsQueue, firsts, left_of}
-use Rattle.pocsag_decode.specs.PageFiles.{IsSpellable}
-use Rattle.pocsag_plan.specs.Fronts.{ExplainsFront}
-use Rattle.pocsag_centre.specs.Checks.{IsExpected}
-use Rattle.pocsag_centre.specs.Faults.{fault_of_front}
-use Rattle.pocsag_centre.specs.FrontFiles.{IsFrontOfPages}
-use Rattle.pocsag_centre.specs.Oversized.{is_aside, planned_of}
+use Rattle.pocsag_centre.proofs.Prelude.{◌≡◌, List, All, length, not, sym, ap, subst, rules, All-filter, err_from_is_err_and, Page, IsListable, AreGood, IsQueue, firsts, left_of, IsSpellable, ExplainsFront, IsExpected, fault_of_front, IsFrontOfPages, is_aside, planned_of}
+use Rattle.std.proofs.Common.{Err}
 use Rattle.pocsag_centre.proofs.AsidePages.{part_back, planned_good, planned_queue, queue_listable}
 use Rattle.pocsag_centre.proofs.CutFiles.{failed_cut, told_of_round, told_of_whole}
 use Rattle.pocsag_centre.proofs.FrontRuns.{front_unread, front_unwritten}
@@ -35,8 +24,8 @@ returns-clause-front g c = λ t.
     let queue = c.in_ok-queue.ensures.queue in
     let read = c.in_ok-queue.ensures.ok t in
     let texts : All IsSpellable Q =
-    held_spellable asked.may_wait _ Q read c.pages_of_files_are_spellable.ensures.files c.pages_of_files_are_spellable.ensures.queues in
-    let back : AreReadBack = (c.page_files_are_read_back.ensures.pages, c.page_files_are_read_back.ensures.queues) in
+    held_spellable asked.may_wait _ Q read c.recall_pages_of_files_are_spellable.ensures.files c.recall_pages_of_files_are_spellable.ensures.queues in
+    let back : AreReadBack = (c.recall_page_files_are_read_back.ensures.pages, c.recall_page_files_are_read_back.ensures.queues) in
     let many : c.len.result ≡ length Q = search rules in
     let found : IsFrontOfPages asked W front =
     subst (λ (v : List Page). IsFrontOfPages asked v front) c.in-Ok.ensures.planned c.in_ok-front.ensures.front in

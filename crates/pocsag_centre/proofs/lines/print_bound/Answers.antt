@@ -1,4 +1,4 @@
-use Rattle.pocsag_centre.specs.Lines.{bound_text}
+use Rattle.pocsag_centre.proofs.Prelude.{bound_text}
 use Rattle.pocsag_centre.proofs.lines.print_bound.Goals as goal
 
 pub returns-in-Open-clause-delivers : goal.returns-in-Open-clause-delivers

@@ -1,5 +1,4 @@
-use Rattle.std.proofs.Common.{◌≡◌, ◌∙◌, false, sym, ap}
-use Rattle.pocsag_centre.specs.Oversized.{is_parted}
+use Rattle.pocsag_centre.proofs.Prelude.{◌≡◌, ◌∙◌, false, sym, ap, is_parted}
 use Rattle.pocsag_centre.proofs.AsidePages.{all_planned, nothing_aside}
 use Rattle.pocsag_centre.proofs.oversized.part_pages.Goals as goal
 

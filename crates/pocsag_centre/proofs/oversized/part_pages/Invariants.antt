@@ -1,6 +1,5 @@
-use Rattle.std.proofs.Common.{◌≡◌, ◌++◌, filter, length, not}
+use Rattle.pocsag_centre.proofs.Prelude.{◌≡◌, ◌++◌, filter, length, not, is_aside}
 use Rattle.std.specs.Vec.Iter.{into_iter_items, into_iter_len}
-use Rattle.pocsag_centre.specs.Oversized.{is_aside}
 use Rattle.pocsag_centre.proofs.oversized.part_pages.Given as goal
 
 -- the two parts of the pages so far

@@ -1,4 +1,4 @@
-use Rattle.std.proofs.Common.{◌∙◌, refl}
+use Rattle.pocsag_centre.proofs.Prelude.{◌∙◌, refl}
 use Rattle.pocsag_centre.proofs.Plans.{told_plan}
 use Rattle.pocsag_centre.proofs.plan.answer_input.Goals as goal
 

@@ -1,6 +1,5 @@
-use Rattle.std.proofs.Common.{◌++◌, Err, ap, inl, inr, refl}
-use Rattle.std.proofs.lemmas.Result.{err_from_is_err_and}
-use Rattle.pocsag_centre.specs.Lines.{below_text, plan_text}
+use Rattle.pocsag_centre.proofs.Prelude.{◌++◌, ap, inl, inr, refl, err_from_is_err_and, below_text, plan_text}
+use Rattle.std.proofs.Common.{Err}
 use Rattle.pocsag_centre.proofs.CutFiles.{stream_cut, told_of_stream}
 use Rattle.pocsag_centre.proofs.PlanFaults.{why_unplanned}
 use Rattle.pocsag_centre.proofs.Plans.{told_planned}

@@ -1,4 +1,4 @@
-use Rattle.std.proofs.Common.{refl}
+use Rattle.pocsag_centre.proofs.Prelude.{refl}
 use Rattle.pocsag_centre.proofs.plan.plan_asked.Goals as goal
 
 pub returns-in_ok-plan-in-Fewest-clause-plan : goal.returns-in_ok-plan-in-Fewest-clause-plan

@@ -1,7 +1,6 @@
-use Rattle.std.proofs.Common.{◌++◌, refl}
+use Rattle.pocsag_centre.proofs.Prelude.{◌++◌, refl, below_text, plan_text}
 use Rattle.pocsag_shell.proofs.Printed.{part_lost}
 use Rattle.pocsag_tree.proofs.Taken.{delivers_then, took_first}
-use Rattle.pocsag_centre.specs.Lines.{below_text, plan_text}
 use Rattle.pocsag_centre.proofs.plan.print_bounded.Goals as goal
 
 pub returns-in_err-print_plan-clause-delivers : goal.returns-in_err-print_plan-clause-delivers

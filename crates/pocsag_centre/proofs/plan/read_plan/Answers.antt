@@ -1,5 +1,4 @@
-use Rattle.std.proofs.lemmas.Result.{err_from_is_err_and}
-use Rattle.pocsag_centre.specs.Faults.{fault_of_plan}
+use Rattle.pocsag_centre.proofs.Prelude.{err_from_is_err_and, fault_of_plan}
 use Rattle.pocsag_centre.proofs.CutFiles.{told_of_round, told_of_whole}
 use Rattle.pocsag_centre.proofs.plan.read_plan.Goals as goal
 

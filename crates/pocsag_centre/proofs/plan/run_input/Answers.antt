@@ -1,4 +1,4 @@
-use Rattle.pocsag_shell.proofs.Runs.{ran_as}
+use Rattle.pocsag_centre.proofs.Prelude.{ran_as}
 use Rattle.pocsag_centre.proofs.plan.run_input.Goals as goal
 
 pub returns : goal.returns

@@ -1,8 +1,5 @@
-use Rattle.std.proofs.Common.{◌≡◌, ℕ, ◌≤◌, List, length, take, All, subst, ap, refl, ◌∙◌, arith}
-use Rattle.std.specs.Prelude.{Contains}
+use Rattle.pocsag_centre.proofs.Prelude.{◌≡◌, ℕ, ◌≤◌, List, length, take, All, subst, ap, refl, ◌∙◌, arith, Contains, All-more, All-nil, Page}
 use Rattle.std.proofs.Math.Seq.{take-length}
-use Rattle.std.proofs.lemmas.List.Elements.{All-more, All-nil}
-use Rattle.pocsag_pages.specs.declared.page.Page.{Page}
 use Rattle.pocsag_centre.proofs.Verified.{not_among}
 use Rattle.pocsag_centre.proofs.readback.are_sent.Goals as goal
 

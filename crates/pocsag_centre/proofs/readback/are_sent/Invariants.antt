@@ -1,5 +1,4 @@
-use Rattle.std.proofs.Common.{All, take}
-use Rattle.std.specs.Prelude.{Contains}
+use Rattle.pocsag_centre.proofs.Prelude.{All, take, Contains}
 use Rattle.pocsag_centre.proofs.readback.are_sent.Given as goal
 
 abbrev pub invariant-loop-page : goal.invariant-loop-page

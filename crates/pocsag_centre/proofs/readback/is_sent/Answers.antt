@@ -1,7 +1,5 @@
-use Rattle.std.proofs.Common.{inl, inr, rules, sym}
-use Rattle.std.proofs.lemmas.List.Sorted.{answers_always}
+use Rattle.pocsag_centre.proofs.Prelude.{inl, inr, rules, sym, answers_always, Page}
 use Rattle.std.proofs.lemmas.Map.Lookups.{exact_unsigned}
-use Rattle.pocsag_pages.specs.declared.page.Page.{Page}
 use Rattle.pocsag_centre.proofs.Verified.{not_there, rising, told_apart}
 use Rattle.pocsag_centre.proofs.readback.is_sent.Goals as goal
 

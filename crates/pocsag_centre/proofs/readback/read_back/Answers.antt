@@ -1,8 +1,5 @@
-use Rattle.std.proofs.Common.{List, rules, subst, sym}
-use Rattle.std.proofs.lemmas.List.Sorted.{IsNonDecreasingBy-from_sort_by_key}
-use Rattle.std.specs.List.Sorted.{IsNonDecreasingBy}
-use Rattle.pocsag_pages.specs.declared.page.Page.{Page}
-use Rattle.pocsag_decode.specs.Faults.{ReadsAs}
+use Rattle.pocsag_centre.proofs.Prelude.{◌≡◌, ℕ, ◌-◌, ◌/◌, ◌∙◌, List, ap, length, rules, subst, sym, IsNonDecreasingBy-from_sort_by_key, IsNonDecreasingBy, Page, ReadsAs}
+use Rattle.pocsag_centre.proofs.Endings.{batches_are}
 use Rattle.pocsag_centre.proofs.Verified.{same_others, same_pages, transmission}
 use Rattle.pocsag_centre.proofs.readback.read_back.Goals as goal
 
@@ -36,5 +33,8 @@ returns-clause-taken c =
     let reads : ReadsAs c.args.bytes.now sent = c.in-Ok.ensures.decoded in
     let among = same_pages _ _ _ _ _ c.sort_unstable_by_key.ensures.permutation c.as_slice.ensures.value c.pages.ensures.pages
     (c.are_sent.ensures.0 c.if-not-are_sent.false) in
-    transmission c.args.end c.args.round.now c.args.bytes.now sent reads among
-    ((c.ends_as.ensures reads.codewords reads.sent).0 c.if-not-ends_as.false) c.batches_of.result (c.batches_of.ensures reads.codewords reads.sent)
+    let bytes = c.args.bytes.now in
+    transmission c.args.end c.args.round.now bytes sent reads among
+    ((c.ends_as.ensures reads.codewords reads.sent).0 c.if-not-ends_as.false) _
+    (ap (λ (n : ℕ). n / 68) (c.saturating_sub.ensures ∙ ap (λ (n : ℕ). length bytes - n) c.preamble_len.ensures.value)
+    ∙ batches_are bytes reads.codewords reads.sent)

@@ -1,10 +1,4 @@
-use Rattle.std.proofs.Common.{◌≡◌, ℕ, ◌<◌, List, length, min, inl, inr, sym, ap, subst, ◌∙◌, arith}
-use Rattle.std.specs.Prelude.{Ok}
-use Rattle.std.proofs.lemmas.Result.{err_from_is_err_and}
-use Rattle.pocsag_pages.specs.declared.page.Page.{Page}
-use Rattle.pocsag_pages.specs.Queues.{IsQueue, firsts}
-use Rattle.pocsag_centre.specs.FrontFiles.{sent_of}
-use Rattle.pocsag_centre.specs.Oversized.{planned_of}
+use Rattle.pocsag_centre.proofs.Prelude.{◌≡◌, ℕ, ◌<◌, List, length, min, inl, inr, sym, ap, subst, ◌∙◌, arith, Ok, err_from_is_err_and, Page, IsQueue, firsts, sent_of, planned_of}
 use Rattle.pocsag_centre.proofs.AsidePages.{planned_queue}
 use Rattle.pocsag_centre.proofs.FirstPart.{no_pages_sent, pages_sent}
 use Rattle.pocsag_centre.proofs.readback.read_sent.Goals as goal

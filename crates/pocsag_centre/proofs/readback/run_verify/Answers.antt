@@ -1,7 +1,4 @@
-use Rattle.std.proofs.Common.{subst, sym}
-use Rattle.pocsag_shell.proofs.Runs.{ran_streamed}
-use Rattle.pocsag_words.specs.Devices.{HasFailed}
-use Rattle.pocsag_pages.specs.PageFile.{verdict}
+use Rattle.pocsag_centre.proofs.Prelude.{subst, sym, ran_streamed, HasFailed, verdict}
 use Rattle.pocsag_centre.proofs.Verified.{streamed}
 use Rattle.pocsag_centre.proofs.readback.run_verify.Goals as goal
 

@@ -1,5 +1,4 @@
-use Rattle.std.proofs.Common.{rules, sym}
-use Rattle.std.proofs.lemmas.Bool.{not-false}
+use Rattle.pocsag_centre.proofs.Prelude.{rules, sym, not-false}
 use denote.Enum.Bare.{same_true}
 use Rattle.pocsag_words.specs.contracts.ending.End.{the_type}
 use Rattle.pocsag_centre.proofs.readback.shows_due.Goals as goal

@@ -1,7 +1,4 @@
-use Rattle.std.proofs.Common.{ap, inl, inr, refl}
-use Rattle.std.proofs.lemmas.Result.{err_from_is_err_and}
-use Rattle.std.specs.Prelude.{Err}
-use Rattle.pocsag_tree.specs.Views.{bound_tree_of}
+use Rattle.pocsag_centre.proofs.Prelude.{ap, inl, inr, refl, err_from_is_err_and, Err, bound_tree_of}
 use Rattle.pocsag_centre.specs.Verification.ExplainsUnverified.{no_certificate, not_due, not_taken}
 use Rattle.pocsag_centre.proofs.Verified.{not_certificate, verified}
 use Rattle.pocsag_centre.proofs.readback.verify.Goals as goal

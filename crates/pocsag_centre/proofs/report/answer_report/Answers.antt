@@ -1,9 +1,4 @@
-use Rattle.std.proofs.Common.{◌++◌, ◌∙◌, List, ap, refl}
-use Rattle.std.specs.List.{flat_map}
-use Rattle.pocsag_plan.specs.Reports.{report_text}
-use Rattle.pocsag_plan.specs.declared.frames.FrameRoom.{FrameRoom}
-use Rattle.pocsag_centre.specs.Frames.{frame_text}
-use Rattle.pocsag_centre.specs.Lines.{below_text}
+use Rattle.pocsag_centre.proofs.Prelude.{◌++◌, ◌∙◌, List, ap, refl, flat_map, report_text, FrameRoom, frame_text, below_text}
 use Rattle.pocsag_centre.proofs.report.answer_report.Goals as goal
 
 pub returns-in-Err : goal.returns-in-Err

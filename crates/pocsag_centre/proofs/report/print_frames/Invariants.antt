@@ -1,6 +1,4 @@
-use Rattle.std.proofs.Common.{◌≡◌, ◌++◌, take}
-use Rattle.std.specs.List.{flat_map}
-use Rattle.pocsag_centre.specs.Frames.{frame_text}
+use Rattle.pocsag_centre.proofs.Prelude.{◌≡◌, ◌++◌, take, flat_map, frame_text}
 use Rattle.pocsag_centre.proofs.report.print_frames.Given as goal
 
 abbrev pub invariant-loop-room : goal.invariant-loop-room

@@ -1,12 +1,7 @@
-use Rattle.std.proofs.Common.{◌≡◌, ◌∙◌, List, ap, arith, refl, rules, zero, suc}
-use Rattle.std.specs.List.Sorted.{IsSortedByKey}
-use Rattle.std.specs.Ordering.{nat_cmp}
+use Rattle.pocsag_centre.proofs.Prelude.{◌≡◌, ◌∙◌, List, ap, arith, refl, rules, zero, suc, IsSortedByKey, nat_cmp, IsNonDecreasingBy-from_sort_by_key, ties_still_rise, Page, FrameRoom}
 use Rattle.std.proofs.lemmas.Fn.{always_returns_same}
-use Rattle.std.proofs.lemmas.List.Sorted.{IsNonDecreasingBy-from_sort_by_key, ties_still_rise}
-use Rattle.pocsag_pages.specs.declared.page.Page.{Page}
 use Rattle.pocsag_slots.specs.declared.step.Step.{Step}
 use Rattle.pocsag_plan.specs.Frames.{frames_of}
-use Rattle.pocsag_plan.specs.declared.frames.FrameRoom.{FrameRoom}
 use Rattle.pocsag_centre.proofs.report.rooms_asked.Goals as goal
 
 -- the eight frames are in order of their numbers

@@ -1,4 +1,4 @@
-use Rattle.std.proofs.Common.{◌∙◌, inr, refl}
+use Rattle.pocsag_centre.proofs.Prelude.{◌∙◌, inr, refl}
 use Rattle.pocsag_centre.proofs.slot.answer_slot.Goals as goal
 
 pub returns-in-Err : goal.returns-in-Err
