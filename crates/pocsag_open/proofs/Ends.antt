@@ -1,26 +1,14 @@
 -- Why an open round ends before its input does.
-use Rattle.std.proofs.Common.{◌≡◌, inl, inr, ℕ, ◌-◌, ◌^◌, ◌<◌, ◌≤◌, List, [], ◌∷◌, ◌++◌, length, take, drop, arith, ap, refl, sym, subst, codes, length-append, take-append-drop}
+use Rattle.pocsag_open.proofs.Prelude.{◌≡◌, inl, inr, ℕ, ◌-◌, ◌^◌, ◌<◌, ◌≤◌, List, [], ◌∷◌, ◌++◌, length, take, drop, arith, ap, refl, sym, subst, length-append, take-append-drop, IfErr, OnErr, Result, Ok, Err, slice_get, line_feed, Row, Page, FileFault, IsLine, ExplainsKeeping, HasNoLineFeed, IsWholeLine, is_return, record_text, without_return, IsEdit, sent_record, feedless_front, row_line, line_length, ExplainsEnd, HasGivenUp, IsFirstLine}
+use Rattle.std.proofs.Common.{codes}
 use Rattle.std.proofs.lemmas.Bool.{cases_Bool}
-use Rattle.std.specs.Prelude.{IfErr, OnErr, Result, Ok, Err, slice_get}
-use Rattle.csv.specs.Machine.{line_feed}
 use Rattle.csv.specs.Reading.{is_bom, strip_bom}
 use Rattle.csv.specs.Writing.{default_writer, row_text}
-use Rattle.pocsag_pages.specs.PageFile.{Row}
-use Rattle.pocsag_pages.specs.declared.page.Page.{Page}
-use Rattle.pocsag_shell.specs.declared.fault.FileFault.{FileFault}
 use Rattle.pocsag_shell.specs.declared.fault.FileFault.TheVariants as file
 use Rattle.pocsag_journal.specs.Growth.{kept_line_limit}
-use Rattle.pocsag_journal.specs.Journals.{IsLine}
-use Rattle.pocsag_journal.specs.Keepers.{ExplainsKeeping}
-use Rattle.pocsag_journal.specs.LineTexts.{HasNoLineFeed, IsWholeLine, is_return, record_text, without_return}
-use Rattle.pocsag_journal.specs.Runs.{IsEdit, sent_record}
-use Rattle.pocsag_journal.proofs.FieldLines.{feedless_front, row_line}
 use Rattle.pocsag_journal.proofs.LineFeeds.{none_found}
-use Rattle.pocsag_journal.proofs.LineLengths.{line_length}
 use Rattle.pocsag_journal.proofs.LinedPages.{decimal_feedless}
-use Rattle.pocsag_open.specs.Ends.{ExplainsEnd, HasGivenUp}
 use Rattle.pocsag_open.specs.KeptAnswers.{ExplainsUnanswered}
-use Rattle.pocsag_open.specs.Lines.{IsFirstLine}
 
 -- what is not reported, is not for a failed write
 pub not_told : {X : Type 0} (r : Result X FileFault) (output keeper : Type 0) → IfErr r (λ e. e ≡ file.Write) → OnErr r output →

@@ -1,17 +1,6 @@
 -- What is so where the pages of a front are taken out.
-use Rattle.std.proofs.Common.{◌≡◌, ℕ, ◌<◌, ◌^◌, List, [], ◌∷◌, ◌++◌, arith, drop, refl, subst, sym}
-use Rattle.std.specs.Prelude.{OnErr, OnOk, Result, Ok, Err}
-use Rattle.pocsag_words.specs.declared.ending.End.{End}
-use Rattle.pocsag_pages.specs.PageFile.{Row}
-use Rattle.pocsag_pages.specs.declared.page.Page.{Page}
-use Rattle.pocsag_plan.specs.declared.search.OnLimit.{OnLimit}
-use Rattle.pocsag_journal.specs.Keepers.{ReadsAsEither}
-use Rattle.pocsag_journal.specs.Runs.{IsEdit, sent_record}
+use Rattle.pocsag_open.proofs.Prelude.{◌≡◌, ℕ, ◌<◌, ◌^◌, List, [], ◌∷◌, ◌++◌, arith, drop, refl, subst, sym, OnErr, OnOk, Result, Ok, Err, End, Row, Page, OnLimit, ReadsAsEither, IsEdit, sent_record, front_answer, IsFrontPlanned, PlacementResult, PlanBytes, placed_plan, front_sent, FrontRepliesAndPlaces, FrontRepliesTo, ReadsOrReplied}
 use Rattle.pocsag_journal.proofs.Counts.{sent_edit}
-use Rattle.pocsag_open.specs.Answers.{front_answer}
-use Rattle.pocsag_open.specs.Plans.{IsFrontPlanned, PlacementResult, PlanBytes, placed_plan}
-use Rattle.pocsag_open.specs.Replies.{front_sent}
-use Rattle.pocsag_open.specs.Survival.{FrontRepliesAndPlaces, FrontRepliesTo, ReadsOrReplied}
 use Rattle.pocsag_open.proofs.Survival.{either_read}
 
 pub if_ok : {X E : Type 0} (r : Result X E) (P : Type 0) → P → OnOk r P

@@ -1,22 +1,11 @@
 -- A round that a journal keeps, from its start on.
-use Rattle.std.proofs.Common.{◌⊎◌, inl, inr, ⊎_elim, ℕ, ◌≤◌, List, [], refl}
-use Rattle.std.specs.Prelude.{Option}
-use Rattle.pocsag_words.specs.Devices.{HasFailed}
-use Rattle.pocsag_pages.specs.declared.page.Page.{Page}
-use Rattle.pocsag_plan.specs.declared.search.OnLimit.{OnLimit}
+use Rattle.pocsag_open.proofs.Prelude.{◌⊎◌, inl, inr, ⊎_elim, ℕ, ◌≤◌, List, [], refl, Option, HasFailed, Page, OnLimit, LeavesOnly, disk_of, named, then_on, ExplainsEnd, ExplainsKept, IsBeginning, ReadsBeginning, ReadsKept, AreReplies, AreFirstLines, ReadsAfterLines}
 use Rattle.pocsag_journal.specs.Crashes.{RestartsAs}
 use Rattle.pocsag_journal.specs.Faults.{ExplainsAnew}
-use Rattle.pocsag_journal.specs.Moments.{LeavesOnly}
-use Rattle.pocsag_journal.specs.Views.{disk_of}
 use Rattle.pocsag_journal.specs.declared.journal.Journal.{Journal}
 use Rattle.pocsag_journal.specs.declared.fault.JournalFault.{JournalFault}
 use Rattle.pocsag_journal.specs.declared.fault.JournalFault.TheVariants as journal
-use Rattle.pocsag_journal.proofs.Moments.{named, then_on}
-use Rattle.pocsag_open.specs.Ends.{ExplainsEnd}
 use Rattle.pocsag_open.specs.Faults.{fault_of_journal}
-use Rattle.pocsag_open.specs.KeptRounds.{ExplainsKept, IsBeginning, ReadsBeginning, ReadsKept}
-use Rattle.pocsag_open.specs.Replies.{AreReplies}
-use Rattle.pocsag_open.specs.Survival.{AreFirstLines, ReadsAfterLines}
 
 -- why it is not written anew
 pub anew_explains : (bytes : List ℕ) (file : Option (List ℕ)) (file_failed I O K : Type 0) (before after : ℕ) (pages : List Page) (f : JournalFault) →

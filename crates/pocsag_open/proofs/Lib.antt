@@ -2,6 +2,7 @@ pub mod Ends
 pub mod Fronts
 pub mod KeptRounds
 pub mod Plans
+pub mod Prelude
 pub mod Printed
 pub mod ReadJournals
 pub mod SeenLines

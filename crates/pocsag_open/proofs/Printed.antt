@@ -1,9 +1,5 @@
 -- What a call that did what it was asked leaves, and what is so where there is a value.
-use Rattle.std.proofs.Common.{◌≡◌, ℕ, List, [], ◌++◌, sym, append-nil}
-use Rattle.std.specs.Prelude.{OnOk, Result, Ok, Err}
-use Rattle.pocsag_words.specs.Devices.{Delivers}
-use Rattle.pocsag_open.specs.Plans.{PlacementResult}
-use Rattle.pocsag_open.specs.Replies.{PrintsAndPlaces, TookMore}
+use Rattle.pocsag_open.proofs.Prelude.{◌≡◌, ℕ, List, [], ◌++◌, sym, append-nil, OnOk, Result, Ok, Err, Delivers, PlacementResult, PrintsAndPlaces, TookMore}
 
 pub on_ok : {X E : Type 0} (r : Result X E) (P Q : Type 0) → (P → Q) → OnOk r P → OnOk r Q
 on_ok (Ok x) P Q f h = f h

@@ -1,10 +1,9 @@
 -- What is printed of a journal that was read.
-use Rattle.std.proofs.Common.{◌≡◌, ◌⊎◌, ℕ, Bool, false, List, ◌++◌, append_assoc, refl, inl, inr, Ok, Err}
+use Rattle.pocsag_open.proofs.Prelude.{◌≡◌, ◌⊎◌, ℕ, Bool, false, List, ◌++◌, append_assoc, refl, inl, inr, ◌==◌, codes, OnOk, Result, CountsFailures, HasFailed, for_count, read_text, torn_end, torn_text}
+use Rattle.std.proofs.Common.{Ok, Err}
 use Rattle.std.specs.Fmt.{decimal}
-use Rattle.std.specs.Prelude.{◌==◌, codes, ◌∷◌, [], OnOk, Result}
-use Rattle.pocsag_words.specs.Devices.{CountsFailures, HasFailed}
+use Rattle.std.specs.Prelude.{◌∷◌, []}
 use Rattle.pocsag_words.specs.declared.device.Sink.{Ghosts as Writer}
-use Rattle.pocsag_open.specs.KeptRounds.{for_count, read_text, torn_end, torn_text}
 use Rattle.pocsag_open.specs.declared.kept_streams.TornLine.{TornLine}
 
 pub torn_line : (line : TornLine) (torn : ℕ) → (torn == 0) ≡ false →

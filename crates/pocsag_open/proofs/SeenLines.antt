@@ -1,9 +1,6 @@
 -- What was seen of a line, byte by byte.
-use Rattle.std.proofs.Common.{◌≡◌, ◌≢◌, ℕ, List, [], ◌∷◌, ◌++◌, ◌<◌, length, refl, sym, ap, inl, inr, ◌∙◌, arith, append_assoc}
-use Rattle.std.proofs.lemmas.List.{append-nil, length_push}
-use Rattle.csv.specs.Machine.{line_feed}
-use Rattle.pocsag_journal.specs.LineTexts.{HasNoLineFeed}
-use Rattle.pocsag_open.specs.Lines.{IsByteKept, IsLineFound, IsSeen}
+use Rattle.pocsag_open.proofs.Prelude.{◌≡◌, ◌≢◌, ℕ, List, [], ◌∷◌, ◌++◌, ◌<◌, length, refl, sym, ap, inl, inr, ◌∙◌, arith, append_assoc, length_push, line_feed, HasNoLineFeed, IsByteKept, IsLineFound, IsSeen}
+use Rattle.std.proofs.lemmas.List.{append-nil}
 use Rattle.pocsag_open.specs.declared.lines.LineRead.{LineRead}
 use Rattle.pocsag_open.specs.declared.lines.LineRead.TheVariants as found
 

@@ -1,19 +1,10 @@
 -- The replies to lines, one after another.
-use Rattle.std.proofs.Common.{◌≡◌, inl, inr, ℕ, List, [], refl, subst, Bor}
-use Rattle.std.specs.Prelude.{Option, Some, None}
-use Rattle.pocsag_words.specs.declared.ending.End.{End}
-use Rattle.pocsag_pages.specs.PageFile.{Row}
-use Rattle.pocsag_pages.specs.declared.page.Page.{Page}
-use Rattle.pocsag_plan.specs.declared.search.OnLimit.{OnLimit}
+use Rattle.pocsag_open.proofs.Prelude.{◌≡◌, inl, inr, ℕ, List, [], refl, subst, Bor, Option, Some, None, End, Row, Page, OnLimit, Asked, IsDone, IsEdit, asked_of, first_record, UndoneFault, ArePlacesOfRefused, ExplainsPlanUndone, PlacementResult, IsEditReply, IsFrontReply, IsPlanRefused, IsRefusalDue, IsReply, edited, front_refused, front_sent, refused, sent_first}
 use Rattle.pocsag_journal.specs.Asks.{AsksNone, AsksPlan, IsAskedBy, list_record}
-use Rattle.pocsag_journal.specs.Runs.{Asked, IsDone, IsEdit, asked_of, first_record}
 use Rattle.pocsag_journal.specs.declared.edits.Line.{Line}
 use Rattle.pocsag_journal.specs.declared.edits.Line.TheVariants as line
 use Rattle.pocsag_journal.specs.declared.refusal.Refusal.TheVariants as refusal
-use Rattle.pocsag_journal.specs.declared.refusal.UndoneFault.{UndoneFault}
 use Rattle.pocsag_journal.specs.declared.refusal.UndoneFault.TheVariants as undone
-use Rattle.pocsag_open.specs.Plans.{ArePlacesOfRefused, ExplainsPlanUndone, PlacementResult}
-use Rattle.pocsag_open.specs.Replies.{IsEditReply, IsFrontReply, IsPlanRefused, IsRefusalDue, IsReply, edited, front_refused, front_sent, refused, sent_first}
 
 -- what asks for no edit makes none
 pub no_edit : (row : Row) → None ≡ asked_of row → (pages after : List Page) → IsEdit row pages after → ⊥

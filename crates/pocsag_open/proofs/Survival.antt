@@ -1,15 +1,6 @@
 -- How an open round goes on line by line, and what is so where it is cut short.
-use Rattle.std.proofs.Common.{◌≡◌, inl, inr, ℕ, ◌+◌, ◌-◌, List, [], ◌∷◌, ◌++◌, length, take, drop, refl, sym, ap, ◌∙◌, subst, arith, append_assoc, append-nil, take-append-drop}
+use Rattle.pocsag_open.proofs.Prelude.{◌≡◌, inl, inr, ℕ, ◌+◌, ◌-◌, List, [], ◌∷◌, ◌++◌, length, take, drop, refl, sym, ap, ◌∙◌, subst, arith, append_assoc, append-nil, take-append-drop, OnErr, Result, Ok, Err, TookPrefix, Page, OnLimit, ReadsAsEither, AreLines, IsFirstLine, PlacementResult, AreReplies, IsLineReply, IsSession, PrintsAndPlaces, AreFirstLines, IsCutBehind, IsCutShort, ReadsAfterLines, ReadsOrReplied, RepliesAndPlaces, RepliesTo, Survives, begun, between, untold, within}
 use Rattle.std.proofs.Math.Seq.{take-append-add}
-use Rattle.std.specs.Prelude.{OnErr, Result, Ok, Err}
-use Rattle.pocsag_words.specs.Devices.{TookPrefix}
-use Rattle.pocsag_pages.specs.declared.page.Page.{Page}
-use Rattle.pocsag_plan.specs.declared.search.OnLimit.{OnLimit}
-use Rattle.pocsag_journal.specs.Keepers.{ReadsAsEither}
-use Rattle.pocsag_open.specs.Lines.{AreLines, IsFirstLine}
-use Rattle.pocsag_open.specs.Plans.{PlacementResult}
-use Rattle.pocsag_open.specs.Replies.{AreReplies, IsLineReply, IsSession, PrintsAndPlaces}
-use Rattle.pocsag_open.specs.Survival.{AreFirstLines, IsCutBehind, IsCutShort, ReadsAfterLines, ReadsOrReplied, RepliesAndPlaces, RepliesTo, Survives, begun, between, untold, within}
 
 pub on_err : {X E : Type 0} (r : Result X E) (P Q : Type 0) → (P → Q) → OnErr r P → OnErr r Q
 on_err (Ok x) P Q f h = tt

@@ -28,7 +28,7 @@ pub struct KeptRound<K: Keeper + Drop> {
     pub keeper: K,
 }
 
-/// Makes the edit that a record is, has it kept, and returns it; or reports why it is refused. No byte of it is kept
+/// Makes the edit that a record is, has it kept, and answers it; or answers why it is refused. No byte of it is kept
 /// before it is judged, and it is not answered before it is kept.
 pub fn answer_edit<K: Keeper + Drop, O: Sink>(
     alloc: Global,

@@ -11,7 +11,7 @@ use thiserror::Error;
 pub enum OpenFault {
     #[error(transparent)]
     File(FileFault),
-    /// The journal that is held does not stand at its path as it was left.
+    /// The file at the path of the held journal is not the journal as it was left.
     #[error("the journal was moved, deleted or changed by another program")]
     NotHeld,
     /// The page file that the round begins with.

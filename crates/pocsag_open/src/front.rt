@@ -22,7 +22,7 @@ use pocsag_shell::{FileFault, Outputs};
 use pocsag_words::{End, Sink};
 use std::alloc::Global;
 
-/// What a line asks for that asks for the plan of a front.
+/// What a line that plans a front asks for.
 #[derive(Clone, Copy)]
 pub(crate) struct FrontRequest<'a> {
     pub tx: &'a str,
@@ -40,8 +40,8 @@ pub(crate) struct SentFront {
     pub pages: u32,
 }
 
-/// Puts the plan of the longest front in its places, takes the pages of the front out, has that kept, and returns it; or
-/// reports why the plan is refused. It is not answered before it is kept.
+/// Puts the plan of the longest front in its places, takes the pages of the front out, has that kept, and answers it; or
+/// answers why the plan is refused. It is not answered before it is kept.
 pub(crate) fn answer_front<P: OutputStore + Drop, K: Keeper + Drop, O: Sink>(
     alloc: Global,
     settings: &mut PlanSettings<P>,

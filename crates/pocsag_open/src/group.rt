@@ -2,7 +2,7 @@ use crate::fault::OpenFault;
 use crate::kept_round::open_journal;
 use crate::round_files::{OpenArgs, RoundFiles, load_pages};
 use crate::session::{run_open, run_open_pages};
-use crate::words::{JOURNAL, READ_ONLY, ROUND, ROUND_SHAPES};
+use crate::words::{JOURNAL, READ_ONLY, ROUND, ROUND_COMMANDS};
 use clap::{ArgMatches, Error};
 use pocsag_plan::OnLimit;
 use pocsag_shell::{
@@ -15,7 +15,7 @@ pub struct RoundGroup;
 
 impl Group for RoundGroup {
     fn add_to(&self, tables: &mut Tables) -> Result<(), AllocError> {
-        tables.commands.extend_from_slice(ROUND_SHAPES)
+        tables.commands.extend_from_slice(ROUND_COMMANDS)
     }
 
     fn misplaced(&self, _found: &ArgMatches<'_>) -> Option<&'static str> {
@@ -50,7 +50,7 @@ impl Group for RoundGroup {
         };
         if let Err(fault) = &done {
             if let Some(role) = fault.refused() {
-                context.diagnostics.refuse(role);
+                context.diagnostics.note_refusal(role);
             }
         }
         Some(Ok(context.end(names, done)))

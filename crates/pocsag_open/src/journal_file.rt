@@ -4,7 +4,9 @@ use crate::fault::OpenFault;
 use crate::round_files::{OpenArgs, load_pages};
 use pocsag_journal::Disk;
 use pocsag_pages::{WholeFault, read_whole};
-use pocsag_shell::{Context, FileFault, Loaded, Named, ReaderSource, Role, StagedFile, WriterSink};
+use pocsag_shell::{
+    Context, FileFault, LoadedFile, Named, ReaderSource, Role, StagedFile, WriterSink,
+};
 use pocsag_words::{DeviceFault, Source, write_all};
 use std::alloc::Global;
 use std::cell::Cell;
@@ -13,12 +15,12 @@ use std::io::{ErrorKind, Write};
 
 const ROLE: Role = Role::Journal;
 
-/// Where a journal stands.
+/// Where a journal is.
 #[derive(Clone, Copy)]
 pub(crate) struct JournalPlace<'a, 'w> {
     pub context: Context<'a>,
     pub path: &'a str,
-    /// Why the journal could not be written, where that is known better than that it could not.
+    /// Why the journal could not be written, if a reason is known.
     pub why: &'w Cell<Option<OpenFault>>,
 }
 
@@ -135,8 +137,8 @@ fn held(place: JournalPlace<'_, '_>, file: &File) -> Result<Metadata, OpenFault>
     Ok(metadata)
 }
 
-/// Takes a file away that was made, if it still stands at the path and no other program holds it: a journal that was written is
-/// another. That it cannot be taken away changes nothing.
+/// Removes a file that was made, if it is still at the path and no other program holds it. A journal that was written is
+/// another file. A failure to remove it changes nothing.
 pub(crate) fn remove_made(place: JournalPlace<'_, '_>, made: &File) {
     let rt = place.context.rt;
     if matches!(made.try_lock(), Err(TryLockError::WouldBlock)) {
@@ -212,7 +214,7 @@ pub(crate) struct FirstPages<'a, 'w> {
     place: JournalPlace<'a, 'w>,
     args: OpenArgs<'a>,
     path: &'a str,
-    file: Option<Loaded>,
+    file: Option<LoadedFile>,
     calls: u64,
     failures: u64,
 }

@@ -34,7 +34,7 @@ pub struct KeptStreams<F: Source + Drop, I: Source + Drop, O: Sink + Drop, E: Si
 }
 
 /// `open --journal`: reads the journal of a round, or its page file where the journal holds no edit, writes the journal anew,
-/// and returns the lines of the input up to its end, each edit once it is kept. The book of the round is not looked at.
+/// and answers the lines of the input up to its end, each edit once it is kept. The book of the round is not read.
 pub fn open_kept<
     P: OutputStore + Drop,
     D: Disk + Drop,

@@ -10,7 +10,7 @@ use pocsag_plan::AddFault;
 use pocsag_shell::{FileFault, print_numbers, put_whole};
 use pocsag_words::Sink;
 
-/// Prints why a line is refused, by one line.
+/// Prints why a line is refused, in one line.
 pub fn refuse<O: Sink>(refusal: Refusal, out: &mut O) -> Result<(), FileFault>
     ensures printed { O.is_known → Delivers result (O.taken out.old) (O.taken out.new) (refusal_answer refusal) }
     ensures lost { IfErr result (λ e. e ≡ FileFault.Write) }

@@ -11,7 +11,7 @@ use crate::session::PlanSettings;
 use pocsag_pages::{FILE_LIMIT, held_pages, quote_fault};
 use pocsag_plan::OnLimit;
 use pocsag_shell::{
-    Context, FileFault, Loaded, NamedFile, Names, Output, Outputs, PAGES_READ, Role, STANDARD,
+    Context, FileFault, LoadedFile, NamedFile, Names, Output, Outputs, PAGES_READ, Role, STANDARD,
     StagedFile, WriterSink, is_regular_or_none, load, note_record, open_outputs, open_source,
     put_staged, refuse_equal, refuse_one_file, refuse_shared,
 };
@@ -31,9 +31,9 @@ pub(crate) struct OpenArgs<'a> {
     pub expect: Option<u32>,
     /// Whether a misplaced quote refuses the page file.
     pub strict: bool,
-    /// What is answered where the search of a plan reaches its limit.
+    /// Whether a plan whose search reaches its limit is refused.
     pub on_limit: OnLimit,
-    /// Whether what stands there before is kept until both files of a plan are whole.
+    /// Whether the old files are kept until both files of a plan are whole.
     pub keep: bool,
 }
 
@@ -43,7 +43,7 @@ pub(crate) fn load_pages(
     context: Context<'_>,
     args: OpenArgs<'_>,
     path: &str,
-) -> Result<Loaded, OpenFault> {
+) -> Result<LoadedFile, OpenFault> {
     if path == STANDARD {
         context.note("page file -: standard input holds the lines");
         return Err(OpenFault::File(FileFault::EqualPaths));
@@ -121,7 +121,7 @@ pub(crate) struct RoundFiles<'a> {
 }
 
 impl<'a> RoundFiles<'a> {
-    /// How plans are made in an open round that is asked for so.
+    /// How plans are made in an open round with these options.
     pub fn settings(context: Context<'a>, args: OpenArgs<'a>) -> PlanSettings<RoundFiles<'a>> {
         PlanSettings {
             store: RoundFiles {
@@ -167,7 +167,7 @@ impl<'a> OutputStore for RoundFiles<'a> {
             Ok(()) => Role::Transmission,
             Err(_) => Role::Certificate,
         };
-        context.diagnostics.refuse(role);
+        context.diagnostics.note_refusal(role);
         self.refuse_taken(tx, cert)?;
         let opened = if keep {
             for (what, path) in [("transmission", tx), ("certificate", cert)] {

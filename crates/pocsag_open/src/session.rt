@@ -32,7 +32,7 @@ use std::alloc::Global;
 pub struct PlanSettings<P: OutputStore + Drop> {
     /// What makes their outputs.
     pub store: P,
-    /// What is answered where the limit is reached with one batch more than is shown to be needed.
+    /// Whether a plan that reaches the limit is refused, or has one batch more than is shown to be needed.
     pub on_limit: OnLimit,
 }
 
@@ -128,7 +128,7 @@ pub(crate) fn book_of<F: Source>(alloc: Global, pages: &mut F) -> Result<Book, O
     }
 }
 
-/// The same of a round whose edits are kept, each before it is answered. Returns the lines of the input, one by one,
+/// The same of a round whose edits are kept, each before it is answered. Answers the lines of the input, one by one,
 /// up to its end.
 pub fn run_open_kept<P: OutputStore + Drop, K: Keeper + Drop, I: Source, O: Sink>(
     alloc: Global,

@@ -1,8 +1,8 @@
 //! The words of `open`.
 
 use pocsag_shell::{
-    ALWAYS, ALWAYS_FLAG, Content, EXPECT, FLAG, Given, KEEP, KEEP_FLAG, LineWord, PAGES, PLACE,
-    STRICT, Shape,
+    ALWAYS, ALWAYS_FLAG, ArgForm, ArgSpec, ArgType, CommandSpec, EXPECT, FLAG, KEEP, KEEP_FLAG,
+    PAGES, PLACE, STRICT,
 };
 
 pub(crate) const ROUND: &str = "open";
@@ -31,23 +31,23 @@ fewest, ', at least N' follows. The end of the input ends the program.
 Example:
   printf 'add,8,tone0,\\nplan,tx.bin,cert.bin\\n' | pocsag open";
 
-const FIRST_PAGES_PLACE: LineWord = LineWord {
+const FIRST_PAGES_PLACE: ArgSpec = ArgSpec {
     id: PAGES,
     help: "The page file that the round begins with",
     is_required: false,
     ..PLACE
 };
 
-const JOURNAL_OPTION: LineWord = LineWord {
+const JOURNAL_OPTION: ArgSpec = ArgSpec {
     id: JOURNAL,
     help: "\
 Keeps each edit in FILE before it is answered, and
 begins with the edits that FILE holds",
-    given: Given::Option("FILE", &[]),
+    given: ArgForm::Option("FILE", &[]),
     ..FLAG
 };
 
-const READ_ONLY_FLAG: LineWord = LineWord {
+const READ_ONLY_FLAG: ArgSpec = ArgSpec {
     id: READ_ONLY,
     help: "\
 Lists the pages of the journal as a page file, and
@@ -57,18 +57,18 @@ ends; FILE is neither locked nor changed",
     ..FLAG
 };
 
-const PAGES_EXPECTED_OPTION: LineWord = LineWord {
+const PAGES_EXPECTED_OPTION: ArgSpec = ArgSpec {
     id: EXPECT,
     help: "\
 How many pages PAGES must have: a page file of another
 number is refused",
-    given: Given::Option("N", &[]),
-    content: Content::Number,
+    given: ArgForm::Option("N", &[]),
+    content: ArgType::Number,
     needs: &[PAGES],
     ..FLAG
 };
 
-const STRICT_PAGES_FLAG: LineWord = LineWord {
+const STRICT_PAGES_FLAG: ArgSpec = ArgSpec {
     id: STRICT,
     help: "\
 Refuses PAGES with a quote that is not closed or stands
@@ -77,7 +77,7 @@ inside a field",
     ..FLAG
 };
 
-pub(crate) const ROUND_SHAPES: &[Shape] = &[Shape {
+pub(crate) const ROUND_COMMANDS: &[CommandSpec] = &[CommandSpec {
     name: ROUND,
     about: "Keeps an open round, which lines of standard input edit and plan",
     manual: Some(MANUAL),

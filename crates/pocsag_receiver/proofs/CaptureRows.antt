@@ -1,23 +1,11 @@
 -- The rows of a capture that are left as its receptions are read one after the other.
-use Rattle.std.proofs.Common.{◌≡◌, ℕ, ◌+◌, ◌-◌, ◌*◌, ◌^◌, ◌<◌, ◌≤◌, ◌==◌, Bool, true, false, Option, Some, None, List, [], ◌∷◌, ◌++◌, length, drop, get_or, take, refl, sym, ap, ap₂, subst, ◌∙◌, arith, append_assoc, if◌then◌else◌}
+use Rattle.pocsag_receiver.proofs.Prelude.{◌≡◌, ℕ, ◌+◌, ◌-◌, ◌*◌, ◌^◌, ◌<◌, ◌≤◌, ◌==◌, Bool, true, false, Option, Some, None, List, [], ◌∷◌, ◌++◌, length, drop, get_or, take, refl, sym, ap, ap₂, subst, ◌∙◌, arith, append_assoc, if◌then◌else◌, append-nil, drop_all, drop_more, take_more_set, All-cons, All-nil, Page, capture_bits, inverts, CapturedTransmission, IsCapturedTransmission, Reception, ReceptionStats, is_picked, marked, picked_rows, AreRowsBehind, AreRowsFrom, AreRowsLeft, AreRowsOf, CanHandOut, most_behind, most_rows, Begun, PageOrigin, Row}
 use Rattle.std.proofs.Math.Seq.{take-length}
-use Rattle.std.proofs.lemmas.List.{append-nil, drop_all, drop_more, take_more_set}
-use Rattle.std.proofs.lemmas.List.Elements.{All-cons, All-nil}
 use Rattle.std.proofs.Math.ListN.{set}
-use Rattle.pocsag_pages.specs.declared.page.Page.{Page}
-use Rattle.pocsag_capture.specs.Bits.{capture_bits, inverts}
-use Rattle.pocsag_capture.specs.PageEnds.{CapturedTransmission, IsCapturedTransmission}
 use Rattle.pocsag_capture.specs.PagesLeft.{AreLeft, CanRead, ReadsReception, handed_cuts, handed_pages, most_left}
 use Rattle.pocsag_capture.specs.declared.captured_pages.CapturedPage.{CapturedPage}
 use Rattle.pocsag_capture.specs.declared.captured_pages.CapturedPages.{CapturedPages}
-use Rattle.pocsag_capture.specs.declared.reception.Reception.{Reception}
-use Rattle.pocsag_capture.specs.declared.reception.ReceptionStats.{ReceptionStats}
-use Rattle.pocsag_receiver.specs.CapturedForms.{is_picked, marked, picked_rows}
-use Rattle.pocsag_receiver.specs.Rows.{AreRowsBehind, AreRowsFrom, AreRowsLeft, AreRowsOf, CanHandOut, most_behind, most_rows}
-use Rattle.pocsag_receiver.specs.declared.captured.Begun.{Begun}
 use Rattle.pocsag_receiver.specs.declared.captured.CaptureRows.{CaptureRows}
-use Rattle.pocsag_receiver.specs.declared.captured.Mark.{Mark}
-use Rattle.pocsag_receiver.specs.declared.form.Row.{Row}
 
 either_within : (b : Bool) (m n : ℕ) → (if b then m else n) ≤ m + n
 either_within true m n = omega arith
@@ -34,10 +22,6 @@ few_behind source (Some begun) can = few_left begun.pages can.begun.0
 pub fewer_behind : (source next : CaptureRows) → next.place ≡ source.place + 1 → next.found.now ≡ source.found.now → source.place < length source.found.now
     → CanHandOut next next.current → most_rows next < 2 ^ 80 * (length source.found.now - source.place)
 fewer_behind source next place found within can = omega (arith, few_behind next next.current can, place, ap length found, within)
-
--- what is begun may be taken out of them, and put there
-pub can_apart : (source : CaptureRows) (other current : Option Begun) → CanHandOut source current → CanHandOut (record source { current = other }) current
-can_apart source other current can = record { few = can.few; ends = can.ends; room = can.room; within = can.within; begun = can.begun }
 
 pub behind_apart : (source : CaptureRows) (other : Option Begun) (begun : Begun) (rows : List Row) (heard : List ReceptionStats)
     → AreRowsBehind (record source { current = other }) begun rows heard → AreRowsBehind source begun rows heard
@@ -91,7 +75,7 @@ begun_from source begun d r within here reads is rows heard f =
     let read = reads (source.place + 1) f.pages f.cuts f.now f.left in
     let bits = capture_bits source.capture.now in
     let c : CapturedTransmission = record { number = source.place + 1; heard = f.now; pages = f.pages; cuts = f.cuts } in
-    let mark_in : Reception → Bool → Mark =
+    let mark_in : Reception → Bool → PageOrigin =
     λ q is_cut. record { is_cut = is_cut; transmission = source.place + 1; is_inverted = inverts q.polarity; bit = q.bit } in
     record {
       later = f.now ∷ f.later;
@@ -103,7 +87,7 @@ begun_from source begun d r within here reads is rows heard f =
         told = ap (λ (l : List ReceptionStats). f.now ∷ l) f.next.told;
         are = f.are
             ∙ ap₂ (λ (l k : List Row). l ++ k)
-            (ap (λ (m : Mark). picked_rows source.only (marked m) f.pages f.cuts) is
+            (ap (λ (m : PageOrigin). picked_rows source.only (marked m) f.pages f.cuts) is
             ∙ ap (λ (q : Reception). picked_rows source.only (mark_in q) f.pages f.cuts) (sym read.1)) f.next.are;
       };
       told = f.told;
@@ -130,7 +114,7 @@ ended source next begun h pages cuts rows heard f left within capture only found
     }
 
 -- the row of a page that is handed out, if it is asked for
-abbrev pub picked_row : Option ℕ → Mark → CapturedPage → List Row
+abbrev pub picked_row : Option ℕ → PageOrigin → CapturedPage → List Row
 picked_row only mark c =
     if is_picked only c.page.address then record { page = c.page; mark = Some (marked mark c.is_cut) } ∷ [] else []
 
@@ -150,7 +134,7 @@ none_handed source before after same handed rows heard f = record {
   behind = f.behind;
   later = f.later;
   next = f.next;
-  are = f.are ∙ ap (λ (m : Mark). picked_rows source.only (marked m) f.pages f.cuts ++ f.behind) same;
+  are = f.are ∙ ap (λ (m : PageOrigin). picked_rows source.only (marked m) f.pages f.cuts ++ f.behind) same;
   told = f.told;
 }
 
@@ -166,7 +150,7 @@ one_handed source before after c same handed rows heard f =
       behind = f.behind;
       later = f.later;
       next = f.next;
-      are = ap (λ (l : List Row). picked_row source.only before.mark c ++ l) (f.are ∙ ap (λ (m : Mark). picked_rows source.only (marked m) f.pages f.cuts ++ f.behind) same)
+      are = ap (λ (l : List Row). picked_row source.only before.mark c ++ l) (f.are ∙ ap (λ (m : PageOrigin). picked_rows source.only (marked m) f.pages f.cuts ++ f.behind) same)
           ∙ sym (append_assoc (picked_row source.only before.mark c) (picked_rows source.only (marked before.mark) f.pages f.cuts) f.behind);
       told = f.told;
     }

@@ -1,46 +1,17 @@
 -- What is listed of a capture, and why a command does not answer for one.
-use Rattle.std.proofs.Common.{◌≡◌, ℕ, ◌*◌, ◌≤◌, Bool, true, false, List, [], ◌∷◌, ◌++◌, length, map, Option, None, Result, refl, sym, ap, ap₂, subst, ◌∙◌, if◌then◌else◌}
-use Rattle.std.specs.Prelude.{IfNone, IfSome, Some, codes}
-use Rattle.std.proofs.lemmas.Grind.{flat_map-append}
-use Rattle.csv.specs.Writing.{fields_text, is_blank}
-use Rattle.std.specs.List.{flat_map}
-use Rattle.std.proofs.lemmas.List.{append-nil}
-use Rattle.std.proofs.lemmas.List.Elements.{All-weaker}
+use Rattle.pocsag_receiver.proofs.Prelude.{◌≡◌, ℕ, ◌*◌, ◌≤◌, List, [], ◌∷◌, ◌++◌, length, map, Option, None, Result, refl, sym, ap, ap₂, subst, ◌∙◌, IfNone, IfSome, codes, fields_text, is_blank, default_writer, row_text, header, flat_map, All-weaker, input_limit, Page, unsynced, capture_bits, CapturedTransmission, IsCapturedTransmission, UncutStandWhole, pages_captured, ReceptionStats, Reception, IsFaultless, address_fault, printed_so, streams_as, printed_by, over_bytes, over_reader, IsStreamOf, Ran, ErrorStream, View, lists_capture, writing, AreRowsOf, ListsRows, names_in, row_in, ExplainsShowing, Row, ReceiverFault}
+use Rattle.std.specs.Prelude.{Some}
 use Rattle.pocsag_words.specs.declared.device.Sink.{Ghosts as Writer}
 use Rattle.pocsag_words.specs.declared.device.Source.{Ghosts as Reader}
-use Rattle.pocsag_words.specs.Frame.{input_limit}
-use Rattle.pocsag_pages.specs.declared.page.Page.{Page}
-use Rattle.pocsag_pages.specs.Bytes.{unsynced}
-use Rattle.pocsag_capture.specs.Bits.{capture_bits}
 use Rattle.pocsag_capture.proofs.SentBits.{shows_what_was_sent}
 use Rattle.pocsag_capture.specs.ExtractedBytes.{ExtractsOne}
-use Rattle.pocsag_capture.specs.PageEnds.{CapturedTransmission, IsCapturedTransmission, UncutStandWhole, pages_captured}
 use Rattle.pocsag_capture.specs.Receptions.{AreReceptions, received}
 use Rattle.pocsag_capture.specs.Sent.{HoldsSent}
 use Rattle.pocsag_capture.specs.Slips.{AreInStep}
-use Rattle.pocsag_capture.specs.declared.reception.ReceptionStats.{ReceptionStats}
-use Rattle.pocsag_capture.specs.declared.reception.Reception.{Reception}
 use Rattle.pocsag_capture.proofs.PageEnds.{transmissions_are_captured_lem, uncut_pages_stand}
-use Rattle.pocsag_decode.specs.Faults.{IsFaultless}
-use Rattle.pocsag_pager.specs.Faults.{address_fault}
-use Rattle.pocsag_shell.proofs.Readers.{printed_so, streams_as}
-use Rattle.pocsag_shell.specs.ErrorStreams.{printed_by}
-use Rattle.pocsag_shell.specs.Readers.{over_bytes, over_reader}
-use Rattle.pocsag_shell.specs.Runs.{IsStreamOf, Ran}
-use Rattle.pocsag_shell.specs.declared.error_stream.ErrorStream.{ErrorStream}
 use Rattle.pocsag_shell.specs.declared.fault.FileFault.TheVariants as file
-use Rattle.pocsag_show.specs.declared.view.View.{View}
 use Rattle.pocsag_receiver.specs.Captures.{ExplainsOne, IsCaptureListed, ListsAmong, ListsWhole}
-use Rattle.pocsag_receiver.specs.Works.{lists_capture, writing}
-use Rattle.pocsag_receiver.specs.CapturedForms.{captured_header, captured_line, captured_row, captured_text, is_picked, mark_of, picked_pages, picked_rows, row_line, row_record}
-use Rattle.pocsag_receiver.specs.Rows.{AreRowsOf, ListsRows, form_of, names_in, row_in, asked_rows}
-use Rattle.pocsag_receiver.specs.Views.{ExplainsShowing}
-use Rattle.pocsag_receiver.specs.declared.captured.Mark.{Mark}
-use Rattle.pocsag_receiver.specs.declared.captured.Picking.{Picking}
-use Rattle.pocsag_receiver.specs.declared.form.ListForm.{ListForm}
-use Rattle.pocsag_receiver.specs.declared.form.ListForm.TheVariants as forms
-use Rattle.pocsag_receiver.specs.declared.form.Row.{Row}
-use Rattle.pocsag_receiver.specs.declared.fault.ReceiverFault.{ReceiverFault}
+use Rattle.pocsag_receiver.specs.declared.captured.CaptureOptions.{CaptureOptions}
 use Rattle.pocsag_receiver.specs.declared.fault.ReceiverFault.TheVariants as fault
 
 pub show_explained : (view : View) (capture bytes : List ℕ) (nth : ℕ) (heard : List ReceptionStats) (e : ReceiverFault) → length capture ≤ input_limit
@@ -53,73 +24,41 @@ show_explained view capture bytes nth heard _ few extracts none said = absurd sa
 
 -- ---- the text of its rows
 
-picked_one : (T : Row → List ℕ) (r : Row) (b : Bool) → flat_map T (if b then r ∷ [] else []) ≡ (if b then T r else [])
-picked_one T r true = append-nil (T r)
-picked_one T r false = refl
-
-picked_text : (T : Row → List ℕ) (only : Option ℕ) (mark : Bool → Mark) (ps : List Page) (cuts : List Bool)
-    → flat_map T (picked_rows only mark ps cuts) ≡ picked_pages only (λ is_cut p. T (record { page = p; mark = Some (mark is_cut) })) ps cuts
-picked_text T only mark [] cuts = refl
-picked_text T only mark (p ∷ ps) [] = refl
-picked_text T only mark (p ∷ ps) (b ∷ bs) =
-    let row : Row = record { page = p; mark = Some (mark b) } in
-    flat_map-append T (if is_picked only p.address then row ∷ [] else []) (picked_rows only mark ps bs)
-    ∙ ap₂ (λ (l k : List ℕ). l ++ k) (picked_one T row (is_picked only p.address)) (picked_text T only mark ps bs)
-
-text_of_one : (b : Bool) (texts : List Bool) (only : Option ℕ) (c : CapturedTransmission)
-    → flat_map (row_in (if b then forms.Json texts else forms.Texts texts)) (asked_rows only c)
-    ≡ (if b then picked_pages only (λ is_cut p. captured_line texts (mark_of c is_cut) p) c.pages c.cuts else picked_pages only (captured_row texts) c.pages c.cuts)
-text_of_one true texts only c = picked_text (row_line texts) only (mark_of c) c.pages c.cuts
-text_of_one false texts only c = picked_text (row_record texts) only (mark_of c) c.pages c.cuts
-
-text_of_all : (k : Picking) (cs : List CapturedTransmission)
-    → flat_map (row_in (form_of k)) (flat_map (asked_rows k.only) cs) ≡ flat_map (captured_text k) cs
-text_of_all k [] = refl
-text_of_all k (c ∷ cs) =
-    flat_map-append (row_in (form_of k)) (asked_rows k.only c) (flat_map (asked_rows k.only) cs)
-    ∙ ap₂ (λ (l m : List ℕ). l ++ m) (text_of_one k.is_json k.texts k.only c) (text_of_all k cs)
-
-names_of_captures : (b : Bool) (texts : List Bool)
-    → names_in (if b then forms.Json texts else forms.Texts texts) (codes "address,kind,message,state" ++ 10 ∷ []) ≡ captured_header b
+names_of_captures : codes "address,kind,message,state" ++ 10 ∷ [] ≡ row_text default_writer (header ++ codes "state" ∷ [])
 unfolding fields_text is_blank
-names_of_captures true texts = refl
-names_of_captures false texts = refl
+names_of_captures = refl
 
-captured_listed : (capture : List ℕ) (k : Picking) (found : List Reception) (rows : List Row) (heard : List ReceptionStats)
+captured_listed : (capture : List ℕ) (k : CaptureOptions) (found : List Reception) (rows : List Row) (heard : List ReceptionStats)
     → IfSome k.only (λ a. address_fault a ≡ None) → AreReceptions (capture_bits capture) found
     → AreRowsOf (capture_bits capture) k.only 1 found rows heard
-    → IsCaptureListed k heard capture (names_in (form_of k) (codes "address,kind,message,state" ++ 10 ∷ []) ++ flat_map (row_in (form_of k)) rows)
+    → IsCaptureListed k heard capture (names_in k.form (codes "address,kind,message,state" ++ 10 ∷ []) ++ flat_map (row_in k.form) rows)
 captured_listed capture k found rows heard address are t = record {
   address = address;
   transmissions = t.transmissions;
   captured = record { found = subst (AreReceptions (capture_bits capture)) (sym t.of) are; each = t.each; numbers = t.numbers };
   printed = t.told;
-  listed = ap₂ (λ (names : List ℕ) (all : List Row). names ++ flat_map (row_in (form_of k)) all) (names_of_captures k.is_json k.texts) t.are
-      ∙ ap (λ (l : List ℕ). captured_header k.is_json ++ l) (text_of_all k t.transmissions);
+  listed = ap₂ (λ (names : List ℕ) (all : List Row). names_in k.form names ++ flat_map (row_in k.form) all) names_of_captures t.are;
 }
 
-pub captured_streamed : {O : Type 0} (Out : Writer O) (capture : List ℕ) (k : Picking) (found items : List Reception) (heard : List ReceptionStats)
-    (form : ListForm) (before after : List Row → List ReceptionStats → Type 0) (out out' : O) (result : Result ℕ ReceiverFault)
-    → length capture ≤ input_limit → IfSome k.only (λ a. address_fault a ≡ None) → AreReceptions (capture_bits capture) items → found ≡ items → form ≡ form_of k
+pub captured_streamed : {O : Type 0} (Out : Writer O) (capture : List ℕ) (k : CaptureOptions) (found items : List Reception) (heard : List ReceptionStats)
+    (before after : List Row → List ReceptionStats → Type 0) (out out' : O) (result : Result ℕ ReceiverFault)
+    → length capture ≤ input_limit → IfSome k.only (λ a. address_fault a ≡ None) → AreReceptions (capture_bits capture) items → found ≡ items
     → ((rows : List Row) (told : List ReceptionStats) → before rows told → AreRowsOf (capture_bits capture) k.only 1 found rows told)
-    → ListsRows Out out out' (names_in form (codes "address,kind,message,state" ++ 10 ∷ [])) (row_in form) before after result
+    → ListsRows Out out out' (names_in k.form (codes "address,kind,message,state" ++ 10 ∷ [])) (row_in k.form) before after result
     → (rows : List Row) → after rows heard → IsStreamOf (over_bytes (lists_capture k heard) Out capture) Out out out' result
-captured_streamed Out capture k found items heard form before after out out' result few address are same is all lists left ends =
+captured_streamed Out capture k found items heard before after out out' result few address are same all lists left ends =
     let f = lists left heard ends in
     let rows = f.0 in
     let of = subst (λ (rs : List Reception). AreRowsOf (capture_bits capture) k.only 1 rs rows heard) same (all rows heard f.1) in
-    let due : ListForm → List ℕ = λ form. names_in form (codes "address,kind,message,state" ++ 10 ∷ []) ++ flat_map (row_in form) rows in
-    streams_as (writing (due form)) (over_bytes (lists_capture k heard) Out capture) Out out out' result (λ known. tt)
-    (λ s text p. (
-      p.0,
-      subst (IsCaptureListed k heard capture) (sym (p.1 ∙ ap due is)) (captured_listed capture k items rows heard address are of),
-    ))
+    streams_as (writing (names_in k.form (codes "address,kind,message,state" ++ 10 ∷ []) ++ flat_map (row_in k.form) rows))
+    (over_bytes (lists_capture k heard) Out capture) Out out out' result (λ known. tt)
+    (λ s text p. (p.0, subst (IsCaptureListed k heard capture) (sym p.1) (captured_listed capture k items rows heard address are of)))
     (λ f why. rw why few) (λ f why. why) (λ f why. why) f.2
 
 -- ---- a capture that was listed
 
 module _ {T O E : Type 0} (Tx : Reader T) {Out : Writer O} {Err' : Writer E} {tx tx' : T} {status : ℕ} {out out' : O}
-    {err err' : ErrorStream ReceiverFault E} (k : Picking) (heard : List ReceptionStats)
+    {err err' : ErrorStream ReceiverFault E} (k : CaptureOptions) (heard : List ReceptionStats)
     (ran : Ran (over_reader (lists_capture k heard) Tx Out tx tx') Out Err' status out out' err err') where
   pub captured_whole : Tx.is_known → Out.is_known → IfNone (printed_by err') (ListsWhole (Tx.held tx) k (Out.taken out) (Out.taken out'))
   captured_whole known on =

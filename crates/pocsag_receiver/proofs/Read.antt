@@ -1,15 +1,10 @@
 -- Messages that a form reads.
-use Rattle.std.proofs.Common.{◌≡◌, ◌≢◌, ℕ, ◌/◌, ◌%◌, ◌<◌, ◌≤◌, List, [], ◌∷◌, All, None, refl, subst, arith}
-use Rattle.std.specs.Prelude.{IsSome}
-use Rattle.std.specs.List.{flat_map}
-use Rattle.std.specs.Str.{IsAscii}
+use Rattle.pocsag_receiver.proofs.Prelude.{◌≡◌, ◌≢◌, ℕ, ◌/◌, ◌%◌, ◌<◌, ◌≤◌, List, [], ◌∷◌, All, None, refl, subst, arith, IsSome, flat_map, IsAscii, All-cons, All-nil, All-weaker, hex_digit, hex_digits, message_field}
 use Rattle.std.proofs.Math.Nat.{lt_of_not-le}
 use Rattle.std.proofs.lemmas.Bool.{ne_eqb}
 use Rattle.std.proofs.lemmas.Bool.Decides.{nat_tests}
-use Rattle.std.proofs.lemmas.List.Elements.{All-cons, All-nil, All-weaker}
 use Rattle.std.proofs.lemmas.Str.Ascii.{IsAscii-from_all, IsAscii-nil}
 use Rattle.pocsag_text.specs.Characters.{code_of, numeric_characters}
-use Rattle.pocsag_decode.specs.Listing.{hex_digit, hex_digits, message_field}
 
 -- a numeric character
 no_code : (b : ℕ) → 128 ≤ b → code_of b ≡ None

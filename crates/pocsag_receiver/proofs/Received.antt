@@ -1,19 +1,13 @@
 -- What is received of bytes that were sent, and why a command does not answer.
-use Rattle.std.proofs.Common.{◌≡◌, ◌⊎◌, ℕ, ◌*◌, List, length, None, Some, Result, Ok, Err, refl, ap, subst, inl, inr, arith}
+use Rattle.pocsag_receiver.proofs.Prelude.{◌≡◌, ◌⊎◌, ℕ, ◌*◌, List, length, None, Some, Result, Ok, Err, refl, ap, subst, inl, inr, arith, Sent, after_preamble, body_bytes, synced, words_of, IsFaultless, body_begins, hearing_fault, receiver_status, ReceiverFault}
 use Rattle.std.specs.Result.{IfOk, MatchResult, is_ok}
-use Rattle.pocsag_pages.specs.Bytes.{Sent, after_preamble, body_bytes, synced, words_of}
 use Rattle.pocsag_pages.proofs.Lengths.{body_length, synced_count}
-use Rattle.pocsag_decode.specs.Faults.{IsFaultless}
 use Rattle.pocsag_decode.proofs.Preambles.{after_is}
-use Rattle.pocsag_decode.proofs.SentBytes.{body_begins}
-use Rattle.pocsag_pager.specs.Faults.{hearing_fault}
 use Rattle.pocsag_pager.specs.Shown.{ShowsSome}
 use Rattle.pocsag_pager.specs.declared.fault.PagerFault.{PagerFault}
 use Rattle.pocsag_pager.specs.declared.fault.PagerFault.TheVariants as hearing
 use Rattle.pocsag_shell.specs.declared.fault.FileFault.TheVariants as file
-use Rattle.pocsag_receiver.specs.Faults.{receiver_status}
 use Rattle.pocsag_receiver.specs.Listings.{ExplainsDecoding, ExplainsHearing}
-use Rattle.pocsag_receiver.specs.declared.fault.ReceiverFault.{ReceiverFault}
 use Rattle.pocsag_receiver.specs.declared.fault.ReceiverFault.TheVariants as fault
 
 -- what holds of a value holds of it behind `map_err`

@@ -1,31 +1,13 @@
 -- Rows that are written as they are handed out.
-use Rattle.std.proofs.Common.{◌≡◌, ◌⊎◌, ℕ, zero, suc, ◌+◌, ◌<◌, ◌≤◌, false, List, [], ◌∷◌, ◌++◌, length, inl, inr, Ok, Err, refl, sym, ap, ap₂, subst, ◌∙◌, append_assoc, arith}
-use Rattle.std.specs.Prelude.{None, OnErr, OnOk, Result, codes}
+use Rattle.pocsag_receiver.proofs.Prelude.{◌≡◌, ◌⊎◌, ℕ, zero, suc, ◌+◌, ◌<◌, ◌≤◌, false, List, [], ◌∷◌, ◌++◌, length, inl, inr, Ok, Err, refl, sym, ap, ap₂, subst, ◌∙◌, append_assoc, arith, OnErr, OnOk, codes, flat_map, flat_map-append, append-nil, default_writer, fields_text, is_blank, row_text, HasFailed, TookPrefix, Page, NamesFailures, header, kind_field, listing, message_field, record_of, ListFault, IsStreamOf, fault_of_list, ListsRows, as_streamed, names_in, row_in, unmarked, writing, ReceiverFault, Row, row_line, row_record, is_text, kind_read, listed_in, message_read, record_read, text_listing, ListForm}
+use Rattle.std.specs.Prelude.{None, Result}
 use Rattle.std.specs.Fmt.{decimal}
-use Rattle.std.specs.List.{flat_map}
-use Rattle.std.proofs.lemmas.Grind.{flat_map-append}
-use Rattle.std.proofs.lemmas.List.{append-nil}
 use Rattle.std.proofs.lemmas.List.Folds.{flat_map-map}
-use Rattle.csv.specs.Writing.{default_writer, fields_text, is_blank, row_text}
-use Rattle.pocsag_words.specs.Devices.{HasFailed, TookPrefix}
 use Rattle.pocsag_words.specs.declared.device.Sink.{Ghosts as Writer}
-use Rattle.pocsag_pages.specs.declared.page.Page.{Page}
-use Rattle.pocsag_decode.specs.Faults.{NamesFailures}
-use Rattle.pocsag_decode.specs.Listing.{header, kind_field, listing, message_field, record_of}
 use Rattle.pocsag_decode.proofs.Listings.{listing_is}
 use Rattle.pocsag_decode.proofs.Prefixes.{some_left, took_on, took_so_far}
-use Rattle.pocsag_decode.specs.declared.fault.ListFault.{ListFault}
 use Rattle.pocsag_decode.specs.declared.fault.ListFault.TheVariants as faults
-use Rattle.pocsag_shell.specs.Runs.{IsStreamOf}
-use Rattle.pocsag_receiver.specs.Faults.{fault_of_list}
-use Rattle.pocsag_receiver.specs.Rows.{ListsRows, as_streamed, names_in, row_in, unmarked}
-use Rattle.pocsag_receiver.specs.Works.{writing}
-use Rattle.pocsag_receiver.specs.declared.fault.ReceiverFault.{ReceiverFault}
-use Rattle.pocsag_receiver.specs.declared.form.Row.{Row}
 use Rattle.pocsag_receiver.proofs.Works.{unlisted}
-use Rattle.pocsag_receiver.specs.CapturedForms.{row_line, row_record}
-use Rattle.pocsag_receiver.specs.Forms.{is_text, kind_read, listed_in, message_read, record_read, text_listing}
-use Rattle.pocsag_receiver.specs.declared.form.ListForm.{ListForm}
 use Rattle.pocsag_receiver.specs.declared.form.ListForm.TheVariants as form
 
 -- rows were handed out, and what is due of them is what was taken so far and what waits

@@ -1,35 +1,14 @@
 -- What a command did over the bytes of a transmission.
-use Rattle.std.proofs.Common.{◌≡◌, ◌⊎◌, ◌+◌, ◌<◌, ℕ, Bool, true, false, List, ◌++◌, length, Err, ap, inl, inr, refl, ◌∙◌, arith}
-use Rattle.std.specs.Prelude.{IfNone, IfSome}
-use Rattle.pocsag_words.specs.Devices.{HasFailed, TookPrefix}
-use Rattle.pocsag_words.specs.Frame.{input_limit}
+use Rattle.pocsag_receiver.proofs.Prelude.{◌≡◌, ◌⊎◌, ◌+◌, ◌<◌, ℕ, Bool, true, false, List, ◌++◌, length, Err, ap, inl, inr, refl, ◌∙◌, arith, IfNone, IfSome, HasFailed, TookPrefix, input_limit, Page, Sent, ReadsAs, ListFault, one_reading, printed_so, told_so, printed_by, WasNotRead, over_reader, IsStreamOf, Ran, ErrorStream, Shows, view_text, View, fault_of_list, receiver_status, listed_in, decodes, shows, writing, ReceiverFault, ListForm}
 use Rattle.pocsag_words.specs.declared.device.Sink.{Ghosts as Writer}
 use Rattle.pocsag_words.specs.declared.device.Source.{Ghosts as Reader}
-use Rattle.pocsag_pages.specs.declared.page.Page.{Page}
-use Rattle.pocsag_pages.specs.Bytes.{Sent}
 use Rattle.pocsag_pager.specs.Damage.{IsDamaged}
-use Rattle.pocsag_decode.specs.Faults.{ReadsAs}
-use Rattle.pocsag_decode.specs.declared.fault.ListFault.{ListFault}
 use Rattle.pocsag_decode.specs.declared.fault.ListFault.TheVariants as listing
 use Rattle.pocsag_decode.proofs.Restoration.{no_fault_of_reading, restores}
-use Rattle.pocsag_decode.proofs.SentBytes.{one_reading}
-use Rattle.pocsag_shell.proofs.Readers.{printed_so, told_so}
-use Rattle.pocsag_shell.specs.ErrorStreams.{printed_by}
 use Rattle.pocsag_shell.specs.Faults.{file_status}
-use Rattle.pocsag_shell.specs.Readers.{WasNotRead, over_reader}
-use Rattle.pocsag_shell.specs.Runs.{IsStreamOf, Ran}
-use Rattle.pocsag_shell.specs.declared.error_stream.ErrorStream.{ErrorStream}
 use Rattle.pocsag_shell.specs.declared.fault.FileFault.{FileFault}
 use Rattle.pocsag_shell.specs.declared.fault.FileFault.TheVariants as file
-use Rattle.pocsag_show.specs.Shows.{Shows}
-use Rattle.pocsag_show.specs.Views.{view_text}
-use Rattle.pocsag_show.specs.declared.view.View.{View}
-use Rattle.pocsag_receiver.specs.Faults.{fault_of_list, receiver_status}
-use Rattle.pocsag_receiver.specs.Forms.{listed_in}
 use Rattle.pocsag_receiver.specs.Repair.{AreReadOf}
-use Rattle.pocsag_receiver.specs.Works.{decodes, shows, writing}
-use Rattle.pocsag_receiver.specs.declared.fault.ReceiverFault.{ReceiverFault}
-use Rattle.pocsag_receiver.specs.declared.form.ListForm.{ListForm}
 use Rattle.pocsag_receiver.specs.declared.repair.Repairing.{Repairing}
 use Rattle.pocsag_receiver.proofs.Received.{never_refused}
 

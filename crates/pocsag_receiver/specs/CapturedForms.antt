@@ -1,5 +1,5 @@
 -- How the pages of captures are listed: each with its state, and in JSON also with its transmission (this project's own).
-use Rattle.std.specs.Prelude.{ℕ, ◌==◌, Bool, true, if◌then◌else◌, List, [], ◌∷◌, ◌++◌, Option, Some, None, codes}
+use Rattle.std.specs.Prelude.{ℕ, ◌==◌, Bool, true, false, if◌then◌else◌, List, [], ◌∷◌, ◌++◌, Option, Some, None, codes}
 use Rattle.std.specs.List.{flat_map}
 use Rattle.std.specs.Fmt.{decimal}
 use Rattle.csv.specs.Writing.{default_writer, row_text}
@@ -11,8 +11,10 @@ use Rattle.pocsag_capture.specs.Bits.{inverts}
 use Rattle.pocsag_capture.specs.PageEnds.{CapturedTransmission}
 use Rattle.pocsag_decode.specs.Listing.{header}
 use Rattle.pocsag_receiver.specs.Forms.{page_members, record_read}
-use Rattle.pocsag_receiver.specs.declared.captured.Mark.{Mark}
-use Rattle.pocsag_receiver.specs.declared.captured.Picking.{Picking}
+use Rattle.pocsag_receiver.specs.declared.captured.PageOrigin.{PageOrigin}
+use Rattle.pocsag_receiver.specs.declared.captured.CaptureOptions.{CaptureOptions}
+use Rattle.pocsag_receiver.specs.declared.form.ListForm.{ListForm}
+use Rattle.pocsag_receiver.specs.declared.form.ListForm.TheVariants as form
 use Rattle.pocsag_receiver.specs.declared.form.Row.{Row}
 
 -- The state of a page.
@@ -25,17 +27,13 @@ state_fields None = []
 state_fields (Some is_cut) = state_field is_cut ∷ []
 
 -- Whether a page with this mark is cut, where it has one.
-abbrev pub cut_of : Option Mark → Option Bool
+abbrev pub cut_of : Option PageOrigin → Option Bool
 cut_of None = None
 cut_of (Some m) = Some m.is_cut
 
--- The record of a page, and its state.
-abbrev pub captured_row : List Bool → (is_cut : Bool) → Page → List ℕ
-captured_row texts is_cut p = row_text default_writer (record_read texts p ++ state_fields (Some is_cut))
-
 -- The members that the JSON object of a page of a capture has behind those of each form: its state, and of its transmission the
 -- number, whether each bit was received as the other, and the bit at which it begins.
-abbrev pub mark_members : Mark → Members
+abbrev pub mark_members : PageOrigin → Members
 mark_members m =
     member (codes "state") (string (state_field m.is_cut))
     (member (codes "transmission") (number (decimal m.transmission))
@@ -43,7 +41,7 @@ mark_members m =
     (member (codes "bit") (number (decimal m.bit)) no_members)))
 
 -- The same where a page may have no mark.
-abbrev pub members_of : Option Mark → Members
+abbrev pub members_of : Option PageOrigin → Members
 members_of None = no_members
 members_of (Some m) = mark_members m
 
@@ -55,15 +53,22 @@ abbrev pub row_line : List Bool → Row → List ℕ
 row_line texts r = print (json_tokens (object (page_members texts r.page (members_of r.mark)))) ++ 10 ∷ []
 
 -- The JSON object of a page of a capture.
-abbrev pub captured_object : List Bool → Mark → Page → Json
+abbrev pub captured_object : List Bool → PageOrigin → Page → Json
 captured_object texts m p = object (page_members texts p (mark_members m))
 
--- Its line: the text of the object, without spaces, and a line feed.
-abbrev pub captured_line : List Bool → Mark → Page → List ℕ
-captured_line texts m p = print (json_tokens (captured_object texts m p)) ++ 10 ∷ []
+-- The text of a row in a form.
+abbrev pub row_in : ListForm → Row → List ℕ
+row_in form.Listing r = row_record (false ∷ false ∷ false ∷ []) r
+row_in (form.Texts texts) r = row_record texts r
+row_in (form.Json texts) r = row_line texts r
+
+-- What stands in front of the rows: in CSV the record of these names.
+abbrev pub names_in : ListForm → (names : List ℕ) → List ℕ
+names_in (form.Json texts) names = []
+names_in _ names = names
 
 -- What is reported of a page of a transmission, which is cut or not.
-abbrev pub mark_of : CapturedTransmission → (is_cut : Bool) → Mark
+abbrev pub mark_of : CapturedTransmission → (is_cut : Bool) → PageOrigin
 mark_of c is_cut = record {
   is_cut = is_cut;
   transmission = c.number;
@@ -72,7 +77,7 @@ mark_of c is_cut = record {
 }
 
 -- The same where the number, the polarity and the bit are at hand.
-abbrev pub marked : Mark → (is_cut : Bool) → Mark
+abbrev pub marked : PageOrigin → (is_cut : Bool) → PageOrigin
 marked m is_cut = record { is_cut = is_cut; transmission = m.transmission; is_inverted = m.is_inverted; bit = m.bit }
 
 -- Whether the pages of an address are asked for: those of all addresses, or those of one.
@@ -80,30 +85,19 @@ abbrev pub is_picked : (only : Option ℕ) → (address : ℕ) → Bool
 is_picked None address = true
 is_picked (Some one) address = address == one
 
--- The texts of those pages that are asked for, one behind the other, where the text of a page goes by its state.
-abbrev pub picked_pages : (only : Option ℕ) → (text_of : Bool → Page → List ℕ) → List Page → (cuts : List Bool) → List ℕ
-picked_pages only text_of [] cuts = []
-picked_pages only text_of (p ∷ ps) [] = []
-picked_pages only text_of (p ∷ ps) (is_cut ∷ cuts) =
-    (if is_picked only p.address then text_of is_cut p else []) ++ picked_pages only text_of ps cuts
-
--- Those pages themselves, each with its mark.
-abbrev pub picked_rows : (only : Option ℕ) → (mark : Bool → Mark) → List Page → (cuts : List Bool) → List Row
+-- The rows of those pages that are asked for, each with its mark.
+abbrev pub picked_rows : (only : Option ℕ) → (mark : Bool → PageOrigin) → List Page → (cuts : List Bool) → List Row
 picked_rows only mark [] cuts = []
 picked_rows only mark (p ∷ ps) [] = []
 picked_rows only mark (p ∷ ps) (is_cut ∷ cuts) =
     (if is_picked only p.address then record { page = p; mark = Some (mark is_cut) } ∷ [] else []) ++ picked_rows only mark ps cuts
 
--- What is listed of a transmission: a record or a line of JSON for each page that is asked for.
-abbrev pub captured_text : Picking → CapturedTransmission → List ℕ
-captured_text k c =
-    if k.is_json then picked_pages k.only (λ is_cut p. captured_line k.texts (mark_of c is_cut) p) c.pages c.cuts
-    else picked_pages k.only (captured_row k.texts) c.pages c.cuts
+-- The rows of a transmission of those pages that are asked for.
+abbrev pub asked_rows : (only : Option ℕ) → CapturedTransmission → List Row
+asked_rows only c = picked_rows only (mark_of c) c.pages c.cuts
 
--- What stands before them: in CSV the record of the names.
-abbrev pub captured_header : (is_json : Bool) → List ℕ
-captured_header is_json = if is_json then [] else row_text default_writer (header ++ codes "state" ∷ [])
-
--- The listing of a capture.
-abbrev pub captured_listing : Picking → List CapturedTransmission → List ℕ
-captured_listing k cs = captured_header k.is_json ++ flat_map (captured_text k) cs
+-- The listing of a capture: a record or a line of JSON for each page that is asked for, in CSV behind the record of the names.
+abbrev pub captured_listing : CaptureOptions → List CapturedTransmission → List ℕ
+captured_listing k cs =
+    names_in k.form (row_text default_writer (header ++ codes "state" ∷ []))
+    ++ flat_map (row_in k.form) (flat_map (asked_rows k.only) cs)

@@ -15,13 +15,13 @@ use Rattle.pocsag_shell.specs.declared.fault.FileFault.TheVariants as file
 use Rattle.pocsag_show.specs.declared.view.View.{View}
 use Rattle.pocsag_receiver.specs.CapturedForms.{captured_listing}
 use Rattle.pocsag_receiver.specs.Views.{IsBehindLast}
-use Rattle.pocsag_receiver.specs.declared.captured.Picking.{Picking}
+use Rattle.pocsag_receiver.specs.declared.captured.CaptureOptions.{CaptureOptions}
 use Rattle.pocsag_receiver.specs.declared.fault.ReceiverFault.{ReceiverFault}
 use Rattle.pocsag_receiver.specs.declared.fault.ReceiverFault.TheVariants as fault
 
 -- The text is the listing of a capture: of those of its pages that are asked for, each with its state. How each transmission
 -- was received is reported. The address that is asked for, if one is, is one that a pager can have.
-pub record IsCaptureListed (k : Picking) (heard : List ReceptionStats) (capture text : List ℕ) : Type 0 where
+pub record IsCaptureListed (k : CaptureOptions) (heard : List ReceptionStats) (capture text : List ℕ) : Type 0 where
   pub address : IfSome k.only (λ a. address_fault a ≡ None)
   pub transmissions : List CapturedTransmission
   pub captured : HasTransmissions capture transmissions
@@ -30,7 +30,7 @@ pub record IsCaptureListed (k : Picking) (heard : List ReceptionStats) (capture 
 
 -- *Listed as whole*: pages of the receptions of a capture were listed, and each that is listed as whole stands whole among the words
 -- of its reception that are in step.
-pub record ListsWhole (capture : List ℕ) (k : Picking) (out_before out_after : List ℕ) : Type 0 where
+pub record ListsWhole (capture : List ℕ) (k : CaptureOptions) (out_before out_after : List ℕ) : Type 0 where
   pub transmissions : List CapturedTransmission
   pub found : AreReceptions (capture_bits capture) (map (λ (c : CapturedTransmission). c.heard.reception) transmissions)
   pub in_step : All (λ (c : CapturedTransmission). AreInStep (capture_bits capture) c.heard.reception c.heard.steady) transmissions
@@ -38,7 +38,7 @@ pub record ListsWhole (capture : List ℕ) (k : Picking) (out_before out_after :
   pub listed : out_after ≡ out_before ++ captured_listing k transmissions
 
 -- Pages were listed among which these stand, one behind the other: of all of them those that are asked for.
-pub record ListsAmong (k : Picking) (ps : List Page) (out_before out_after : List ℕ) : Type 0 where
+pub record ListsAmong (k : CaptureOptions) (ps : List Page) (out_before out_after : List ℕ) : Type 0 where
   pub transmissions : List CapturedTransmission
   pub among : StandAmong ps (pages_captured transmissions)
   pub listed : out_after ≡ out_before ++ captured_listing k transmissions

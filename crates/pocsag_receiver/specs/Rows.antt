@@ -1,5 +1,5 @@
 -- Rows that are handed out one after the other, and those of a capture that are left (this project's own).
-use Rattle.std.specs.Prelude.{◌≡◌, ℕ, ◌+◌, ◌-◌, ◌*◌, ◌^◌, ◌<◌, ◌≤◌, All, IfSome, List, [], ◌∷◌, ◌++◌, Bool, false, if◌then◌else◌, length, map, take, drop, Option, None, Some, Result, Ok, Err}
+use Rattle.std.specs.Prelude.{◌≡◌, ℕ, ◌+◌, ◌-◌, ◌*◌, ◌^◌, ◌<◌, ◌≤◌, All, IfSome, List, [], ◌∷◌, ◌++◌, Bool, length, map, take, drop, Option, None, Some, Result, Ok, Err}
 use Rattle.std.specs.List.{flat_map}
 use Rattle.pocsag_words.specs.Frame.{input_limit}
 use Rattle.pocsag_words.specs.declared.device.Sink.{Ghosts as Writer}
@@ -12,15 +12,12 @@ use Rattle.pocsag_capture.specs.declared.reception.Reception.{Reception}
 use Rattle.pocsag_capture.specs.declared.reception.ReceptionStats.{ReceptionStats}
 use Rattle.pocsag_decode.specs.declared.fault.ListFault.{ListFault}
 use Rattle.pocsag_shell.specs.Runs.{IsStreamOf}
-use Rattle.pocsag_receiver.specs.CapturedForms.{mark_of, marked, picked_rows, row_line, row_record}
+use Rattle.pocsag_receiver.specs.CapturedForms.{asked_rows, marked, picked_rows}
 use Rattle.pocsag_receiver.specs.Faults.{fault_of_list}
 use Rattle.pocsag_receiver.specs.Works.{writing}
 use Rattle.pocsag_receiver.specs.declared.captured.Begun.{Begun}
 use Rattle.pocsag_receiver.specs.declared.captured.CaptureRows.{CaptureRows}
-use Rattle.pocsag_receiver.specs.declared.captured.Picking.{Picking}
 use Rattle.pocsag_receiver.specs.declared.fault.ReceiverFault.{ReceiverFault}
-use Rattle.pocsag_receiver.specs.declared.form.ListForm.{ListForm}
-use Rattle.pocsag_receiver.specs.declared.form.ListForm.TheVariants as form
 use Rattle.pocsag_receiver.specs.declared.form.Row.{Row}
 
 -- *Hands on*: what was left is the row that is handed out, if one is, and then what is left now; behind the last nothing
@@ -42,28 +39,9 @@ ListsRows Out out out_after begun text_of before after result =
     (rs : List Row) (told : _) → after rs told
     → (all : List Row) × before all told × IsStreamOf (writing (begun ++ flat_map text_of all)) Out out out_after result
 
--- The text of a row in a form.
-abbrev pub row_in : ListForm → Row → List ℕ
-row_in form.Listing r = row_record (false ∷ false ∷ false ∷ []) r
-row_in (form.Texts texts) r = row_record texts r
-row_in (form.Json texts) r = row_line texts r
-
--- The form in which a capture is listed.
-abbrev pub form_of : Picking → ListForm
-form_of k = if k.is_json then form.Json k.texts else form.Texts k.texts
-
--- What stands in front of the rows: in CSV the record of these names.
-abbrev pub names_in : ListForm → (names : List ℕ) → List ℕ
-names_in (form.Json texts) names = []
-names_in _ names = names
-
 -- The rows of pages that have no mark.
 abbrev pub unmarked : List Page → List Row
 unmarked ps = map (λ p. record { page = p; mark = None }) ps
-
--- The rows of a transmission of those pages that are asked for.
-abbrev pub asked_rows : (only : Option ℕ) → CapturedTransmission → List Row
-asked_rows only c = picked_rows only (mark_of c) c.pages c.cuts
 
 -- *Rows of receptions*: these are the rows of receptions, of which the first has this number, and each was received so.
 pub record AreRowsOf (bits : List ℕ) (only : Option ℕ) (number : ℕ) (receptions : List Reception) (rows : List Row) (heard : List ReceptionStats) : Type 0 where

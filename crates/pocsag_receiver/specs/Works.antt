@@ -11,7 +11,7 @@ use Rattle.pocsag_receiver.specs.Faults.{receiver_status}
 use Rattle.pocsag_receiver.specs.Listings.{ExplainsDecoding, ExplainsHearing, IsDecoded, IsHeard}
 use Rattle.pocsag_receiver.specs.Repair.{IsSoOfRead}
 use Rattle.pocsag_receiver.specs.Views.{ExplainsShowing, IsViewed}
-use Rattle.pocsag_receiver.specs.declared.captured.Picking.{Picking}
+use Rattle.pocsag_receiver.specs.declared.captured.CaptureOptions.{CaptureOptions}
 use Rattle.pocsag_receiver.specs.declared.fault.ReceiverFault.{ReceiverFault}
 use Rattle.pocsag_receiver.specs.declared.fault.ReceiverFault.TheVariants as fault
 use Rattle.pocsag_receiver.specs.declared.form.ListForm.{ListForm}
@@ -65,7 +65,7 @@ abbrev pub hears : Hearing → Task ReceiverFault
 hears hearing = streamed (IsHeard hearing) (ExplainsHearing hearing.address)
 
 -- `decode --capture` and `hear --capture`: lists the pages of the transmissions of a capture.
-abbrev pub lists_capture : Picking → (heard : List ReceptionStats) → Task ReceiverFault
+abbrev pub lists_capture : CaptureOptions → (heard : List ReceptionStats) → Task ReceiverFault
 lists_capture picking heard = streamed (IsCaptureListed picking heard) (ExplainsCaptured picking.only)
 
 -- Shows a transmission,

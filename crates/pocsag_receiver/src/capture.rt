@@ -10,7 +10,7 @@ ghost use Rattle.pocsag_shell.specs.Runs.{IsStreamOf, Ran};
 ghost use Rattle.pocsag_receiver.specs.Captures.{ExplainsCaptured, ListsAmong, ListsWhole};
 ghost use Rattle.pocsag_receiver.specs.Works.{lists_capture, shows_capture};
 
-use crate::captured::{CaptureRows, Picking};
+use crate::captured::{CaptureOptions, CaptureRows};
 use crate::fault::ReceiverFault;
 use crate::form::list_rows;
 use crate::show::show_bytes;
@@ -25,13 +25,13 @@ use std::alloc::Global;
 /// Which pages of a capture are listed and in which form, and how each transmission was received.
 #[derive(Drop)]
 pub struct CaptureListing {
-    pub picking: Picking,
+    pub picking: CaptureOptions,
     pub heard: Vec<ReceptionStats>,
 }
 
 /// Which transmission of a capture is shown, counted from 1, and how, and how it was received.
 #[derive(Drop)]
-pub struct Viewing {
+pub struct CaptureView {
     pub view: View,
     pub nth: u64,
     pub heard: Vec<ReceptionStats>,
@@ -66,7 +66,7 @@ fn list_captured<O: Sink>(
         return Err(ReceiverFault::File(FileFault::OutOfMemory));
     };
     let names = b"address,kind,message,state\n";
-    let listed = list_rows(alloc, picking.form(), names, &mut rows, out);
+    let listed = list_rows(alloc, picking.form, names, &mut rows, out);
     capture_listing.heard = rows.finish();
     listed?;
     Ok(0)
@@ -105,7 +105,7 @@ pub fn run_list_capture<T: Source, O: Sink, E: Sink + Drop>(
 // Shows one of the transmissions of the bytes of a capture.
 fn show_captured<O: Sink>(
     alloc: Global,
-    viewing: &mut Viewing,
+    viewing: &mut CaptureView,
     capture: &[u8],
     out: &mut O,
 ) -> Result<u8, ReceiverFault>
@@ -124,7 +124,7 @@ fn show_captured<O: Sink>(
 /// `show TX --capture`: shows one of the transmissions of a capture, and says how it was received. Returns the exit status.
 pub fn run_show_capture<T: Source, O: Sink, E: Sink + Drop>(
     alloc: Global,
-    viewing: &mut Viewing,
+    viewing: &mut CaptureView,
     tx: &mut T,
     out: &mut O,
     err: &mut ErrorStream<ReceiverFault, E>,

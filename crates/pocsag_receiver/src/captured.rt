@@ -7,7 +7,7 @@ ghost use Rattle.pocsag_capture.specs.Receptions.{behind};
 ghost use Rattle.pocsag_capture.specs.declared.reception.Reception.{Reception};
 ghost use Rattle.pocsag_capture.specs.declared.reception.ReceptionStats.{ReceptionStats};
 ghost use Rattle.pocsag_receiver.specs.CapturedForms.{is_picked};
-ghost use Rattle.pocsag_receiver.specs.Rows.{AreRowsBehind, AreRowsFrom, AreRowsLeft, AreRowsOf, CanHandOut, form_of, most_rows};
+ghost use Rattle.pocsag_receiver.specs.Rows.{AreRowsBehind, AreRowsFrom, AreRowsLeft, AreRowsOf, CanHandOut, most_rows};
 ghost use Rattle.pocsag_receiver.specs.declared.form.Row.{Row};
 
 use crate::form::{ListForm, Row, RowSource};
@@ -16,31 +16,16 @@ use std::alloc::{AllocError, Global};
 
 /// Which pages of a capture are listed, and in which form.
 #[derive(Clone, Copy)]
-pub struct Picking {
+pub struct CaptureOptions {
     /// Those of this address alone.
     pub only: Option<u32>,
-    /// Of which functions from 0 to 2 the messages are read as alphanumeric text.
-    pub texts: [bool; 3],
-    /// As lines of JSON; otherwise as CSV.
-    pub is_json: bool,
-}
-
-impl Picking {
-    /// The form.
-    pub(crate) fn form(self) -> ListForm
-        ensures { result ≡ form_of self }
-    {
-        if self.is_json {
-            ListForm::Json(self.texts)
-        } else {
-            ListForm::Texts(self.texts)
-        }
-    }
+    /// In this form.
+    pub form: ListForm,
 }
 
 /// What is reported of a page of a capture besides the page.
 #[derive(Clone, Copy)]
-pub struct Mark {
+pub struct PageOrigin {
     /// Whether the page is cut.
     pub is_cut: bool,
     /// The number of its transmission, counted from 1.
@@ -55,7 +40,7 @@ pub struct Mark {
 #[derive(Drop)]
 pub(crate) struct Begun<'a> {
     // The mark of its pages, but for whether they are cut.
-    pub(crate) mark: Mark,
+    pub(crate) mark: PageOrigin,
     pub(crate) pages: CapturedPages<'a>,
 }
 
@@ -85,7 +70,7 @@ fn is_picked(only: Option<u32>, address: u32) -> bool
 }
 
 impl<'a> CaptureRows<'a> {
-    /// The rows of these receptions. Behind it no memory is taken but for the pages.
+    /// The rows of these receptions. After this call memory is taken only for the pages.
     pub(crate) fn new(
         alloc: Global,
         capture: &'a [u8],
@@ -137,7 +122,7 @@ impl<'a> CaptureRows<'a> {
         }
         let reception = self.found[self.place];
         self.current = Some(Begun {
-            mark: Mark {
+            mark: PageOrigin {
                 is_cut: true,
                 transmission: self.place as u64 + 1,
                 is_inverted: reception.polarity.is_inverted(),
@@ -199,11 +184,9 @@ impl<'a> RowSource for CaptureRows<'a> {
                 self.end(begun);
                 continue;
             };
-            let mark = Mark {
+            let mark = PageOrigin {
                 is_cut: captured.is_cut,
-                transmission: begun.mark.transmission,
-                is_inverted: begun.mark.is_inverted,
-                bit: begun.mark.bit,
+                ..begun.mark
             };
             self.current = Some(begun);
             if is_picked(self.only, captured.page.address) {

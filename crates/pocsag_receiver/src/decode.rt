@@ -57,8 +57,8 @@ fn decode_bytes<O: Sink>(
     list_decoded_in(alloc, decoding.form, bytes, out)
 }
 
-/// `decode TX`: lists the pages of a transmission, with repair those that its words read as once each is repaired, and says how
-/// much was corrected. Returns the exit status.
+/// `decode TX`: lists the pages of a transmission, with `--repair` those of the repaired words, and returns how much was
+/// corrected. Returns the exit status.
 pub fn run_decode<T: Source, O: Sink, E: Sink + Drop>(
     alloc: Global,
     decoding: &mut Decoding,

@@ -8,7 +8,7 @@ use pocsag_shell::{Failure, FileFault};
 use pocsag_show::{Rows, ShowFault};
 use thiserror::Error;
 
-/// Why a command does not answer for a transmission.
+/// Why a command shows nothing, or not all, of a transmission.
 #[derive(Clone, Copy, PartialEq, Eq, Debug, Error)]
 pub enum ReceiverFault {
     /// A file or memory cannot be used.
@@ -23,7 +23,7 @@ pub enum ReceiverFault {
     /// Nothing is extracted from this capture.
     #[error(transparent)]
     Capture(CaptureFault),
-    /// The transmission has so many batches, and the first row that `show` is asked for is behind them.
+    /// The transmission has only this many batches, and the first row that `show` is asked for comes after them.
     #[error("rows {rows}: the transmission has {batches} batch{}", batch_ending(.batches))]
     NoSuchRows { rows: Rows, batches: u64 },
 }

@@ -11,13 +11,13 @@ ghost use Rattle.pocsag_pages.specs.declared.page.Page.{Page};
 ghost use Rattle.pocsag_decode.specs.Faults.{NamesFailures};
 ghost use Rattle.pocsag_decode.specs.Lines.{IsReady, text_in};
 ghost use Rattle.pocsag_shell.specs.Runs.{IsStreamOf};
-ghost use Rattle.pocsag_receiver.specs.CapturedForms.{members_of, row_line, row_record, state_field};
+ghost use Rattle.pocsag_receiver.specs.CapturedForms.{members_of, names_in, row_in, row_line, row_record, state_field};
 ghost use Rattle.pocsag_receiver.specs.Forms.{is_text, kind_read, listed_in, message_read, page_members};
-ghost use Rattle.pocsag_receiver.specs.Rows.{HandsOn, ListsRows, as_streamed, names_in, row_in, unmarked};
+ghost use Rattle.pocsag_receiver.specs.Rows.{HandsOn, ListsRows, as_streamed, unmarked};
 ghost use Rattle.pocsag_receiver.specs.Works.{writing};
 ghost use Rattle.pocsag_receiver.specs.declared.form.Row.{Row};
 
-use crate::captured::Mark;
+use crate::captured::PageOrigin;
 use crate::fault::ReceiverFault;
 use pocsag_decode::{
     ListFault, PageSource, list_owned, message_of, write_many_records, write_records,
@@ -133,7 +133,7 @@ fn state_name(is_cut: bool) -> &'static str
 }
 
 // The JSON object of a page with its mark, where it has one, as far as its end.
-fn with_mark(mut writer: json::Writer, mark: Option<Mark>) -> Result<json::Writer, AllocError>
+fn with_mark(mut writer: json::Writer, mark: Option<PageOrigin>) -> Result<json::Writer, AllocError>
     ensures before { IfOk result (λ w. w.before ≡ writer.before) }
     ensures marked { IfOk result (λ w.
         w.tokens ++ end_object ∷ [] ≡ writer.tokens ++ members_tokens (members_of mark)) }
@@ -156,7 +156,7 @@ fn with_mark(mut writer: json::Writer, mark: Option<Mark>) -> Result<json::Write
 #[derive(Drop)]
 pub(crate) struct Row {
     pub(crate) page: Page,
-    pub(crate) mark: Option<Mark>,
+    pub(crate) mark: Option<PageOrigin>,
 }
 
 /// What hands out rows one after the other.
@@ -359,8 +359,8 @@ fn list_records<R: RowSource, S: Sink>(
     list_behind(alloc, texts, &mut records, rows, sink)
 }
 
-/// Writes rows in a form as they are handed out, records behind that of these names. No more than one row is held, and text
-/// up to 1,048,576 bytes beside its own.
+/// Writes rows in a form as they are handed out; as records, after one of these names. No more than one row is held, and
+/// text up to 1,048,576 bytes beside its own.
 pub(crate) fn list_rows<R: RowSource, S: Sink>(
     alloc: Global,
     form: ListForm,

@@ -1,14 +1,13 @@
-use crate::capture::{CaptureListing, Viewing, run_list_capture, run_show_capture};
-use crate::captured::Picking;
+use crate::capture::{CaptureListing, CaptureView, run_list_capture, run_show_capture};
+use crate::captured::CaptureOptions;
 use crate::decode::{Decoding, run_decode};
 use crate::fault::ReceiverFault;
-use crate::form::ListForm;
 use crate::hear::{Hearing, run_hear};
 use crate::repair::Repairing;
 use crate::show::{Showing, run_show};
 use crate::words::{
-    ADDRESS, BAD_ROWS, BAD_TEXT, CAPTURE, DECODE, DECODE_SHAPE, HEAR, HEAR_SHAPE, NTH,
-    RECEIVER_COMMANDS, REPAIR, SHOW, SHOW_SHAPE, wanted_form, wanted_view,
+    ADDRESS, BAD_ROWS, BAD_TEXT, CAPTURE, DECODE, DECODE_COMMAND, HEAR, HEAR_COMMAND, NTH,
+    RECEIVER_COMMANDS, REPAIR, SHOW, SHOW_COMMAND, wanted_form, wanted_view,
 };
 use clap::error::ErrorKind;
 use clap::{ArgMatches, Error};
@@ -16,8 +15,9 @@ use pocsag_capture::{CaptureFault, Polarity, Reception, ReceptionStats};
 use pocsag_decode::{DecodeFault, Repaired};
 use pocsag_pager::PagerFault;
 use pocsag_shell::{
-    Call, Context, ErrorStream, FileFault, Group, KEPT_BYTES, Loaded, MemoryStreams, Names,
-    PAGES_READ, Role, Shape, TX, Tables, command, is_kept, load_file, path_of, print_numbers,
+    Call, CommandSpec, Context, ErrorStream, FileFault, Group, KEPT_BYTES, LoadedFile,
+    MemoryStreams, Names, PAGES_READ, Role, TX, Tables, command, is_kept, load_file, path_of,
+    print_numbers,
 };
 use pocsag_words::{Sink, Source};
 use std::alloc::{AllocError, Global};
@@ -28,12 +28,12 @@ pub struct Receiver;
 
 // What is asked of a transmission, and what is reported of it with `--verbose`.
 #[derive(Drop)]
-enum Receiving {
+enum Request {
     Decode(Decoding),
     Hear(Hearing),
     Show(Showing),
     ListCapture(CaptureListing),
-    ShowCapture(Viewing),
+    ShowCapture(CaptureView),
 }
 
 impl Group for Receiver {
@@ -64,31 +64,37 @@ impl Group for Receiver {
 }
 
 // What the words ask of a transmission; nothing where they are those of no command, or name no rows or no functions.
-fn asked_of(alloc: Global, name: &str, found: &ArgMatches<'_>) -> Option<Receiving> {
+fn asked_of(alloc: Global, name: &str, found: &ArgMatches<'_>) -> Option<Request> {
     let repairing = Repairing::new(found.get_flag(REPAIR));
     let heard = Vec::new(alloc);
     match (name, found.get_flag(CAPTURE)) {
-        (DECODE, false) => Some(Receiving::Decode(Decoding {
+        (DECODE, false) => Some(Request::Decode(Decoding {
             form: wanted_form(found)?,
             repairing,
         })),
-        (DECODE, true) => Some(Receiving::ListCapture(CaptureListing {
-            picking: picking_of(wanted_form(found)?, None),
+        (DECODE, true) => Some(Request::ListCapture(CaptureListing {
+            picking: CaptureOptions {
+                only: None,
+                form: wanted_form(found)?,
+            },
             heard,
         })),
-        (HEAR, false) => Some(Receiving::Hear(Hearing {
+        (HEAR, false) => Some(Request::Hear(Hearing {
             form: wanted_form(found)?,
             address: found.get_one::<u32>(ADDRESS)?,
         })),
-        (HEAR, true) => Some(Receiving::ListCapture(CaptureListing {
-            picking: picking_of(wanted_form(found)?, Some(found.get_one::<u32>(ADDRESS)?)),
+        (HEAR, true) => Some(Request::ListCapture(CaptureListing {
+            picking: CaptureOptions {
+                only: Some(found.get_one::<u32>(ADDRESS)?),
+                form: wanted_form(found)?,
+            },
             heard,
         })),
-        (SHOW, false) => Some(Receiving::Show(Showing {
+        (SHOW, false) => Some(Request::Show(Showing {
             view: wanted_view(found)?,
             repairing,
         })),
-        (SHOW, true) => Some(Receiving::ShowCapture(Viewing {
+        (SHOW, true) => Some(Request::ShowCapture(CaptureView {
             view: wanted_view(found)?,
             nth: u64::from(found.get_one::<u32>(NTH).unwrap_or(1)),
             heard,
@@ -97,26 +103,12 @@ fn asked_of(alloc: Global, name: &str, found: &ArgMatches<'_>) -> Option<Receivi
     }
 }
 
-// Which pages of a capture are listed in a form, those of all addresses or of one.
-fn picking_of(form: ListForm, only: Option<u32>) -> Picking {
-    let (texts, is_json) = match form {
-        ListForm::Listing => ([false; 3], false),
-        ListForm::Texts(texts) => (texts, false),
-        ListForm::Json(texts) => (texts, true),
-    };
-    Picking {
-        only,
-        texts,
-        is_json,
-    }
-}
-
 // Why the words of a command name no rows or no functions; nothing where they are those of no command.
 fn refused_words(alloc: Global, name: &str) -> Option<Result<u8, Error>> {
     let refused = match name {
-        DECODE => words_error(alloc, &DECODE_SHAPE, "pocsag decode", BAD_TEXT),
-        HEAR => words_error(alloc, &HEAR_SHAPE, "pocsag hear", BAD_TEXT),
-        SHOW => words_error(alloc, &SHOW_SHAPE, "pocsag show", BAD_ROWS),
+        DECODE => words_error(alloc, &DECODE_COMMAND, "pocsag decode", BAD_TEXT),
+        HEAR => words_error(alloc, &HEAR_COMMAND, "pocsag hear", BAD_TEXT),
+        SHOW => words_error(alloc, &SHOW_COMMAND, "pocsag show", BAD_ROWS),
         _ => return None,
     };
     Some(Err(refused.unwrap_or_else(Error::from)))
@@ -124,16 +116,16 @@ fn refused_words(alloc: Global, name: &str) -> Option<Result<u8, Error>> {
 
 fn words_error(
     alloc: Global,
-    shape: &Shape,
+    spec: &CommandSpec,
     name: &str,
     text: &'static str,
 ) -> Result<Error, AllocError> {
-    let mut command = command(alloc, shape)?.bin_name(name)?;
+    let mut command = command(alloc, spec)?.bin_name(name)?;
     command.error(ErrorKind::ValueValidation, text)
 }
 
 // Does what is asked of a transmission. Returns the exit status.
-fn receive(context: Context<'_>, mut asked: Receiving, mut tx: Loaded, names: Names<'_>) -> u8 {
+fn receive(context: Context<'_>, mut asked: Request, mut tx: LoadedFile, names: Names<'_>) -> u8 {
     let likely = if context.diagnostics.is_asked() {
         likely_bytes(tx.lent().unwrap_or(&[]))
     } else {
@@ -170,23 +162,23 @@ fn receive(context: Context<'_>, mut asked: Receiving, mut tx: Loaded, names: Na
 // Carries out the command that was asked for.
 fn carry_out<O: Sink, E: Sink + Drop>(
     alloc: Global,
-    asked: &mut Receiving,
-    tx: &mut Loaded,
+    asked: &mut Request,
+    tx: &mut LoadedFile,
     out: &mut O,
     err: &mut ErrorStream<ReceiverFault, E>,
 ) -> u8 {
     match asked {
-        Receiving::Decode(decoding) => run_decode(alloc, decoding, tx, out, err),
-        Receiving::Hear(hearing) => run_hear(alloc, *hearing, tx, out, err),
-        Receiving::Show(showing) => run_show(alloc, showing, tx, out, err),
-        Receiving::ListCapture(capture_listing) => run_list_capture(
+        Request::Decode(decoding) => run_decode(alloc, decoding, tx, out, err),
+        Request::Hear(hearing) => run_hear(alloc, *hearing, tx, out, err),
+        Request::Show(showing) => run_show(alloc, showing, tx, out, err),
+        Request::ListCapture(capture_listing) => run_list_capture(
             alloc,
             capture_listing,
             tx,
             out,
             err,
         ),
-        Receiving::ShowCapture(viewing) => run_show_capture(alloc, viewing, tx, out, err),
+        Request::ShowCapture(viewing) => run_show_capture(alloc, viewing, tx, out, err),
     }
 }
 
@@ -207,12 +199,12 @@ fn likely_bytes(bytes: &[u8]) -> &'static str {
 }
 
 // With `--verbose` reports how a transmission was received; of a capture without one, what its bytes likely are.
-fn print_received(context: Context<'_>, asked: &Receiving, names: Names<'_>, likely: &'static str) {
+fn print_received(context: Context<'_>, asked: &Request, names: Names<'_>, likely: &'static str) {
     match asked {
-        Receiving::Hear(_) => {}
-        Receiving::Decode(decoding) => note_repair(context, names, decoding.repairing),
-        Receiving::Show(showing) => note_repair(context, names, showing.repairing),
-        Receiving::ListCapture(capture_listing) => {
+        Request::Hear(_) => {}
+        Request::Decode(decoding) => note_repair(context, names, decoding.repairing),
+        Request::Show(showing) => note_repair(context, names, showing.repairing),
+        Request::ListCapture(capture_listing) => {
             let heard = capture_listing.heard.as_slice();
             if heard.is_empty() {
                 let place = names.place(Role::Transmission);
@@ -221,7 +213,7 @@ fn print_received(context: Context<'_>, asked: &Receiving, names: Names<'_>, lik
             }
             print_heard(context, 1, heard);
         }
-        Receiving::ShowCapture(viewing) => {
+        Request::ShowCapture(viewing) => {
             print_heard(context, viewing.nth, viewing.heard.as_slice());
         }
     }
@@ -232,7 +224,7 @@ fn print_received(context: Context<'_>, asked: &Receiving, names: Names<'_>, lik
 fn note_capture(
     context: Context<'_>,
     names: Names<'_>,
-    asked: &Receiving,
+    asked: &Request,
     fault: Option<ReceiverFault>,
 ) {
     match fault {
@@ -242,7 +234,7 @@ fn note_capture(
             ReceiverFault::File(FileFault::TooLarge)
             | ReceiverFault::Capture(CaptureFault::TooLarge),
         ) => context.diagnostics.refuse_large(Role::Transmission),
-        Some(_) => context.diagnostics.refuse(Role::Transmission),
+        Some(_) => context.diagnostics.note_refusal(Role::Transmission),
     }
     let is_short = match fault {
         Some(ReceiverFault::Transmission(DecodeFault::ShortPreamble)) => true,
@@ -250,8 +242,8 @@ fn note_capture(
         _ => false,
     };
     let reads_damage = match asked {
-        Receiving::Decode(decoding) => decoding.repairing.is_asked,
-        Receiving::Hear(_) => true,
+        Request::Decode(decoding) => decoding.repairing.is_asked,
+        Request::Hear(_) => true,
         _ => false,
     };
     if is_short && reads_damage {

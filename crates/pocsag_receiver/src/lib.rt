@@ -12,8 +12,8 @@ mod repair;
 mod show;
 mod words;
 
-pub use capture::{CaptureListing, Viewing, run_list_capture, run_show_capture};
-pub use captured::{Mark, Picking};
+pub use capture::{CaptureListing, CaptureView, run_list_capture, run_show_capture};
+pub use captured::{CaptureOptions, PageOrigin};
 pub use decode::{Decoding, run_decode};
 pub use fault::ReceiverFault;
 pub use form::ListForm;

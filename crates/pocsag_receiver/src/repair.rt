@@ -28,7 +28,7 @@ impl Repairing {
 // Nothing was corrected.
 const NOTHING: Repaired = Repaired { words: 0, bits: 0 };
 
-/// Repairs each word of a transmission, where that is asked for, and answers how much was corrected.
+/// Repairs each word of a transmission, if that is asked for, and returns how much was corrected.
 pub(crate) fn repair_asked(repair: bool, bytes: &mut [u8]) -> Repaired
     ensures read { AreReadOf bytes.old repair bytes.new }
     ensures counted { Counts result bytes.old bytes.new }

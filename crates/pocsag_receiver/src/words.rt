@@ -2,7 +2,7 @@
 
 use crate::form::ListForm;
 use clap::ArgMatches;
-use pocsag_shell::{Content, FLAG, Given, LineWord, PLACE, SVG, Shape, TX_PLACE};
+use pocsag_shell::{ArgForm, ArgSpec, ArgType, CommandSpec, FLAG, PLACE, SVG, TX_PLACE};
 use pocsag_show::{Rows, View};
 
 pub(crate) const DECODE: &str = "decode";
@@ -72,14 +72,14 @@ pub(crate) const BAD_TEXT: &str = "\
 invalid value for '--text LIST': the functions are 0, 1 and 2, with commas
 between them, as in 0,1,2 or 1";
 
-const ADDRESS_PLACE: LineWord = LineWord {
+const ADDRESS_PLACE: ArgSpec = ArgSpec {
     id: ADDRESS,
     help: "The pager's address, 0 to 2097151",
-    content: Content::Number,
+    content: ArgType::Number,
     ..PLACE
 };
 
-const REPAIR_FLAG: LineWord = LineWord {
+const REPAIR_FLAG: ArgSpec = ArgSpec {
     id: REPAIR,
     help: "\
 Corrects up to two wrong bits in each word before it is
@@ -88,7 +88,7 @@ read, for every address; --verbose tells how many",
     ..FLAG
 };
 
-const CAPTURE_FLAG: LineWord = LineWord {
+const CAPTURE_FLAG: ArgSpec = ArgSpec {
     id: CAPTURE,
     help: "\
 Reads a capture: bits off the air, at any offset and in
@@ -96,54 +96,54 @@ either polarity, with noise; each word is repaired",
     ..FLAG
 };
 
-const AS_JSON_FLAG: LineWord = LineWord {
+const AS_JSON_FLAG: ArgSpec = ArgSpec {
     id: AS_JSON,
     help: "Prints each page as one line of JSON",
     ..FLAG
 };
 
-const TEXT_OPTION: LineWord = LineWord {
+const TEXT_OPTION: ArgSpec = ArgSpec {
     id: TEXT,
     help: "\
 Reads the messages of these functions, of 0, 1 and 2
 with commas between, as alphanumeric text",
-    given: Given::Option("LIST", &[]),
+    given: ArgForm::Option("LIST", &[]),
     ..FLAG
 };
 
-const NTH_OPTION: LineWord = LineWord {
+const NTH_OPTION: ArgSpec = ArgSpec {
     id: NTH,
     help: "\
 Shows this transmission of the capture, counted from 1;
 without it the first",
-    given: Given::Option("N", &[]),
-    content: Content::Number,
+    given: ArgForm::Option("N", &[]),
+    content: ArgType::Number,
     needs: &[CAPTURE],
     ..FLAG
 };
 
-const SVG_FLAG: LineWord = LineWord {
+const SVG_FLAG: ArgSpec = ArgSpec {
     id: SVG,
     help: "Draws the transmission as an SVG picture",
     ..FLAG
 };
 
-const LIST_FLAG: LineWord = LineWord {
+const LIST_FLAG: ArgSpec = ArgSpec {
     id: LIST,
     help: "Lists where each page is, as CSV",
     excludes: &[SVG],
     ..FLAG
 };
 
-const ROWS_OPTION: LineWord = LineWord {
+const ROWS_OPTION: ArgSpec = ArgSpec {
     id: ROWS,
     help: "Shows these batches alone, counted from 1",
-    given: Given::Option("A-B", &[]),
+    given: ArgForm::Option("A-B", &[]),
     excludes: &[LIST],
     ..FLAG
 };
 
-pub(crate) const SHOW_SHAPE: Shape = Shape {
+pub(crate) const SHOW_COMMAND: CommandSpec = CommandSpec {
     name: SHOW,
     about: "Shows what a transmission looks like, codeword by codeword",
     manual: Some(SHOW_MANUAL),
@@ -158,7 +158,7 @@ pub(crate) const SHOW_SHAPE: Shape = Shape {
     ],
 };
 
-pub(crate) const DECODE_SHAPE: Shape = Shape {
+pub(crate) const DECODE_COMMAND: CommandSpec = CommandSpec {
     name: DECODE,
     about: "Lists the pages of a transmission",
     manual: Some(CAPTURE_MANUAL),
@@ -171,7 +171,7 @@ pub(crate) const DECODE_SHAPE: Shape = Shape {
     ],
 };
 
-pub(crate) const HEAR_SHAPE: Shape = Shape {
+pub(crate) const HEAR_COMMAND: CommandSpec = CommandSpec {
     name: HEAR,
     about: "Lists what one pager shows, past two wrong bits in each codeword",
     manual: Some(CAPTURE_MANUAL),
@@ -185,7 +185,7 @@ pub(crate) const HEAR_SHAPE: Shape = Shape {
 };
 
 // The commands in the order of help.
-pub(crate) const RECEIVER_COMMANDS: &[Shape] = &[DECODE_SHAPE, HEAR_SHAPE, SHOW_SHAPE];
+pub(crate) const RECEIVER_COMMANDS: &[CommandSpec] = &[DECODE_COMMAND, HEAR_COMMAND, SHOW_COMMAND];
 
 // The number of decimal digits alone.
 fn number_of(word: &str) -> Option<u64> {

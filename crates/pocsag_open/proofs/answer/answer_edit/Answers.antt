@@ -1,13 +1,7 @@
-use Rattle.std.proofs.Common.{inl, inr, length, refl}
-use Rattle.csv.specs.Records.{fields_of}
-use Rattle.pocsag_journal.proofs.Moments.{named}
-use Rattle.pocsag_open.specs.Answers.{pages_answer}
-use Rattle.pocsag_open.specs.Replies.{IsEditReply}
-use Rattle.pocsag_open.specs.Survival.{ReadsOrReplied, untold}
+use Rattle.pocsag_open.proofs.Prelude.{inl, inr, length, refl, fields_of, named, pages_answer, IsEditReply, ReadsOrReplied, untold, LeavesOnly}
 use Rattle.pocsag_open.proofs.Fronts.{if_err}
 use Rattle.pocsag_open.proofs.Survival.{cut_due, either_read, on_err}
 use Rattle.pocsag_open.proofs.Printed.{told_more}
-use Rattle.pocsag_journal.specs.Moments.{LeavesOnly}
 use Rattle.pocsag_open.proofs.answer.answer_edit.Goals.{After-keep}
 use Rattle.pocsag_open.proofs.answer.answer_edit.Goals as goal
 

@@ -1,17 +1,8 @@
-use Rattle.std.proofs.Common.{◌<◌, ◌^◌, [], ◌∷◌, arith, rules, refl, subst, sym}
-use Rattle.csv.specs.Records.{fields_of}
-use Rattle.pocsag_journal.specs.Journals.{IsLine}
-use Rattle.pocsag_words.specs.Devices.{HasFailed}
-use Rattle.pocsag_journal.proofs.LineLengths.{line_length}
+use Rattle.pocsag_open.proofs.Prelude.{◌<◌, ◌^◌, [], ◌∷◌, arith, rules, refl, subst, sym, fields_of, IsLine, HasFailed, line_length, named, HasFailedOutput, placed_plan, front_refused, front_sent, FrontRepliesTo, ReadsOrReplied, untold, LeavesOnly}
 use Rattle.pocsag_open.proofs.Ends.{not_kept, not_told, sent_line}
-use Rattle.pocsag_journal.proofs.Moments.{named}
-use Rattle.pocsag_open.specs.Plans.{HasFailedOutput, placed_plan}
-use Rattle.pocsag_open.specs.Replies.{front_refused, front_sent}
-use Rattle.pocsag_open.specs.Survival.{FrontRepliesTo, ReadsOrReplied, untold}
 use Rattle.pocsag_open.proofs.Fronts.{front_edit, front_placed, front_read, front_read_placed, if_err, if_ok}
 use Rattle.pocsag_open.proofs.Survival.{cut_due, on_err}
 use Rattle.pocsag_open.proofs.Printed.{told_this}
-use Rattle.pocsag_journal.specs.Moments.{LeavesOnly}
 use Rattle.pocsag_open.proofs.front.answer_front.Goals.{After-keep}
 use Rattle.pocsag_open.proofs.front.answer_front.Goals as goal
 

@@ -1,5 +1,4 @@
-use Rattle.std.proofs.Common.{inl, [], ◌∷◌, ◌++◌, ◌∙◌, ap, append-nil, List, refl, sym}
-use Rattle.pocsag_open.specs.Plans.{failed_plan, PlacementResult}
+use Rattle.pocsag_open.proofs.Prelude.{inl, [], ◌∷◌, ◌++◌, ◌∙◌, ap, append-nil, List, refl, sym, failed_plan, PlacementResult}
 use Rattle.pocsag_open.proofs.front.place_front.Goals as goal
 
 pub returns-in_default-clause-explained : goal.returns-in_default-clause-explained

@@ -1,6 +1,4 @@
-use Rattle.std.proofs.Common.{inl, [], ◌∷◌, ◌∙◌, append-nil, refl, subst, sym}
-use Rattle.pocsag_journal.specs.declared.refusal.UndoneFault.{UndoneFault}
-use Rattle.pocsag_open.specs.Plans.{ExplainsFrontUndone, failed_plan}
+use Rattle.pocsag_open.proofs.Prelude.{inl, [], ◌∷◌, ◌∙◌, append-nil, refl, subst, sym, UndoneFault, ExplainsFrontUndone, failed_plan}
 use Rattle.pocsag_open.proofs.Plans.{all_held, explains_front, unsent}
 use Rattle.pocsag_open.proofs.front.send_front.Goals as goal
 

@@ -1,17 +1,9 @@
-use Rattle.std.proofs.Common.{◌≡◌, ◌⊎◌, ◌∙◌, ◌++◌, inl, inr, ℕ, refl, rules, subst}
-use Rattle.std.specs.Prelude.{option_map}
-use Rattle.pocsag_words.specs.Devices.{HasFailed}
-use Rattle.pocsag_journal.specs.Journals.{journal_limit}
-use Rattle.pocsag_journal.specs.Views.{IsHeld, disk_of}
-use Rattle.pocsag_open.specs.Ends.{AreCountless, HasGivenUp}
-use Rattle.pocsag_open.specs.KeptRounds.{HasFileFailed, HasPrintedRead, ReadsKept, begun, not_begun, read_text}
-use Rattle.pocsag_open.specs.Plans.{HasFailedOutput}
+use Rattle.pocsag_open.proofs.Prelude.{◌≡◌, ◌⊎◌, ◌∙◌, ◌++◌, inl, inr, ℕ, refl, rules, subst, option_map, HasFailed, journal_limit, IsHeld, disk_of, AreCountless, HasGivenUp, HasFileFailed, HasPrintedRead, ReadsKept, not_begun, read_text, HasFailedOutput, FileFault, LeavesOnly}
+use Rattle.pocsag_open.specs.KeptRounds.{begun}
 use Rattle.pocsag_open.specs.declared.kept_streams.TornLine.TheVariants.{CutOff}
-use Rattle.pocsag_shell.specs.declared.fault.FileFault.{FileFault}
 use Rattle.pocsag_open.proofs.Ends.{wider}
 use Rattle.pocsag_open.proofs.ReadJournals.{printed_or_failed}
 use Rattle.pocsag_open.proofs.KeptRounds.{anew_explains, left_anew, left_read, of_disk, only_anew, only_kept}
-use Rattle.pocsag_journal.specs.Moments.{LeavesOnly}
 use Rattle.pocsag_open.proofs.kept_streams.open_kept.Goals.{After-run_open_kept, In_ok-compact}
 use Rattle.pocsag_open.proofs.kept_streams.open_kept.Goals as goal
 

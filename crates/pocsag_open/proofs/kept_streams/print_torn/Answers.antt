@@ -1,4 +1,4 @@
-use Rattle.std.proofs.Common.{arith}
+use Rattle.pocsag_open.proofs.Prelude.{arith}
 use Rattle.std.proofs.lemmas.Bool.Decides.{nat_tests}
 use Rattle.pocsag_open.proofs.ReadJournals.{torn_line}
 use Rattle.pocsag_open.proofs.kept_streams.print_torn.Goals as goal

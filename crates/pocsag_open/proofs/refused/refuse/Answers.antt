@@ -1,9 +1,7 @@
-use Rattle.std.proofs.Common.{◌≡◌, rules, sym, subst}
+use Rattle.pocsag_open.proofs.Prelude.{◌≡◌, rules, sym, subst, Delivers, refusal_answer}
 use Rattle.pocsag_pages.specs.declared.fault.FieldFault.TheVariants as field
 use Rattle.pocsag_journal.specs.declared.refusal.Refusal.{Refusal}
 use Rattle.pocsag_journal.specs.declared.refusal.Refusal.TheVariants as refusal
-use Rattle.pocsag_words.specs.Devices.{Delivers}
-use Rattle.pocsag_open.specs.Answers.{refusal_answer}
 use Rattle.pocsag_open.proofs.refused.refuse.Goals as goal
 
 pub returns-in-Field-BadCharacter-clause-printed : goal.returns-in-Field-BadCharacter-clause-printed

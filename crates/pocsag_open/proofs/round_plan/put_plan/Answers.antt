@@ -1,5 +1,4 @@
-use Rattle.std.proofs.Common.{inl, [], ◌∷◌, ◌++◌, ◌∙◌, ap, List, refl}
-use Rattle.pocsag_open.specs.Plans.{failed_plan, PlacementResult}
+use Rattle.pocsag_open.proofs.Prelude.{inl, [], ◌∷◌, ◌++◌, ◌∙◌, ap, List, refl, failed_plan, PlacementResult}
 use Rattle.pocsag_open.proofs.round_plan.put_plan.Goals as goal
 
 pub returns-in-Err-put-clause-unplaced : goal.returns-in-Err-put-clause-unplaced

@@ -1,6 +1,4 @@
-use Rattle.std.proofs.Common.{inl, [], ◌∷◌, refl, subst, sym}
-use Rattle.pocsag_open.specs.Plans.{ExplainsUndone, failed_plan}
-use Rattle.pocsag_journal.specs.declared.refusal.UndoneFault.{UndoneFault}
+use Rattle.pocsag_open.proofs.Prelude.{inl, [], ◌∷◌, refl, subst, sym, ExplainsUndone, failed_plan, UndoneFault}
 use Rattle.pocsag_open.proofs.Plans.{all_held, explains, unsent}
 use Rattle.pocsag_open.proofs.round_plan.send_plan.Goals as goal
 

@@ -1,18 +1,9 @@
-use Rattle.std.proofs.Common.{inl, ◌≡◌, List, ℕ, [], ◌∷◌, ◌++◌, length, Err, refl, ap, ◌∙◌, append_assoc, append-nil, sym}
-use Rattle.std.specs.Prelude.{None}
-use Rattle.csv.specs.Records.{fields_of}
-use Rattle.pocsag_journal.proofs.Moments.{named, started}
-use Rattle.pocsag_journal.specs.Moments.{LeavesOnly}
+use Rattle.pocsag_open.proofs.Prelude.{inl, ◌≡◌, List, ℕ, [], ◌∷◌, ◌++◌, length, refl, ap, ◌∙◌, append_assoc, append-nil, sym, None, fields_of, named, started, LeavesOnly, pages_answer, HasFailedOutput, placed_plan, IsEditReply, listed, noted, planned, read, refused, unread, FrontRepliesAndPlaces, FrontRepliesTo, ReadsOrReplied, RepliesAndPlaces, RepliesTo, IsLine, read_line}
+use Rattle.std.proofs.Common.{Err}
 use Rattle.pocsag_decode.specs.PageFiles.{page_file}
-use Rattle.pocsag_open.specs.Answers.{pages_answer}
-use Rattle.pocsag_open.specs.Plans.{HasFailedOutput, placed_plan}
-use Rattle.pocsag_open.specs.Replies.{IsEditReply, listed, noted, planned, read, refused, unread}
-use Rattle.pocsag_open.specs.Survival.{FrontRepliesAndPlaces, FrontRepliesTo, ReadsOrReplied, RepliesAndPlaces, RepliesTo}
 use Rattle.pocsag_open.proofs.Sessions.{edit_reply, front_reply, list_due, other_none, plan_due}
 use Rattle.pocsag_open.proofs.Survival.{cut_as, cut_due, cut_front, cut_last, on_err, read_as}
 use Rattle.pocsag_open.proofs.Printed.{on_ok, told_as, told_like, told_once, told_this}
-use Rattle.pocsag_journal.specs.Journals.{IsLine}
-use Rattle.pocsag_journal.proofs.FieldLines.{read_line}
 use Rattle.pocsag_open.proofs.Ends.{for_fault, not_answered, text_feedless}
 use Rattle.pocsag_open.proofs.session.answer_line.Goals.{Start}
 use Rattle.pocsag_open.proofs.session.answer_line.Goals as goal

@@ -1,10 +1,4 @@
-use Rattle.std.proofs.Common.{[], List, ℕ, ◌++◌, ap, arith, refl, sym, append-nil, rules}
-use Rattle.pocsag_journal.specs.Moments.{LeavesOnly}
-use Rattle.pocsag_journal.proofs.Moments.{started, then_on}
-use Rattle.pocsag_open.specs.Ahead.{ahead_of}
-use Rattle.pocsag_open.specs.Plans.{HasFailedOutput}
-use Rattle.pocsag_open.specs.Replies.{too_long}
-use Rattle.pocsag_open.specs.Survival.{ReadsAfterLines}
+use Rattle.pocsag_open.proofs.Prelude.{[], List, ℕ, ◌++◌, ap, arith, refl, sym, append-nil, rules, LeavesOnly, started, then_on, ahead_of, HasFailedOutput, too_long, ReadsAfterLines}
 use Rattle.pocsag_open.proofs.Survival.{Answered, all_answered, cut_due, none_answered, one_answered, read_next, read_now, survives_between, survives_within}
 use Rattle.pocsag_open.proofs.Printed.{told_once}
 use Rattle.pocsag_open.proofs.session.run_open_kept.Goals.{After-compact_if_due, Start, in-TooLong+in_ok-refuse-in-TooLong, in-Kept+in_ok-answer_line-in-Kept}

@@ -1,9 +1,4 @@
-use Rattle.std.proofs.Common.{◌≡◌, ◌+◌, ◌≤◌, ◌++◌, length}
-use Rattle.std.specs.Prelude.{None}
-use Rattle.pocsag_journal.specs.Moments.{LeavesOnly}
-use Rattle.pocsag_open.specs.Ahead.{ahead_of}
-use Rattle.pocsag_open.specs.Plans.{HasFailedOutput}
-use Rattle.pocsag_open.specs.Survival.{ReadsAfterLines}
+use Rattle.pocsag_open.proofs.Prelude.{◌≡◌, ◌+◌, ◌≤◌, ◌++◌, length, None, LeavesOnly, ahead_of, HasFailedOutput, ReadsAfterLines}
 use Rattle.pocsag_open.proofs.Survival.{Answered}
 use Rattle.pocsag_open.proofs.session.run_open_kept.Given as goal
 

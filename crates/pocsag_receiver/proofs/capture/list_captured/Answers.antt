@@ -1,6 +1,4 @@
-use Rattle.std.proofs.Common.{Ok, Err, inl, refl}
-use Rattle.std.proofs.lemmas.Result.{err_from_is_err_and}
-use Rattle.pocsag_receiver.specs.Faults.{fault_of_list}
+use Rattle.pocsag_receiver.proofs.Prelude.{Ok, Err, inl, refl, err_from_is_err_and, fault_of_list}
 use Rattle.pocsag_receiver.proofs.CapturedTexts.{captured_streamed}
 use Rattle.pocsag_receiver.proofs.Received.{passed_on}
 use Rattle.pocsag_receiver.proofs.capture.list_captured.Goals as goal
@@ -18,7 +16,7 @@ returns-in_err-listed g c =
     let last = c.finish.ensures.ends in
     record {
       streams = rw (p.1, p.2) (captured_streamed g.O.Sink c.args.capture.now c.args.capture_listing.now.picking _ c.in_ok-found.found.items c.finish.result.items
-          c.form.result _ _ c.args.out.now c.list_rows-listed.new.sink (Err (fault_of_list c.in_err-listed.field-0.0)) few c.in_ok-judge_address.ensures.ok found c.as_slice.ensures.value c.form.ensures c.in-Ok.ensures.all
+          _ _ c.args.out.now c.list_rows-listed.new.sink (Err (fault_of_list c.in_err-listed.field-0.0)) few c.in_ok-judge_address.ensures.ok found c.as_slice.ensures.value c.in-Ok.ensures.all
           c.in_err-listed.ensures.lists last.0 last.1);
     }
 
@@ -28,7 +26,7 @@ returns g c =
     let few = passed_on _ _ _ _ _ c.map_err.ensures.cases c.map_err.ensures.variant c.in_ok-found.was c.receptions_in.ensures.few in
     let last = c.finish.ensures.ends in
     record {
-      streams = captured_streamed g.O.Sink c.args.capture.now c.args.capture_listing.now.picking _ c.in_ok-found.found.items c.finish.result.items c.form.result _
-          _ c.args.out.now c.list_rows-listed.new.sink (Ok 0) few c.in_ok-judge_address.ensures.ok found c.as_slice.ensures.value c.form.ensures c.in-Ok.ensures.all c.in_ok-listed.ensures.lists last.0
+      streams = captured_streamed g.O.Sink c.args.capture.now c.args.capture_listing.now.picking _ c.in_ok-found.found.items c.finish.result.items _
+          _ c.args.out.now c.list_rows-listed.new.sink (Ok 0) few c.in_ok-judge_address.ensures.ok found c.as_slice.ensures.value c.in-Ok.ensures.all c.in_ok-listed.ensures.lists last.0
           last.1;
     }

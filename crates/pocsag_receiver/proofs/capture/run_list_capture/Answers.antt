@@ -1,5 +1,4 @@
-use Rattle.pocsag_shell.proofs.Readers.{ran_read, ran_unread}
-use Rattle.pocsag_receiver.specs.Works.{lists_capture}
+use Rattle.pocsag_receiver.proofs.Prelude.{ran_read, ran_unread, lists_capture}
 use Rattle.pocsag_receiver.proofs.CapturedTexts.{captured_sent, captured_whole}
 use Rattle.pocsag_receiver.proofs.capture.run_list_capture.Goals as goal
 

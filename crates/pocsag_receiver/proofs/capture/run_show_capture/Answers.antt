@@ -1,5 +1,4 @@
-use Rattle.pocsag_shell.proofs.Readers.{ran_read, ran_unread}
-use Rattle.pocsag_receiver.specs.Works.{shows_capture}
+use Rattle.pocsag_receiver.proofs.Prelude.{ran_read, ran_unread, shows_capture}
 use Rattle.pocsag_receiver.proofs.capture.run_show_capture.Goals as goal
 
 pub returns-in-Err : goal.returns-in-Err

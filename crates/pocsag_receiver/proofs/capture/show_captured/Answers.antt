@@ -1,8 +1,4 @@
-use Rattle.std.proofs.Common.{ℕ, List, subst}
-use Rattle.pocsag_shell.proofs.Readers.{streams_as}
-use Rattle.pocsag_shell.specs.Readers.{over_bytes}
-use Rattle.pocsag_receiver.specs.Views.{ExplainsShowing, IsViewed}
-use Rattle.pocsag_receiver.specs.Works.{shows_capture, views}
+use Rattle.pocsag_receiver.proofs.Prelude.{ℕ, List, subst, streams_as, over_bytes, ExplainsShowing, IsViewed, shows_capture, views}
 use Rattle.pocsag_receiver.proofs.CapturedTexts.{show_explained}
 use Rattle.pocsag_receiver.proofs.Received.{passed_on}
 use Rattle.pocsag_receiver.proofs.capture.show_captured.Goals as goal

@@ -1,13 +1,5 @@
-use Rattle.std.proofs.Common.{◌≡◌, All, Err, ap, inr, refl, subst, sym, ◌∙◌}
-use Rattle.std.proofs.lemmas.Result.{err_from_is_err_and}
-use Rattle.pocsag_pages.specs.Listable.{IsListable}
-use Rattle.pocsag_decode.specs.Listing.{listing}
+use Rattle.pocsag_receiver.proofs.Prelude.{◌≡◌, All, Err, ap, inr, refl, subst, sym, ◌∙◌, err_from_is_err_and, IsListable, listing, streams_as, over_bytes, fault_of_list, listed_in, lists, writing}
 use Rattle.pocsag_decode.specs.PageReaders.{pages_left}
-use Rattle.pocsag_shell.proofs.Readers.{streams_as}
-use Rattle.pocsag_shell.specs.Readers.{over_bytes}
-use Rattle.pocsag_receiver.specs.Faults.{fault_of_list}
-use Rattle.pocsag_receiver.specs.Forms.{listed_in}
-use Rattle.pocsag_receiver.specs.Works.{lists, writing}
 use Rattle.pocsag_receiver.specs.declared.form.ListForm.TheVariants as forms
 use Rattle.pocsag_receiver.proofs.Received.{passed_on}
 use Rattle.pocsag_receiver.proofs.Works.{unlisted}

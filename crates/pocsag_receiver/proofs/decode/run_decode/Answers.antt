@@ -1,5 +1,4 @@
-use Rattle.pocsag_shell.proofs.Readers.{ran_read, ran_unread}
-use Rattle.pocsag_receiver.specs.Works.{decodes}
+use Rattle.pocsag_receiver.proofs.Prelude.{ran_read, ran_unread, decodes}
 use Rattle.pocsag_receiver.proofs.Works.{decoded_restored, decoded_taken}
 use Rattle.pocsag_receiver.proofs.decode.run_decode.Goals as goal
 

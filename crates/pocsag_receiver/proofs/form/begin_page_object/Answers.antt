@@ -1,7 +1,5 @@
-use Rattle.std.proofs.Common.{sym, ap, ◌∙◌, subst, refl}
+use Rattle.pocsag_receiver.proofs.Prelude.{sym, ap, ◌∙◌, subst, refl, IsAscii, message_read}
 use Rattle.std.proofs.lemmas.Str.{IsUtf8-from_ascii}
-use Rattle.std.specs.Str.{IsAscii}
-use Rattle.pocsag_receiver.specs.Forms.{message_read}
 use Rattle.pocsag_receiver.proofs.Received.{passed_on}
 use Rattle.pocsag_receiver.proofs.form.begin_page_object.Goals as goal
 

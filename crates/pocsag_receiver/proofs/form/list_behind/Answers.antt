@@ -1,6 +1,4 @@
-use Rattle.std.proofs.Common.{◌≡◌, ◌∷◌, ◌++◌, [], Err, List, ℕ, ap, sym, ◌∙◌}
-use Rattle.std.proofs.lemmas.List.{append-nil}
-use Rattle.std.proofs.lemmas.Result.{err_from_is_err_and}
+use Rattle.pocsag_receiver.proofs.Prelude.{◌≡◌, ◌∷◌, ◌++◌, [], Err, List, ℕ, ap, sym, ◌∙◌, append-nil, err_from_is_err_and}
 use Rattle.pocsag_receiver.proofs.Streams.{lists_cut, lists_rest, lists_stopped, written_more, written_none}
 use Rattle.pocsag_receiver.proofs.form.list_behind.Goals as goal
 

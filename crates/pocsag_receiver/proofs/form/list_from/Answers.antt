@@ -1,6 +1,5 @@
 use Rattle.std.specs.Prelude.{Ok, Err}
-use Rattle.std.proofs.lemmas.Result.{err_from_is_err_and}
-use Rattle.pocsag_receiver.specs.Faults.{fault_of_list}
+use Rattle.pocsag_receiver.proofs.Prelude.{err_from_is_err_and, fault_of_list}
 use Rattle.pocsag_receiver.proofs.Streams.{rows_streamed}
 use Rattle.pocsag_receiver.proofs.form.list_from.Goals as goal
 

@@ -1,11 +1,4 @@
-use Rattle.std.proofs.Common.{◌≡◌, All, Err, List, ap, inr, subst, sym}
-use Rattle.std.proofs.lemmas.Result.{err_from_is_err_and}
-use Rattle.pocsag_pages.specs.declared.page.Page.{Page}
-use Rattle.pocsag_pages.specs.Listable.{IsListable}
-use Rattle.pocsag_decode.specs.Listing.{listing}
-use Rattle.pocsag_shell.specs.Runs.{IsStreamOf}
-use Rattle.pocsag_receiver.specs.Forms.{listed_in}
-use Rattle.pocsag_receiver.specs.Works.{writing}
+use Rattle.pocsag_receiver.proofs.Prelude.{◌≡◌, All, Err, List, ap, inr, subst, sym, err_from_is_err_and, Page, IsListable, listing, IsStreamOf, listed_in, writing}
 use Rattle.pocsag_receiver.specs.declared.form.ListForm.TheVariants as forms
 use Rattle.pocsag_receiver.proofs.Works.{unlisted}
 use Rattle.pocsag_receiver.proofs.form.list_in.Goals as goal

@@ -1,6 +1,4 @@
-use Rattle.std.proofs.Common.{◌≡◌, rules, inl, refl}
-use Rattle.std.proofs.lemmas.List.{append-nil}
-use Rattle.std.proofs.lemmas.Result.{err_from_is_err_and}
+use Rattle.pocsag_receiver.proofs.Prelude.{◌≡◌, rules, inl, refl, append-nil, err_from_is_err_and}
 use Rattle.pocsag_decode.specs.Lines.{text_in}
 use Rattle.pocsag_receiver.proofs.form.list_records.Goals as goal
 

@@ -1,4 +1,4 @@
-use Rattle.std.proofs.lemmas.Result.{IfOk-weaker}
+use Rattle.pocsag_receiver.proofs.Prelude.{IfOk-weaker}
 use Rattle.pocsag_receiver.proofs.Read.{data_is_ascii, numeric_is_ascii}
 use Rattle.pocsag_receiver.proofs.form.message_read.Goals as goal
 

@@ -1,4 +1,4 @@
-use Rattle.std.proofs.Common.{refl, append_assoc}
+use Rattle.pocsag_receiver.proofs.Prelude.{refl, append_assoc}
 use Rattle.pocsag_receiver.proofs.form.with_mark.Goals as goal
 
 pub returns-clause-marked : goal.returns-clause-marked

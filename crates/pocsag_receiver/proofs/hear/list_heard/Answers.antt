@@ -1,10 +1,5 @@
-use Rattle.std.proofs.Common.{inl, refl}
-use Rattle.std.proofs.lemmas.Result.{err_from_is_err_and}
-use Rattle.pocsag_shell.proofs.Readers.{streams_as}
+use Rattle.pocsag_receiver.proofs.Prelude.{inl, refl, err_from_is_err_and, streams_as, over_bytes, listed_in, hears, writing}
 use Rattle.pocsag_receiver.proofs.Received.{why_unheard}
-use Rattle.pocsag_shell.specs.Readers.{over_bytes}
-use Rattle.pocsag_receiver.specs.Forms.{listed_in}
-use Rattle.pocsag_receiver.specs.Works.{hears, writing}
 use Rattle.pocsag_receiver.proofs.hear.list_heard.Goals as goal
 
 pub returns-in_err-pages : goal.returns-in_err-pages

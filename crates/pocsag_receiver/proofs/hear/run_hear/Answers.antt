@@ -1,5 +1,4 @@
-use Rattle.pocsag_shell.proofs.Readers.{ran_read, ran_unread}
-use Rattle.pocsag_receiver.specs.Works.{hears}
+use Rattle.pocsag_receiver.proofs.Prelude.{ran_read, ran_unread, hears}
 use Rattle.pocsag_receiver.proofs.hear.run_hear.Goals as goal
 
 pub returns-in-Err : goal.returns-in-Err

@@ -1,4 +1,4 @@
-use Rattle.std.proofs.Common.{refl, sym}
+use Rattle.pocsag_receiver.proofs.Prelude.{refl, sym}
 use Rattle.pocsag_decode.proofs.Repairs.{nothing_differs}
 use Rattle.pocsag_receiver.proofs.repair.repair_asked.Goals as goal
 

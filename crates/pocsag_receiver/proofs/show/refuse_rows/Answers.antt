@@ -1,5 +1,4 @@
-use Rattle.std.proofs.Common.{◌≡◌, ◌/◌, ℕ, List, length, drop, ap, refl, sym, ◌∙◌, arith}
-use Rattle.pocsag_pages.specs.Bytes.{Sent, after_preamble, leading}
+use Rattle.pocsag_receiver.proofs.Prelude.{◌≡◌, ◌/◌, ℕ, List, length, drop, ap, refl, sym, ◌∙◌, arith, Sent, after_preamble, leading}
 use Rattle.pocsag_receiver.proofs.Received.{batches_long, passed_on}
 use Rattle.pocsag_receiver.proofs.show.refuse_rows.Goals as goal
 

@@ -1,5 +1,4 @@
-use Rattle.pocsag_shell.proofs.Readers.{ran_read, ran_unread}
-use Rattle.pocsag_receiver.specs.Works.{shows}
+use Rattle.pocsag_receiver.proofs.Prelude.{ran_read, ran_unread, shows}
 use Rattle.pocsag_receiver.proofs.Works.{shown_restored}
 use Rattle.pocsag_receiver.proofs.show.run_show.Goals as goal
 

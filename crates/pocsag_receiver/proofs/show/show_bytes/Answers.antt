@@ -1,17 +1,7 @@
-use Rattle.std.proofs.Common.{◌≡◌, ◌≢◌, ℕ, List, Err, ap, inl, inr, refl}
-use Rattle.std.proofs.lemmas.Result.{err_from_is_err_and}
-use Rattle.pocsag_words.specs.Devices.{HasFailed}
+use Rattle.pocsag_receiver.proofs.Prelude.{◌≡◌, ◌≢◌, ℕ, List, Err, ap, inl, inr, refl, err_from_is_err_and, HasFailed, over_bytes, IsStreamOf, Explains, ShowsLess, ShowsPart, view_text, View, fault_of_show, HasRows, views}
 use Rattle.pocsag_words.specs.declared.device.Sink.{Ghosts as Writer}
-use Rattle.pocsag_shell.specs.Readers.{over_bytes}
-use Rattle.pocsag_shell.specs.Runs.{IsStreamOf}
-use Rattle.pocsag_show.specs.Shows.{Explains, ShowsLess, ShowsPart}
-use Rattle.pocsag_show.specs.Views.{view_text}
 use Rattle.pocsag_show.specs.declared.fault.ShowFault.{ShowFault}
 use Rattle.pocsag_show.specs.declared.fault.ShowFault.TheVariants as showing
-use Rattle.pocsag_show.specs.declared.view.View.{View}
-use Rattle.pocsag_receiver.specs.Faults.{fault_of_show}
-use Rattle.pocsag_receiver.specs.Views.{HasRows}
-use Rattle.pocsag_receiver.specs.Works.{views}
 use Rattle.pocsag_receiver.proofs.show.show_bytes.Goals as goal
 
 unshown : {O : Type 0} (Out : Writer O) (out out' : O) (view : View) (bytes : List ℕ) (e : ShowFault) → HasRows view bytes → Explains bytes e

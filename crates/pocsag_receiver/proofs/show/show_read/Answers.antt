@@ -1,6 +1,4 @@
-use Rattle.pocsag_shell.proofs.Readers.{streams_as}
-use Rattle.pocsag_shell.specs.Readers.{over_bytes}
-use Rattle.pocsag_receiver.specs.Works.{shows, views}
+use Rattle.pocsag_receiver.proofs.Prelude.{streams_as, over_bytes, shows, views}
 use Rattle.pocsag_receiver.proofs.show.show_read.Goals as goal
 
 pub returns : goal.returns

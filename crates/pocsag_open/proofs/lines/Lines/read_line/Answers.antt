@@ -1,8 +1,5 @@
-use Rattle.std.proofs.Common.{◌≡◌, ◌≢◌, [], ◌∷◌, ◌++◌, arith, rules, subst}
-use Rattle.std.proofs.lemmas.List.{length_push}
-use Rattle.csv.specs.Machine.{line_feed}
+use Rattle.pocsag_open.proofs.Prelude.{◌≡◌, ◌≢◌, [], ◌∷◌, ◌++◌, arith, rules, subst, length_push, line_feed, IsSeen}
 use Rattle.pocsag_journal.proofs.Prefixes.{all_more}
-use Rattle.pocsag_open.specs.Lines.{IsSeen}
 use Rattle.pocsag_open.specs.declared.lines.LineRead.TheVariants as found
 use Rattle.pocsag_open.proofs.SeenLines.{byte_passes, seen_all, seen_kept, seen_long, seen_more}
 use Rattle.pocsag_open.proofs.lines.Lines.read_line.Goals as goal

@@ -1,6 +1,4 @@
-use Rattle.std.proofs.Common.{◌≡◌, ◌≤◌, List, ℕ, ◌++◌, length}
-use Rattle.pocsag_journal.specs.LineTexts.{HasNoLineFeed}
-use Rattle.pocsag_open.specs.Lines.{IsSeen, between_places, line_limit}
+use Rattle.pocsag_open.proofs.Prelude.{◌≡◌, ◌≤◌, List, ℕ, ◌++◌, length, HasNoLineFeed, IsSeen, between_places, line_limit}
 use Rattle.pocsag_open.proofs.lines.Lines.read_line.Given as goal
 
 -- the source has not failed, and what was seen of the line and what is left are what was there

@@ -1,4 +1,4 @@
-use Rattle.std.proofs.Common.{[], arith, refl}
+use Rattle.pocsag_receiver.proofs.Prelude.{[], arith, refl}
 use Rattle.pocsag_receiver.proofs.CaptureRows.{ended}
 use Rattle.pocsag_receiver.proofs.captured.CaptureRows.end.Goals as goal
 

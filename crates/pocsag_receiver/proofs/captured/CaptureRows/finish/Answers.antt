@@ -1,6 +1,4 @@
-use Rattle.std.proofs.Common.{◌≡◌, ◌∙◌, Option, Some, None, [], refl, subst, sym}
-use Rattle.pocsag_receiver.specs.Rows.{AreRowsLeft}
-use Rattle.pocsag_receiver.specs.declared.captured.Begun.{Begun}
+use Rattle.pocsag_receiver.proofs.Prelude.{◌≡◌, ◌∙◌, Option, Some, None, [], refl, subst, sym, AreRowsLeft, Begun}
 use Rattle.pocsag_receiver.proofs.CaptureRows.{behind_apart, left_of}
 use Rattle.pocsag_receiver.proofs.captured.CaptureRows.finish.Goals as goal
 

@@ -1,7 +1,4 @@
-use Rattle.std.proofs.Common.{◌-◌, List, length}
-use Rattle.pocsag_capture.specs.declared.reception.ReceptionStats.{ReceptionStats}
-use Rattle.pocsag_receiver.specs.Rows.{AreRowsLeft, CanHandOut}
-use Rattle.pocsag_receiver.specs.declared.form.Row.{Row}
+use Rattle.pocsag_receiver.proofs.Prelude.{◌-◌, List, length, ReceptionStats, AreRowsLeft, CanHandOut, Row}
 use Rattle.pocsag_receiver.proofs.captured.CaptureRows.finish.Given as goal
 
 abbrev pub invariant-loop-begun : goal.invariant-loop-begun

@@ -1,4 +1,4 @@
-use Rattle.std.proofs.Common.{refl}
+use Rattle.pocsag_receiver.proofs.Prelude.{refl}
 use Rattle.pocsag_receiver.proofs.CaptureRows.{all_from}
 use Rattle.pocsag_receiver.proofs.captured.CaptureRows.new.Goals as goal
 

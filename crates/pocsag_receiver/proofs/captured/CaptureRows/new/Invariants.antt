@@ -1,4 +1,4 @@
-use Rattle.std.proofs.Common.{◌≡◌, length}
+use Rattle.pocsag_receiver.proofs.Prelude.{◌≡◌, length}
 use Rattle.pocsag_receiver.proofs.captured.CaptureRows.new.Given as goal
 
 abbrev pub invariant-loop-reception : goal.invariant-loop-reception

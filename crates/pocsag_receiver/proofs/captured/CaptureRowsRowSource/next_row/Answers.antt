@@ -1,6 +1,4 @@
-use Rattle.std.proofs.Common.{◌≡◌, ◌<◌, ◌∙◌, Some, length, ap, arith, refl, sym}
-use Rattle.pocsag_receiver.specs.Rows.{most_behind}
-use Rattle.pocsag_receiver.specs.declared.captured.Begun.{Begun}
+use Rattle.pocsag_receiver.proofs.Prelude.{◌≡◌, ◌<◌, ◌∙◌, Some, length, ap, arith, refl, sym, most_behind, Begun}
 use Rattle.pocsag_receiver.proofs.CaptureRows.{behind_apart, fewer_behind, left_of, none_handed, picked_handed, unpicked_handed}
 use Rattle.pocsag_receiver.proofs.captured.CaptureRowsRowSource.next_row.Goals as goal
 

@@ -1,7 +1,4 @@
-use Rattle.std.proofs.Common.{◌≤◌, List}
-use Rattle.pocsag_capture.specs.declared.reception.ReceptionStats.{ReceptionStats}
-use Rattle.pocsag_receiver.specs.Rows.{AreRowsLeft, CanHandOut, most_rows}
-use Rattle.pocsag_receiver.specs.declared.form.Row.{Row}
+use Rattle.pocsag_receiver.proofs.Prelude.{◌≤◌, List, ReceptionStats, AreRowsLeft, CanHandOut, most_rows, Row}
 use Rattle.pocsag_receiver.proofs.captured.CaptureRowsRowSource.next_row.Given as goal
 
 abbrev pub invariant-loop-begun : goal.invariant-loop-begun

@@ -1,6 +1,4 @@
-use Rattle.std.proofs.Common.{All, subst}
-use Rattle.std.proofs.lemmas.List.Elements.{All-tail}
-use Rattle.pocsag_pages.specs.Listable.{IsListable}
+use Rattle.pocsag_receiver.proofs.Prelude.{All, subst, All-tail, IsListable}
 use Rattle.pocsag_receiver.proofs.form.AnyRowSource.next_row.Goals as goal
 
 pub returns-in-Some-clause-can : goal.returns-in-Some-clause-can

@@ -1,7 +1,6 @@
-use Rattle.std.proofs.Common.{rules, ◌≡◌, ◌∷◌, ◌++◌, [], List, ℕ, ap, ap₂, ◌∙◌, append_assoc}
+use Rattle.pocsag_receiver.proofs.Prelude.{rules, ◌≡◌, ◌∷◌, ◌++◌, [], List, ℕ, ap, ap₂, ◌∙◌, append_assoc, members_of}
 use Rattle.json.specs.Print.{print}
 use Rattle.json.specs.Token.{Token}
-use Rattle.pocsag_receiver.specs.CapturedForms.{members_of}
 use Rattle.pocsag_receiver.proofs.form.VecU8Waiting.put.Goals as goal
 
 pub returns-clause-text : goal.returns-clause-text
