@@ -1,9 +1,7 @@
 -- No call over bytes reports that a decoder or a pager has stopped, nor that bytes are too many to be counted.
-use Rattle.std.proofs.Common.{◌≡◌, ◌≢◌, ◌⊎◌, ℕ, ◌==◌, ◌%◌, Bool, true, false, not, List, Option, Some, None, nat_lt, inl, inr}
-use Rattle.std.specs.Prelude.{if◌then◌else◌, length}
+use Rattle.pocsag_c.proofs.Prelude.{◌≡◌, ◌≢◌, ◌⊎◌, ℕ, ◌==◌, ◌%◌, Bool, true, false, not, List, Option, Some, None, nat_lt, inl, inr, if◌then◌else◌, after_preamble, leading, is_reserved, last_address}
+use Rattle.std.specs.Prelude.{length}
 use Rattle.std.specs.Option.{option_or}
-use Rattle.pocsag_pages.specs.Bytes.{after_preamble, leading}
-use Rattle.pocsag_pages.specs.Pages.{is_reserved, last_address}
 use Rattle.pocsag_decode.specs.Faults.{HasFault, HasFaultOfEnd, HasFaultThere}
 use Rattle.pocsag_decode.specs.Places.{IsBad, bad_word, no_sync, orphan}
 use Rattle.pocsag_decode.specs.declared.fault.DecodeFault.{DecodeFault}

@@ -1,27 +1,29 @@
 -- What is reported of a front, and of the pages behind it.
-use Rattle.std.proofs.Common.{◌≡◌, ◌≤◌, ◌⊎◌, ℕ, List, ◌++◌, All, drop, length, length-drop, refl, sym, ap, ◌∙◌, subst, inl, inr, arith}
+use Rattle.pocsag_c.proofs.Prelude.{◌≡◌, ◌≤◌, ◌⊎◌, ℕ, List, ◌++◌, All, drop, length, refl, sym, ap, ◌∙◌, subst, inl, inr, arith, All-drop, All-weaker, End, verdict, Page, AreGood, IsGoodPage, IsRound, page_limit, good_pages, IsSpellable, page_file, IsPlanFor, IsNoEnd, PrintsFault, StatusAt, number_of_end, IsFront, IsGivenIfWanted, IsPutIfWanted, IsWithoutFront}
+use Rattle.std.proofs.Common.{length-drop}
 use Rattle.std.proofs.Math.Seq.{drop-append_seam}
-use Rattle.std.proofs.lemmas.List.Elements.{All-drop, All-weaker}
-use Rattle.pocsag_words.specs.declared.ending.End.{End}
 use Rattle.pocsag_words.specs.declared.ending.End.TheVariants as ends
-use Rattle.pocsag_pages.specs.PageFile.{verdict}
-use Rattle.pocsag_pages.specs.declared.page.Page.{Page}
 use Rattle.pocsag_pages.specs.Listable.{IsListable}
 use Rattle.pocsag_pages.specs.PageList.{unless_empty}
-use Rattle.pocsag_pages.specs.Pages.{AreGood, IsGoodPage, IsRound, page_limit}
 use Rattle.pocsag_pages.proofs.FirstPages.{good_last}
-use Rattle.pocsag_pages.proofs.GoodPages.{good_pages}
-use Rattle.pocsag_decode.specs.PageFiles.{IsSpellable, page_file}
-use Rattle.pocsag_plan.specs.declared.bounded.Bounded.{Bounded}
+use Rattle.pocsag_plan.specs.declared.bounded.BoundedPlan.{BoundedPlan}
 use Rattle.pocsag_plan.specs.declared.search.Search.{Search}
-use Rattle.pocsag_plan.specs.Plans.{IsPlanFor}
-use Rattle.pocsag_c.specs.Answers.{IsNoEnd, number_of_end}
-use Rattle.pocsag_c.specs.Fronts.{IsFront, IsGivenIfWanted, IsPutIfWanted, IsWithoutFront}
+use Rattle.pocsag_c.specs.declared.refusal.Place.{Place}
 
 pub is_an_end : (end : End) → IsNoEnd (number_of_end end) → ⊥
 is_an_end ends.Open none = none.0 refl
 is_an_end ends.Closed none = none.1 refl
 is_an_end ends.Idle none = none.2 refl
+
+-- a fault of which this is said is told with its place
+pub told : {F : Type 0} (refusal : F → StatusAt) (Explains : F → Type 0) (f : F) (r : StatusAt) (status : ℕ) (place : Place) → Explains f
+    → r ≡ refusal f → status ≡ r.status → place ≡ r.place → PrintsFault refusal Explains status place
+told refusal Explains f r status place why value same_status same_place = record {
+  fault = f;
+  why = why;
+  same_status = same_status ∙ ap (λ (s : StatusAt). s.status) value;
+  same_place = same_place ∙ ap (λ (s : StatusAt). s.place) value;
+}
 
 -- the status of a front is none of a fault
 pub front_is : (status : ℕ) → IsFront status → IsWithoutFront status ⊎ (status ≡ 2) → ⊥
@@ -43,7 +45,7 @@ given IsText before after told text is (inl put) = inl (record { text = text; is
 given IsText before after told text is (inr unwanted) = inr (unwanted.0, record { text = text; is = is; too_small = unwanted.1 })
 
 -- The first pages of a round, with their plan, and the pages that are left.
-module _ (search : Search) (R F S : List Page) (bounded : Bounded) (parts : F ++ S ≡ R) (planned : IsPlanFor search F bounded) where
+module _ (search : Search) (R F S : List Page) (bounded : BoundedPlan) (parts : F ++ S ≡ R) (planned : IsPlanFor search F bounded) where
   left_behind : S ≡ drop bounded.plan.pages R
   left_behind = sym (ap (λ (n : ℕ). drop n R) planned.plan_of.pages ∙ (ap (drop (length F)) (sym parts) ∙ drop-append_seam F S))
 

@@ -1,13 +1,8 @@
 -- The record of a page behind a page file.
-use Rattle.std.proofs.Common.{◌≡◌, ◌∙◌, ℕ, List, [], ◌∷◌, ◌++◌, All, Ok, ap}
+use Rattle.pocsag_c.proofs.Prelude.{◌≡◌, ◌∙◌, ℕ, List, [], ◌∷◌, ◌++◌, All, Ok, ap, All-push, verdict, IsRound, Page, IsSpellable, page_file, page_record}
 use Rattle.std.proofs.lemmas.List.{flat_map_more}
-use Rattle.std.proofs.lemmas.List.Elements.{All-push}
 use Rattle.csv.specs.Writing.{default_writer, row_text}
-use Rattle.pocsag_pages.specs.PageFile.{verdict}
-use Rattle.pocsag_pages.specs.Pages.{IsRound}
-use Rattle.pocsag_pages.specs.declared.page.Page.{Page}
 use Rattle.pocsag_decode.specs.Listing.{header}
-use Rattle.pocsag_decode.specs.PageFiles.{IsSpellable, page_file, page_record}
 
 module _ (p : Page) (text : List ℕ) (written : text ≡ row_text default_writer (page_record p)) where
   behind : (ps : List Page) → page_file ps ++ text ≡ page_file (ps ++ p ∷ [])

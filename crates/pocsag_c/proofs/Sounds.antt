@@ -1,16 +1,11 @@
 -- What is handed out of a sound, for the keying that the numbers ask for.
-use Rattle.std.proofs.Common.{◌≡◌, ◌∙◌, ℕ, List, Vec, Result, Ok, Err, IfErr, IfOk, inr}
-use Rattle.std.specs.Global.{Global}
-use Rattle.std.specs.Prelude.{IsErrAnd, IsOkAnd}
+use Rattle.pocsag_c.proofs.Prelude.{◌≡◌, ◌∙◌, ℕ, List, Vec, Result, Ok, Err, IfErr, IfOk, inr, Global, IsErrAnd, IsOkAnd, IsDelivered, IsTooSmall, PrintsFault, ExplainsNoSound, IsKeyingOf, IsSoundOf, StatusAt}
 use Rattle.pocsag_wav.specs.Sounds.{ExplainsWav, ReadsAsPages}
 use Rattle.pocsag_wav.specs.Wav.{IsWav}
 use Rattle.pocsag_wav.specs.declared.keying.Keying.{Keying}
-use Rattle.pocsag_c.specs.Answers.{IsDelivered, IsTooSmall, PrintsFault}
 use Rattle.pocsag_c.specs.Listings.{HasNoRoom, IsListed}
-use Rattle.pocsag_c.specs.Sounds.{ExplainsNoSound, IsKeyingOf, IsSoundOf}
 use Rattle.pocsag_c.specs.Statuses.{wav_refusal}
 use Rattle.pocsag_c.specs.declared.refusal.Place.{Place}
-use Rattle.pocsag_c.specs.declared.refusal.StatusAt.{StatusAt}
 
 module _ (rate samples bits inverted : ℕ) (tx : List ℕ) (keying : Keying) (asked : IsKeyingOf rate samples bits inverted keying) where
   module _ (before after : List ℕ) (told : ℕ) where

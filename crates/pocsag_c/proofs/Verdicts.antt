@@ -1,16 +1,8 @@
 -- What the checker's verdict says of a page file and a certificate.
-use Rattle.std.proofs.Common.{◌≡◌, ◌↔◌, ℕ, Bool, List, false, Ok, sym, subst}
-use Rattle.std.specs.Prelude.{IsFalse, IsTrue}
-use Rattle.pocsag_words.specs.declared.ending.End.{End}
-use Rattle.pocsag_pages.specs.declared.page.Page.{Page}
-use Rattle.pocsag_pages.specs.PageFile.{verdict}
+use Rattle.pocsag_c.proofs.Prelude.{◌≡◌, ◌↔◌, ℕ, Bool, List, false, Ok, sym, subst, IsFalse, IsTrue, End, Page, verdict, IsText, NoneHasFewer, IsNotAccepted, IsShown, number_of_end, CheckInfo}
 use Rattle.pocsag_tree.specs.BoundTrees.{BoundTree}
-use Rattle.pocsag_tree.specs.CertificateText.{IsText}
 use Rattle.pocsag_check.specs.Acceptance.{IsAcceptedFor}
-use Rattle.pocsag_plan.specs.Plans.{NoneHasFewer}
 use Rattle.pocsag_plan.specs.Verdicts.{Checked, IsNotShown}
-use Rattle.pocsag_c.specs.Answers.{IsNotAccepted, IsShown, number_of_end}
-use Rattle.pocsag_c.specs.declared.check.CheckInfo.{CheckInfo}
 
 module _ (file text : List ℕ) (info : CheckInfo) (end : End) {batches : ℕ} (R : List Page) (tree : BoundTree)
     (same_end : info.end ≡ number_of_end end) (same_batches : info.batches ≡ batches) (read : verdict file ≡ Ok R)

@@ -4,16 +4,12 @@ use Rattle.pocsag_words.specs.declared.ending.End.{End}
 use Rattle.pocsag_findings.specs.Beginnings.{GivesVerdict}
 use Rattle.pocsag_findings.specs.declared.format.Format.{Format}
 use Rattle.pocsag_findings.specs.declared.format.Format.TheVariants as formats
-use Rattle.pocsag_c.specs.Answers.{IsNotAccepted, IsShown, number_of_end}
+use Rattle.pocsag_c.specs.Answers.{number_of_end}
 use Rattle.pocsag_c.specs.declared.check.CheckInfo.{CheckInfo}
 
 -- The number of no form: 0 is an indented list in words, 1 is JSON.
 abbrev pub IsNoForm : ℕ → Type 0
 IsNoForm form = (form ≢ 0) × (form ≢ 1)
-
--- The certificate was judged: it shows its number of batches, or it does not.
-abbrev pub IsJudgedAs : (file text : List ℕ) → CheckInfo → Type 0
-IsJudgedAs file text info = IsShown file text info ⊎ IsNotAccepted file text info
 
 -- The form of this number, for nodes no deeper than this.
 abbrev pub IsNumberOfForm : (form depth : ℕ) → Format → Type 0
@@ -32,7 +28,3 @@ pub record IsVerdictText (form depth : ℕ) (info : CheckInfo) (is_shown : Bool)
 -- The same with one verdict or the other.
 abbrev pub IsTextOfVerdict : (form depth : ℕ) → CheckInfo → (text : List ℕ) → Type 0
 IsTextOfVerdict form depth info text = IsVerdictText form depth info true text ⊎ IsVerdictText form depth info false text
-
--- Nothing is reported of the certificate, though the form is one.
-abbrev pub IsUntold : (status : ℕ) → Type 0
-IsUntold status = (status ≢ 0) × (status ≢ 1) × (status ≢ 10) × (status ≢ 11)

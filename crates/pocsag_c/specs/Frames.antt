@@ -4,8 +4,7 @@ use Rattle.pocsag_pages.specs.PageFile.{verdict}
 use Rattle.pocsag_pages.specs.declared.page.Page.{Page}
 use Rattle.pocsag_plan.specs.Frames.{frame_count, frames_of}
 use Rattle.pocsag_plan.specs.Plans.{IsPlanFor}
-use Rattle.pocsag_plan.specs.declared.bounded.Bounded.{Bounded}
-use Rattle.pocsag_plan.specs.declared.frames.FrameRoom.{FrameRoom}
+use Rattle.pocsag_plan.specs.declared.bounded.BoundedPlan.{BoundedPlan}
 use Rattle.pocsag_plan.specs.declared.search.Search.{Search}
 use Rattle.pocsag_c.specs.Reports.{IsAsked}
 use Rattle.pocsag_c.specs.declared.frames.FramesInfo.{FramesInfo}
@@ -17,15 +16,17 @@ pub record HasFramesOf (file : List ℕ) (number limit always : ℕ) (info : Fra
   pub asked : IsAsked number limit always search
   pub round : List Page
   pub read : verdict file ≡ Ok round
-  pub bounded : Bounded
+  pub bounded : BoundedPlan
   pub plan_of : IsPlanFor search round bounded
   pub frames : info.frames ≡ frames_of round bounded.plan.steps.items
   pub batches : info.batches ≡ bounded.plan.batches
   pub bound : info.bound ≡ bounded.bound
 
 -- The structure where there is no plan, but for the place.
-abbrev pub empty_frame : FrameRoom
-empty_frame = record { frame = 0; pages = 0; codewords = 0; room = 0 }
-
 abbrev pub no_frames : Place → FramesInfo
-no_frames place = record { frames = replicate frame_count empty_frame; batches = 0; bound = 0; place = place }
+no_frames place = record {
+  frames = replicate frame_count (record { frame = 0; pages = 0; codewords = 0; room = 0 });
+  batches = 0;
+  bound = 0;
+  place = place;
+}

@@ -17,17 +17,17 @@ use Rattle.pocsag_plan.specs.Headline.{RoundHeadline}
 use Rattle.pocsag_plan.specs.Plans.{IsNoWorse}
 use Rattle.pocsag_plan.specs.Streams.{IsOfRound}
 use Rattle.pocsag_plan.specs.Verdicts.{ExplainsRound}
-use Rattle.pocsag_plan.specs.declared.bounded.Bounded.{Bounded}
+use Rattle.pocsag_plan.specs.declared.bounded.BoundedPlan.{BoundedPlan}
 use Rattle.pocsag_plan.specs.declared.fault.NoFront.TheVariants as unplanned
 use Rattle.pocsag_plan.specs.declared.fault.PlanFault.TheVariants as planning
 use Rattle.pocsag_plan.specs.declared.fault.StreamFault.TheVariants as stream
 use Rattle.pocsag_plan.specs.declared.fault.UnsentFront.{UnsentFront}
 use Rattle.pocsag_plan.specs.declared.fault.UnsentFront.TheVariants as unsent
-use Rattle.pocsag_plan.specs.declared.search.OnLimit.{OnLimit}
 use Rattle.pocsag_plan.specs.declared.search.Search.{Search}
 use Rattle.pocsag_c.specs.Answers.{IsDelivered, IsTooSmall, number_of_end}
 use Rattle.pocsag_c.specs.Listings.{HasNoRoom, IsListed}
 use Rattle.pocsag_c.specs.Plans.{IsWithoutRoom}
+use Rattle.pocsag_c.specs.Reports.{IsAsked, IsSoAsAsked}
 use Rattle.pocsag_c.specs.declared.front.FrontInfo.{FrontInfo}
 use Rattle.pocsag_c.specs.declared.refusal.Place.{Place}
 
@@ -48,11 +48,9 @@ pub record IsLongestTold (file : List ℕ) (number batches : ℕ) (info : FrontI
   pub longest : IsOfRound file (λ round. IsLongestFront end round batches info.pages)
 
 -- They are the front that a planner of this effort promises, with this limit.
-pub record IsRequiredFront (on_limit : OnLimit) (file : List ℕ) (number limit batches : ℕ) (info : FrontInfo) : Type 0 where
-  pub end : End
-  pub same_end : number ≡ number_of_end end
-  pub front : IsOfRound file (λ round.
-      IsFrontFor (record { limit = limit; end = end; on_limit = on_limit }) round batches info.pages)
+abbrev pub IsRequiredFront : (file : List ℕ) → (number limit always batches : ℕ) → FrontInfo → Type 0
+IsRequiredFront file number limit always batches info =
+    IsSoAsAsked number limit always (λ search. IsOfRound file (λ round. IsFrontFor search round batches info.pages))
 
 -- The counts are those of the first pages that are reported, and of the others.
 pub record IsCountedFirst (file : List ℕ) (info : FrontInfo) : Type 0 where
@@ -72,13 +70,13 @@ pub record IsFrontHeadline (file : List ℕ) (number : ℕ) (info : FrontInfo) (
 
 -- Where their bound is below their batches, the search for the fewest stops at the same limit, and this is what it knows of
 -- them then.
-pub record IsNoWorseFront (file : List ℕ) (number limit : ℕ) (info : FrontInfo) : Type 0 where
-  pub end : End
-  pub same_end : number ≡ number_of_end end
-  pub bounded : Bounded
+pub record IsNoWorseFront (file : List ℕ) (number limit always : ℕ) (info : FrontInfo) : Type 0 where
+  pub search : Search
+  pub asked : IsAsked number limit always search
+  pub bounded : BoundedPlan
   pub batches : info.batches ≡ bounded.plan.batches
   pub bound : info.bound ≡ bounded.bound
-  pub no_worse : IsOfRound file (λ round. IsNoWorse end (take info.pages round) limit bounded)
+  pub no_worse : IsOfRound file (λ round. IsNoWorse search.end (take info.pages round) search.limit bounded)
 
 -- The text is a page file of the pages behind them: it reads as their round, or, where there are none, as no pages.
 abbrev pub IsRestOf : (file : List ℕ) → FrontInfo → (text : List ℕ) → Type 0
@@ -101,10 +99,9 @@ pub record IsTextOfWhy (search : Search) (file : List ℕ) (batches count : ℕ)
   pub same_bound : bound ≡ beyond_bound why
 
 -- The same behind the pages that are reported, with the bound that is reported.
-pub record IsBeyond (on_limit : OnLimit) (file : List ℕ) (number limit batches : ℕ) (info : FrontInfo) (text : List ℕ) : Type 0 where
-  pub end : End
-  pub same_end : number ≡ number_of_end end
-  pub of_why : IsTextOfWhy (record { limit = limit; end = end; on_limit = on_limit }) file batches info.pages text info.beyond
+abbrev pub IsBeyond : (file : List ℕ) → (number limit always batches : ℕ) → FrontInfo → (text : List ℕ) → Type 0
+IsBeyond file number limit always batches info text =
+    IsSoAsAsked number limit always (λ search. IsTextOfWhy search file batches info.pages text info.beyond)
 
 -- The buffer begins with the bytes; or it has no byte, and their length alone is reported.
 abbrev pub IsPutIfWanted : (before after : List ℕ) → (told : ℕ) → (bytes : List ℕ) → Type 0
@@ -147,8 +144,7 @@ ExplainsUnfronted file search batches (unsent.Stream (stream.Certificate f)) = I
 ExplainsUnfronted file search batches (unsent.FirstPage needed) =
     IsOfRound file (λ round. ExplainsFront search round batches (unplanned.FirstPage needed))
 
--- The same, for the end of this number.
-pub record ExplainsFrontPlanning (on_limit : OnLimit) (file : List ℕ) (number limit batches : ℕ) (f : UnsentFront) : Type 0 where
-  pub end : End
-  pub same_end : number ≡ number_of_end end
-  pub why : ExplainsUnfronted file (record { limit = limit; end = end; on_limit = on_limit }) batches f
+-- The same, of what the numbers of a call ask.
+abbrev pub ExplainsFrontPlanning : (file : List ℕ) → (number limit always batches : ℕ) → UnsentFront → Type 0
+ExplainsFrontPlanning file number limit always batches f =
+    IsSoAsAsked number limit always (λ search. ExplainsUnfronted file search batches f)

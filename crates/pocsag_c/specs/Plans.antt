@@ -11,10 +11,11 @@ use Rattle.pocsag_plan.specs.BoundedHeadline.{BoundedHeadline}
 use Rattle.pocsag_plan.specs.Headline.{Headline}
 use Rattle.pocsag_plan.specs.Plans.{IsNoWorse}
 use Rattle.pocsag_plan.specs.Streams.{ExplainsStream, IsOfRound}
-use Rattle.pocsag_plan.specs.declared.bounded.Bounded.{Bounded}
+use Rattle.pocsag_plan.specs.declared.bounded.BoundedPlan.{BoundedPlan}
 use Rattle.pocsag_plan.specs.declared.fault.StreamFault.{StreamFault}
-use Rattle.pocsag_plan.specs.declared.search.OnLimit.{OnLimit}
+use Rattle.pocsag_plan.specs.declared.search.Search.{Search}
 use Rattle.pocsag_c.specs.Answers.{IsDelivered, number_of_end}
+use Rattle.pocsag_c.specs.Reports.{IsAsked, IsSoAsAsked}
 use Rattle.pocsag_c.specs.declared.plan.PlanInfo.{PlanInfo}
 use Rattle.pocsag_c.specs.declared.refusal.Place.{Place}
 
@@ -71,16 +72,15 @@ no_plan place = record { pages = 0; codewords = 0; in_order = 0; batches = 0; bo
 
 -- Where the bound that is reported is below the batches, the search for the fewest stops at the same limit, and this is what it
 -- knows of the page file's round then.
-pub record IsNoWorseTold (file : List ℕ) (number limit : ℕ) (info : PlanInfo) : Type 0 where
-  pub end : End
-  pub same_end : number ≡ number_of_end end
-  pub bounded : Bounded
+pub record IsNoWorseTold (file : List ℕ) (number limit always : ℕ) (info : PlanInfo) : Type 0 where
+  pub search : Search
+  pub asked : IsAsked number limit always search
+  pub bounded : BoundedPlan
   pub batches : info.batches ≡ bounded.plan.batches
   pub bound : info.bound ≡ bounded.bound
-  pub no_worse : IsOfRound file (λ round. IsNoWorse end round limit bounded)
+  pub no_worse : IsOfRound file (λ round. IsNoWorse search.end round search.limit bounded)
 
 -- Why there is no plan.
-pub record ExplainsPlanning (on_limit : OnLimit) (file : List ℕ) (number limit : ℕ) (f : StreamFault) : Type 0 where
-  pub end : End
-  pub same_end : number ≡ number_of_end end
-  pub why : ExplainsStream on_limit file end limit f
+abbrev pub ExplainsPlanning : (file : List ℕ) → (number limit always : ℕ) → StreamFault → Type 0
+ExplainsPlanning file number limit always f =
+    IsSoAsAsked number limit always (λ search. ExplainsStream search.on_limit file search.end search.limit f)

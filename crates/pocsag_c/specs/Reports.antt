@@ -18,6 +18,12 @@ pub record IsAsked (number limit always : ℕ) (search : Search) : Type 0 where
   pub same_limit : search.limit ≡ limit
   pub same_on_limit : search.on_limit ≡ on_limit_of always
 
+-- This is so of what the numbers of a call ask of a planner.
+pub record IsSoAsAsked (number limit always : ℕ) (P : Search → Type 0) : Type 0 where
+  pub search : Search
+  pub asked : IsAsked number limit always search
+  pub holds : P search
+
 -- What is reported is the report of a plan of the page file's round for the end of this number, with its bound.
 pub record PrintsReport (file : List ℕ) (number limit always rate : ℕ) (info : ReportInfo) : Type 0 where
   pub search : Search
@@ -41,17 +47,13 @@ ExplainsUnreported file search (stream.Transmission f) = ⊥
 ExplainsUnreported file search (stream.Certificate f) = ⊥
 
 -- Why there is no plan of a page file to report of, though the end is one.
-pub record ExplainsReport (file : List ℕ) (number limit always : ℕ) (f : StreamFault) : Type 0 where
-  pub search : Search
-  pub asked : IsAsked number limit always search
-  pub why : ExplainsUnreported file search f
+abbrev pub ExplainsReport : (file : List ℕ) → (number limit always : ℕ) → StreamFault → Type 0
+ExplainsReport file number limit always f = IsSoAsAsked number limit always (λ search. ExplainsUnreported file search f)
 
 -- The rate is none, which is judged last: there is a plan.
-pub record IsBadRate (file : List ℕ) (number limit always rate : ℕ) : Type 0 where
-  pub search : Search
-  pub asked : IsAsked number limit always search
-  pub planned : IsPlannable file search
-  pub no_rate : ¬ IsRate rate
+abbrev pub IsBadRate : (file : List ℕ) → (number limit always rate : ℕ) → Type 0
+IsBadRate file number limit always rate =
+    IsSoAsAsked number limit always (λ search. IsPlannable file search × (¬ IsRate rate))
 
 -- What is reported beside the place where there is no report.
 abbrev pub no_report : Place → ReportInfo

@@ -3,7 +3,7 @@ ghost use Rattle.pocsag_plan.specs.Reports.{AreMostWithin, IsRate};
 
 use pocsag_plan::most_batches;
 
-/// Prints the most batches whose airtime at a rate of 512, 1200 or 2400 bits a second, as `pocsag_report` reports it, is at most
+/// Gives the most batches whose airtime at a rate of 512, 1200 or 2400 bits a second, as `pocsag_report` reports it, is at most
 /// so many milliseconds; 0 where one batch takes longer.
 #[unsafe(no_mangle)]
 pub extern "C" fn pocsag_airtime_batches(airtime_ms: u32, rate: u32, batches: &mut u32) -> u32

@@ -1,20 +1,22 @@
-ghost use Rattle.std.specs.Prelude.{◌≡◌, ◌≢◌, ◌⊎◌, IfErr, IsErrAnd, IsOkAnd, IsTrue};
+ghost use Rattle.std.specs.Prelude.{◌≡◌, ◌≢◌, ◌⊎◌, IfErr, IsErrAnd, IsOkAnd};
 ghost use Rattle.pocsag_c.specs.Answers.{IsDelivered, IsTooSmall};
 ghost use Rattle.pocsag_c.specs.Statuses.{IsOfBytes, IsRefusing, IsTextTooSmall, nowhere};
 
 use crate::refusal::{NOWHERE, Place, StatusAt};
 
-// Prints how many bytes there are, and puts them to the front of the buffer where they fit.
-pub(crate) fn hand_out(bytes: &[u8], buffer: &mut [u8], told: &mut usize) -> bool
-    ensures delivered { IsTrue result → IsDelivered buffer.old buffer.new told.new bytes.now }
-    ensures too_small { (¬ IsTrue result) → IsTooSmall buffer.old buffer.new told.new bytes.now }
+// Prints how many bytes there are, and puts them to the front of the buffer where they fit: 0, or `small` where they do not.
+pub(crate) fn hand_out(bytes: &[u8], small: u32, buffer: &mut [u8], told: &mut usize) -> u32
+    requires { small ≢ 0 }
+    ensures only { (result ≡ 0) ⊎ (result ≡ small) }
+    ensures delivered { result ≡ 0 → IsDelivered buffer.old buffer.new told.new bytes.now }
+    ensures too_small { result ≡ small → IsTooSmall buffer.old buffer.new told.new bytes.now }
 {
     *told = bytes.len();
     if bytes.len() > buffer.len() {
-        return false;
+        return small;
     }
     buffer[..bytes.len()].copy_from_slice(bytes);
-    true
+    0
 }
 
 // Hands out a text, or reports why there is none; `small` is the status where it has no room.
@@ -41,16 +43,11 @@ pub(crate) fn hand_out_text(
     match made {
         Ok(text) => {
             *place = NOWHERE;
-            if hand_out(text.as_slice(), buffer, told) {
-                0
-            } else {
-                small
-            }
+            hand_out(text.as_slice(), small, buffer, told)
         }
         Err(refusal) => {
             *told = 0;
-            *place = refusal.place;
-            refusal.status
+            refusal.put(place)
         }
     }
 }

@@ -97,9 +97,6 @@ pub extern "C" fn pocsag_check(
             *info = verdict.info;
             u32::from(!verdict.is_shown)
         }
-        Err(refusal) => {
-            info.place = refusal.place;
-            refusal.status
-        }
+        Err(refusal) => refusal.put(&mut info.place),
     }
 }

@@ -1,6 +1,6 @@
 ghost use Rattle.std.specs.Prelude.{◌≡◌, ◌≢◌, ◌↔◌, ◌⊎◌, false, true, IfSome, None};
 ghost use Rattle.pocsag_c.specs.Answers.{IsNotAccepted, IsShown, IsUnjudged, no_verdict};
-ghost use Rattle.pocsag_c.specs.Explain.{IsNumberOfForm, IsJudgedAs, IsNoForm, IsTextOfVerdict, IsUntold, IsVerdictText};
+ghost use Rattle.pocsag_c.specs.Explain.{IsNumberOfForm, IsNoForm, IsTextOfVerdict, IsVerdictText};
 ghost use Rattle.pocsag_c.specs.Listings.{HasNoRoom, IsListed};
 ghost use Rattle.pocsag_c.specs.Statuses.{IsOfBytes, nowhere};
 
@@ -23,8 +23,8 @@ fn format_of(form: u32, depth: u32) -> Option<Format>
 }
 
 /// Judges a certificate for a page file as `pocsag_check` does, and puts the text that reports why fewer batches do not
-/// suffice, or which node does not hold, into a buffer: 10 where the buffer is too small. Then too `text_len` reports
-/// the length of the text. The form is 0 for words and 1 for JSON, and reports the nodes no deeper than `depth`.
+/// suffice, or which node does not hold, into a buffer: 10 where the buffer is too small. `text_len` reports the length
+/// of the text then too. The form is 0 for words and 1 for JSON; either reports the nodes no deeper than `depth`.
 #[unsafe(no_mangle)]
 pub extern "C" fn pocsag_explain(
     alloc: Global,
@@ -44,13 +44,14 @@ pub extern "C" fn pocsag_explain(
     ensures refused { result ≡ 1 →
         IsListed (IsVerdictText form depth info.new false) text.old text.new text_len.new }
     // There is a verdict and a text, but no room for the text.
-    ensures judged { result ≡ 10 → IsJudgedAs pages.now cert.now info.new }
+    ensures judged { result ≡ 10 → IsShown pages.now cert.now info.new ⊎ IsNotAccepted pages.now cert.now info.new }
     ensures no_room { result ≡ 10 →
         HasNoRoom (IsTextOfVerdict form depth info.new) text.old text.new text_len.new }
     // Any other status says why nothing is reported, and never that a device failed. Want of memory for the text is that for the
     // certificate.
     ensures bad_form { result ≡ 11 ↔ IsNoForm form }
-    ensures fault { IsUntold result → IsUnjudged pages.now cert.now result info.new.place }
+    ensures fault { result ≢ 0 → result ≢ 1 → result ≢ 10 → result ≢ 11 →
+        IsUnjudged pages.now cert.now result info.new.place }
     ensures placeless { (result ≡ 0) ⊎ (result ≡ 1) ⊎ (result ≡ 10) ⊎ (result ≡ 11) → info.new.place ≡ nowhere }
     ensures nothing { result ≢ 0 → result ≢ 1 → result ≢ 10 →
         (text_len.new ≡ 0) × (info.new ≡ no_verdict info.new.place) }
@@ -64,10 +65,7 @@ pub extern "C" fn pocsag_explain(
     };
     let verdict = match verdict_of(alloc, pages, cert) {
         Ok(verdict) => verdict,
-        Err(refusal) => {
-            info.place = refusal.place;
-            return refusal.status;
-        }
+        Err(refusal) => return refusal.put(&mut info.place),
     };
     let shown = verdict.is_shown;
     let judged = JudgedCertificate {
@@ -76,15 +74,12 @@ pub extern "C" fn pocsag_explain(
         is_shown: shown,
     };
     let mut told = GrowingSink::new(alloc);
-    match write_explanation(alloc, format, judged, &mut told) {
-        Ok(()) => {
-            *info = verdict.info;
-            if hand_out(told.into_bytes().as_slice(), text, text_len) {
-                u32::from(!shown)
-            } else {
-                10
-            }
-        }
-        Err(_) => 3,
+    let Ok(()) = write_explanation(alloc, format, judged, &mut told) else {
+        return 3;
+    };
+    *info = verdict.info;
+    match hand_out(told.into_bytes().as_slice(), 10, text, text_len) {
+        0 => u32::from(!shown),
+        small => small,
     }
 }

@@ -4,10 +4,10 @@ ghost use Rattle.pocsag_c.specs.Frames.{HasFramesOf, no_frames};
 ghost use Rattle.pocsag_c.specs.Reports.{ExplainsReport};
 ghost use Rattle.pocsag_c.specs.Statuses.{IsOfBytes, nowhere, stream_refusal};
 
-use crate::plan::{end_of, on_limit_of};
+use crate::plan::search_of;
 use crate::refusal::{NOWHERE, Place, refused_stream};
 use crate::report::plan_in;
-use pocsag_plan::{FrameRoom, Search, frames_of};
+use pocsag_plan::{FrameRoom, frames_of};
 use pocsag_words::FRAMES;
 use std::alloc::Global;
 
@@ -61,25 +61,12 @@ pub extern "C" fn pocsag_frames(
     ensures of_bytes { IsOfBytes result }
 {
     *info = NO_FRAMES;
-    let Some(end) = end_of(end) else {
+    let Some(search) = search_of(limit, end, always) else {
         return 2;
     };
-    let on_limit = on_limit_of(always);
-    let found = match plan_in(
-        alloc,
-        pages,
-        Search {
-            limit,
-            end,
-            on_limit,
-        },
-    ) {
+    let found = match plan_in(alloc, pages, search) {
         Ok(found) => found,
-        Err(fault) => {
-            let refusal = refused_stream(fault);
-            info.place = refusal.place;
-            return refusal.status;
-        }
+        Err(fault) => return refused_stream(fault).put(&mut info.place),
     };
     *info = FramesInfo {
         frames: frames_of(&found.round, found.bounded.plan.steps.as_slice()),

@@ -13,18 +13,20 @@ ghost use Rattle.pocsag_plan.specs.Headline.{RoundHeadline};
 ghost use Rattle.pocsag_plan.specs.Plans.{IsBounded, IsPlanFor};
 ghost use Rattle.pocsag_plan.specs.Streams.{HeadlineOf, IsOfRound};
 ghost use Rattle.pocsag_plan.specs.declared.fault.StreamFault.TheVariants as stream_fault;
-ghost use Rattle.pocsag_c.specs.Answers.{IsDelivered, IsNoEnd, PrintsFault, on_limit_of};
+ghost use Rattle.pocsag_c.specs.Answers.{IsDelivered, IsNoEnd, PrintsFault};
 ghost use Rattle.pocsag_c.specs.Fronts.{ExplainsFrontPlanning, ExplainsUnfronted, HasLengthOf, IsBeyond, IsCountedFirst, IsFront, IsFrontHeadline, IsGivenIfWanted, IsLongestTold, IsNoWorseFront, IsRequiredFront, IsPutIfWanted, IsRestOf, IsTextOfWhy, IsWithoutFront, beyond_bytes, beyond_bound, no_front};
 ghost use Rattle.pocsag_c.specs.Plans.{HasNoRoomForBoth, IsPlannedInto};
 ghost use Rattle.pocsag_c.specs.Statuses.{IsOfBytes, front_refusal, nowhere};
 
 use crate::buffer::hand_out;
-use crate::plan::{PlanTexts, end_of, hand_out_both, on_limit_of};
+use crate::plan::{PlanTexts, hand_out_both, search_of};
 use crate::refusal::{NOWHERE, Place, refused_front};
-use pocsag_decode::{page_files_are_read_back, pages_of_files_are_spellable, write_page_file};
+use pocsag_decode::{
+    recall_page_files_are_read_back, recall_pages_of_files_are_spellable, write_page_file,
+};
 use pocsag_pages::read_round;
 use pocsag_plan::{
-    Bounded, FrontPlan, NoFront, OnLimit, PlanFault, Search, StreamFault, UnsentFront,
+    BoundedPlan, FrontPlan, NoFront, OnLimit, PlanFault, Search, StreamFault, UnsentFront,
     is_node_limit, longest_front, send,
 };
 use pocsag_tree::{Certificate, write_text};
@@ -147,8 +149,8 @@ fn front_texts(
     ensures explained { IfErr result (ExplainsUnfronted pages.now search batches) }
     ensures unread { IfErr result (λ e. e ≢ UnsentFront.Stream (stream_fault.Round round_fault.ReadFault)) }
 {
-    page_files_are_read_back();
-    pages_of_files_are_spellable();
+    recall_page_files_are_read_back();
+    recall_pages_of_files_are_spellable();
     if !is_node_limit(search.limit) {
         return Err(UnsentFront::Stream(StreamFault::Plan(PlanFault::BadLimit)));
     }
@@ -156,7 +158,7 @@ fn front_texts(
         Ok(round) => round,
         Err(fault) => return Err(UnsentFront::Stream(StreamFault::Round(fault))),
     };
-    round.keeps_rules();
+    round.recall_rules();
     let front = match longest_front(alloc, round, batches, search) {
         Ok(front) => front,
         Err(NoFront::Plan(fault)) => return Err(UnsentFront::Stream(StreamFault::Plan(fault))),
@@ -213,14 +215,15 @@ fn hand_out_front(
     if status != 0 {
         return status;
     }
-    hand_out(others, rest, rest_len);
-    hand_out(beyond, why, why_len);
+    hand_out(others, 13, rest, rest_len);
+    hand_out(beyond, 14, why, why_len);
     0
 }
 
 /// Plans the longest front of a page file that so many batches carry, as `pocsag_plan` plans all of it, and puts the page
 /// file of the pages that are left, and the certificate of one page more, into two further buffers: 0, or 13 or 14 where
-/// that of the rest or of the certificate is too small; one of no byte is not wanted. 12 where not even the first page fits.
+/// that of the rest or of the certificate is too small; a buffer of 0 bytes means that its content is not wanted. 12 where
+/// not even the first page fits.
 #[unsafe(no_mangle)]
 pub extern "C" fn pocsag_plan_at_most(
     alloc: Global,
@@ -241,27 +244,26 @@ pub extern "C" fn pocsag_plan_at_most(
 ) -> u32
     // As many first pages as so many batches carry; where `always` is not 0, as many as the planner found to fit.
     ensures longest { IsFront result → always ≡ 0 → IsLongestTold pages.now end batches info.new }
-    ensures front { IsFront result → IsRequiredFront (on_limit_of always) pages.now end limit batches info.new }
+    ensures front { IsFront result → IsRequiredFront pages.now end limit always batches info.new }
     ensures within { IsFront result → info.new.batches ≤ batches }
     ensures fewest { IsFront result → always ≡ 0 → info.new.bound ≡ info.new.batches }
     ensures counted { IsFront result → IsCountedFirst pages.now info.new }
     // Where `always` is not 0, their plan is no worse than one with 0 at this limit.
-    ensures no_worse { IsFront result → IsNoWorseFront pages.now end limit info.new }
+    ensures no_worse { IsFront result → IsNoWorseFront pages.now end limit always info.new }
 
     // The headline with a bound of these pages, of the bytes that stand in the two buffers; and the other two.
     ensures planned { result ≡ 0 →
         IsPlannedInto (IsFrontHeadline pages.now end info.new) tx.old tx.new tx_len.new cert.old cert.new cert_len.new }
     ensures rest { result ≡ 0 → IsGivenIfWanted (IsRestOf pages.now info.new) rest.old rest.new rest_len.new }
     ensures why { result ≡ 0 →
-        IsGivenIfWanted (IsBeyond
-        (on_limit_of always) pages.now end limit batches info.new) why.old why.new why_len.new }
+        IsGivenIfWanted (IsBeyond pages.now end limit always batches info.new) why.old why.new why_len.new }
 
     // Too small a buffer: the lengths are those of such texts.
     ensures no_room { IsFront result →
         HasNoRoomForBoth (IsFrontHeadline pages.now end info.new) tx_len.new cert_len.new }
     ensures rest_length { IsFront result → HasLengthOf (IsRestOf pages.now info.new) rest_len.new }
     ensures why_length { IsFront result →
-        HasLengthOf (IsBeyond (on_limit_of always) pages.now end limit batches info.new) why_len.new }
+        HasLengthOf (IsBeyond pages.now end limit always batches info.new) why_len.new }
     ensures small { result ≡ 7 → length tx.old < tx_len.new }
     ensures cert_small { result ≡ 8 → length cert.old < cert_len.new }
     ensures rest_small { result ≡ 13 → length rest.old < rest_len.new }
@@ -270,7 +272,7 @@ pub extern "C" fn pocsag_plan_at_most(
     // Any other status says why there is no front, and never that a device failed; all buffers are as they were.
     ensures bad_end { result ≡ 2 ↔ IsNoEnd end }
     ensures fault { IsWithoutFront result →
-        PrintsFault front_refusal (ExplainsFrontPlanning (on_limit_of always) pages.now end limit batches)
+        PrintsFault front_refusal (ExplainsFrontPlanning pages.now end limit always batches)
         result info.new.place }
     ensures answered { always ≢ 0 → result ≢ 6 }
     ensures placeless { IsFront result ⊎ (result ≡ 2) → info.new.place ≡ nowhere }
@@ -285,22 +287,12 @@ pub extern "C" fn pocsag_plan_at_most(
     *rest_len = 0;
     *why_len = 0;
     *info = NO_FRONT;
-    let Some(end) = end_of(end) else {
+    let Some(search) = search_of(limit, end, always) else {
         return 2;
     };
-    let on_limit = on_limit_of(always);
-    match front_texts(
-        alloc,
-        pages,
-        batches,
-        Search {
-            limit,
-            end,
-            on_limit,
-        },
-    ) {
+    match front_texts(alloc, pages, batches, search) {
         Ok(front) => {
-            let Bounded { plan, bound, .. } = &front.first.bounded;
+            let BoundedPlan { plan, bound, .. } = &front.first.bounded;
             *info = FrontInfo {
                 pages: plan.pages,
                 left: front.left,
@@ -315,10 +307,6 @@ pub extern "C" fn pocsag_plan_at_most(
                 &front, tx, tx_len, cert, cert_len, rest, rest_len, why, why_len,
             )
         }
-        Err(fault) => {
-            let refusal = refused_front(fault);
-            info.place = refusal.place;
-            refusal.status
-        }
+        Err(fault) => refused_front(fault).put(&mut info.place),
     }
 }

@@ -1,47 +1,54 @@
-ghost use Rattle.std.specs.Prelude.{◌≡◌, ◌≢◌, ◌⊎◌, ◌↔◌, IfErr, IfOk};
+ghost use Rattle.std.specs.Prelude.{◌≡◌, ◌≢◌, ◌≤◌, ◌⊎◌, ◌↔◌, IfErr, IfOk};
 ghost use Rattle.pocsag_c.specs.Answers.{PrintsFault};
 ghost use Rattle.pocsag_c.specs.Listings.{ExplainsUnheard, ExplainsUnlisted, HasNoRoom, IsListed, IsListingAs, IsListingOf, IsListingShown, IsListingShownAs};
-ghost use Rattle.pocsag_c.specs.Readings.{IsNoReading, IsUnreadOr, number_of_reading};
+ghost use Rattle.pocsag_c.specs.Readings.{IsNoReading, IsUnreadOr};
 ghost use Rattle.pocsag_c.specs.Statuses.{IsOfBytes, IsRefusing, nowhere, pager_refusal, transmission_refusal};
 
 use crate::buffer::hand_out_text;
-use crate::reading::{Reading, read_as, reading_of};
-use crate::refusal::{NOWHERE, Place, StatusAt, refused_hearing, refused_transmission};
-use pocsag_decode::{DecodeFault, judge_bytes, list_owned, list_sent};
-use pocsag_pager::{PagerFault, hear_all};
+use crate::reading::read_as;
+use crate::refusal::{NOWHERE, Place, StatusAt, plain, refused_hearing, refused_transmission};
+use pocsag_decode::{judge_bytes, list_owned, list_sent};
+use pocsag_pager::hear_all;
 use pocsag_words::GrowingSink;
 use std::alloc::Global;
 
-fn text_decoded(alloc: Global, tx: &[u8]) -> Result<Vec<u8>, StatusAt>
-    ensures listed { IfOk result (λ text. IsListingOf tx.now text.items) }
-    ensures fault { IfErr result (λ r. PrintsFault transmission_refusal (ExplainsUnlisted tx.now) r.status r.place) }
+fn text_decoded(alloc: Global, reading: u32, tx: &[u8]) -> Result<Vec<u8>, StatusAt>
+    requires { reading ≤ 2 }
+    ensures listed { IfOk result (λ text. IsListingAs reading tx.now text.items) }
+    ensures fault { IfErr result (λ r. IsUnreadOr reading tx.now r.status r.place
+        (λ bytes. PrintsFault transmission_refusal (ExplainsUnlisted bytes) r.status r.place)) }
     ensures refusing { IfErr result (λ r. IsRefusing r.status) }
     ensures of_bytes { IfErr result (λ r. IsOfBytes r.status) }
 {
-    if let Err(fault) = judge_bytes(tx) {
+    let read = read_as(alloc, reading, tx)?;
+    let bytes = read.bytes();
+    if let Err(fault) = judge_bytes(bytes) {
         return Err(refused_transmission(fault));
     }
     let mut text = GrowingSink::new(alloc);
-    match list_sent(alloc, tx, &mut text) {
+    match list_sent(alloc, bytes, &mut text) {
         Ok(()) => Ok(text.into_bytes()),
-        Err(_) => Err(refused_transmission(DecodeFault::OutOfMemory)),
+        Err(_) => Err(plain(3)),
     }
 }
 
-fn text_heard(alloc: Global, address: u32, tx: &[u8]) -> Result<Vec<u8>, StatusAt>
-    ensures listed { IfOk result (λ text. IsListingShown address tx.now text.items) }
-    ensures fault { IfErr result (λ r. PrintsFault pager_refusal (ExplainsUnheard address tx.now) r.status r.place) }
+fn text_heard(alloc: Global, reading: u32, address: u32, tx: &[u8]) -> Result<Vec<u8>, StatusAt>
+    requires { reading ≤ 2 }
+    ensures listed { IfOk result (λ text. IsListingShownAs reading address tx.now text.items) }
+    ensures fault { IfErr result (λ r. IsUnreadOr reading tx.now r.status r.place
+        (λ bytes. PrintsFault pager_refusal (ExplainsUnheard address bytes) r.status r.place)) }
     ensures refusing { IfErr result (λ r. IsRefusing r.status) }
     ensures of_bytes { IfErr result (λ r. IsOfBytes r.status) }
 {
-    let pages = match hear_all(alloc, tx, address) {
+    let read = read_as(alloc, reading, tx)?;
+    let pages = match hear_all(alloc, read.bytes(), address) {
         Ok(pages) => pages,
         Err(fault) => return Err(refused_hearing(fault)),
     };
     let mut text = GrowingSink::new(alloc);
     match list_owned(alloc, pages, &mut text) {
         Ok(()) => Ok(text.into_bytes()),
-        Err(_) => Err(refused_hearing(PagerFault::OutOfMemory)),
+        Err(_) => Err(plain(3)),
     }
 }
 
@@ -64,8 +71,7 @@ pub extern "C" fn pocsag_decode(
     ensures of_bytes { IsOfBytes result }
     ensures untouched { result ≢ 0 → listing.new ≡ listing.old }
 {
-    let text = text_decoded(alloc, tx);
-    hand_out_text(text, 9, listing, listing_len, place)
+    pocsag_decode_as(alloc, 0, tx, listing, listing_len, place)
 }
 
 /// Puts the listing of what the pager of an address shows of a transmission into a buffer, as
@@ -89,43 +95,12 @@ pub extern "C" fn pocsag_hear(
     ensures of_bytes { IsOfBytes result }
     ensures untouched { result ≢ 0 → listing.new ≡ listing.old }
 {
-    let text = text_heard(alloc, address, tx);
-    hand_out_text(text, 9, listing, listing_len, place)
-}
-
-fn text_decoded_as(alloc: Global, reading: Reading, tx: &[u8]) -> Result<Vec<u8>, StatusAt>
-    ensures listed { IfOk result (λ text. IsListingAs (number_of_reading reading) tx.now text.items) }
-    ensures fault { IfErr result (λ r. IsUnreadOr (number_of_reading reading) tx.now r.status r.place
-        (λ bytes. PrintsFault transmission_refusal (ExplainsUnlisted bytes) r.status r.place)) }
-    ensures refusing { IfErr result (λ r. IsRefusing r.status) }
-    ensures of_bytes { IfErr result (λ r. IsOfBytes r.status) }
-{
-    match read_as(alloc, reading, tx) {
-        Ok(read) => text_decoded(alloc, read.bytes()),
-        Err(refusal) => Err(refusal),
-    }
-}
-
-fn text_heard_as(
-    alloc: Global,
-    reading: Reading,
-    address: u32,
-    tx: &[u8],
-) -> Result<Vec<u8>, StatusAt>
-    ensures listed { IfOk result (λ text. IsListingShownAs (number_of_reading reading) address tx.now text.items) }
-    ensures fault { IfErr result (λ r. IsUnreadOr (number_of_reading reading) tx.now r.status r.place
-        (λ bytes. PrintsFault pager_refusal (ExplainsUnheard address bytes) r.status r.place)) }
-    ensures refusing { IfErr result (λ r. IsRefusing r.status) }
-    ensures of_bytes { IfErr result (λ r. IsOfBytes r.status) }
-{
-    match read_as(alloc, reading, tx) {
-        Ok(read) => text_heard(alloc, address, read.bytes()),
-        Err(refusal) => Err(refusal),
-    }
+    pocsag_hear_as(alloc, 0, address, tx, listing, listing_len, place)
 }
 
 /// Puts the listing of the pages of a transmission into a buffer as `pocsag_decode` does: with the reading 0 those of the
-/// bytes, with 1 those of their repair, and with 2 those of all transmissions of a capture. 58 where it is no reading.
+/// bytes, with 1 those of their repair, and with 2 those of all transmissions of a capture. 58 if the reading is none of
+/// these.
 #[unsafe(no_mangle)]
 pub extern "C" fn pocsag_decode_as(
     alloc: Global,
@@ -145,12 +120,12 @@ pub extern "C" fn pocsag_decode_as(
     ensures of_bytes { IsOfBytes result }
     ensures untouched { result ≢ 0 → listing.new ≡ listing.old }
 {
-    let Some(reading) = reading_of(reading) else {
+    if reading > 2 {
         *listing_len = 0;
         *place = NOWHERE;
         return 58;
-    };
-    let text = text_decoded_as(alloc, reading, tx);
+    }
+    let text = text_decoded(alloc, reading, tx);
     hand_out_text(text, 9, listing, listing_len, place)
 }
 
@@ -178,11 +153,11 @@ pub extern "C" fn pocsag_hear_as(
     ensures of_bytes { IsOfBytes result }
     ensures untouched { result ≢ 0 → listing.new ≡ listing.old }
 {
-    let Some(reading) = reading_of(reading) else {
+    if reading > 2 {
         *listing_len = 0;
         *place = NOWHERE;
         return 58;
-    };
-    let text = text_heard_as(alloc, reading, address, tx);
+    }
+    let text = text_heard(alloc, reading, address, tx);
     hand_out_text(text, 9, listing, listing_len, place)
 }

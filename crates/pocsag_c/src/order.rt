@@ -19,18 +19,13 @@ fn text_in_order(alloc: Global, pages: &[u8]) -> Result<Vec<u8>, StatusAt>
     ensures refusing { IfErr result (λ r. IsRefusing r.status) }
     ensures of_bytes { IfErr result (λ r. IsOfBytes r.status) }
 {
-    let round = match read_round(alloc, &mut SliceSource::new(pages)) {
-        Ok(round) => round,
-        Err(fault) => return Err(refused_round(fault)),
-    };
+    let round = read_round(alloc, &mut SliceSource::new(pages)).map_err(refused_round)?;
     let Ok(batches) = lay_in_order(alloc, &round) else {
         return Err(refused_round(RoundFault::OutOfMemory));
     };
     let mut tx = GrowingSink::new(alloc);
-    match write(&batches, &mut tx) {
-        Ok(()) => Ok(tx.into_bytes()),
-        Err(_) => Err(refused_round(RoundFault::OutOfMemory)),
-    }
+    write(&batches, &mut tx).map_err(|_| refused_round(RoundFault::OutOfMemory))?;
+    Ok(tx.into_bytes())
 }
 
 /// Puts the transmission of a page file into a buffer in which each page stands at the first place for it, in the order of the

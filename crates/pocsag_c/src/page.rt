@@ -12,10 +12,11 @@ use crate::refusal::{Place, StatusAt, refused_record};
 use csv::Writer;
 use itoa::Buffer;
 use pocsag_decode::{
-    kind_of_page, page_files_are_read_back, pages_of_files_are_spellable, whole_message,
+    kind_of_page, recall_page_files_are_read_back, recall_pages_of_files_are_spellable,
+    whole_message,
 };
 use pocsag_pages::{FieldFault, Page, RecordFault, page_of_fields};
-use std::alloc::{AllocError, Global};
+use std::alloc::Global;
 
 // The kind of a number, as a page file spells it.
 fn word_of_kind(number: u32) -> &'static [u8]
@@ -33,25 +34,21 @@ fn word_of_kind(number: u32) -> &'static [u8]
 }
 
 // The record of a page, as a page file has it.
-fn record_text(alloc: Global, page: &Page) -> Result<Vec<u8>, AllocError>
+fn record_text(alloc: Global, page: &Page) -> Result<Vec<u8>, FieldFault>
     requires { IsListable page.now }
-    ensures { IfOk result (λ text. text.items ≡ row_text default_writer (page_record page.now)) }
+    ensures written { IfOk result (λ text. text.items ≡ row_text default_writer (page_record page.now)) }
+    ensures memory { IfErr result (λ e. e ≡ FieldFault.OutOfMemory) }
 {
     let items = page.payload.as_slice();
-    let Ok(message) = whole_message(alloc, page.function, items) else {
-        return Err(AllocError);
-    };
+    let message = whole_message(alloc, page.function, items).map_err(|_| FieldFault::OutOfMemory)?;
     let mut digits = Buffer::new();
     let address = digits.format(page.address).as_bytes();
     let kind = kind_of_page(page.function, items);
     let mut writer = Writer::from_writer(Vec::new(alloc));
-    let Ok(()) = writer.write_fields(&[address, kind, message.as_slice()]) else {
-        return Err(AllocError);
-    };
-    match writer.into_inner() {
-        Ok(text) => Ok(text),
-        Err(_) => Err(AllocError),
-    }
+    writer
+        .write_fields(&[address, kind, message.as_slice()])
+        .map_err(|_| FieldFault::OutOfMemory)?;
+    writer.into_inner().map_err(|_| FieldFault::OutOfMemory)
 }
 
 // The record of the page that an address, a kind and a message spell.
@@ -64,19 +61,16 @@ fn record_spelled(
     ensures written { IfOk result (λ text. IsRecordOf address kind message.now text.items) }
     ensures explained { IfErr result (ExplainsNoRecord address kind message.now) }
 {
-    page_files_are_read_back();
-    pages_of_files_are_spellable();
+    recall_page_files_are_read_back();
+    recall_pages_of_files_are_spellable();
     let mut digits = Buffer::new();
     let address = digits.format(address).as_bytes();
     let page = page_of_fields(alloc, address, word_of_kind(kind), message)?;
-    match record_text(alloc, &page) {
-        Ok(text) => Ok(text),
-        Err(_) => Err(FieldFault::OutOfMemory),
-    }
+    record_text(alloc, &page)
 }
 
 /// Puts the record of a page, with its quotes and its line end, into a buffer: 0, or 10 where the buffer is too small. In both
-/// cases `row_len` reports its length. Behind a page file it makes the page file of one page more.
+/// cases `row_len` reports its length. Appended to a page file, it makes a page file of one page more.
 #[unsafe(no_mangle)]
 pub extern "C" fn pocsag_write_page(
     alloc: Global,
@@ -98,9 +92,8 @@ pub extern "C" fn pocsag_write_page(
     ensures of_bytes { IsOfBytes result }
     ensures untouched { result ≢ 0 → row.new ≡ row.old }
 {
-    let made = match record_spelled(alloc, address, kind, message) {
-        Ok(text) => Ok(text),
-        Err(fault) => Err(refused_record(0, RecordFault::Field(fault))),
-    };
+    let made = record_spelled(alloc, address, kind, message).map_err(|fault| {
+        refused_record(0, RecordFault::Field(fault))
+    });
     hand_out_text(made, 10, row, row_len, place)
 }

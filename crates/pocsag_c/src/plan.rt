@@ -1,17 +1,18 @@
-ghost use Rattle.std.specs.Prelude.{◌≡◌, ◌≢◌, ◌<◌, ◌≤◌, ◌⊎◌, ◌↔◌, IfErr, IfOk, MatchOption, length};
+ghost use Rattle.std.specs.Prelude.{◌≡◌, ◌≢◌, ◌<◌, ◌≤◌, ◌⊎◌, ◌↔◌, IfErr, IfOk, IfSome, MatchOption, length};
 ghost use Rattle.pocsag_pages.specs.declared.fault.RoundFault.TheVariants as round_fault;
 ghost use Rattle.pocsag_tree.specs.Views.{bound_tree_of};
 ghost use Rattle.pocsag_plan.specs.BoundedHeadline.{BoundedHeadline};
 ghost use Rattle.pocsag_plan.specs.Headline.{Headline};
 ghost use Rattle.pocsag_plan.specs.Plans.{IsNoWorse};
 ghost use Rattle.pocsag_plan.specs.Streams.{ExplainsStream, IsBoundedOf, IsOfRound};
-ghost use Rattle.pocsag_c.specs.Answers.{IsDelivered, IsNoEnd, PrintsFault, on_limit_of, number_of_end};
+ghost use Rattle.pocsag_c.specs.Answers.{IsDelivered, IsNoEnd, PrintsFault};
 ghost use Rattle.pocsag_c.specs.Plans.{ExplainsPlanning, HasNoRoomForBoth, IsCounted, IsHeadline, IsHeadlineWithBound, IsNoWorseTold, IsPlannedInto, IsWithoutPlan, IsWithoutRoom, no_plan};
+ghost use Rattle.pocsag_c.specs.Reports.{IsAsked};
 ghost use Rattle.pocsag_c.specs.Statuses.{IsOfBytes, nowhere, stream_refusal};
 
 use crate::buffer::hand_out;
 use crate::refusal::{NOWHERE, Place, refused_stream};
-use pocsag_plan::{Bounded, OnLimit, Search, StreamFault, plan_stream, plan_stream_always};
+use pocsag_plan::{BoundedPlan, OnLimit, Search, StreamFault, plan_stream, plan_stream_always};
 use pocsag_words::{End, GrowingSink, SliceSource};
 use std::alloc::Global;
 
@@ -33,19 +34,6 @@ pub struct PlanInfo {
     pub place: Place,
 }
 
-// What a number asks for: 0 the fewest batches alone, any other that no round is refused.
-pub(crate) fn on_limit_of(always: u32) -> OnLimit
-    ensures value { result ≡ on_limit_of always }
-    ensures fewest { always ≡ 0 → result ≡ OnLimit.Fewest }
-    ensures always { always ≢ 0 → result ≡ OnLimit.Always }
-{
-    if always == 0 {
-        OnLimit::Fewest
-    } else {
-        OnLimit::Always
-    }
-}
-
 const NO_PLAN: PlanInfo = PlanInfo {
     pages: 0,
     codewords: 0,
@@ -55,16 +43,28 @@ const NO_PLAN: PlanInfo = PlanInfo {
     place: NOWHERE,
 };
 
-// The end of a number.
-pub(crate) fn end_of(number: u32) -> Option<End>
-    ensures { MatchOption result (IsNoEnd number) (λ end. number ≡ number_of_end end) }
+// What the numbers of a call ask of the planner: the end of its number, and the fewest batches alone where `always` is 0.
+pub(crate) fn search_of(limit: u32, end: u32, always: u32) -> Option<Search>
+    ensures asked { MatchOption result (IsNoEnd end) (IsAsked end limit always) }
+    ensures fewest { always ≡ 0 → IfSome result (λ search. search.on_limit ≡ OnLimit.Fewest) }
+    ensures always { always ≢ 0 → IfSome result (λ search. search.on_limit ≡ OnLimit.Always) }
 {
-    match number {
-        0 => Some(End::Open),
-        1 => Some(End::Closed),
-        2 => Some(End::Idle),
-        _ => None,
-    }
+    let end = match end {
+        0 => End::Open,
+        1 => End::Closed,
+        2 => End::Idle,
+        _ => return None,
+    };
+    let on_limit = if always == 0 {
+        OnLimit::Fewest
+    } else {
+        OnLimit::Always
+    };
+    Some(Search {
+        limit,
+        end,
+        on_limit,
+    })
 }
 
 // A plan with the bytes of its transmission and of its certificate.
@@ -72,7 +72,7 @@ pub(crate) fn end_of(number: u32) -> Option<End>
 pub(crate) struct PlanTexts {
     pub(crate) sent: Vec<u8>,
     pub(crate) certificate: Vec<u8>,
-    pub(crate) bounded: Bounded,
+    pub(crate) bounded: BoundedPlan,
 }
 
 // Plans a page file as is asked, and writes both texts.
@@ -97,30 +97,24 @@ fn plan_texts(alloc: Global, pages: &[u8], search: Search) -> Result<PlanTexts, 
     let mut source = SliceSource::new(pages);
     let mut tx = GrowingSink::new(alloc);
     let mut cert = GrowingSink::new(alloc);
-    match on_limit {
-        OnLimit::Fewest => match plan_stream(alloc, &mut source, &mut tx, &mut cert, limit, end) {
-            Ok(plan) => Ok(PlanTexts {
-                sent: tx.into_bytes(),
-                certificate: cert.into_bytes(),
-                bounded: Bounded {
-                    bound: plan.batches,
-                    plan,
-                    stopped: None,
-                },
-            }),
-            Err(fault) => Err(fault),
-        },
-        OnLimit::Always => {
-            match plan_stream_always(alloc, &mut source, &mut tx, &mut cert, limit, end) {
-                Ok(bounded) => Ok(PlanTexts {
-                    sent: tx.into_bytes(),
-                    certificate: cert.into_bytes(),
-                    bounded,
-                }),
-                Err(fault) => Err(fault),
+    let bounded = match on_limit {
+        OnLimit::Fewest => {
+            let plan = plan_stream(alloc, &mut source, &mut tx, &mut cert, limit, end)?;
+            BoundedPlan {
+                bound: plan.batches,
+                plan,
+                stopped: None,
             }
         }
-    }
+        OnLimit::Always => {
+            plan_stream_always(alloc, &mut source, &mut tx, &mut cert, limit, end)?
+        }
+    };
+    Ok(PlanTexts {
+        sent: tx.into_bytes(),
+        certificate: cert.into_bytes(),
+        bounded,
+    })
 }
 
 // Puts both texts into their buffers, if each has room for its text, and reports their lengths.
@@ -150,9 +144,8 @@ pub(crate) fn hand_out_both(
     if cert.len() < certificate.len() {
         return 8;
     }
-    hand_out(sent, tx, tx_len);
-    hand_out(certificate, cert, cert_len);
-    0
+    hand_out(sent, 7, tx, tx_len);
+    hand_out(certificate, 8, cert, cert_len)
 }
 
 /// Plans a page file, and puts the transmission and the certificate into two buffers: 0, or 7 or 8 where
@@ -181,7 +174,7 @@ pub extern "C" fn pocsag_plan(
         (IsHeadlineWithBound pages.now end info.new) tx.old tx.new tx_len.new cert.old cert.new cert_len.new }
     ensures counted { (result ≡ 0) ⊎ IsWithoutRoom result → IsCounted pages.now info.new }
     // Where `always` is not 0, the plan is no worse than one with 0 at this limit.
-    ensures no_worse { (result ≡ 0) ⊎ IsWithoutRoom result → IsNoWorseTold pages.now end limit info.new }
+    ensures no_worse { (result ≡ 0) ⊎ IsWithoutRoom result → IsNoWorseTold pages.now end limit always info.new }
 
     // Too small a buffer: the lengths are those of such a plan.
     ensures no_room { IsWithoutRoom result → info.new.bound ≡ info.new.batches →
@@ -194,7 +187,7 @@ pub extern "C" fn pocsag_plan(
     // Any other status says why there is no plan, and never that a device failed; both buffers are as they were.
     ensures bad_end { result ≡ 2 ↔ IsNoEnd end }
     ensures fault { IsWithoutPlan result →
-        PrintsFault stream_refusal (ExplainsPlanning (on_limit_of always) pages.now end limit) result info.new.place }
+        PrintsFault stream_refusal (ExplainsPlanning pages.now end limit always) result info.new.place }
     ensures answered { always ≢ 0 → result ≢ 6 }
     ensures placeless { (result ≡ 0) ⊎ IsWithoutRoom result ⊎ (result ≡ 2) → info.new.place ≡ nowhere }
     ensures nothing { IsWithoutPlan result ⊎ (result ≡ 2) →
@@ -205,21 +198,12 @@ pub extern "C" fn pocsag_plan(
     *tx_len = 0;
     *cert_len = 0;
     *info = NO_PLAN;
-    let Some(end) = end_of(end) else {
+    let Some(search) = search_of(limit, end, always) else {
         return 2;
     };
-    let on_limit = on_limit_of(always);
-    match plan_texts(
-        alloc,
-        pages,
-        Search {
-            limit,
-            end,
-            on_limit,
-        },
-    ) {
+    match plan_texts(alloc, pages, search) {
         Ok(texts) => {
-            let Bounded { plan, bound, .. } = &texts.bounded;
+            let BoundedPlan { plan, bound, .. } = &texts.bounded;
             *info = PlanInfo {
                 pages: plan.pages,
                 codewords: plan.codewords,
@@ -230,10 +214,6 @@ pub extern "C" fn pocsag_plan(
             };
             hand_out_both(&texts, tx, tx_len, cert, cert_len)
         }
-        Err(fault) => {
-            let refusal = refused_stream(fault);
-            info.place = refusal.place;
-            refusal.status
-        }
+        Err(fault) => refused_stream(fault).put(&mut info.place),
     }
 }

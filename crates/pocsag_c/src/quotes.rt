@@ -32,8 +32,7 @@ fn refused_quote(fault: QuoteFault) -> StatusAt
     }
 }
 
-/// Whether each quote of a page file stands as CSV has it: 0, or the fault of the first that does not, with its record and its
-/// line.
+/// Checks the quotes of a page file: 0, or the fault of the first misplaced quote, with its record and its line.
 #[unsafe(no_mangle)]
 pub extern "C" fn pocsag_strict(pages: &[u8], place: &mut Place) -> u32
     ensures strict { result ≡ 0 ↔ IsWellQuoted (text_of_file pages.now) }
@@ -46,7 +45,5 @@ pub extern "C" fn pocsag_strict(pages: &[u8], place: &mut Place) -> u32
     let Some(quote) = quote_fault(pages) else {
         return 0;
     };
-    let refusal = refused_quote(quote);
-    *place = refusal.place;
-    refusal.status
+    refused_quote(quote).put(place)
 }

@@ -13,7 +13,7 @@ use pocsag_show::ShowFault;
 use pocsag_tree::CertificateFault;
 use pocsag_wav::NoSound;
 
-/// Where a fault stands, and what a search knew; each number is 0 where it says nothing.
+/// Where a fault is, and what a search knew. A number that says nothing is 0.
 #[repr(C)]
 #[derive(Clone, Copy)]
 pub struct Place {
@@ -34,6 +34,17 @@ pub(crate) struct StatusAt {
     pub(crate) place: Place,
 }
 
+impl StatusAt {
+    /// Reports the place. Returns the status.
+    pub(crate) fn put(self, place: &mut Place) -> u32
+        ensures status { result ≡ self.status }
+        ensures place { place.new ≡ self.place }
+    {
+        *place = self.place;
+        self.status
+    }
+}
+
 pub(crate) const NOWHERE: Place = Place {
     record_number: 0,
     least: 0,
@@ -42,7 +53,7 @@ pub(crate) const NOWHERE: Place = Place {
 };
 
 // A refusal that has no place.
-fn plain(status: u32) -> StatusAt
+pub(crate) fn plain(status: u32) -> StatusAt
     ensures { result ≡ plain_refusal status }
 {
     StatusAt {

@@ -6,10 +6,10 @@ ghost use Rattle.pocsag_c.specs.Answers.{IsNoEnd, PrintsFault};
 ghost use Rattle.pocsag_c.specs.Reports.{ExplainsReport, ExplainsUnreported, IsBadRate, PrintsReport, no_report};
 ghost use Rattle.pocsag_c.specs.Statuses.{IsOfBytes, nowhere, stream_refusal};
 
-use crate::plan::{end_of, on_limit_of};
+use crate::plan::search_of;
 use crate::refusal::{NOWHERE, Place, refused_stream};
 use pocsag_pages::{Round, read_round};
-use pocsag_plan::{Bounded, Search, StreamFault, bounded_plan, report};
+use pocsag_plan::{BoundedPlan, Search, StreamFault, bounded_plan, report};
 use pocsag_words::SliceSource;
 use std::alloc::Global;
 
@@ -53,7 +53,7 @@ const NO_REPORT: ReportInfo = ReportInfo {
 #[derive(Drop)]
 pub(crate) struct PlannedRound {
     pub(crate) round: Round,
-    pub(crate) bounded: Bounded,
+    pub(crate) bounded: BoundedPlan,
 }
 
 // The round of a page file and its plan. The file is judged before the limit.
@@ -67,10 +67,7 @@ pub(crate) fn plan_in(
     ensures explained { IfErr result (ExplainsUnreported pages.now search) }
     ensures unread { IfErr result (λ e. e ≢ StreamFault.Round round_fault.ReadFault) }
 {
-    let round = match read_round(alloc, &mut SliceSource::new(pages)) {
-        Ok(round) => round,
-        Err(fault) => return Err(StreamFault::Round(fault)),
-    };
+    let round = read_round(alloc, &mut SliceSource::new(pages)).map_err(StreamFault::Round)?;
     match bounded_plan(alloc, &round, search) {
         Ok(bounded) => Ok(PlannedRound { round, bounded }),
         Err(fault) => Err(StreamFault::Plan(fault)),
@@ -101,25 +98,12 @@ pub extern "C" fn pocsag_report(
     ensures of_bytes { IsOfBytes result }
 {
     *info = NO_REPORT;
-    let Some(end) = end_of(end) else {
+    let Some(search) = search_of(limit, end, always) else {
         return 2;
     };
-    let on_limit = on_limit_of(always);
-    let bounded = match plan_in(
-        alloc,
-        pages,
-        Search {
-            limit,
-            end,
-            on_limit,
-        },
-    ) {
+    let bounded = match plan_in(alloc, pages, search) {
         Ok(found) => found.bounded,
-        Err(fault) => {
-            let refusal = refused_stream(fault);
-            info.place = refusal.place;
-            return refusal.status;
-        }
+        Err(fault) => return refused_stream(fault).put(&mut info.place),
     };
     let Ok(report) = report(&bounded.plan, rate) else {
         return 4;

@@ -1,16 +1,16 @@
-ghost use Rattle.std.specs.Prelude.{◌≡◌, ◌≢◌, ◌⊎◌, ◌↔◌, Err, IfErr, IfOk, OnOk};
+ghost use Rattle.std.specs.Prelude.{◌≡◌, ◌≢◌, ◌≤◌, ◌⊎◌, ◌↔◌, Err, IfErr, IfOk, OnOk};
 ghost use Rattle.pocsag_show.specs.Shows.{Explains, IsTextOf};
 ghost use Rattle.pocsag_show.specs.Views.{view_text};
 ghost use Rattle.pocsag_wav.specs.Sounds.{ReadsAsPages};
 ghost use Rattle.pocsag_c.specs.Answers.{PrintsFault};
 ghost use Rattle.pocsag_c.specs.Listings.{HasNoRoom, IsListed};
 ghost use Rattle.pocsag_c.specs.Pictures.{AreBehindLast, AreNoRows, AreThere, IsBehindLastAs, IsNoPicture, IsNumberOfView, IsPictureAs};
-ghost use Rattle.pocsag_c.specs.Readings.{IsNoReading, IsSoAsRead, IsUnreadOr, number_of_reading};
+ghost use Rattle.pocsag_c.specs.Readings.{IsNoReading, IsSoAsRead, IsUnreadOr};
 ghost use Rattle.pocsag_c.specs.Statuses.{IsOfBytes, IsRefusing, nowhere, show_refusal};
 
 use crate::buffer::hand_out_text;
-use crate::reading::{Reading, read_as, reading_of};
-use crate::refusal::{NOWHERE, Place, StatusAt, refused_show};
+use crate::reading::read_as;
+use crate::refusal::{NOWHERE, Place, StatusAt, plain, refused_show};
 use pocsag_pages::preamble_len;
 use pocsag_show::{Rows, View, show};
 use pocsag_words::{BATCH_BYTES, GrowingSink};
@@ -49,57 +49,37 @@ fn refuse_batches(view: View, tx: &[u8]) -> Result<(), StatusAt>
     if rows.first <= (batches.len() / BATCH_BYTES) as u64 {
         return Ok(());
     }
-    Err(StatusAt {
-        status: 57,
-        place: NOWHERE,
-    })
+    Err(plain(57))
 }
 
-fn text_shown(alloc: Global, view: View, tx: &[u8]) -> Result<Vec<u8>, StatusAt>
-    ensures shown { IfOk result (λ text. IsTextOf (view_text view) tx.now text.items) }
-    ensures there { OnOk result (AreThere view tx.now) }
-    ensures behind { IfErr result (λ r. r.status ≡ 57 →
-        AreBehindLast view tx.now × ReadsAsPages tx.now × (r.place ≡ nowhere)) }
-    ensures fault { IfErr result (λ r. r.status ≢ 57 →
-        PrintsFault show_refusal (Explains tx.now) r.status r.place) }
+fn text_shown(alloc: Global, reading: u32, view: View, tx: &[u8]) -> Result<Vec<u8>, StatusAt>
+    requires { reading ≤ 2 }
+    ensures shown { IfOk result (λ text. IsSoAsRead reading tx.now
+        (λ bytes. IsTextOf (view_text view) bytes text.items × AreThere view bytes)) }
+    ensures behind { IfErr result (λ r. r.status ≡ 57 → IsSoAsRead reading tx.now
+        (λ bytes. AreBehindLast view bytes × ReadsAsPages bytes) × (r.place ≡ nowhere)) }
+    ensures fault { IfErr result (λ r. r.status ≢ 57 → IsUnreadOr reading tx.now r.status r.place
+        (λ bytes. PrintsFault show_refusal (Explains bytes) r.status r.place)) }
     ensures refusing { IfErr result (λ r. IsRefusing r.status) }
     ensures of_bytes { IfErr result (λ r. IsOfBytes r.status) }
 {
+    let read = read_as(alloc, reading, tx)?;
+    let bytes = read.bytes();
     let mut text = GrowingSink::new(alloc);
-    match show(alloc, view, tx, &mut text) {
+    match show(alloc, view, bytes, &mut text) {
         Ok(()) => {
-            refuse_batches(view, tx)?;
+            refuse_batches(view, bytes)?;
             Ok(text.into_bytes())
         }
         Err(fault) => Err(refused_show(fault)),
     }
 }
 
-fn text_shown_as(
-    alloc: Global,
-    reading: Reading,
-    view: View,
-    tx: &[u8],
-) -> Result<Vec<u8>, StatusAt>
-    ensures shown { IfOk result (λ text. IsSoAsRead (number_of_reading reading) tx.now
-        (λ bytes. IsTextOf (view_text view) bytes text.items × AreThere view bytes)) }
-    ensures behind { IfErr result (λ r. r.status ≡ 57 → IsSoAsRead (number_of_reading reading) tx.now
-        (λ bytes. AreBehindLast view bytes × ReadsAsPages bytes) × (r.place ≡ nowhere)) }
-    ensures fault { IfErr result (λ r. r.status ≢ 57 → IsUnreadOr (number_of_reading reading) tx.now r.status r.place
-        (λ bytes. PrintsFault show_refusal (Explains bytes) r.status r.place)) }
-    ensures refusing { IfErr result (λ r. IsRefusing r.status) }
-    ensures of_bytes { IfErr result (λ r. IsOfBytes r.status) }
-{
-    match read_as(alloc, reading, tx) {
-        Ok(read) => text_shown(alloc, view, read.bytes()),
-        Err(refusal) => Err(refusal),
-    }
-}
-
 /// Puts a picture of a transmission into a buffer: 0, or 10 where the buffer is too small. In both cases `text_len` reports its
 /// length. The reading is that of `pocsag_decode_as`; the form is 0 for a text with a letter for each codeword, 1 for the list
-/// of where the pages stand and 2 for a drawing; 58 where one of them is none. Text and drawing show the batches from `first`
-/// to `last`, counted from 1; 57 where these are none, or where a transmission without other faults ends before `first`.
+/// of where the pages stand and 2 for a drawing; 58 if one of them is none of 0, 1 and 2. Text and drawing show the batches
+/// from `first` to `last`, counted from 1; 57 if `first` is 0 or above `last`, or if a transmission without other faults ends
+/// before `first`.
 #[unsafe(no_mangle)]
 pub extern "C" fn pocsag_show(
     alloc: Global,
@@ -129,13 +109,13 @@ pub extern "C" fn pocsag_show(
 {
     *text_len = 0;
     *place = NOWHERE;
-    let Some(reading) = reading_of(reading) else {
+    if reading > 2 {
         return 58;
-    };
+    }
     let view = match view_of(form, first, last) {
         Ok(view) => view,
         Err(status) => return status,
     };
-    let shown = text_shown_as(alloc, reading, view, tx);
+    let shown = text_shown(alloc, reading, view, tx);
     hand_out_text(shown, 10, text, text_len, place)
 }

@@ -27,10 +27,8 @@ fn text_sounded(alloc: Global, keying: Keying, tx: &[u8]) -> Result<Vec<u8>, Sta
     ensures of_bytes { IfErr result (λ r. IsOfBytes r.status) }
 {
     let mut file = GrowingSink::new(alloc);
-    match write_wav(keying, tx, &mut file) {
-        Ok(()) => Ok(file.into_bytes()),
-        Err(fault) => Err(refused_wav(fault)),
-    }
+    write_wav(keying, tx, &mut file).map_err(refused_wav)?;
+    Ok(file.into_bytes())
 }
 
 /// Puts the sound that a transmitter is keyed with into a buffer, as a WAV file: 0, or 10 where the buffer is too small. In both

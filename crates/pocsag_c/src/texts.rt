@@ -87,16 +87,6 @@ fn sent_text(status: u32) -> &'static [u8]
     }
 }
 
-fn status_text(status: u32) -> &'static [u8]
-    ensures { result.now ≡ status_text status }
-{
-    match status {
-        0..16 => call_text(status),
-        16..45 => file_text(status),
-        _ => sent_text(status),
-    }
-}
-
 /// Puts what a status says into a buffer: 0, or 10 where the buffer is too small. In both cases `text_len` reports the length.
 #[unsafe(no_mangle)]
 pub extern "C" fn pocsag_text_of_status(status: u32, text: &mut [u8], text_len: &mut usize) -> u32
@@ -104,11 +94,12 @@ pub extern "C" fn pocsag_text_of_status(status: u32, text: &mut [u8], text_len: 
     ensures no_room { result ≡ 10 → IsTooSmall text.old text.new text_len.new (status_text status) }
     ensures only { (result ≡ 0) ⊎ (result ≡ 10) }
 {
-    if hand_out(status_text(status), text, text_len) {
-        0
-    } else {
-        10
-    }
+    let said = match status {
+        0..16 => call_text(status),
+        16..45 => file_text(status),
+        _ => sent_text(status),
+    };
+    hand_out(said, 10, text, text_len)
 }
 
 /// Puts the version of the package into a buffer, as `pocsag_text_of_status` does.
@@ -118,9 +109,5 @@ pub extern "C" fn pocsag_text_of_version(text: &mut [u8], text_len: &mut usize) 
     ensures no_room { result ≡ 10 → IsTooSmall text.old text.new text_len.new release_text }
     ensures only { (result ≡ 0) ⊎ (result ≡ 10) }
 {
-    if hand_out(b"1.2.0-rc.6", text, text_len) {
-        0
-    } else {
-        10
-    }
+    hand_out(b"1.2.0-rc.7", 10, text, text_len)
 }

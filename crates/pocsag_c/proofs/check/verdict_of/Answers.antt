@@ -1,8 +1,5 @@
-use Rattle.std.proofs.Common.{◌≡◌, ap, subst, sym, ◌∙◌}
-use Rattle.pocsag_pages.specs.PageFile.{verdict}
-use Rattle.pocsag_tree.specs.CertificateText.{IsText}
+use Rattle.pocsag_c.proofs.Prelude.{◌≡◌, ap, subst, sym, ◌∙◌, verdict, IsText, number_of_end}
 use Rattle.pocsag_tree.specs.Views.{bound_tree_of}
-use Rattle.pocsag_c.specs.Answers.{number_of_end}
 use Rattle.pocsag_c.proofs.Verdicts.{accepted, not_accepted}
 use Rattle.pocsag_c.proofs.check.verdict_of.Goals.{in-Open, in-Closed, in-Idle}
 use Rattle.pocsag_c.proofs.check.verdict_of.Goals as goal

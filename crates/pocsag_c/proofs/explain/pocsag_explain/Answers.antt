@@ -1,7 +1,6 @@
-use Rattle.std.proofs.Common.{◌≡◌, ◌∙◌, ◌++◌, ap, ℕ, Bool, true, false, List, subst, sym, inl, inr}
+use Rattle.pocsag_c.proofs.Prelude.{◌≡◌, ◌∙◌, ◌++◌, ap, ℕ, Bool, true, false, List, subst, sym, inl, inr, CheckInfo}
 use Rattle.pocsag_findings.specs.Beginnings.{GivesVerdict}
 use Rattle.pocsag_c.specs.Explain.{IsTextOfVerdict, IsVerdictText}
-use Rattle.pocsag_c.specs.declared.check.CheckInfo.{CheckInfo}
 use Rattle.pocsag_c.proofs.explain.pocsag_explain.Goals as goal
 
 either : (form depth : ℕ) (info : CheckInfo) (is_shown : Bool) (text : List ℕ) → IsVerdictText form depth info is_shown text →
@@ -9,8 +8,8 @@ either : (form depth : ℕ) (info : CheckInfo) (is_shown : Bool) (text : List �
 either form depth info true text is_known = inl is_known
 either form depth info false text is_known = inr is_known
 
-pub returns-in-Ok-write_explanation-clause-no_room : goal.returns-in-Ok-write_explanation-clause-no_room
-returns-in-Ok-write_explanation-clause-no_room c = λ _.
+pub returns-clause-no_room : goal.returns-clause-no_room
+returns-clause-no_room c = λ small.
     let verdict = c.in-Ok.verdict in
     let format = c.in-Some.format in
     let bytes = c.as_slice.result.now in
@@ -28,5 +27,5 @@ returns-in-Ok-write_explanation-clause-no_room c = λ _.
             is_known = subst (λ (n : ℕ). GivesVerdict format verdict.is_shown verdict.certificate.end n bytes) (sym c.in-Ok.ensures.batches)
                 (subst (GivesVerdict format verdict.is_shown verdict.certificate.end verdict.certificate.batches) (sym same) told.told);
           });
-      too_small = c.hand_out.ensures.too_small (λ yes. cc);
+      too_small = c.hand_out.ensures.too_small (cc);
     }

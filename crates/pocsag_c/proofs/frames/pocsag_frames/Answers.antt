@@ -1,27 +1,21 @@
-use Rattle.std.proofs.Common.{◌∙◌, ap, refl, subst, sym}
+use Rattle.pocsag_c.proofs.Prelude.{◌∙◌, ap, refl, subst, sym}
 use Rattle.pocsag_plan.specs.Frames.{HasClasses, frames_of}
-use Rattle.pocsag_c.specs.declared.refusal.StatusAt.{StatusAt}
+use Rattle.pocsag_c.proofs.Fronts.{told}
 use Rattle.pocsag_c.proofs.frames.pocsag_frames.Goals as goal
 
 pub frames_of-requires : goal.frames_of-requires
 frames_of-requires c = subst HasClasses (sym c.as_slice.ensures.value) c.in-Ok.ensures.plan.plan_of.tour.no_other
 
 pub returns-in-Err-clause-fault : goal.returns-in-Err-clause-fault
-returns-in-Err-clause-fault c = λ _ _. record {
-  fault = c.in-Err.fault;
-  why = record {
-    search = record { limit = c.args.limit; end = c.in-Some.end; on_limit = c.on_limit_of-on_limit.result };
-    asked = record { same_end = c.in-Some.ensures; same_limit = refl; same_on_limit = c.on_limit_of-on_limit.ensures.value };
-    why = c.in-Err.ensures.explained;
-  };
-  same_status = ap (λ (r : StatusAt). r.status) c.refused_stream-refusal.ensures.value;
-  same_place = ap (λ (r : StatusAt). r.place) c.refused_stream-refusal.ensures.value;
-}
+returns-in-Err-clause-fault c = λ _ _.
+    told _ _ c.in-Err.fault c.refused_stream.result _ _
+    (record { search = c.in-Some.search; asked = c.in-Some.ensures.asked; holds = c.in-Err.ensures.explained })
+    c.refused_stream.ensures.value c.put.ensures.status c.put.ensures.place
 
 pub returns-clause-frames : goal.returns-clause-frames
 returns-clause-frames c = λ _. record {
-  search = record { limit = c.args.limit; end = c.in-Some.end; on_limit = c.on_limit_of-on_limit.result };
-  asked = record { same_end = c.in-Some.ensures; same_limit = refl; same_on_limit = c.on_limit_of-on_limit.ensures.value };
+  search = c.in-Some.search;
+  asked = c.in-Some.ensures.asked;
   round = c.in-Ok.found.round;
   read = c.in-Ok.ensures.read;
   bounded = c.in-Ok.found.bounded;

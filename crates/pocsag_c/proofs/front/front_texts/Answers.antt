@@ -1,5 +1,4 @@
-use Rattle.std.proofs.Common.{◌∙◌, ap, refl, sym}
-use Rattle.pocsag_pages.specs.PageFile.{verdict}
+use Rattle.pocsag_c.proofs.Prelude.{◌∙◌, ap, refl, sym, verdict}
 use Rattle.pocsag_plan.proofs.Due.{first_headline, first_plan}
 use Rattle.pocsag_c.proofs.Fronts.{left_counted, left_listable, left_read}
 use Rattle.pocsag_c.proofs.front.front_texts.Goals as goal
@@ -8,7 +7,7 @@ pub texts_of-requires-clause-rest : goal.texts_of-requires-clause-rest
 texts_of-requires-clause-rest c =
     let f = c.in-Ok-longest_front.front in
     let planned = c.in-Ok-longest_front.ensures in
-    left_listable c.args.search c.in-Ok.round f.round f.rest.items f.bounded planned.parts planned.plan c.keeps_rules.ensures
+    left_listable c.args.search c.in-Ok.round f.round f.rest.items f.bounded planned.parts planned.plan c.recall_rules.ensures
 
 pub returns-in-Ok-texts_of-clause-headline : goal.returns-in-Ok-texts_of-clause-headline
 returns-in-Ok-texts_of-clause-headline c =
@@ -45,8 +44,8 @@ returns-in-Ok-texts_of-clause-rest c =
     (record {
       round = R;
       read = read;
-      holds = left_read c.args.search R f.round f.rest.items f.bounded planned.parts planned.plan c.keeps_rules.ensures
-          (c.pages_of_files_are_spellable.ensures.files c.args.pages.now R read) c.page_files_are_read_back.ensures.pages
+      holds = left_read c.args.search R f.round f.rest.items f.bounded planned.parts planned.plan c.recall_rules.ensures
+          (c.recall_pages_of_files_are_spellable.ensures.files c.args.pages.now R read) c.recall_page_files_are_read_back.ensures.pages
           _ c.in-Ok-texts_of.ensures.rest;
     })
 

@@ -1,20 +1,22 @@
-use Rattle.std.proofs.Common.{inl, inr, refl, subst}
-use Rattle.pocsag_plan.specs.declared.search.OnLimit.{OnLimit}
-use Rattle.pocsag_c.specs.Answers.{IsNoEnd}
-use Rattle.pocsag_c.specs.Fronts.{IsTextOfWhy}
-use Rattle.pocsag_c.proofs.Fronts.{front_is, given, is_an_end}
+use Rattle.pocsag_c.proofs.Prelude.{◌≡◌, ◌≤◌, List, arith, drop, inl, inr, length, refl, subst, Page, IsNoEnd}
+use Rattle.std.proofs.Math.ListN.{length-drop}
+use Rattle.pocsag_c.proofs.Fronts.{front_is, given, is_an_end, told}
 use Rattle.pocsag_c.proofs.front.pocsag_plan_at_most.Goals as goal
 
 pub returns-in-Ok-clause-no_worse : goal.returns-in-Ok-clause-no_worse
 returns-in-Ok-clause-no_worse c = λ _.
     let planned = c.in-Ok.ensures.plan in
     record {
-      end = c.in-Some.end;
-      same_end = c.in-Some.ensures;
+      search = c.in-Some.search;
+      asked = c.in-Some.ensures.asked;
       bounded = c.in-Ok.front.first.bounded;
       batches = refl;
       bound = refl;
-      no_worse = record { round = planned.round; read = planned.read; holds = planned.holds.no_worse };
+      no_worse = record {
+        round = planned.round;
+        read = planned.read;
+        holds = planned.holds.no_worse;
+      };
     }
 
 pub returns-in-Ok-clause-rest : goal.returns-in-Ok-clause-rest
@@ -24,19 +26,13 @@ returns-in-Ok-clause-rest c = λ done.
 pub returns-in-Ok-clause-why : goal.returns-in-Ok-clause-why
 returns-in-Ok-clause-why c = λ done.
     given _ _ _ _ _
-    (record {
-      end = c.in-Some.end;
-      same_end = c.in-Some.ensures;
-      of_why = subst
-          (λ (on_limit : OnLimit). IsTextOfWhy (record { limit = c.args.limit; end = c.in-Some.end; on_limit = on_limit }) c.args.pages.now c.args.batches
-          c.in-Ok.front.first.bounded.plan.pages c.in-Ok.front.why.items c.in-Ok.front.beyond)
-          c.on_limit_of-on_limit.ensures.value c.in-Ok.ensures.why;
-    }) (c.hand_out_front.ensures.why done)
+    (record { search = c.in-Some.search; asked = c.in-Some.ensures.asked; holds = c.in-Ok.ensures.why })
+    (c.hand_out_front.ensures.why done)
 
 pub returns-in-Ok-clause-bad_end : goal.returns-in-Ok-clause-bad_end
 returns-in-Ok-clause-bad_end c = (
   λ two. absurd (front_is c.hand_out_front.result c.hand_out_front.ensures.status (inr two)),
-  λ none. absurd (is_an_end c.in-Some.end (subst IsNoEnd c.in-Some.ensures none)),
+  λ none. absurd (is_an_end c.in-Some.search.end (subst IsNoEnd c.in-Some.ensures.asked.same_end none)),
 )
 
 pub returns-in-Ok-clause-fault : goal.returns-in-Ok-clause-fault
@@ -44,3 +40,42 @@ returns-in-Ok-clause-fault c = λ other. absurd (front_is c.hand_out_front.resul
 
 pub returns-in-Ok-clause-nothing : goal.returns-in-Ok-clause-nothing
 returns-in-Ok-clause-nothing c = λ other. absurd (front_is c.hand_out_front.result c.hand_out_front.ensures.status other)
+
+pub returns-in-Ok-clause-front : goal.returns-in-Ok-clause-front
+returns-in-Ok-clause-front c = λ _. record {
+  search = c.in-Some.search;
+  asked = c.in-Some.ensures.asked;
+  holds = c.in-Ok.ensures.front;
+}
+
+pub returns-in-Ok-clause-counted : goal.returns-in-Ok-clause-counted
+returns-in-Ok-clause-counted c = λ _.
+    let planned = c.in-Ok.ensures.plan in
+    let left = c.in-Ok.ensures.left in
+    let front = c.in-Ok.ensures.front in
+    let count = c.in-Ok.front.first.bounded.plan.pages in
+    let same_left : left.round ≡ planned.round = cc (left.read, planned.read) in
+    let same_front : front.round ≡ planned.round = cc (front.read, planned.read) in
+    let behind : c.in-Ok.front.left ≡ length (drop count planned.round) =
+    subst (λ (round : List Page). c.in-Ok.front.left ≡ length (drop count round)) same_left left.holds in
+    let among : count ≤ length planned.round = subst (λ (round : List Page). count ≤ length round) same_front front.holds.among in
+    record {
+      round = planned.round;
+      read = planned.read;
+      pages = omega (arith, length-drop count planned.round, behind, among);
+      codewords = planned.holds.plan_of.codewords;
+      in_order = planned.holds.plan_of.in_order;
+    }
+
+pub returns-in-Ok-clause-why_length : goal.returns-in-Ok-clause-why_length
+returns-in-Ok-clause-why_length c = λ _. record {
+  text = c.in-Ok.front.why.items;
+  is = record { search = c.in-Some.search; asked = c.in-Some.ensures.asked; holds = c.in-Ok.ensures.why };
+  length_told = c.hand_out_front.ensures.why_length;
+}
+
+pub returns-in-Err-clause-fault : goal.returns-in-Err-clause-fault
+returns-in-Err-clause-fault c = λ _.
+    told _ _ c.in-Err.fault c.refused_front.result _ _
+    (record { search = c.in-Some.search; asked = c.in-Some.ensures.asked; holds = c.in-Err.ensures.explained })
+    c.refused_front.ensures.value c.put.ensures.status c.put.ensures.place

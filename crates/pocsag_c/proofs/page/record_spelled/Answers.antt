@@ -1,8 +1,6 @@
-use Rattle.std.proofs.Common.{◌≡◌, ◌∙◌, ℕ, List, Ok, ap, sym}
+use Rattle.pocsag_c.proofs.Prelude.{◌≡◌, ◌∙◌, ℕ, List, Vec, Result, Ok, Err, IfOk, ap, sym, Global, good_page, page_of_fields}
 use Rattle.std.specs.Fmt.{decimal}
-use Rattle.pocsag_pages.proofs.GoodPages.{good_page}
-use Rattle.pocsag_pages.specs.PageFile.{page_of_fields}
-use Rattle.pocsag_c.specs.Records.{word_of_kind}
+use Rattle.pocsag_c.specs.Records.{IsRecordOf, word_of_kind}
 use Rattle.pocsag_c.proofs.Records.{read_behind}
 use Rattle.pocsag_c.proofs.page.record_spelled.Goals as goal
 
@@ -11,8 +9,13 @@ record_text-requires c =
     let good = good_page c.in_ok-page.page c.in_ok-page.ensures.good in
     record { function = good.function; items = good.small }
 
-pub returns-in-Ok-clause-written : goal.returns-in-Ok-clause-written
-returns-in-Ok-clause-written c =
+of_text : {E : Type 0} (made : Result (Vec ℕ Global) E) (P Q : List ℕ → Type 0) → ((items : List ℕ) → P items → Q items) →
+    IfOk made (λ text. P text.items) → IfOk made (λ text. Q text.items)
+of_text (Ok text) P Q so is = so text.items is
+of_text (Err e) P Q so is = tt
+
+pub returns-clause-written : goal.returns-clause-written
+returns-clause-written c =
     let page = c.in_ok-page.page in
     let message = c.args.message.now in
     let kind = c.word_of_kind.result.now in
@@ -21,11 +24,13 @@ returns-in-Ok-clause-written c =
     (ap (λ (a : List ℕ). page_of_fields a kind message) (c.as_bytes-address.ensures.value ∙ c.format.ensures.text)
     ∙ ap (λ (k : List ℕ). page_of_fields (decimal c.args.address) k message) c.word_of_kind.ensures)
     ∙ c.in_ok-page.ensures.ok in
-    record {
+    of_text c.record_text.result _ (IsRecordOf c.args.address c.args.kind message)
+    (λ items written. record {
       page = page;
       spelled = spelled;
-      written = c.in-Ok.ensures;
-      read_behind = read_behind page c.in-Ok.text.items c.in-Ok.ensures
-          (c.pages_of_files_are_spellable.ensures.fields (decimal c.args.address) (word_of_kind c.args.kind) message page spelled)
-          c.page_files_are_read_back.ensures.round;
-    }
+      written = written;
+      read_behind = read_behind page items written
+          (c.recall_pages_of_files_are_spellable.ensures.fields (decimal c.args.address) (word_of_kind c.args.kind) message page spelled)
+          c.recall_page_files_are_read_back.ensures.round;
+    })
+    c.record_text.ensures.written

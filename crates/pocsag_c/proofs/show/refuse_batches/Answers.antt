@@ -1,5 +1,4 @@
-use Rattle.std.proofs.Common.{◌≡◌, ℕ, length, drop, ap, sym, ◌∙◌, arith}
-use Rattle.pocsag_pages.specs.Bytes.{after_preamble}
+use Rattle.pocsag_c.proofs.Prelude.{◌≡◌, ℕ, length, drop, ap, sym, ◌∙◌, arith, after_preamble}
 use Rattle.pocsag_c.proofs.show.refuse_batches.Goals as goal
 
 pub returns-clause-behind : goal.returns-clause-behind

@@ -1,6 +1,5 @@
-use Rattle.std.proofs.Common.{ℕ, None, Option, subst}
+use Rattle.pocsag_c.proofs.Prelude.{ℕ, None, Option, subst, inversion_asked}
 use Rattle.pocsag_wav.specs.Keys.{IsAsAsked}
-use Rattle.pocsag_c.specs.Sounds.{inversion_asked}
 use Rattle.pocsag_c.proofs.Sounds.{listed, no_room, unsounded}
 use Rattle.pocsag_c.proofs.sound.pocsag_wav.Goals as goal
 
