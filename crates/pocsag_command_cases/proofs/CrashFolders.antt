@@ -1,14 +1,9 @@
 -- What a change does to a folder over memory.
-use Rattle.std.proofs.Common.{◌≡◌, ◌≢◌, ◌⊎◌, inl, inr, ⊎_elim, ℕ, ◌+◌, ◌≤◌, Bool, true, false, List, [], ◌∷◌, ◌++◌, length, take, bytes_eq, Option, None, Some, option_map, if◌then◌else◌, string_bytes, sym, ◌∙◌, ap, subst, arith, refl, length-append}
+use Rattle.pocsag_command_cases.proofs.Prelude.{◌≡◌, ◌≢◌, ◌⊎◌, inl, inr, ⊎_elim, ℕ, ◌+◌, ◌≤◌, Bool, true, false, List, [], ◌∷◌, ◌++◌, length, take, bytes_eq, Option, None, Some, option_map, if◌then◌else◌, string_bytes, sym, ◌∙◌, ap, subst, arith, refl, length-append, take-append-le, take_all, HaveOwnPaths, IsBack, IsGone, IsOnDisk, IsPut, IsSameBut, IsSameButTwo, IsStaged, Left, MayGo, MayMove, StepsBy, Stored, on_disk, place_of, staged_at, StagedFile, AreGone, ArePlaced, ArePlacesSame, AreTwo, FolderLeaves, FolderLeftSince, IsChanged, LeavesChanges, changed, folder_held, standing, stands_after, Change}
 use Rattle.std.proofs.lemmas.Bool.{false_from_ne_true}
-use Rattle.std.proofs.lemmas.List.{take-append-le, take_all}
 use Rattle.std.proofs.lemmas.Slice.Eq.{bytes_eq-Decides}
 use Rattle.std.specs.List.{AllByRecursion}
-use Rattle.pocsag_shell.specs.Folders.{HaveOwnPaths, IsBack, IsGone, IsOnDisk, IsPut, IsSameBut, IsSameButTwo, IsStaged, Left, MayGo, MayMove, StepsBy, Stored, on_disk, place_of, staged_at}
-use Rattle.pocsag_shell.specs.declared.staged_file.StagedFile.{StagedFile}
 use Rattle.pocsag_command_cases.proofs.Disks.{either_way}
-use Rattle.pocsag_command_cases.specs.CrashFolders.{AreGone, ArePlaced, ArePlacesSame, AreTwo, FolderLeaves, FolderLeftSince, IsChanged, LeavesChanges, changed, folder_held, standing, stands_after}
-use Rattle.pocsag_command_cases.specs.declared.crash_folder.Change.{Change}
 use Rattle.pocsag_command_cases.specs.declared.crash_folder.CrashFolder.{CrashFolder}
 
 stands_more : (changes : List Change) (change : Change) (before : Option (List ℕ)) (path : List ℕ) →
@@ -21,18 +16,6 @@ eq_true one two same = let decides = bytes_eq-Decides one two in decides.1 same
 
 eq_false : (one two : List ℕ) → one ≢ two → bytes_eq one two ≡ false
 eq_false one two differ = let decides = bytes_eq-Decides one two in false_from_ne_true (bytes_eq one two) (λ same. differ (decides.0 same))
-
--- the same by other names
-pub changed_as : (was was_too now : List Change) (gone to gone_too to_too : List ℕ) (file file_too : Option (List ℕ)) →
-    IsChanged was now gone to file → was ≡ was_too → gone ≡ gone_too → to ≡ to_too → file ≡ file_too →
-    IsChanged was_too now gone_too to_too file_too
-changed_as was was_too now gone to gone_too to_too file file_too is same same_gone same_to same_file = record {
-  change = is.change;
-  more = is.more ∙ ap (λ (l : List Change). l ++ is.change ∷ []) same;
-  gone_is = is.gone_is ∙ same_gone;
-  to_is = is.to_is ∙ same_to;
-  file_is = is.file_is ∙ same_file;
-}
 
 -- *Makes*: what stands at each path once the file stands at `to`, and none at `gone`.
 pub record Makes (gone to : List ℕ) (file : Option (List ℕ)) (was now : Left) : Type 0 where

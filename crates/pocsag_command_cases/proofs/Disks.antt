@@ -1,12 +1,7 @@
 -- What a crash of a disk over memory might have left, from one call to the next.
-use Rattle.std.proofs.Common.{◌≡◌, ◌⊎◌, inl, inr, ⊎_elim, ℕ, zero, suc, ◌+◌, ◌-◌, ◌<◌, ◌≤◌, List, [], ◌∷◌, ◌++◌, length, take, drop, sym, ◌∙◌, ap, subst, arith, refl, append-nil, append_assoc, length-append, take-append-drop}
+use Rattle.pocsag_command_cases.proofs.Prelude.{◌≡◌, ◌⊎◌, inl, inr, ⊎_elim, ℕ, zero, suc, ◌+◌, ◌-◌, ◌<◌, ◌≤◌, List, [], ◌∷◌, ◌++◌, length, take, drop, sym, ◌∙◌, ap, subst, arith, refl, append-nil, append_assoc, length-append, take-append-drop, take-append-le, take_all, TookPrefix, Elapses, LeavesFrom, LeftAt, LeftSince, lines_length, moment_after, text_bytes, text_front, Text}
 use Rattle.std.proofs.Math.Seq.{take-append_seam, take-append-add}
-use Rattle.std.proofs.lemmas.List.{take-append-le, take_all}
-use Rattle.pocsag_words.specs.Devices.{TookPrefix}
 use Rattle.pocsag_journal.specs.Crashes.{IsTorn}
-use Rattle.pocsag_journal.specs.Moments.{Elapses}
-use Rattle.pocsag_command_cases.specs.Disks.{LeavesFrom, LeftAt, LeftSince, lines_length, moment_after, text_bytes, text_front}
-use Rattle.pocsag_command_cases.specs.declared.crash_disk.Text.{Text}
 
 synced_more : (past : List Text) (synced more : ℕ) → synced ≤ more → moment_after past synced ≤ moment_after past more
 unfolding moment_after

@@ -1,2 +1,3 @@
 pub mod CrashFolders
 pub mod Disks
+pub mod Prelude

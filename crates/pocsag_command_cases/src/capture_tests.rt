@@ -5,7 +5,8 @@ use crate::same;
 use pocsag_capture::{CaptureFault, Polarity, Reception, ReceptionStats};
 use pocsag_core_cases::given::cut;
 use pocsag_receiver::{
-    CaptureListing, Picking, ReceiverFault, Viewing, run_list_capture, run_show_capture,
+    CaptureListing, CaptureOptions, CaptureView, ListForm, ReceiverFault, run_list_capture,
+    run_show_capture,
 };
 use pocsag_shell::ErrorStream;
 use pocsag_show::{Rows, View};
@@ -28,11 +29,12 @@ fn expect_listing(
     due: &str,
 ) -> Vec<ReceptionStats> {
     let (only, is_json) = listing;
-    let picking = Picking {
-        only,
-        texts: [false; 3],
-        is_json,
+    let form = if is_json {
+        ListForm::Json([false; 3])
+    } else {
+        ListForm::Listing
     };
+    let picking = CaptureOptions { only, form };
     let mut asked = CaptureListing {
         picking,
         heard: Vec::new(alloc),
@@ -96,7 +98,7 @@ fn a_captured_tone_is_shown(rt: HostRuntime) {
     let mut err = errors();
     for (nth, status) in [(1, 0), (2, 1)] {
         let mut grid = MemorySink::<4000>::new(1000, 4000);
-        let mut viewing = Viewing {
+        let mut viewing = CaptureView {
             view: View::Grid(Rows::all()),
             nth,
             heard: Vec::new(rt.alloc()),
@@ -200,10 +202,9 @@ fn lines_of_many(alloc: Global, number: u32, bit: u64) -> Result<Vec<u8>, AllocE
 // many transmissions it is reported how they were received.
 fn list_in_json(alloc: Global, capture: &[u8], fails_at: u64) -> (u8, MemorySink<200_000>, usize) {
     let mut asked = CaptureListing {
-        picking: Picking {
+        picking: CaptureOptions {
             only: None,
-            texts: [false; 3],
-            is_json: true,
+            form: ListForm::Json([false; 3]),
         },
         heard: Vec::new(alloc),
     };
@@ -252,10 +253,9 @@ fn pages_of_the_second_transmission_stand_behind(rt: HostRuntime) {
     same!(rt; (status, heard), (3, 2));
     same!(rt; out.bytes(), cut(due.as_slice(), 65_000));
     let mut asked = CaptureListing {
-        picking: Picking {
+        picking: CaptureOptions {
             only: None,
-            texts: [false; 3],
-            is_json: true,
+            form: ListForm::Json([false; 3]),
         },
         heard: Vec::new(alloc),
     };

@@ -8,7 +8,7 @@ use pocsag_centre::{
 };
 use pocsag_pages::{FieldFault, QuoteFault, RecordFault, RoundFault};
 use pocsag_plan::{DEFAULT_LIMIT, OnLimit, Search};
-use pocsag_shell::{ErrorStream, Loaded};
+use pocsag_shell::{ErrorStream, LoadedFile};
 use pocsag_words::{End, GrowingSink, MemorySink, MemorySource, SliceSource, Source};
 use std::alloc::Global;
 use std::process::Abort;
@@ -525,7 +525,7 @@ fn cut_files_are_refused(rt: HostRuntime) -> Result<(), Fail> {
     let alloc = rt.alloc();
     let read_fault = CentreFault::Round(RoundFault::ReadFault);
     for (is_cut, status, fault) in [(true, 3, Some(read_fault)), (false, 0, None)] {
-        let mut pages = Loaded::new(alloc, LONE_TONE.to_vec(alloc)?, is_cut);
+        let mut pages = LoadedFile::new(alloc, LONE_TONE.to_vec(alloc)?, is_cut);
         let (mut out, mut err) = (MemorySink::<500>::new(1, 1000), errors());
         let done = run_input(alloc, &mut pages, &mut out, &mut err);
         same!(rt; done, status);
@@ -537,7 +537,7 @@ fn cut_files_are_refused(rt: HostRuntime) -> Result<(), Fail> {
 #[test]
 fn cut_files_are_read_to_the_cut(rt: HostRuntime) -> Result<(), Fail> {
     let alloc = rt.alloc();
-    let mut pages = Loaded::new(alloc, LONE_TONE.to_vec(alloc)?, true);
+    let mut pages = LoadedFile::new(alloc, LONE_TONE.to_vec(alloc)?, true);
     let mut piece = [0u8; 40];
     same!(rt; pages.read(&mut piece).ok(), Some(30));
     same!(rt; piece.get(..30), Some(LONE_TONE));
@@ -632,7 +632,7 @@ const QUEUE: &[u8] = b"address,kind,message\n8,tone0,\n8,tone1,\n16,tone2,\n";
 #[test]
 fn later_pages_wait(rt: HostRuntime) -> Result<(), Fail> {
     let alloc = rt.alloc();
-    let queue = Loaded::new(alloc, QUEUE.to_vec(alloc)?, false);
+    let queue = LoadedFile::new(alloc, QUEUE.to_vec(alloc)?, false);
     let mut files = front_files(alloc, queue);
     let asked = FrontAsked {
         may_wait: true,

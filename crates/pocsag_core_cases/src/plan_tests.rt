@@ -125,9 +125,9 @@ fn stop_of(round: &Round, stopped: &Option<SearchLimit>, end: End) -> Option<Sto
 }
 
 // The batches, the bound, whether the tree proves the bound, and where the search stopped.
-type Bounded = (u32, u32, bool, Option<Stop>);
+type BoundedPlan = (u32, u32, bool, Option<Stop>);
 
-fn bounded(alloc: Global, round: &Round, search: Search) -> Result<Bounded, PlanFault> {
+fn bounded(alloc: Global, round: &Round, search: Search) -> Result<BoundedPlan, PlanFault> {
     let told = bounded_plan(alloc, round, search)?;
     let is_proved = check(round, told.bound, &told.plan.tree, search.end);
     let stop = stop_of(round, &told.stopped, search.end);

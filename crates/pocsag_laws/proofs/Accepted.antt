@@ -1,20 +1,8 @@
 -- A tree of which all that is found holds is accepted.
-use Rattle.pocsag_findings.proofs.Prelude.{◌≡◌, ℕ, ◌+◌, ◌<◌, ◌≤◌, ◌∷◌, [], List, Bool, cond, refl, sym, ◌∙◌, arith, nat_lt, true, false, length, slice_index, Classes, End, Limits, Stated, Way, BoundTree, BoundTrees, overload, split, cut, close, unexamined, none, more, children_count}
-use Rattle.pocsag_findings.specs.declared.finding.Reached.{Reached}
-use Rattle.std.specs.List.{AllByRecursion}
-use Rattle.std.proofs.lemmas.Bool.{and_parts}
-use Rattle.std.proofs.lemmas.Bool.Decides.{nat_tests}
+use Rattle.pocsag_laws.proofs.Prelude.{cond, nat_lt, slice_index, Classes, Limits, Stated, Way, BoundTree, BoundTrees, overload, split, cut, close, unexamined, none, more, children_count, Reached, AllByRecursion, and_parts, nat_tests, AreInOrder, Overloads, IsSet, holds, AsksForLast, MayTake, class_certain, ways_across, ways_to_close, limits_below, limits_from, narrowed_limits, Accepts, AcceptsEach, Below, From, By, findings_below, findings_by, findings_within, unjudged_below, fact_holds, fact_of, least_of_set, room_of}
+use Rattle.pocsag_findings.proofs.Prelude.{◌≡◌, ℕ, ◌+◌, ◌<◌, ◌≤◌, ◌∷◌, [], List, Bool, refl, sym, ◌∙◌, arith, true, false, length, End}
 use Rattle.pocsag_words.specs.declared.ending.End.TheVariants as ends
-use Rattle.pocsag_slots.specs.Loads.{AreInOrder, Overloads}
-use Rattle.pocsag_slots.specs.Sums.{holds}
-use Rattle.pocsag_slots.specs.Tours.{AsksForLast}
-use Rattle.pocsag_slots.specs.Ways.{MayTake, class_certain, ways_across, ways_to_close, limits_below, limits_from, narrowed_limits}
 use Rattle.pocsag_tree.specs.BoundTrees.{depth_of, deepest}
-use Rattle.pocsag_tree.specs.CertificateText.{IsSet}
-use Rattle.pocsag_check.specs.Acceptance.{Accepts, AcceptsEach}
-use Rattle.pocsag_findings.specs.declared.finding.Reached.TheVariants.{Below, From, By}
-use Rattle.pocsag_findings.specs.Findings.{findings_below, findings_by, findings_within, unjudged_below}
-use Rattle.pocsag_findings.specs.Rules.{fact_holds, fact_of, least_of_set, room_of}
 use Rattle.pocsag_laws.proofs.AllHold.{all, each, overload_fact}
 use Rattle.pocsag_findings.proofs.Children.{held_close, held_cut}
 use Rattle.pocsag_laws.proofs.Ordered.{across_allowed, closing_allowed, ordered_below, ordered_from, ordered_narrowed}

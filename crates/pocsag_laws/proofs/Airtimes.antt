@@ -1,13 +1,7 @@
 -- More batches take more time.
-use Rattle.std.proofs.Common.{ℕ, zero, suc, ◌+◌, ◌*◌, ◌<◌, ◌≤◌, List, arith, inl, inr}
-use Rattle.std.proofs.Math.Nat.{div-zero, mod-zero, mul-le-mul_right}
-use Rattle.std.proofs.lemmas.Bool.{cases_lt}
-use Rattle.std.proofs.lemmas.Grind.{div_ceil_times}
+use Rattle.pocsag_laws.proofs.Prelude.{ℕ, zero, suc, ◌+◌, ◌*◌, ◌<◌, ◌≤◌, List, arith, inl, inr, div-zero, mod-zero, mul-le-mul_right, cases_lt, div_ceil_times, End, Page, AreFewest, AreSendable}
 use Rattle.std.specs.Int.{div_ceil}
 use Rattle.pocsag_words.specs.Frame.{airtime, transmission_bits}
-use Rattle.pocsag_words.specs.declared.ending.End.{End}
-use Rattle.pocsag_pages.specs.declared.page.Page.{Page}
-use Rattle.pocsag_laws.specs.FewestBatches.{AreFewest, AreSendable}
 
 -- a quotient that is rounded up grows with its dividend
 ceil_grows : (a b r : ℕ) → a ≤ b → div_ceil a r ≤ div_ceil b r

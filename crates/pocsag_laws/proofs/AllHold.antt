@@ -1,21 +1,8 @@
 -- All that is found of a tree holds exactly where the tree is accepted.
-use Rattle.pocsag_findings.proofs.Prelude.{◌≡◌, ℕ, ◌+◌, ◌<◌, ◌≤◌, ◌++◌, ◌∷◌, [], List, Bool, cond, refl, sym, ◌∙◌, arith, nat_lt, true, false, length, Classes, End, Limits, Stated, Way, BoundTree, BoundTrees, overload, split, cut, close, unexamined, none, more, children_count}
-use Rattle.pocsag_findings.specs.declared.finding.Reached.{Reached}
-use Rattle.std.specs.List.{AllByRecursion, list_all}
-use Rattle.std.proofs.lemmas.Bool.{and_parts}
-use Rattle.std.proofs.lemmas.Bool.Decides.{nat_tests}
-use Rattle.std.proofs.lemmas.List.Folds.{list_all-append}
+use Rattle.pocsag_laws.proofs.Prelude.{cond, nat_lt, Classes, Limits, Stated, Way, BoundTree, BoundTrees, overload, split, cut, close, unexamined, none, more, children_count, Reached, AllByRecursion, list_all, and_parts, nat_tests, list_all-append, AreInOrder, Overloads, holds, AsksForLast, MayTake, class_certain, ways_across, ways_to_close, limits_below, limits_from, narrowed_limits, least_is, overload_is, Accepts, AcceptsEach, Below, From, By, findings_below, findings_by, findings_with, findings_within, asks_for_last, fact_holds, fact_of, least_of_set, room_of}
+use Rattle.pocsag_findings.proofs.Prelude.{◌≡◌, ℕ, ◌+◌, ◌<◌, ◌≤◌, ◌++◌, ◌∷◌, [], List, Bool, refl, sym, ◌∙◌, arith, true, false, length, End}
 use Rattle.pocsag_words.specs.declared.ending.End.TheVariants as ends
-use Rattle.pocsag_slots.specs.Loads.{AreInOrder, Overloads}
-use Rattle.pocsag_slots.specs.Sums.{holds}
-use Rattle.pocsag_slots.specs.Tours.{AsksForLast}
-use Rattle.pocsag_slots.specs.Ways.{MayTake, class_certain, ways_across, ways_to_close, limits_below, limits_from, narrowed_limits}
-use Rattle.pocsag_slots.proofs.LeastLemmas.{least_is, overload_is}
-use Rattle.pocsag_check.specs.Acceptance.{Accepts, AcceptsEach}
 use Rattle.pocsag_check.proofs.RowChecks.{row_long}
-use Rattle.pocsag_findings.specs.declared.finding.Reached.TheVariants.{Below, From, By}
-use Rattle.pocsag_findings.specs.Findings.{findings_below, findings_by, findings_with, findings_within}
-use Rattle.pocsag_findings.specs.Rules.{asks_for_last, fact_holds, fact_of, least_of_set, room_of}
 use Rattle.pocsag_laws.proofs.Ordered.{across_allowed, closing_allowed, ordered_below, ordered_from, ordered_narrowed}
 
 abbrev pub all : List Stated → Bool

@@ -1,17 +1,6 @@
 -- A transmission of one page alone has at least so many codewords.
-use Rattle.std.proofs.Common.{◌≡◌, ℕ, zero, suc, ◌+◌, ◌*◌, ◌/◌, ◌%◌, ◌<◌, ◌≤◌, ◌==◌, inl, inr, false, List, [], ◌∷◌, ◌++◌, length, map, length-append, ap, subst, arith}
-use Rattle.std.proofs.lemmas.Bool.Decides.{nat_tests}
-use Rattle.std.specs.Prelude.{Contains, if◌then◌else◌, slice_index_or}
-use Rattle.std.proofs.lemmas.Bool.{cases_Bool}
-use Rattle.std.proofs.lemmas.List.{length-map}
-use Rattle.std.proofs.lemmas.List.Elements.{All-head}
-use Rattle.pocsag_words.specs.declared.codeword.Kind.{Kind}
-use Rattle.pocsag_words.specs.declared.codeword.Kind.TheVariants.{Address, Idle, Message}
-use Rattle.pocsag_words.specs.declared.ending.End.{End}
+use Rattle.pocsag_laws.proofs.Prelude.{◌≡◌, ℕ, zero, suc, ◌+◌, ◌*◌, ◌/◌, ◌%◌, ◌<◌, ◌≤◌, ◌==◌, inl, inr, false, List, [], ◌∷◌, ◌++◌, length, map, length-append, ap, subst, arith, nat_tests, Contains, if◌then◌else◌, slice_index_or, cases_Bool, length-map, All-head, Kind, Address, Idle, Message, End, kind_of, Page, EndsAs, EndsIdle, EndsWhole, IsLegalList, Reads, at_end, frame_at, page_length, past_idle, past_page}
 use Rattle.pocsag_words.specs.declared.ending.End.TheVariants as ends
-use Rattle.pocsag_words.specs.Kinds.{kind_of}
-use Rattle.pocsag_pages.specs.declared.page.Page.{Page}
-use Rattle.pocsag_pages.specs.Reading.{EndsAs, EndsIdle, EndsWhole, IsLegalList, Reads, at_end, frame_at, page_length, past_idle, past_page}
 use Rattle.pocsag_plan.specs.Plans.{NoneHasFewer}
 use Rattle.pocsag_centre.specs.Oversized.{fits_alone, idles_behind, least_alone}
 

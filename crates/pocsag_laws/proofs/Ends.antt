@@ -1,17 +1,6 @@
 -- The ends beside one another.
-use Rattle.std.proofs.Common.{◌≡◌, ◌-◌, ◌≤◌, ℕ, zero, suc, ◌+◌, List, [], ◌∷◌, ◌++◌, map, replicate, refl, sym, ap, subst, ◌∙◌, arith, append_assoc, length-append}
-use Rattle.std.proofs.Math.Seq.{append_snoc}
-use Rattle.std.proofs.lemmas.List.{append-nil, map-append}
-use Rattle.std.proofs.lemmas.List.Elements.{All-append, All-replicate}
-use Rattle.pocsag_words.specs.Codeword.{IsCodeword}
-use Rattle.pocsag_words.specs.Kinds.{idle_word, kind_of}
-use Rattle.pocsag_words.specs.declared.codeword.Kind.{Kind}
-use Rattle.pocsag_words.specs.declared.codeword.Kind.TheVariants.{Idle, Address, Message}
-use Rattle.pocsag_words.specs.declared.ending.End.{End}
+use Rattle.pocsag_laws.proofs.Prelude.{◌≡◌, ◌-◌, ◌≤◌, ℕ, zero, suc, ◌+◌, List, [], ◌∷◌, ◌++◌, map, replicate, refl, sym, ap, subst, ◌∙◌, arith, append_assoc, length-append, append_snoc, append-nil, map-append, All-append, All-replicate, IsCodeword, idle_word, kind_of, Kind, Idle, Address, Message, End, IsCodeword-idle, Page, BeginsNoMessage, EndsIdle, EndsWhole, IsLegalFor, IsLegalList, Reads, at_end, past_idle, past_page}
 use Rattle.pocsag_words.specs.declared.ending.End.TheVariants as ends
-use Rattle.pocsag_words.proofs.KindLemmas.{IsCodeword-idle}
-use Rattle.pocsag_pages.specs.declared.page.Page.{Page}
-use Rattle.pocsag_pages.specs.Reading.{BeginsNoMessage, EndsIdle, EndsWhole, IsLegalFor, IsLegalList, Reads, at_end, past_idle, past_page}
 
 -- an idle codeword is no message codeword
 whole_from_idle : (ws : List Kind) → EndsIdle ws → EndsWhole ws

@@ -1,31 +1,22 @@
 -- The round of a page file is a round.
-use Rattle.std.proofs.Common.{◌≡◌, ℕ, zero, suc, ◌+◌, ◌*◌, ◌/◌, ◌^◌, ◌<◌, ◌≤◌, ◌==◌, ◌⊎◌, inl, inr, Bool, true, false, cond, List, [], ◌∷◌, ◌++◌, length, take, drop, nat_le, refl, sym, ap, subst, arith}
-use Rattle.std.specs.Prelude.{Option, Some, None, Result, Ok, Err, IfOk, codes}
-use Rattle.std.specs.List.{flat_map}
+use Rattle.pocsag_laws.proofs.Prelude.{◌≡◌, ℕ, zero, suc, ◌+◌, ◌*◌, ◌/◌, ◌^◌, ◌<◌, ◌≤◌, ◌==◌, ◌⊎◌, inl, inr, Bool, true, false, List, [], ◌∷◌, ◌++◌, length, take, drop, nat_le, refl, sym, ap, subst, arith, Option, Some, None, Result, Ok, Err, IfOk, codes, flat_map, nat_tests, append-nil, length-drop, length-take-le, All-append, All-cons, All-drop, All-nil, All-replicate, All-take, All-weaker, list_any_none, AreItems, high_number, low_first, AreBits, AreBits-low_first, high_number-lt, Page, ◌>>=◌, Row, address_of, at_most, decimal, fault_after, fault_if, kind_of_field, of_record, of_text, or_fault, page_of, page_of_fields, pages_of, payload_of, pages_of_rows, verdict, with_page, AreGood, IsRound, has_address, is_bad_payload, is_reserved, last_address, page_fault_of, page_limit, of_files, one_name, page_at, paged, value_of}
+use Rattle.std.proofs.Common.{cond}
 use Rattle.std.specs.Str.{bytes_eq}
-use Rattle.std.proofs.lemmas.Bool.Decides.{nat_tests}
-use Rattle.std.proofs.lemmas.List.{append-nil, append_assoc, length-append, length-drop, length-take-le}
-use Rattle.std.proofs.lemmas.List.Elements.{All-append, All-cons, All-drop, All-nil, All-replicate, All-take, All-weaker}
-use Rattle.std.proofs.lemmas.List.Folds.{list_any_none}
+use Rattle.std.proofs.lemmas.List.{append_assoc, length-append}
 use Rattle.pocsag_words.proofs.TruthValues.{and_false, not_above}
 use Rattle.pocsag_text.specs.declared.fault.TextFault.{TextFault}
-use Rattle.pocsag_text.specs.Bits.{AreItems, cut, high_number, low_first}
+use Rattle.pocsag_text.specs.Bits.{cut}
 use Rattle.pocsag_text.specs.Characters.{is_bad_digit}
 use Rattle.pocsag_text.specs.Text.{alpha_bits, alpha_payload, is_bad_byte, item_limit, numeric_bits, numeric_payload, text_fault, twenties}
-use Rattle.pocsag_text.proofs.BitLists.{AreBits, AreBits-low_first, high_number-lt}
 use Rattle.pocsag_text.proofs.Payloads.{fault_none, few_alpha, few_numeric, unless_ok}
-use Rattle.pocsag_pages.specs.declared.page.Page.{Page}
 use Rattle.pocsag_pages.specs.declared.fault.FieldFault.{FieldFault}
 use Rattle.pocsag_pages.specs.declared.fault.FieldFault.TheVariants as field
 use Rattle.pocsag_pages.specs.declared.fault.RecordFault.{RecordFault}
 use Rattle.pocsag_pages.specs.declared.fault.RecordFault.TheVariants as wrong
 use Rattle.pocsag_pages.specs.declared.fault.RoundFault.{RoundFault}
-use Rattle.pocsag_pages.specs.PageFile.{◌>>=◌, Row, address_of, at_most, decimal, fault_after, fault_if, kind_of_field, of_record, of_text, or_fault, page_of, page_of_fields, pages_of, payload_of, round_of_rows, verdict, with_page}
 use Rattle.pocsag_pages.specs.PageList.{unless_empty}
-use Rattle.pocsag_pages.specs.Pages.{AreGood, IsRound, has_address, is_bad_payload, is_reserved, last_address, page_fault_of, page_limit}
 use Rattle.pocsag_pages.proofs.GrownRounds.{good_none, good_push}
 use Rattle.pocsag_pages.proofs.Judgements.{grown, judged, or_later}
-use Rattle.pocsag_decode.proofs.SpellablePages.{of_files, one_name, page_at, paged, value_of}
 
 -- what bits are cut in twenties has twenty bits
 cut_small : (n : ℕ) (bits : List ℕ) → AreBits bits → 20 * n ≤ length bits → AreItems (cut 20 (high_number 0) n bits)
@@ -185,7 +176,7 @@ some_round : (ps : List Page) → AreGood ps → length ps ≤ 20000 → IfOk (u
 some_round [] good few = tt
 some_round (p ∷ ps) good few = record { some = omega arith; few = few; good = good }
 
-grown_round : (rows : List Row) (ps : List Page) (n : ℕ) → AreGood ps → length ps ≡ n → n ≤ 20000 → IfOk (grown ps n rows) IsRound
+grown_round : (rows : List Row) (ps : List Page) (n : ℕ) → AreGood ps → length ps ≡ n → n ≤ 20000 → IfOk (grown false ps n rows) IsRound
 unfolding grown pages_of
 grown_round [] ps n good long few = some_round ps good (omega arith)
 grown_round (r ∷ rows) ps n good long few =
@@ -193,10 +184,10 @@ grown_round (r ∷ rows) ps n good long few =
     let same : ps ++ pages_of (r ∷ []) ≡ ps ++ p ∷ [] = ap (λ v. ps ++ with_page v []) e in
     let more = grown_round rows (ps ++ p ∷ []) (n + 1) (good_push ps p good fine free)
     (omega (arith, length-append ps (p ∷ []))) (omega (arith, under n room)) in
-    subst (λ qs. IfOk (grown qs (n + 1) rows) IsRound) (sym same) more)
+    subst (λ qs. IfOk (grown false qs (n + 1) rows) IsRound) (sym same) more)
 
-all_round : (rows : List Row) → IfOk (round_of_rows rows) IsRound
-all_round rows = subst (λ v. IfOk v IsRound) (sym (judged rows)) (grown_round rows [] 0 good_none refl (omega arith))
+all_round : (rows : List Row) → IfOk (pages_of_rows false rows) IsRound
+all_round rows = subst (λ v. IfOk v IsRound) (sym (judged false rows)) (grown_round rows [] 0 good_none refl (omega arith))
 
 pub file_round : (file : List ℕ) (R : List Page) → verdict file ≡ Ok R → IsRound R
-file_round file R e = value_of IsRound _ R (of_files IsRound all_round file) e
+file_round file R e = value_of IsRound _ R (of_files IsRound false all_round file) e

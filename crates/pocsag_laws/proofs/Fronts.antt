@@ -1,10 +1,5 @@
 -- The first pages of a list need no more batches than more of them.
-use Rattle.std.proofs.Common.{◌≡◌, ℕ, ◌≤◌, List, [], ◌∷◌, ◌++◌, take, drop, get_or, sym, ap, subst, ◌∙◌, ◌≢◌, arith, length-append}
-use Rattle.std.proofs.Math.Seq.{append_snoc}
-use Rattle.std.proofs.lemmas.List.{append-nil, get_or_append_left, take-append-drop, take-take}
-use Rattle.pocsag_words.specs.declared.ending.End.{End}
-use Rattle.pocsag_pages.specs.declared.page.Page.{Page}
-use Rattle.pocsag_pages.specs.Reading.{AreApart, IsLegalList}
+use Rattle.pocsag_laws.proofs.Prelude.{◌≡◌, ℕ, ◌≤◌, List, [], ◌∷◌, ◌++◌, take, drop, get_or, sym, ap, subst, ◌∙◌, ◌≢◌, arith, length-append, append_snoc, append-nil, get_or_append_left, take-append-drop, take-take, End, Page, AreApart, IsLegalList}
 use Rattle.pocsag_laws.proofs.PagesTakenOut.{page_taken_out}
 
 apart_front : (R S : List Page) → AreApart (R ++ S) → AreApart R

@@ -13,6 +13,7 @@ pub mod OrderExists
 pub mod Ordered
 pub mod PagesTakenOut
 pub mod Preambles
+pub mod Prelude
 pub mod Reasons
 pub mod Refused
 pub mod Reopened

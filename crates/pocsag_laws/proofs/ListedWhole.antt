@@ -1,36 +1,9 @@
 -- The pages of a sent transmission are listed as whole.
-use Rattle.std.proofs.Common.{◌≡◌, ℕ, ◌+◌, ◌-◌, ◌*◌, ◌%◌, ◌<◌, ◌≤◌, List, [], ◌∷◌, ◌++◌, length, map, take, drop, All, Option, Some, None, Bool, false, refl, sym, ap, ap₂, subst, ◌∙◌, inl, inr, arith}
+use Rattle.pocsag_laws.proofs.Prelude.{◌≡◌, ℕ, ◌+◌, ◌-◌, ◌*◌, ◌%◌, ◌<◌, ◌≤◌, List, [], ◌∷◌, ◌++◌, length, map, All, Bool, false, refl, sym, ap, ap₂, subst, ◌∙◌, inr, arith, AllZip, lt-leb, length-map, All-head, All-tail, length-map-range_with_len, IsCodeword, IsNear, kind_of, Kind, Idle, Address, Message, Page, synced, unsynced, pages_from, EndsIdle, Reads, unsynced_count, reads_plainly, capture_bits, AreCaptured, without_orphans, all_batches, received, received_word, HoldsSent, Polarity, Reception, as_many, plain_pages, least_batches, own_place, placed_words, received_are, words_long, held_of, stands_between}
+use Rattle.std.proofs.Common.{Option, Some, None}
 use Rattle.std.specs.Prelude.{replicate}
-use Rattle.std.specs.List.{AllZip}
-use Rattle.std.proofs.lemmas.Bool.{cases_lt, lt-leb}
-use Rattle.std.proofs.lemmas.List.{length-map, map-append, take-append-drop}
-use Rattle.std.proofs.lemmas.List.Elements.{All-head, All-tail}
-use Rattle.std.proofs.lemmas.List.FromFn.{length-map-range_with_len}
-use Rattle.std.proofs.lemmas.Slice.Zip.{AllZip-long}
-use Rattle.pocsag_words.specs.Codeword.{IsCodeword, IsNear}
-use Rattle.pocsag_words.specs.Kinds.{kind_of}
-use Rattle.pocsag_words.specs.declared.codeword.Kind.{Kind}
-use Rattle.pocsag_words.specs.declared.codeword.Kind.TheVariants.{Idle, Address, Message}
-use Rattle.pocsag_pages.specs.declared.page.Page.{Page}
-use Rattle.pocsag_pages.specs.Bytes.{synced, unsynced}
-use Rattle.pocsag_pages.specs.Plain.{HasNoOrphan, pages_from}
-use Rattle.pocsag_pages.specs.Reading.{EndsIdle, Reads}
-use Rattle.pocsag_pages.proofs.Lengths.{unsynced_count, unsynced_more}
-use Rattle.pocsag_pages.proofs.Readings.{reads_plainly}
-use Rattle.pocsag_pager.specs.Shown.{IsMended, said}
-use Rattle.pocsag_capture.specs.Bits.{capture_bits}
-use Rattle.pocsag_capture.specs.CapturedPages.{AreCaptured, without_orphans}
 use Rattle.pocsag_capture.specs.Extracted.{ends_cut, page_cuts}
 use Rattle.pocsag_capture.specs.PageEnds.{AreCutsOf, CapturedTransmission, HasTransmissions, IsCapturedTransmission}
-use Rattle.pocsag_capture.specs.Receptions.{AreFound, HasFewLost, IsQuiet, IsReception, IsSyncRun, IsSynchronised, all_batches, counted, held_end, last_sync, nothing, passed, received, received_word}
-use Rattle.pocsag_capture.specs.Sent.{HoldsSent}
-use Rattle.pocsag_capture.specs.declared.polarity.Polarity.{Polarity}
-use Rattle.pocsag_capture.specs.declared.reception.Reception.{Reception}
-use Rattle.pocsag_capture.specs.declared.reception.Run.{Run}
-use Rattle.pocsag_capture.proofs.Joined.{no_orphan_any, no_orphan_join, pages_join, pages_shift}
-use Rattle.pocsag_capture.proofs.Once.{WordsFit, capture_fits}
-use Rattle.pocsag_capture.proofs.PageEnds.{as_many, plain_pages}
-use Rattle.pocsag_capture.proofs.SentBits.{IsOn, after_closed, batch_there, end_early, ends_closed, few_lost, least_batches, mended_again, on_run, open_after_all, own_place, placed_words, received_are, said_some, unsynced_shift, without_orphans_long, without_orphans_same, without_orphans_two, words_long, zip_split}
 use Rattle.pocsag_laws.specs.ListedWhole.{AreListedWhole}
 
 -- ---- which pages are cut, of words behind others
@@ -88,106 +61,22 @@ module _ (before Y after T : List ℕ) (ps : List Page) (are : All IsCodeword T)
       → length (unsynced 0 before) + length T ≤ steady → length T % 16 ≡ 0 → AreCaptured (before ++ (Y ++ after)) listed
       → AreCutsOf (before ++ (Y ++ after)) steady cuts → AreWhole ps listed cuts
   whole_between steady listed cuts first_whole whole within batches f g =
-      let words : unsynced 0 (before ++ (Y ++ after)) ≡ unsynced 0 before ++ (unsynced 0 Y ++ unsynced 0 after) =
-      unsynced_more 0 before (Y ++ after)
-      ∙ ap (λ (l : List ℕ). unsynced 0 before ++ l) (unsynced_shift (0 + length before) 0 (Y ++ after) (omega arith)
-      ∙ unsynced_more 0 Y after ∙ ap (λ (l : List ℕ). unsynced 0 Y ++ l) (unsynced_shift (0 + length Y) 0 after (omega arith))) in
-      let parts = zip_split (unsynced 0 before) (unsynced 0 Y ++ unsynced 0 after) g.mended (subst (λ (l : List ℕ). AllZip IsMended l g.mended) words g.each) in
-      let left = take (length (unsynced 0 before)) g.mended in
-      let behind = drop (length (unsynced 0 before)) g.mended in
-      let rest = zip_split (unsynced 0 Y) (unsynced 0 after) behind parts.1 in
-      let right = drop (length (unsynced 0 Y)) behind in
+      let stands = stands_between before Y after T ps are near reads g.mended g.each first_whole whole (inr idle) in
       let K : List Kind = map kind_of T in
-      let same : map said (take (length (unsynced 0 Y)) behind) ≡ map Some K =
-      ap (map said) (mended_again 0 0 T Y (take (length (unsynced 0 Y)) behind) (omega arith) are near rest.0) ∙ said_some T in
-      let all : map said g.mended ≡ map said left ++ (map Some K ++ map said right) =
-      ap (map said) (sym (take-append-drop (length (unsynced 0 before)) g.mended)
-      ∙ ap (λ (l : List (Option ℕ)). left ++ l) (sym (take-append-drop (length (unsynced 0 Y)) behind))) ∙ simp (map-append, same) in
-      let plain = reads_plainly reads in
-      let first : List Kind = without_orphans false (map said left) in
-      let b : Bool = open_after_all (open_after_all false (map said left)) (map Some K) in
-      let last : List Kind = without_orphans b (map said right) in
-      let kinds : without_orphans false (map said g.mended) ≡ first ++ (K ++ last) =
-      ap (without_orphans false) all ∙ simp without_orphans_two (ap (λ (l : List Kind). first ++ (l ++ last))
-      (without_orphans_same (open_after_all false (map said left)) K (no_orphan_any (open_after_all false (map said left)) K plain.no_orphan))) in
-      let closed : HasNoOrphan false last = after_closed b after right rest.1 (inr (ends_closed (open_after_all false (map said left)) K idle)) in
-      let joined : HasNoOrphan false (K ++ last) = no_orphan_join false K last plain.no_orphan closed in
-      let long_left : length (map said left) ≡ length (unsynced 0 before) = length-map left said ∙ AllZip-long IsMended (unsynced 0 before) left parts.0 in
-      let long : length first ≡ length (unsynced 0 before) = without_orphans_long false (map said left) ∙ long_left in
-      let count = unsynced_count 0 before in
       let many : length K ≡ length T = length-map T kind_of in
-      let front = cuts_behind steady 0 (length (unsynced 0 before)) (map said left) (map Some K ++ map said right) (omega (arith, long_left)) in
-      let middle = cuts_whole steady (length (unsynced 0 before)) 0 (length (unsynced 0 before) + length K) K (map said right) idle (omega (arith, within, many)) refl in
+      let n : ℕ = length (unsynced 0 before) in
+      let front = cuts_behind steady 0 n stands.left (map Some K ++ stands.right) (omega (arith, stands.long)) in
+      let middle = cuts_whole steady n 0 (n + length K) K stands.right idle (omega (arith, within, many)) refl in
       record {
-        pages_before = pages_from 0 first;
-        pages_after = pages_from (length K) last;
-        pages = plain_pages (before ++ (Y ++ after)) steady listed cuts f g ∙ ap (pages_from 0) kinds
-            ∙ pages_join 0 (length first) first (K ++ last) (omega arith) joined
-            ∙ ap (λ (l : List Page). pages_from 0 first ++ l) (pages_shift (length first) 0 (K ++ last) (omega (arith, long, count))
-            ∙ pages_join 0 (length K) K last (omega arith) closed ∙ ap (λ (l : List Page). l ++ pages_from (length K) last) (sym plain.pages));
+        pages_before = pages_from 0 (without_orphans false stands.left);
+        pages_after = stands.back;
+        pages = plain_pages (before ++ (Y ++ after)) steady listed cuts f g ∙ stands.pages;
         cuts_before = front.cuts;
-        cuts_after = page_cuts steady (length (unsynced 0 before) + length K) (map said right);
-        as_many = front.as_long ∙ as_many steady 0 false (map said left);
-        cuts = g.holds ∙ ap (page_cuts steady 0) all ∙ front.whole ∙ ap (λ (l : List Bool). front.cuts ++ l) (middle
-            ∙ ap (λ (l : List Page). replicate (length l) false ++ page_cuts steady (length (unsynced 0 before) + length K) (map said right)) (sym plain.pages));
+        cuts_after = page_cuts steady (n + length K) stands.right;
+        as_many = front.as_long ∙ as_many steady 0 false stands.left;
+        cuts = g.holds ∙ ap (page_cuts steady 0) stands.all ∙ front.whole ∙ ap (λ (l : List Bool). front.cuts ++ l) (middle
+            ∙ ap (λ (l : List Page). replicate (length l) false ++ page_cuts steady (n + length K) stands.right) (sym (reads_plainly reads).pages));
       }
-
--- ---- the transmission of a synchronisation codeword
-
-record IsHeld (bits : List ℕ) (b : ℕ) (p : Polarity) (rs : List Reception) : Type 0 where
-  pub earlier : List Reception
-  pub reception : Reception
-  pub later : List Reception
-  pub whole : rs ≡ earlier ++ (reception ∷ later)
-  pub first : ℕ
-  pub run : Run
-  pub is_run : IsSyncRun bits first run
-  pub is : IsReception bits run reception
-  pub on : IsOn b p run
-
-module _ (bits : List ℕ) (b : ℕ) (p : Polarity) (fits : WordsFit bits) (there : IsSynchronised bits b p) (quiet : IsQuiet bits (b - 544) b)
-    (few : (u : Run) → u.bit ≡ b → u.polarity ≡ p → HasFewLost bits u) where
-  held_by : (first held : ℕ) (rs : List Reception) → first ≤ b → held ≤ b + 31 → AreFound bits first held rs → IsHeld bits b p rs
-  held_by first held rs low late (nothing none) = absurd (none b low (omega (arith, there.within)) p there)
-  held_by first held rs low late (counted u r more run counts is front rest) =
-      elim (cases_lt (last_sync u) b) [
-        | inl before ↦
-            let next = held_by (last_sync u + 1) (held_end u r) more (omega arith) (end_early bits b p fits there quiet first u r run before) rest in
-            record {
-              earlier = r ∷ next.earlier;
-              reception = next.reception;
-              later = next.later;
-              whole = ap (λ (l : List Reception). r ∷ l) next.whole;
-              first = next.first;
-              run = next.run;
-              is_run = next.is_run;
-              is = next.is;
-              on = next.on;
-            }
-        | inr past ↦ record {
-          earlier = [];
-          reception = r;
-          later = more;
-          whole = refl;
-          first = first;
-          run = u;
-          is_run = run;
-          is = is;
-          on = on_run bits b p fits there quiet first u run low past;
-        }
-      ]
-  held_by first held rs low late (passed u more run not rest) =
-      elim (cases_lt (last_sync u) b) [
-        | inl before ↦ held_by (last_sync u + 1) held more (omega arith) late rest
-        | inr past ↦
-            let on = on_run bits b p fits there quiet first u run low past in
-            absurd (elim (cases_lt 1 u.batches) [
-              | inl many ↦ not (inl many)
-              | inr one ↦
-                  let bit : u.bit ≡ b = omega (arith, on.place, on.below) in
-                  not (inr (omega (arith, bit), few u bit on.polarity))
-            ])
-      ]
 
 -- the transmission of a reception
 record IsTransmissionOf (r : Reception) (cs : List CapturedTransmission) : Type 0 where
@@ -221,12 +110,7 @@ lists_as_whole capture cs ps h idle g steady =
     let p : Polarity = h.polarity in
     let f = h.received in
     let bits : List ℕ = A ++ (X ++ R) in
-    let start : length A + 544 * 0 ≡ length A = omega arith in
-    let there = subst (λ (n : ℕ). IsSynchronised bits n p) start (batch_there A R p ps X f 0 f.whole.0) in
-    let held = held_by bits (length A) p (subst WordsFit h.whole (capture_fits capture)) there
-    (subst (λ (l : List ℕ). IsQuiet l (length A - 544) (length A)) h.whole h.quiet) (few_lost A R p ps X f) 0 0
-    (map (λ (c : CapturedTransmission). c.heard.reception) cs) (omega arith) (omega arith)
-    (subst (λ (l : List ℕ). AreFound l 0 0 (map (λ (c : CapturedTransmission). c.heard.reception) cs)) h.whole g.found) in
+    let held = held_of capture (map (λ (c : CapturedTransmission). c.heard.reception) cs) ps h g.found in
     let of = transmission_of cs held.earlier held.reception held.later held.whole in
     let c = of.transmission in
     let r = held.reception in

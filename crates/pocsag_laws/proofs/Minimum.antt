@@ -1,9 +1,5 @@
 -- The fewest batches are one number.
-use Rattle.std.proofs.Common.{◌≡◌, ℕ, zero, suc, ◌+◌, ◌≤◌, inl, inr, List, subst, arith}
-use Rattle.std.proofs.lemmas.Bool.{cases_lt}
-use Rattle.pocsag_words.specs.declared.ending.End.{End}
-use Rattle.pocsag_pages.specs.declared.page.Page.{Page}
-use Rattle.pocsag_laws.specs.FewestBatches.{AreFewest, AreSendable}
+use Rattle.pocsag_laws.proofs.Prelude.{◌≡◌, ℕ, zero, suc, ◌+◌, ◌≤◌, inl, inr, List, subst, arith, cases_lt, End, Page, AreFewest, AreSendable}
 
 -- where no number is the fewest, each is below those in which the pages are sendable
 all_above : (end : End) (R : List Page) → ((n : ℕ) → AreFewest end R n → ⊥) → (m n : ℕ) → AreSendable end R n → m ≤ n

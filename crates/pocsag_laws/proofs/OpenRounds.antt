@@ -1,13 +1,7 @@
 -- The pages of an open round may stand in a round, and are spellable.
-use Rattle.std.proofs.Common.{◌≡◌, ◌⊎◌, inl, inr, ℕ, ◌<◌, List, [], ◌∷◌, length, All, sym, subst}
-use Rattle.std.specs.Prelude.{Option, Some, None, Ok}
-use Rattle.std.proofs.lemmas.List.Elements.{All-nil}
-use Rattle.pocsag_pages.specs.PageFile.{Row, verdict}
-use Rattle.pocsag_pages.specs.Pages.{IsRound}
-use Rattle.pocsag_pages.specs.declared.page.Page.{Page}
+use Rattle.pocsag_laws.proofs.Prelude.{◌≡◌, ◌⊎◌, inl, inr, ℕ, ◌<◌, false, List, [], ◌∷◌, length, All, sym, subst, Option, Some, None, Ok, All-nil, Row, verdict, IsRound, Page, page_spellable, pages_spellable, Asked, IsDone, IsEdit, IsRun, add, asked_of, cancel, clear}
 use Rattle.pocsag_decode.specs.PageFiles.{IsSpellable}
-use Rattle.pocsag_decode.proofs.SpellablePages.{page_spellable, round_spellable}
-use Rattle.pocsag_journal.specs.Runs.{Asked, IsDone, IsEdit, IsRun, add, asked_of, cancel, clear, sent}
+use Rattle.pocsag_journal.specs.Runs.{sent}
 use Rattle.pocsag_journal.proofs.EditedPages.{Keeps, MayStand, added_keeps, cancelled_keeps, cleared_keeps, none_stand, same_keeps, sent_keeps}
 use Rattle.pocsag_laws.specs.OpenRounds.{IsOpenRound}
 use Rattle.pocsag_laws.proofs.FileRounds.{file_round}
@@ -39,7 +33,7 @@ begun : (ps : List Page) → (ps ≡ []) ⊎ ((file : List ℕ) × (verdict file
 begun ps (inl none) = (subst MayStand (sym none) none_stand, subst (All IsSpellable) (sym none) (All-nil IsSpellable))
 begun ps (inr of) =
     let round = file_round of.0 ps of.1 in
-    (record { few = round.few; good = round.good }, round_spellable of.0 ps of.1)
+    (record { few = round.few; good = round.good }, pages_spellable false of.0 ps of.1)
 
 pub open_spellable : (ps : List Page) → IsOpenRound ps → All IsSpellable ps
 open_spellable ps o = run_spellable o.rows o.first ps o.run (begun o.first o.begins).1

@@ -2,7 +2,7 @@
 use Rattle.pocsag_batch.proofs.Prelude.{◌≡◌, ℕ, zero, suc, ◌+◌, List, [], ◌∷◌, ◌++◌, length, replicate, refl, ◌∙◌, arith, slice_index, slice_set, range_with_len, length-replicate, length-set, End, Page, Step, IsTourFor, Links, AreChains, class_at, page_at, IsOrder}
 use Rattle.pocsag_slots.specs.declared.step.Step.TheVariants.{Idle as Stay, Run}
 use Rattle.pocsag_batch.proofs.Chains.{chains_added}
-use Rattle.pocsag_batch.proofs.Orders.{Stands, order_stands, stands_first, stands_run}
+use Rattle.pocsag_laws.proofs.Prelude.{Stands, order_stands, stands_first, stands_run}
 use Rattle.pocsag_slots.proofs.CountLemmas.{page_class_below}
 
 -- queues of the places from here on

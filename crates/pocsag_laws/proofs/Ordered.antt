@@ -1,14 +1,9 @@
 -- Limits stay in order at the children of a node.
-use Rattle.pocsag_findings.proofs.Prelude.{◌≡◌, ℕ, ◌-◌, ◌<◌, ◌≤◌, [], ◌∷◌, ap, arith, nat_lt, cond, slice_index, Classes, End, Limits, Way}
-use Rattle.std.proofs.Common.{min, max}
-use Rattle.std.proofs.lemmas.Bool.{ltb-true}
-use Rattle.std.proofs.lemmas.List.Elements.{All-cons, recursion_from_All}
+use Rattle.pocsag_laws.proofs.Prelude.{nat_lt, cond, slice_index, Classes, Limits, Way, min, max, ltb-true, All-cons, recursion_from_All, AllByRecursion, AreInOrder, MayTake, limits_below, limits_from, narrowed_limits, ways_across, ways_to_close}
+use Rattle.pocsag_findings.proofs.Prelude.{◌≡◌, ℕ, ◌-◌, ◌<◌, ◌≤◌, [], ◌∷◌, ap, arith, End}
 use Rattle.std.specs.Prelude.{All}
-use Rattle.std.specs.List.{AllByRecursion}
 use Rattle.pocsag_words.specs.declared.ending.End.TheVariants as ends
 use Rattle.pocsag_slots.specs.declared.way.Way.TheVariants.{IdleIn, Early, Late}
-use Rattle.pocsag_slots.specs.Loads.{AreInOrder}
-use Rattle.pocsag_slots.specs.Ways.{MayTake, limits_below, limits_from, narrowed_limits, ways_across, ways_to_close}
 use Rattle.pocsag_slots.proofs.WayLemmas.{All-one_or_none, ways_allowed}
 use Rattle.pocsag_check.proofs.Refutations.{high_set, low_set}
 

@@ -1,21 +1,9 @@
 -- A page is taken out of a list of codewords: idle codewords stand in its place, and the rest reads as before.
-use Rattle.std.proofs.Common.{◌≡◌, ◌≢◌, ℕ, zero, suc, ◌+◌, ◌<◌, inl, inr, List, [], ◌∷◌, ◌++◌, length, map, replicate, take, drop, get_or, remove, All, Contains, refl, sym, ap, subst, ◌∙◌, arith, append_assoc, length-append}
-use Rattle.std.proofs.Math.Seq.{take-append_seam, drop-append-add, drop-append_seam, get_or-append_seam}
-use Rattle.std.proofs.lemmas.List.{length-map, length-replicate, map-append, take-map, drop-map, get_or_append_left, get_or-append-add}
+use Rattle.pocsag_laws.proofs.Prelude.{◌≡◌, ◌≢◌, ℕ, zero, suc, ◌+◌, ◌<◌, inl, inr, List, [], ◌∷◌, ◌++◌, length, map, replicate, take, drop, get_or, remove, All, refl, sym, ap, subst, ◌∙◌, arith, append_assoc, length-append, take-append_seam, drop-append-add, drop-append_seam, get_or-append_seam, length-map, length-replicate, map-append, take-map, drop-map, get_or_append_left, get_or-append-add, All-append, All-cons, All-contains, All-drop, All-nil, All-replicate, All-take, All-contains_itself, Contains-append_cases, Contains-append_left, Contains-append_right, IsPermutation, IsCodeword, idle_word, kind_of, Kind, Idle, Address, Message, End, IsCodeword-idle, Page, AreApart, BeginsNoMessage, EndsAs, EndsIdle, EndsWhole, IsLegalFor, IsLegalList, Reads, at_end, past_idle, past_page, reads_at}
+use Rattle.std.proofs.Common.{Contains}
 use Rattle.std.proofs.lemmas.List.Edits.{length-remove}
-use Rattle.std.proofs.lemmas.List.Elements.{All-append, All-cons, All-contains, All-drop, All-nil, All-replicate, All-take, All-contains_itself, Contains-append_cases, Contains-append_left, Contains-append_right}
 use Rattle.std.proofs.lemmas.List.Sorted.{Contains-permutation, IsPermutation-remove}
-use Rattle.std.specs.Prelude.{IsPermutation}
-use Rattle.pocsag_words.specs.Codeword.{IsCodeword}
-use Rattle.pocsag_words.specs.Kinds.{idle_word, kind_of}
-use Rattle.pocsag_words.specs.declared.codeword.Kind.{Kind}
-use Rattle.pocsag_words.specs.declared.codeword.Kind.TheVariants.{Idle, Address, Message}
-use Rattle.pocsag_words.specs.declared.ending.End.{End}
 use Rattle.pocsag_words.specs.declared.ending.End.TheVariants as ends
-use Rattle.pocsag_words.proofs.KindLemmas.{IsCodeword-idle}
-use Rattle.pocsag_pages.specs.declared.page.Page.{Page}
-use Rattle.pocsag_pages.specs.Reading.{AreApart, BeginsNoMessage, EndsAs, EndsIdle, EndsWhole, IsLegalFor, IsLegalList, Reads, at_end, past_idle, past_page}
-use Rattle.pocsag_pages.proofs.Readings.{reads_at}
 
 -- as many idle codewords in place of codewords
 idles_instead : (ms ws : List Kind) (i : ℕ) (ps : List Page) → Reads ws (i + length ms) ps → Reads (replicate (length ms) Idle ++ ws) i ps

@@ -1,21 +1,8 @@
 -- No synchronisation codeword begins in a preamble.
-use Rattle.std.proofs.Common.{◌≡◌, ℕ, zero, suc, lit<, ◌+◌, ◌-◌, ◌*◌, ◌/◌, ◌%◌, ◌^◌, ◌<◌, ◌≤◌, Bool, true, leb, ltb, ◌&&◌, List, [], ◌++◌, length, take, drop, bit_xor, count_ones, refl, sym, ap, subst, ◌∙◌, inr, arith}
+use Rattle.pocsag_laws.proofs.Prelude.{◌≡◌, ℕ, zero, suc, lit<, ◌+◌, ◌-◌, ◌*◌, ◌/◌, ◌%◌, ◌^◌, ◌<◌, ◌≤◌, Bool, true, leb, ltb, ◌&&◌, List, [], ◌++◌, length, take, drop, bit_xor, count_ones, refl, sym, ap, subst, ◌∙◌, inr, arith, pow-suc, drop-append-add, and_parts, leb-true, ltb-true, drop-append-le, drop-drop, length-drop, take-append-le, HasNoneNear, check_of, columns, combine, syndrome_of, HasNoneNear-from_far, high_first, high_number, sync_word, as_sent, word_on, HasInFront, IsQuiet, sent_at, Polarity, Upright, Inverted, word_there}
 use Rattle.std.specs.Int.Count.{ones_step}
-use Rattle.std.proofs.Math.Nat.{pow-suc}
-use Rattle.std.proofs.Math.Seq.{drop-append-add}
-use Rattle.std.proofs.lemmas.Bool.{and_parts, leb-true, ltb-true}
-use Rattle.std.proofs.lemmas.List.{drop-append-le, drop-drop, length-append, length-drop, take-append-le}
+use Rattle.std.proofs.lemmas.List.{length-append}
 use Rattle.std.proofs.lemmas.Nat.{ones_le_self, xor_lt}
-use Rattle.pocsag_words.specs.Codeword.{HasNoneNear}
-use Rattle.pocsag_words.specs.Columns.{check_of, columns, combine, syndrome_of}
-use Rattle.pocsag_words.proofs.ErrorLemmas.{HasNoneNear-from_far}
-use Rattle.pocsag_text.specs.Bits.{high_first, high_number}
-use Rattle.pocsag_pages.specs.Bytes.{sync_word}
-use Rattle.pocsag_capture.specs.Bits.{as_sent, word_on}
-use Rattle.pocsag_capture.specs.Receptions.{HasInFront, IsQuiet, sent_at}
-use Rattle.pocsag_capture.specs.declared.polarity.Polarity.{Polarity}
-use Rattle.pocsag_capture.specs.declared.polarity.Polarity.TheVariants.{Upright, Inverted}
-use Rattle.pocsag_capture.proofs.Extracts.{word_there}
 use Rattle.pocsag_capture.proofs.Polarities.{both_polarities}
 use Rattle.pocsag_laws.specs.Preambles.{clean_start}
 

@@ -1,12 +1,8 @@
 -- A text is no record for one reason at most, want of memory aside.
-use Rattle.std.proofs.Common.{◌≡◌, ◌≢◌, ◌⊎◌, inl, inr, ℕ, List, [], ◌∷◌, ◌++◌, refl, sym, ap, ◌∙◌, subst, append_assoc}
-use Rattle.pocsag_pages.specs.RecordTexts.{EndsInQuotes, HasNoRecord, HasStrayByte, HasStrayQuote, IsAtQuote, IsLostAt, IsRowText}
-use Rattle.pocsag_journal.specs.LineTexts.{IsUnread}
+use Rattle.pocsag_laws.proofs.Prelude.{◌≡◌, ◌≢◌, ◌⊎◌, inl, inr, ℕ, List, [], ◌∷◌, ◌++◌, refl, sym, ap, ◌∙◌, subst, append_assoc, EndsInQuotes, HasNoRecord, HasStrayByte, HasStrayQuote, IsAtQuote, IsLostAt, IsRowText, IsUnread, Refusal, UndoneFault}
 use Rattle.pocsag_pages.specs.RecordTexts.IsFieldText.{bare}
 use Rattle.pocsag_pages.specs.RecordTexts.IsRowText.{last}
-use Rattle.pocsag_journal.specs.declared.refusal.Refusal.{Refusal}
 use Rattle.pocsag_journal.specs.declared.refusal.Refusal.TheVariants as refusal
-use Rattle.pocsag_journal.specs.declared.refusal.UndoneFault.{UndoneFault}
 use Rattle.pocsag_journal.specs.declared.refusal.UndoneFault.TheVariants as undone
 
 -- of two fronts of a text one is the other, or goes on with the byte behind it

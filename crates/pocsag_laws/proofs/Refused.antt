@@ -1,7 +1,8 @@
 -- What is refused has no tour.
-use Rattle.pocsag_tour.proofs.Prelude.{◌≡◌, ℕ, ◌+◌, ◌%◌, ◌<◌, ◌==◌, ◌&&◌, ◌⊎◌, Bool, true, false, not, cond, List, [], ◌∷◌, refl, subst, ◌∙◌, arith, eq-eqb, inl, inr, eqb-true, End, Classes, Step, runs, load, start_of, finish_of, holds, idles, AsksForLast, IsTour, LastIsWhole, Leads, IsReached, IsUnclosed, runs_of}
-use Rattle.std.proofs.lemmas.Bool.{cases_lt}
+use Rattle.pocsag_tour.proofs.Prelude.{◌≡◌, ℕ, ◌+◌, ◌%◌, ◌<◌, ◌==◌, ◌&&◌, ◌⊎◌, Bool, true, false, not, cond, List, [], ◌∷◌, refl, subst, ◌∙◌, arith, eq-eqb, inl, inr, eqb-true, End, Classes, Step, load, start_of, finish_of, holds, idles, AsksForLast, IsTour, LastIsWhole, Leads, IsReached, IsUnclosed, runs_of}
+use Rattle.pocsag_laws.proofs.Prelude.{cases_lt}
 use Rattle.pocsag_words.specs.declared.ending.End.TheVariants as ends
+use Rattle.pocsag_slots.specs.Arcs.{runs}
 use Rattle.pocsag_slots.specs.declared.step.Step.TheVariants.{Idle as Stay, Run}
 use Rattle.pocsag_tour.specs.Reached.{IsApart, at_start, by_idle, by_run}
 use Rattle.pocsag_slots.proofs.CoverLemmas.{finish_below, start_below}

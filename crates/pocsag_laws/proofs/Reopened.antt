@@ -1,42 +1,23 @@
 -- What a session over the text of a journal leaves.
-use Rattle.std.proofs.Common.{◌≡◌, ◌≢◌, ◌⊎◌, inl, inr, ℕ, suc, ◌-◌, ◌≤◌, true, List, [], ◌∷◌, ◌++◌, length, arith, refl, sym, ap, ◌∙◌, subst, append_assoc, length-append}
-use Rattle.std.specs.Prelude.{Option, Some, None, codes, slice_get}
-use Rattle.std.specs.List.{AllByRecursion}
-use Rattle.std.proofs.lemmas.Bool.{eqb-true, false_from_ne_true}
+use Rattle.pocsag_laws.proofs.Prelude.{◌≡◌, ◌≢◌, ◌⊎◌, inl, inr, ℕ, suc, ◌-◌, ◌≤◌, true, List, [], ◌∷◌, ◌++◌, length, arith, refl, sym, ap, ◌∙◌, subst, append_assoc, length-append, Option, Some, None, codes, slice_get, AllByRecursion, eqb-true, false_from_ne_true, Row, Page, OnLimit, End, IsEdit, IsRun, asked_of, first_record, wants_memory, IsLostAt, IsRowText, IsUnread, IsWholeLine, is_return, record_text, without_return, Refusal, UndoneFault, row_spelled, IsLine, journal_text, rows_text, edit_once, line_length, AreLines, IsFirstLine, PlacementResult, AreReplies, IsLineReply, IsRefusalPrinted, IsReply, IsSession, edited, listed, noted, planned, read, refused, sent_first, too_long, unread}
 use Rattle.csv.specs.Machine.{line_feed}
 use Rattle.csv.specs.Reading.{strip_bom}
 use Rattle.csv.specs.Writing.{default_writer, fields_text, is_blank, row_body, row_text}
-use Rattle.pocsag_pages.specs.PageFile.{Row}
-use Rattle.pocsag_pages.specs.declared.page.Page.{Page}
 use Rattle.pocsag_pages.specs.declared.fault.FieldFault.TheVariants as field
 use Rattle.pocsag_plan.specs.declared.refusal.AddFault.TheVariants as adding
-use Rattle.pocsag_plan.specs.declared.search.OnLimit.{OnLimit}
-use Rattle.pocsag_words.specs.declared.ending.End.{End}
 use Rattle.pocsag_journal.specs.Asks.{AsksPlan}
 use Rattle.pocsag_pages.specs.QuoteStates.{MayEnd, quote_state_after, quote_state_from}
-use Rattle.pocsag_journal.specs.Runs.{IsEdit, IsRun, asked_of, first_record, wants_memory}
-use Rattle.pocsag_pages.specs.RecordTexts.{IsLostAt, IsRowText}
-use Rattle.pocsag_journal.specs.LineTexts.{IsUnread, IsWholeLine, is_return, record_text, without_return}
 use Rattle.pocsag_pages.specs.declared.quote_state.QuoteState.{QuoteState}
 use Rattle.pocsag_pages.specs.declared.quote_state.QuoteState.TheVariants as at
-use Rattle.pocsag_journal.specs.declared.refusal.Refusal.{Refusal}
 use Rattle.pocsag_journal.specs.declared.refusal.Refusal.TheVariants as refusal
-use Rattle.pocsag_journal.specs.declared.refusal.UndoneFault.{UndoneFault}
 use Rattle.pocsag_journal.specs.declared.refusal.UndoneFault.TheVariants as undone
-use Rattle.pocsag_journal.proofs.FieldLines.{row_spelled}
 use Rattle.pocsag_journal.proofs.Fields.{is_word}
 use Rattle.pocsag_pages.proofs.RowTexts.{row_place, rows_are}
 use Rattle.pocsag_journal.specs.Growth.{kept_line_limit}
-use Rattle.pocsag_journal.specs.Journals.{IsLine, journal_text, rows_text}
-use Rattle.pocsag_journal.proofs.EditRuns.{edit_once}
-use Rattle.pocsag_journal.proofs.LineLengths.{line_length}
 use Rattle.pocsag_journal.proofs.Replays.{edit_some, is_true, pair_word}
 use Rattle.pocsag_journal.proofs.TextLines.{at_line, first_line, no_whole_line, split_lines}
-use Rattle.pocsag_open.specs.Lines.{AreLines, IsFirstLine}
-use Rattle.pocsag_open.specs.Plans.{PlacementResult}
 use Rattle.pocsag_open.specs.Words.{refusal_words}
 use Rattle.pocsag_laws.specs.Reopened.{NamesNoMemory}
-use Rattle.pocsag_open.specs.Replies.{AreReplies, IsLineReply, IsRefusalPrinted, IsReply, IsSession, edited, listed, noted, planned, read, refused, sent_first, too_long, unread}
 use Rattle.pocsag_open.proofs.Sessions.{plan_or_heading}
 
 -- what holds of each record whose first field is the word of an edit holds of an edit

@@ -1,19 +1,6 @@
 -- A session is a run of edits whose records are lines.
-use Rattle.std.proofs.Common.{ℕ, List, [], ◌∷◌, ◌++◌, refl, arith}
-use Rattle.std.specs.List.{AllByRecursion}
-use Rattle.pocsag_pages.specs.PageFile.{Row}
-use Rattle.pocsag_pages.specs.declared.page.Page.{Page}
-use Rattle.pocsag_plan.specs.declared.search.OnLimit.{OnLimit}
-use Rattle.pocsag_journal.specs.Journals.{IsLine}
-use Rattle.pocsag_journal.specs.LineTexts.{HasNoLineFeed, record_text}
+use Rattle.pocsag_laws.proofs.Prelude.{ℕ, List, [], ◌∷◌, ◌++◌, refl, arith, AllByRecursion, Row, Page, OnLimit, IsLine, HasNoLineFeed, record_text, IsRun, sent_record, runs_join, read_line, run_lined, AreLines, PlacementResult, AreReplies, IsLineReply, IsReply, IsSession, edited, listed, noted, planned, read, refused, sent_first, too_long, unread}
 use Rattle.pocsag_journal.specs.PageLines.{HaveLines}
-use Rattle.pocsag_journal.specs.Runs.{IsRun, sent_record}
-use Rattle.pocsag_journal.proofs.EditRuns.{runs_join}
-use Rattle.pocsag_journal.proofs.FieldLines.{read_line}
-use Rattle.pocsag_journal.proofs.LinedPages.{run_lined}
-use Rattle.pocsag_open.specs.Lines.{AreLines}
-use Rattle.pocsag_open.specs.Plans.{PlacementResult}
-use Rattle.pocsag_open.specs.Replies.{AreReplies, IsLineReply, IsReply, IsSession, edited, listed, noted, planned, read, refused, sent_first, too_long, unread}
 use Rattle.pocsag_open.proofs.Ends.{sent_line, text_feedless}
 use Rattle.pocsag_open.proofs.Fronts.{front_edit}
 

@@ -63,14 +63,15 @@ pub fn pages_of_lines_have_lines()
     ensures each { (pages : List Page) (number : ℕ) → HaveLines pages → ¬ HasNoLine pages number }
 {}
 
-/// A text is no record for one reason at most, want of memory aside.
+/// There is at most one reason why a text is no record, refused memory aside.
 #[tactic(auto, using(crate::proofs::Reasons::one_reason))]
 pub fn texts_have_one_reason()
     ensures { (text : List ℕ) (why other : Refusal) → IsUnread text why → IsUnread text other →
         why ≢ Refusal.Undone UndoneFault.OutOfMemory → other ≢ Refusal.Undone UndoneFault.OutOfMemory → why ≡ other }
 {}
 
-/// `open` over the text of a journal: the session leaves the pages of the journal, unless it reported that memory was wanting.
+/// `open` over the text of a journal: the session leaves the pages of the journal, unless it printed that memory was
+/// refused.
 pub fn a_journal_opens_as_its_pages<P: OutputStore>()
     ensures { (on_limit : OnLimit) (rows : List Row) (pages after : List Page) (told : List ℕ)
         (placed : List PlacementResult) → AllByRecursion IsLine rows → IsRun rows [] pages →

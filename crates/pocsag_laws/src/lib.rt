@@ -47,11 +47,10 @@ pub use order::{
 pub use queue::{oversized_pages_need_more, queues_keep_order};
 pub use readings::{
     a_fault_there_stays, faults_are_one, listed_fields_are_read_back, no_fault_is_a_reading,
-    readings_are_one, repaired_pages_are_heard, rounds_are_good, standing_is_without_fault,
+    readings_are_one, repaired_pages_are_heard,
 };
 pub use tour::{
-    apart_has_no_tour, class_loads_add_up, codewords_and_tours_correspond,
-    no_load_is_above_batches, no_transmission_has_fewer, sets_take_members,
-    spare_batches_have_tours, tours_are_transmissions, tours_have_codewords,
-    transmissions_are_tours, unclosed_has_no_tour,
+    apart_has_no_tour, codewords_and_tours_correspond, no_load_is_above_batches,
+    no_transmission_has_fewer, spare_batches_have_tours, tours_are_transmissions,
+    tours_have_codewords, transmissions_are_tours, unclosed_has_no_tour,
 };

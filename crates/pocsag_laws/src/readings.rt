@@ -4,25 +4,18 @@ ghost use Rattle.pocsag_words.specs.declared.codeword.Kind.{Kind};
 ghost use Rattle.pocsag_pages.specs.declared.page.Page.{Page};
 ghost use Rattle.pocsag_pages.specs.Bytes.{after_preamble, words_of};
 ghost use Rattle.pocsag_pages.specs.PageFile.{page_of_fields};
-ghost use Rattle.pocsag_pages.specs.Pages.{IsRound, is_reserved, last_address, IsGoodPage};
+ghost use Rattle.pocsag_pages.specs.Pages.{is_reserved, last_address};
 ghost use Rattle.pocsag_pages.specs.Reading.{Reads};
 ghost use Rattle.pocsag_decode.specs.declared.fault.DecodeFault.{DecodeFault};
-ghost use Rattle.pocsag_decode.specs.declared.state.Decoder.{Decoder};
 ghost use Rattle.pocsag_decode.specs.Faults.{HasFault, HasFaultThere, IsFaultless, ReadsAs};
 ghost use Rattle.pocsag_decode.specs.ListedFields.{IsSpelled};
 ghost use Rattle.pocsag_decode.specs.Listing.{kind_field, message_field};
 ghost use Rattle.pocsag_decode.specs.Repairs.{IsRepairOf};
-ghost use Rattle.pocsag_decode.specs.States.{HasTakenIn};
 ghost use Rattle.pocsag_pager.specs.Shown.{AreShown};
 
 /// A list of codewords has at most one reading.
 pub fn readings_are_one()
     ensures { (ws : List Kind) (i : ℕ) (ps qs : List Page) → Reads ws i ps → Reads ws i qs → ps ≡ qs }
-{}
-
-/// Each page of a round breaks no rule.
-pub fn rounds_are_good()
-    ensures { (R : List Page) → IsRound R → All IsGoodPage R }
 {}
 
 /// Bytes have no fault exactly where they are sent from codewords that have a reading.
@@ -38,11 +31,6 @@ pub fn faults_are_one()
 /// A fault at a byte that is there stays, however the bytes go on.
 pub fn a_fault_there_stays()
     ensures { (X Z : List ℕ) (f : DecodeFault) → HasFaultThere X f → HasFaultThere (X ++ Z) f }
-{}
-
-/// What a decoder stands after has no fault at a byte that is there.
-pub fn standing_is_without_fault()
-    ensures { (d : Decoder) (X : List ℕ) (f : DecodeFault) → HasTakenIn d X → ¬ HasFaultThere X f }
 {}
 
 /// What the pager of an address shows of bytes are the pages of that address, in order, among those that the repaired

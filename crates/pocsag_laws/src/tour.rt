@@ -3,8 +3,7 @@ ghost use Rattle.pocsag_pages.specs.Reading.{AreApart, IsLegalFor, IsLegalList};
 ghost use Rattle.pocsag_pages.specs.declared.page.Page.{Page};
 ghost use Rattle.pocsag_slots.specs.Arcs.{arcs, early_in};
 ghost use Rattle.pocsag_slots.specs.Layout.{laid};
-ghost use Rattle.pocsag_slots.specs.Loads.{AreClassesOf, IsChoice, IsLeast, load, ClassLoadsAddUp};
-ghost use Rattle.pocsag_slots.specs.Sums.{SetsTakeMembers};
+ghost use Rattle.pocsag_slots.specs.Loads.{AreClassesOf, IsChoice, IsLeast, load};
 ghost use Rattle.pocsag_slots.specs.Tours.{AsksForLast, IsTour};
 ghost use Rattle.pocsag_slots.specs.declared.class.Classes.{Classes};
 ghost use Rattle.pocsag_slots.specs.declared.step.Step.{Step};
@@ -70,16 +69,6 @@ pub fn codewords_and_tours_correspond()
         (R : List Page) (U : List ℕ) →
         0 < b → AreClassesOf k end R → IsTour k end choice b steps →
         All IsCodeword U → map kind_of U ≡ laid end R steps → IsLegalList end U b R }
-{}
-
-/// The load of a set of slots is the sum of what the runs of each class load it with.
-pub fn class_loads_add_up()
-    ensures { ClassLoadsAddUp }
-{}
-
-/// Each set can take each member, 0 to 15.
-pub fn sets_take_members()
-    ensures { SetsTakeMembers }
 {}
 
 /// A choice has a tour, for any end, with any number of batches that is above each of its loads: so

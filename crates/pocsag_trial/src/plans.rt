@@ -5,7 +5,7 @@ use crate::pages::{FOUR_PAGES, example};
 use pocsag_core_cases::{THREE_PAGES_TIGHT, ones};
 use pocsag_pages::{Round, RoundFault};
 use pocsag_plan::{
-    AddFault, Book, BookFault, Bounded, OnLimit, Plan, PlanFault, Search, StreamFault,
+    AddFault, Book, BookFault, BoundedPlan, OnLimit, Plan, PlanFault, Search, StreamFault,
     bounded_plan, plan, plan_stream, plan_stream_always,
 };
 use pocsag_slots::Classes;
@@ -51,7 +51,7 @@ fn show_plan(alloc: Global, pages: &[(u32, usize)], line: &mut Line) -> Result<(
 }
 
 // The bound of a plan, and then its counts.
-fn put_bounded(bounded: &Bounded, line: &mut Line) {
+fn put_bounded(bounded: &BoundedPlan, line: &mut Line) {
     line.put(bounded.bound);
     put_counts(&bounded.plan, line);
 }
@@ -103,7 +103,7 @@ fn show_stream(alloc: Global, pages: &[u8], end: End, line: &mut Line) -> Result
 
 // The same of a stream that no round is refused, with the bound before the counts.
 fn put_bounded_stream(
-    answer: Result<Bounded, StreamFault>,
+    answer: Result<BoundedPlan, StreamFault>,
     tx: &MemorySink<300>,
     cert: &MemorySink<40>,
     line: &mut Line,

@@ -1,7 +1,4 @@
-use Rattle.std.proofs.Common.{◌≡◌, List, sym, subst, rules}
-use Rattle.pocsag_journal.specs.Moments.{Elapses}
-use Rattle.pocsag_command_cases.specs.Disks.{LeavesFrom, LeftSince, moment_after}
-use Rattle.pocsag_command_cases.specs.declared.crash_disk.Text.{Text}
+use Rattle.pocsag_command_cases.proofs.Prelude.{◌≡◌, List, sym, subst, rules, Elapses, LeavesFrom, LeftSince, moment_after, Text}
 use Rattle.pocsag_command_cases.proofs.Disks.{elapses_replaced}
 use Rattle.pocsag_command_cases.proofs.crash_disk.put.Goals as goal
 

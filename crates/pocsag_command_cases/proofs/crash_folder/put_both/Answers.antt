@@ -1,9 +1,5 @@
-use Rattle.std.proofs.Common.{◌≡◌, ℕ, inl, inr, ⊎_elim, slice_index_or, List, ◌∷◌, [], ap, subst, ◌∙◌}
-use Rattle.pocsag_words.specs.Devices.{HasFailed}
-use Rattle.pocsag_shell.specs.Folders.{FailsTwice, staged_at}
-use Rattle.pocsag_shell.specs.declared.staged_file.StagedFile.{StagedFile}
+use Rattle.pocsag_command_cases.proofs.Prelude.{◌≡◌, ℕ, inl, inr, ⊎_elim, slice_index_or, List, ◌∷◌, [], ap, subst, ◌∙◌, HasFailed, FailsTwice, staged_at, StagedFile, standing}
 use Rattle.pocsag_command_cases.proofs.CrashFolders.{both_back, both_gone, both_placed, both_staged}
-use Rattle.pocsag_command_cases.specs.CrashFolders.{standing}
 use Rattle.pocsag_command_cases.proofs.crash_folder.put_both.Goals as goal
 
 -- the first of two files, and the second

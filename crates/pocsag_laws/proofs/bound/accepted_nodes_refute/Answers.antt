@@ -1,4 +1,4 @@
-use Rattle.pocsag_check.proofs.Bounds.{none_fits}
+use Rattle.pocsag_laws.proofs.Prelude.{none_fits}
 use Rattle.pocsag_laws.proofs.bound.accepted_nodes_refute.Goals as goal
 
 pub returns : goal.returns

@@ -1,4 +1,4 @@
-use Rattle.pocsag_check.proofs.Bounds.{bounded}
+use Rattle.pocsag_laws.proofs.Prelude.{bounded}
 use Rattle.pocsag_laws.proofs.bound.accepted_trees_bound.Goals as goal
 
 pub returns : goal.returns

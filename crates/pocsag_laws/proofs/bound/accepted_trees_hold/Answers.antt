@@ -1,7 +1,5 @@
 use Rattle.pocsag_findings.proofs.Prelude.{◌-◌}
-use Rattle.pocsag_slots.specs.Loads.{limits_of_all}
-use Rattle.pocsag_slots.proofs.LimitLemmas.{all_ordered}
-use Rattle.pocsag_findings.specs.declared.finding.Reached.TheVariants.{Root}
+use Rattle.pocsag_laws.proofs.Prelude.{limits_of_all, all_ordered, Root}
 use Rattle.pocsag_laws.proofs.AllHold.{all_within}
 use Rattle.pocsag_laws.proofs.bound.accepted_trees_hold.Goals as goal
 

@@ -1,5 +1,4 @@
-use Rattle.pocsag_capture.proofs.Once.{captured_shown}
-use Rattle.pocsag_capture.proofs.SentBits.{reading_captured}
+use Rattle.pocsag_laws.proofs.Prelude.{captured_shown, reading_captured}
 use Rattle.pocsag_laws.proofs.captures.captured_pages_are_shown.Goals as goal
 
 pub returns-clause-shown : goal.returns-clause-shown

@@ -1,4 +1,4 @@
-use Rattle.pocsag_capture.proofs.SentBits.{shows_what_was_sent}
+use Rattle.pocsag_laws.proofs.Prelude.{shows_what_was_sent}
 use Rattle.pocsag_laws.proofs.captures.captures_show_what_was_sent.Goals as goal
 
 pub returns : goal.returns

@@ -1,4 +1,4 @@
-use Rattle.pocsag_capture.proofs.PageEnds.{transmissions_are_captured_lem, cuts_are_counted, uncut_pages_stand}
+use Rattle.pocsag_laws.proofs.Prelude.{transmissions_are_captured_lem, cuts_are_counted, uncut_pages_stand}
 use Rattle.pocsag_laws.proofs.captures.transmissions_are_captured.Goals as goal
 
 pub returns-clause-captured : goal.returns-clause-captured

@@ -1,4 +1,4 @@
-use Rattle.pocsag_tree.proofs.Results.{nothing_more}
+use Rattle.pocsag_laws.proofs.Prelude.{nothing_more}
 use Rattle.pocsag_laws.proofs.certificate.no_text_begins_another.Goals as goal
 
 pub returns : goal.returns

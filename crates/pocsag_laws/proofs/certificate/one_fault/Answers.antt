@@ -1,4 +1,4 @@
-use Rattle.pocsag_tree.proofs.Results.{same_fault, no_fault}
+use Rattle.pocsag_laws.proofs.Prelude.{same_fault, no_fault}
 use Rattle.pocsag_laws.proofs.certificate.one_fault.Goals as goal
 
 pub returns-clause-same : goal.returns-clause-same

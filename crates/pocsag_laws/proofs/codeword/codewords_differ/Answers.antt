@@ -1,4 +1,4 @@
-use Rattle.pocsag_words.proofs.ErrorLemmas.{codewords_differ_lem}
+use Rattle.pocsag_laws.proofs.Prelude.{codewords_differ_lem}
 use Rattle.pocsag_laws.proofs.codeword.codewords_differ.Goals as goal
 
 pub returns : goal.returns

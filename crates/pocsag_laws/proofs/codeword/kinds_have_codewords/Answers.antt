@@ -1,4 +1,4 @@
-use Rattle.pocsag_words.proofs.KindLemmas.{address_has_codeword, message_has_codeword}
+use Rattle.pocsag_laws.proofs.Prelude.{address_has_codeword, message_has_codeword}
 use Rattle.pocsag_laws.proofs.codeword.kinds_have_codewords.Goals as goal
 
 pub returns-clause-address : goal.returns-clause-address

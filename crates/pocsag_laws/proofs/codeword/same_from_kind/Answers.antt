@@ -1,4 +1,4 @@
-use Rattle.pocsag_words.proofs.KindLemmas.{same_from_kind_lem}
+use Rattle.pocsag_laws.proofs.Prelude.{same_from_kind_lem}
 use Rattle.pocsag_laws.proofs.codeword.same_from_kind.Goals as goal
 
 pub returns : goal.returns

@@ -1,4 +1,4 @@
-use Rattle.pocsag_open.specs.Plans.{HasFailedOutput}
+use Rattle.pocsag_laws.proofs.Prelude.{HasFailedOutput}
 use Rattle.pocsag_laws.proofs.Reopened.{reopened}
 use Rattle.pocsag_laws.proofs.journal.a_journal_opens_as_its_pages.Goals as goal
 

@@ -1,4 +1,4 @@
-use Rattle.pocsag_journal.proofs.EditRuns.{run_once}
+use Rattle.pocsag_laws.proofs.Prelude.{run_once}
 use Rattle.pocsag_journal.proofs.Readings.{begun, no_bad_line, one_reading}
 use Rattle.pocsag_laws.proofs.journal.journals_read_as_one.Goals as goal
 

@@ -1,4 +1,4 @@
-use Rattle.pocsag_journal.proofs.LineLengths.{line_length}
+use Rattle.pocsag_laws.proofs.Prelude.{line_length}
 use Rattle.pocsag_laws.proofs.journal.lines_are_short.Goals as goal
 
 pub returns : goal.returns

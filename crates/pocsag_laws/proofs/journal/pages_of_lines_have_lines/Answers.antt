@@ -1,5 +1,4 @@
-use Rattle.pocsag_journal.proofs.FieldLines.{read_line}
-use Rattle.pocsag_journal.proofs.LinedPages.{edit_lined, journal_lined, not_unlined, run_lined}
+use Rattle.pocsag_laws.proofs.Prelude.{read_line, edit_lined, journal_lined, not_unlined, run_lined}
 use Rattle.pocsag_laws.proofs.journal.pages_of_lines_have_lines.Goals as goal
 
 pub returns-clause-read : goal.returns-clause-read

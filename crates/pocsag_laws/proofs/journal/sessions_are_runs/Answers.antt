@@ -1,4 +1,4 @@
-use Rattle.pocsag_open.specs.Plans.{HasFailedOutput}
+use Rattle.pocsag_laws.proofs.Prelude.{HasFailedOutput}
 use Rattle.pocsag_laws.proofs.SessionRuns.{session_lined, session_run}
 use Rattle.pocsag_laws.proofs.journal.sessions_are_runs.Goals as goal
 

@@ -1,5 +1,4 @@
-use Rattle.std.proofs.Common.{replicate, ◌++◌, ◌+◌}
-use Rattle.pocsag_words.specs.Kinds.{idle_word}
+use Rattle.pocsag_laws.proofs.Prelude.{replicate, ◌++◌, ◌+◌, idle_word}
 use Rattle.pocsag_words.specs.declared.ending.End.TheVariants.{Idle, Open}
 use Rattle.pocsag_laws.proofs.Ends.{closed_from_idle, longer, open_from_closed}
 use Rattle.pocsag_laws.proofs.laws.ends_cost_one_batch.Goals as goal

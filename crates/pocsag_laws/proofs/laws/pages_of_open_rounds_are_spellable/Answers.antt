@@ -1,4 +1,4 @@
-use Rattle.pocsag_decode.proofs.PageRows.{read_back}
+use Rattle.pocsag_laws.proofs.Prelude.{read_back}
 use Rattle.pocsag_laws.proofs.OpenRounds.{edit_spellable, open_round, open_spellable, run_spellable}
 use Rattle.pocsag_laws.proofs.laws.pages_of_open_rounds_are_spellable.Goals as goal
 

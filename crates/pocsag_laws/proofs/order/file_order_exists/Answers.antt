@@ -1,4 +1,4 @@
-use Rattle.pocsag_batch.proofs.FileOrders.{some_file_order}
+use Rattle.pocsag_laws.proofs.Prelude.{some_file_order}
 use Rattle.pocsag_laws.proofs.order.file_order_exists.Goals as goal
 
 pub returns : goal.returns

@@ -1,4 +1,4 @@
-use Rattle.pocsag_batch.proofs.FileOrders.{legal_in_order}
+use Rattle.pocsag_laws.proofs.Prelude.{legal_in_order}
 use Rattle.pocsag_laws.proofs.order.file_order_is_legal.Goals as goal
 
 pub returns : goal.returns

@@ -1,4 +1,4 @@
-use Rattle.pocsag_batch.proofs.FileOrders.{one_file_order}
+use Rattle.pocsag_laws.proofs.Prelude.{one_file_order}
 use Rattle.pocsag_laws.proofs.order.file_order_is_one.Goals as goal
 
 pub returns : goal.returns

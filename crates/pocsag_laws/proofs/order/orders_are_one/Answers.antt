@@ -1,4 +1,4 @@
-use Rattle.pocsag_batch.proofs.OrderLaws.{one_order}
+use Rattle.pocsag_laws.proofs.Prelude.{one_order}
 use Rattle.pocsag_laws.proofs.order.orders_are_one.Goals as goal
 
 pub returns : goal.returns

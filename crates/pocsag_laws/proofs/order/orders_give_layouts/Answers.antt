@@ -1,4 +1,4 @@
-use Rattle.pocsag_batch.proofs.OrderLaws.{order_lays}
+use Rattle.pocsag_laws.proofs.Prelude.{order_lays}
 use Rattle.pocsag_laws.proofs.order.orders_give_layouts.Goals as goal
 
 pub returns : goal.returns

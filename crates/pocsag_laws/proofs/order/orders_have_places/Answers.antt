@@ -1,4 +1,4 @@
-use Rattle.pocsag_batch.proofs.Orders.{order_has_places}
+use Rattle.pocsag_laws.proofs.Prelude.{order_has_places}
 use Rattle.pocsag_laws.proofs.order.orders_have_places.Goals as goal
 
 pub returns : goal.returns

@@ -1,4 +1,4 @@
-use Rattle.pocsag_decode.proofs.OneFault.{there_stays}
+use Rattle.pocsag_laws.proofs.Prelude.{there_stays}
 use Rattle.pocsag_laws.proofs.readings.a_fault_there_stays.Goals as goal
 
 pub returns : goal.returns

@@ -1,4 +1,4 @@
-use Rattle.pocsag_decode.proofs.OneFault.{one_fault}
+use Rattle.pocsag_laws.proofs.Prelude.{one_fault}
 use Rattle.pocsag_laws.proofs.readings.faults_are_one.Goals as goal
 
 pub returns : goal.returns

@@ -1,8 +1,4 @@
-use Rattle.std.proofs.Common.{map, refl}
-use Rattle.pocsag_words.specs.Kinds.{kind_of}
-use Rattle.pocsag_pages.specs.Bytes.{codewords_in}
-use Rattle.pocsag_pages.specs.Plain.{pages_from}
-use Rattle.pocsag_decode.proofs.Judgements.{no_fault_whole, whole_no_fault}
+use Rattle.pocsag_laws.proofs.Prelude.{map, refl, kind_of, codewords_in, pages_from, no_fault_whole, whole_no_fault}
 use Rattle.pocsag_decode.proofs.SentBytes.{reads_whole}
 use Rattle.pocsag_decode.proofs.Transmissions.{whole_reads}
 use Rattle.pocsag_laws.proofs.readings.no_fault_is_a_reading.Goals as goal

@@ -1,5 +1,4 @@
-use Rattle.std.proofs.Common.{sym, ◌∙◌}
-use Rattle.pocsag_pages.proofs.Readings.{reads_plainly}
+use Rattle.pocsag_laws.proofs.Prelude.{sym, ◌∙◌, reads_plainly}
 use Rattle.pocsag_laws.proofs.readings.readings_are_one.Goals as goal
 
 pub returns : goal.returns

@@ -1,6 +1,5 @@
 use Rattle.pocsag_slots.proofs.Prelude.{map, kind_of}
-use Rattle.pocsag_slots.proofs.Fewest.{laid_list_legal}
-use Rattle.pocsag_slots.proofs.ToursOfLists.{toured}
+use Rattle.pocsag_laws.proofs.Prelude.{laid_list_legal, toured}
 use Rattle.pocsag_laws.proofs.tour.codewords_and_tours_correspond.Goals as goal
 
 pub returns-clause-tour : goal.returns-clause-tour

@@ -1,4 +1,4 @@
-use Rattle.pocsag_slots.proofs.Fewest.{early_choice, loads_carried}
+use Rattle.pocsag_laws.proofs.Prelude.{early_choice, loads_carried}
 use Rattle.pocsag_laws.proofs.tour.no_load_is_above_batches.Goals as goal
 
 pub returns-clause-choice : goal.returns-clause-choice

@@ -1,5 +1,5 @@
 use Rattle.pocsag_slots.proofs.Prelude.{map, kind_of}
-use Rattle.pocsag_slots.proofs.Fewest.{fewest}
+use Rattle.pocsag_laws.proofs.Prelude.{fewest}
 use Rattle.pocsag_laws.proofs.tour.no_transmission_has_fewer.Goals as goal
 
 pub returns-clause-kinds : goal.returns-clause-kinds

@@ -1,4 +1,4 @@
-use Rattle.pocsag_slots.proofs.Members.{set_taking}
+use Rattle.pocsag_laws.proofs.Prelude.{set_taking}
 use Rattle.pocsag_tour.proofs.Spares.{spare_tour}
 use Rattle.pocsag_laws.proofs.tour.spare_batches_have_tours.Goals as goal
 

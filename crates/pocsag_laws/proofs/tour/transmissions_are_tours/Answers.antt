@@ -1,4 +1,4 @@
-use Rattle.pocsag_slots.proofs.ToursOfLists.{toured}
+use Rattle.pocsag_laws.proofs.Prelude.{toured}
 use Rattle.pocsag_laws.proofs.tour.transmissions_are_tours.Goals as goal
 
 pub returns : goal.returns

@@ -1,6 +1,4 @@
-use Rattle.std.proofs.Common.{◌≡◌, ℕ, ◌-◌, List, [], take, length, arith, refl, sym, ap, ◌∙◌, append-nil, length-append}
-use Rattle.pocsag_command_cases.specs.Disks.{lines_length}
-use Rattle.pocsag_command_cases.specs.declared.crash_disk.Text.{Text}
+use Rattle.pocsag_command_cases.proofs.Prelude.{◌≡◌, ℕ, ◌-◌, List, [], take, length, arith, refl, sym, ap, ◌∙◌, append-nil, length-append, lines_length, Text}
 use Rattle.pocsag_command_cases.proofs.Disks.{IsAppended, elapses_appended, leaves_torn, took_part}
 use Rattle.pocsag_command_cases.proofs.crash_disk.CrashDiskDisk.append.Goals as goal
 

@@ -1,4 +1,4 @@
-use Rattle.std.proofs.Common.{arith, ap, ◌∙◌, length}
+use Rattle.pocsag_command_cases.proofs.Prelude.{arith, ap, ◌∙◌, length}
 use Rattle.pocsag_command_cases.proofs.Disks.{all_front}
 use Rattle.pocsag_command_cases.proofs.crash_disk.CrashDiskDisk.read.Goals as goal
 

@@ -1,6 +1,4 @@
-use Rattle.std.proofs.Common.{◌≡◌, ℕ, ◌-◌, length, arith, sym, ap, subst}
-use Rattle.pocsag_journal.specs.Moments.{Elapses}
-use Rattle.pocsag_command_cases.specs.Disks.{DiskLeftSince, LeavesFrom, LeftSince, disk_moment, disk_synced, lines_length, moment_after}
+use Rattle.pocsag_command_cases.proofs.Prelude.{◌≡◌, ℕ, ◌-◌, length, arith, sym, ap, subst, Elapses, DiskLeftSince, LeavesFrom, LeftSince, disk_moment, disk_synced, lines_length, moment_after}
 use Rattle.pocsag_command_cases.proofs.crash_disk.CrashDiskDisk.replace.Goals as goal
 
 pub returns-clause-time : goal.returns-clause-time

@@ -1,4 +1,4 @@
-use Rattle.std.proofs.Common.{arith}
+use Rattle.pocsag_command_cases.proofs.Prelude.{arith}
 use Rattle.pocsag_command_cases.proofs.Disks.{elapses_synced}
 use Rattle.pocsag_command_cases.proofs.crash_disk.CrashDiskDisk.sync.Goals as goal
 

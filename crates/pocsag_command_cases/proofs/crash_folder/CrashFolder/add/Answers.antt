@@ -1,6 +1,5 @@
-use Rattle.std.proofs.Common.{◌≡◌, List, ℕ, Some, rules, ap, ◌∙◌}
+use Rattle.pocsag_command_cases.proofs.Prelude.{◌≡◌, List, ℕ, Some, rules, ap, ◌∙◌, standing}
 use Rattle.pocsag_command_cases.proofs.CrashFolders.{Makes, makes}
-use Rattle.pocsag_command_cases.specs.CrashFolders.{standing}
 use Rattle.pocsag_command_cases.proofs.crash_folder.CrashFolder.add.Goals as goal
 
 pub returns-clause-stands : goal.returns-clause-stands

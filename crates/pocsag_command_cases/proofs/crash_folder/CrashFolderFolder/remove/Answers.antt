@@ -1,8 +1,5 @@
-use Rattle.std.proofs.Common.{List, None, inr, ap, arith, string_bytes}
-use Rattle.pocsag_shell.specs.Folders.{MayGo, on_disk}
+use Rattle.pocsag_command_cases.proofs.Prelude.{List, None, inr, ap, arith, string_bytes, MayGo, on_disk, standing, Change}
 use Rattle.pocsag_command_cases.proofs.CrashFolders.{makes, may_go_nowhere, steps_changed, steps_same}
-use Rattle.pocsag_command_cases.specs.CrashFolders.{standing}
-use Rattle.pocsag_command_cases.specs.declared.crash_folder.Change.{Change}
 use Rattle.pocsag_command_cases.proofs.crash_folder.CrashFolderFolder.remove.Goals as goal
 
 pub returns-in-Ok-clause-gone : goal.returns-in-Ok-clause-gone

@@ -1,8 +1,5 @@
-use Rattle.std.proofs.Common.{List, inr, ap, ◌∙◌, arith, string_bytes}
-use Rattle.pocsag_shell.specs.Folders.{MayMove, on_disk}
+use Rattle.pocsag_command_cases.proofs.Prelude.{List, inr, ap, ◌∙◌, arith, string_bytes, MayMove, on_disk, folder_held, standing, Change}
 use Rattle.pocsag_command_cases.proofs.CrashFolders.{leaves_same, makes, may_stay, one_file, steps_changed, steps_same}
-use Rattle.pocsag_command_cases.specs.CrashFolders.{folder_held, standing}
-use Rattle.pocsag_command_cases.specs.declared.crash_folder.Change.{Change}
 use Rattle.pocsag_command_cases.proofs.crash_folder.CrashFolderFolder.rename.Goals as goal
 
 pub returns-then-eq-clause-any_moment : goal.returns-then-eq-clause-any_moment

@@ -1,8 +1,5 @@
-use Rattle.std.proofs.Common.{List, ap, refl, ◌∙◌, arith, string_bytes}
-use Rattle.pocsag_shell.specs.Folders.{IsSame, on_disk}
+use Rattle.pocsag_command_cases.proofs.Prelude.{List, ap, refl, ◌∙◌, arith, string_bytes, IsSame, on_disk, standing, Change}
 use Rattle.pocsag_command_cases.proofs.CrashFolders.{one_file, only_left, steps_same}
-use Rattle.pocsag_command_cases.specs.CrashFolders.{standing}
-use Rattle.pocsag_command_cases.specs.declared.crash_folder.Change.{Change}
 use Rattle.pocsag_command_cases.proofs.crash_folder.CrashFolderFolder.sync_names.Goals as goal
 
 pub returns-in_err-before-clause-same : goal.returns-in_err-before-clause-same

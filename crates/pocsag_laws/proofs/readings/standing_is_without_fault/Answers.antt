@@ -1,5 +1,0 @@
-use Rattle.pocsag_decode.proofs.Judgements.{standing_clean}
-use Rattle.pocsag_laws.proofs.readings.standing_is_without_fault.Goals as goal
-
-pub returns : goal.returns
-returns c = standing_clean
