@@ -45,7 +45,6 @@ def items_of(codes, width, fill):
 
 
 def digits(text):
-    """The items of a numeric message."""
     return items_of(map(NUMERIC.index, text), 4, 12)
 
 
@@ -82,14 +81,22 @@ def transmission(words):
     return PREAMBLE + b"".join(SYNC + b"".join(words[at : at + 16]) for at in range(0, len(words), 16))
 
 
-def sent(pages):
-    """The transmission of pages in this order, each at the next slot of its frame."""
+def page_words(address, items, function=0):
+    return [address_word(address, function), *(codeword(MESSAGE | item) for item in items)]
+
+
+def laid(pages):
+    """The transmission of pages in this order, each its frame and its codewords, at the next slot of its frame."""
     words = []
-    for address, function, items in pages:
-        while len(words) % 16 // 2 != address % 8:
+    for frame, own in pages:
+        while len(words) % 16 // 2 != frame:
             words.append(IDLE)
-        words += [address_word(address, function), *(codeword(MESSAGE | item) for item in items)]
+        words += own
     return transmission(words)
+
+
+def sent(pages):
+    return laid((address % 8, page_words(address, items, function)) for address, function, items in pages)
 
 
 def in_order(lengths):

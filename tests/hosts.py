@@ -3,7 +3,7 @@
 import shlex
 
 from codewords import APART, HEADER
-from tally import TOP, files_of, room_in, run
+from tally import TOP, files_of, room_in, run, said
 
 ROUND = (TOP / "examples/round.csv").read_bytes()
 TONES = HEADER + b"".join(b"%d,tone0,\n" % (8 * k) for k in range(1, 8))
@@ -94,6 +94,10 @@ def air(first, second):
     bits += "".join(f"{byte ^ 255:08b}" for byte in second) + "011"
     bits += "0" * (-len(bits) % 8)
     return int(bits, 2).to_bytes(len(bits) // 8, "big")
+
+
+def native(words, folder, stdin=b""):
+    return said(run(words, folder, stdin))
 
 
 def first_files(room):

@@ -7,12 +7,10 @@ import select
 import subprocess
 
 from codewords import HEADER, NUMERIC
-from tally import PROGRAM
+from tally import PROGRAM, run
 
 
 class Session:
-    """The program with its pipes."""
-
     def __init__(self, folder, *words):
         pipes = dict.fromkeys(("stdin", "stdout", "stderr"), subprocess.PIPE)
         self.process, self.kept = subprocess.Popen([str(PROGRAM), "open", *words], cwd=folder, **pipes), b""
@@ -92,3 +90,9 @@ def edited(pages, line):
 def listing(pages):
     """A page file of these pages."""
     return HEADER + b"".join(b"%d,%s\n" % page for page in pages)
+
+
+def listed(folder, journal):
+    """What a start of a journal lists, without the line that ends it, and what it tells; nothing is listed where it does not start."""
+    done = run(["open", "--journal", journal], folder, b"list\n")
+    return done.stdout[: done.stdout.rfind(b"ok ")] if done.returncode == 0 else None, done.stderr

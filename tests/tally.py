@@ -71,9 +71,7 @@ def room_in(folder, name, files=None):
     """A new folder in this one, with these files."""
     room = folder / name
     room.mkdir()
-    for file, text in (files or {}).items():
-        (room / file).write_bytes(text)
-    return room
+    return put(room, files or {})
 
 
 def files_of(folder):
@@ -184,6 +182,13 @@ def put(folder, files):
         (folder / path).parent.mkdir(parents=True, exist_ok=True)
         (folder / path).write_bytes(data if isinstance(data, bytes) else data.encode())
     return folder
+
+
+def put_script(path, text):
+    """Writes a program that anybody may run; gives its path."""
+    path.write_text(text)
+    path.chmod(0o755)
+    return path
 
 
 def samples(file):

@@ -178,7 +178,7 @@ def build(crates, names):
                 products[name].write_record()
 
 
-def run_tests(crates, names):
+def run_tests(crates, *names):
     """Runs the tests of crates, as one thing to pass each."""
     failed = 0
     for it in lanes.Lanes([tests(crates[name]) for name in names]).run():
@@ -229,29 +229,25 @@ def measure_unit(crates):
     return status
 
 
+VERBS = {
+    "program": lambda crates, *option: print(build_program(crates, *option)),
+    "proofs": lambda crates, *names: build(crates, names or [*crates]),
+    "tests": run_tests,
+    "ci": gate_of_toolchain,
+    "library": build_library,
+    "unit": measure_unit,
+}
+
+
 def main(words):
     lanes.end_on_signals()
     try:
-        crates = workspace.read_crates()
-        verb, names = words[0], words[1:]
-        if verb == "program":
-            print(build_program(crates, *names))
-        elif verb == "proofs":
-            build(crates, names or [*crates])
-        elif verb == "tests":
-            return run_tests(crates, names)
-        elif verb == "ci":
-            return gate_of_toolchain(crates)
-        elif verb == "library":
-            build_library(crates)
-        elif verb == "unit":
-            return measure_unit(crates)
-        else:
-            raise Refused(__doc__)
+        if words and words[0] in VERBS:
+            return VERBS[words[0]](workspace.read_crates(), *words[1:]) or 0
+        raise Refused(__doc__)
     except (Refused, workspace.BadList) as why:
         say(why)
         return 3
-    return 0
 
 
 if __name__ == "__main__":

@@ -10,8 +10,6 @@ repository reach the toolchain's script through this one alone.
 
 import contextlib
 import functools
-import importlib.machinery
-import importlib.util
 import os
 import pathlib
 import shutil
@@ -20,6 +18,8 @@ import sys
 import types
 
 sys.dont_write_bytecode = True
+from workspace import module_at
+
 STEPS = ("Crate", "lock", "root_above", "stop_on_links")
 
 
@@ -29,9 +29,7 @@ def script():
     path = pathlib.Path(shutil.which("rt") or "/nowhere").resolve()
     if not (path.parent / "rtlib.py").is_file():
         return None
-    loader = importlib.machinery.SourceFileLoader("rt", str(path))
-    made = importlib.util.module_from_spec(importlib.util.spec_from_loader("rt", loader))
-    loader.exec_module(made)
+    made = module_at("rt", path)
     return made if all(hasattr(made.rtlib, it) for it in STEPS) else None
 
 

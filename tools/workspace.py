@@ -2,6 +2,8 @@
 
 import dataclasses
 import hashlib
+import importlib.machinery
+import importlib.util
 import pathlib
 import re
 
@@ -11,6 +13,14 @@ PROGRAM = "pocsag_app"  # the crate of the program
 LINE = re.compile(r"([\w-]+(?:/[\w-]+)*)((?: +[\w=+.-]+)*) *(?::([\w\s,/-]*))?")  # a name, what kind of crate it is, its libraries
 TEST = re.compile(r"^\s*#\s*\[[^]]*\btest\b", re.M)
 FUNCTION = re.compile(r"\bfn \w")
+
+
+def module_at(name, path):
+    """A script as a module."""
+    loader = importlib.machinery.SourceFileLoader(name, str(path))
+    made = importlib.util.module_from_spec(importlib.util.spec_from_loader(name, loader))
+    loader.exec_module(made)
+    return made
 
 
 class BadList(Exception):

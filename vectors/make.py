@@ -11,8 +11,10 @@ import re
 import sys
 
 HERE = pathlib.Path(__file__).resolve().parent
-sys.path.append(str(HERE.parent / "tests"))
-from codewords import HEADER, IDLE, MESSAGE, ONES, SYNC, TONE, ZERO, address_word, codeword, digits, flipped, letters, transmission
+sys.path += [str(HERE.parent / it) for it in ("tests", "tests/certificates")]
+from codewords import HEADER, IDLE, ONES, SYNC, TONE, ZERO, address_word, digits, flipped, letters, page_words as page, transmission
+from tally import put
+from trees import wide
 
 
 def certificates():
@@ -24,11 +26,6 @@ def certificates():
             text = re.sub(r"\$(\w+)", lambda found: spelled[found[1]], text)
             spelled[name] = re.sub(r"(\d+)\*\((.*?)\)", lambda found: int(found[1]) * found[2], text)
     return {name: bytes.fromhex(text) for name, text in spelled.items() if not name.isupper()}
-
-
-def page(address, items, function=0):
-    """The codewords of a page."""
-    return [address_word(address, function), *(codeword(MESSAGE | item) for item in items)]
 
 
 LONE = transmission([TONE])
@@ -63,16 +60,6 @@ TRANSMISSIONS = {
 }
 
 
-def wide(count):
-    """The bytes of a tree of so many nodes, of Cuts at {0}."""
-    if count == 1:
-        return b"\x03"
-    children = min(288, count - 1)
-    sizes = [(count - 1) // children + (place < (count - 1) % children) for place in range(children)]
-    below = {size: wide(size) for size in set(sizes)}
-    return b"\x02\x00\x01\x00" + children.to_bytes(2, "big") + b"".join(below[size] for size in sizes)
-
-
 def large():
     """What is too large for the repository."""
     tones = [b"%d,tone0,\n" % address for address in range(20001)]
@@ -90,15 +77,8 @@ def small():
     yield from ((f"sent/{name}.tx", data) for name, data in TRANSMISSIONS.items())
 
 
-def write(folder, files):
-    for name, data in files:
-        (folder / name).parent.mkdir(parents=True, exist_ok=True)
-        (folder / name).write_bytes(data)
-
-
 if __name__ == "__main__":
     if len(sys.argv) == 2:
-        write(pathlib.Path(sys.argv[1]), small())
-        write(pathlib.Path(sys.argv[1]), large())
+        put(pathlib.Path(sys.argv[1]), dict([*small(), *large()]))
     else:
-        write(HERE, small())
+        put(HERE, dict(small()))

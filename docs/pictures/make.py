@@ -1,10 +1,7 @@
 #!/usr/bin/env python3
 """Makes the pictures of this folder by the compiled program, from examples/round.csv and examples/loops-apart.csv.
+`tests/pictures/run.py` makes them again and compares."""
 
-It takes the binary that the gate left in crates/pocsag_app/out. `tests/pictures/run.py` makes them again and compares.
-"""
-
-import csv
 import math
 import pathlib
 import subprocess
@@ -13,8 +10,8 @@ import tempfile
 
 TOP = pathlib.Path(__file__).resolve().parents[2]
 sys.path.append(str(TOP / "tests"))
-from codewords import IDLE, address_at, codewords_of, pages_in, transmission
-from tally import PROGRAM
+from codewords import address_at, codewords_of, laid, pages_in, rows_of
+from tally import PROGRAM, put
 
 HERE = pathlib.Path(__file__).resolve().parent
 ROUND = TOP / "examples/round.csv"
@@ -23,17 +20,6 @@ APART = [TOP / "examples" / name for name in ("loops-apart.csv", "loops-apart.ce
 
 def run(*words):
     return subprocess.run([str(PROGRAM), *map(str, words)], capture_output=True, check=True, timeout=110).stdout
-
-
-def in_file_order(words, found, addresses):
-    """The transmission of the same pages in the order of the page file, each at the next slot of its frame."""
-    pages = {address: words[start:end] for start, end, address in found}
-    sent = []
-    for address in addresses:
-        while len(sent) % 16 // 2 != address % 8:
-            sent.append(IDLE)
-        sent += pages[address]
-    return transmission(sent)
 
 
 def point(turn, radius):
@@ -46,11 +32,6 @@ def spiral(start, end):
     steps = 4 * (end - start)
     points = [start + (end - start) * step / steps for step in range(steps + 1)]
     return "M" + "L".join(point(at / 16, 80 + 40 * at / 16) for at in points)
-
-
-def told_page(start, end, address):
-    words = "1 codeword" if end - start == 1 else f"{end - start} codewords"
-    return f"address {address}, from boundary {start % 16} to boundary {end % 16}, {words}"
 
 
 def legend_line(number, band, text):
@@ -90,7 +71,7 @@ def tour(found, total):
             lines.append(f'<path class="i" d="{spiral(at, start)}"/>')
         at = end
         band = f'class="p" style="stroke:hsl({137 * (number % 26) % 360},60%,55%)"'
-        told = told_page(start, end, address)
+        told = f"address {address}, from boundary {start % 16} to boundary {end % 16}, {end - start} codeword{'s' * (end - start > 1)}"
         lines.append(f'<path {band} d="{spiral(start, at)}"><title>{told}</title></path>')
         legend.append(legend_line(number, band, told))
     if at < total:
@@ -106,9 +87,9 @@ def pictures():
         run("plan", ROUND, sent, cert)
         words = codewords_of(sent.read_bytes())
         found = [(start, end, address_at(words, start)) for start, end in pages_in(words)]
-        with ROUND.open(newline="", encoding="latin-1") as file:
-            addresses = [int(row["address"]) for row in csv.DictReader(file)]
-        ordered.write_bytes(in_file_order(words, found, addresses))
+        pages = {address: words[start:end] for start, end, address in found}
+        addresses = [int(row[0]) for row in rows_of(ROUND.read_bytes())[1:]]
+        ordered.write_bytes(laid((address % 8, pages[address]) for address in addresses))
         return {
             "loops-apart.svg": run("explain", *APART, "--svg"),
             "round-in-file-order.svg": run("show", ordered, "--svg"),
@@ -117,10 +98,5 @@ def pictures():
         }
 
 
-def main():
-    for name, text in pictures().items():
-        (HERE / name).write_bytes(text)
-
-
 if __name__ == "__main__":
-    sys.exit(main())
+    put(HERE, pictures())

@@ -1,8 +1,8 @@
 #!/usr/bin/env python3
 """Reads from the sources that the calls by name are the calls that run: each `run_NAME` of a group is called by the group itself
 and not by tests alone, `plan` of the program and of the C library call `plan_stream` and `plan_stream_always`, and the C library
-stands on no group of commands; and that each call that may return want of memory has a run at its largest size, and one between, in
-the table `largest.txt`. What reads this table is tried on a small tree. The last line is 'N passed, M failed'."""
+stands on no group of commands; and that each call that may return want of memory has a run at its largest size, and one between,
+in the table `largest.txt`. What reads this table is tried on a small tree."""
 
 import pathlib
 import re

@@ -7,17 +7,11 @@ its options and the lines of `open`. A call and its two runs stand in a line."""
 
 import ast
 import functools
-import pathlib
 import re
-import sys
 import typing
 
-sys.dont_write_bytecode = True
-HERE = pathlib.Path(__file__).resolve().parent
-TOP = HERE.parents[1]
-sys.path[:0] = [str(TOP / "tests"), str(TOP / "tools")]
 from sources import HEAD, ITEM, RUST, all_functions, called_in, cleaned, own_name, parts_of, statement, texts_of, type_of
-from workspace import below, read_crates
+from workspace import TOP, below, read_crates
 
 TABLE, TEXTS = "tests/calls/largest.txt", "tests/program/texts"
 RUNS, COMMANDS, LIBRARY, PROGRAM = "runs", "commands", "pocsag_c", "pocsag"
@@ -129,10 +123,6 @@ def calls_of(sources):
     wants = wanting(sources)
     calls = [it for source in sources for it in source.calls]
     return {it[:2]: it for it in calls if it.crate == LIBRARY or it[:2] in ALSO or it.told() & wants}
-
-
-def sources_of(top):
-    return [Source(it.name, texts_of(it)) for it in read_crates(top).values() if not NOT_LIBRARY.search(it.name)]
 
 
 def commands_of(top):
@@ -264,7 +254,8 @@ def unreached(top, table):
 def problems(top):
     """What is wrong with the table of a tree."""
     table = read_table((top / TABLE).read_text())
-    wrong = wrong_calls(table, calls_of(sources_of(top)), commands_of(top))
+    sources = [Source(it.name, texts_of(it)) for it in read_crates(top).values() if not NOT_LIBRARY.search(it.name)]
+    wrong = wrong_calls(table, calls_of(sources), commands_of(top))
     return [*table.wrong, *missing_runs(top, table), *sorted(wrong), *unreached(top, table)]
 
 

@@ -2,10 +2,7 @@
 """Runs `decode`, `hear` and `show` with `--capture` on captures that a keyer of this script made: 2,000 with several
 transmissions at any bit and in either polarity, with noise around them and up to two wrong bits in each word; 400 with
 words past repair, ends cut off and bits lost, beside a receiver of this script; cases worked by hand; refusals; and the
-time that 100 MB of noise takes. Of each page the state is wanted too, and of captures of each kind the other forms.
-
-It takes the binary that the gate left in crates/pocsag_app/out. The last line is 'N passed, M failed'.
-"""
+time that 100 MB of noise takes. Of each page the state is wanted too, and of captures of each kind the other forms."""
 
 import json
 import pathlib
@@ -26,9 +23,6 @@ NOISE_BYTES, NOISE_SECONDS = 100_000_000, 6.0  # on a busy host; BENCHMARKS.md h
 KINDS = {0: "numeric", 3: "alpha"}
 ONCE, TWICE = (kind_and_message(0, count * [0x12345])[1] for count in (1, 2))  # messages of cases worked by hand
 HEADER = b"address,kind,message,state\n"
-
-
-# ---- the keyer
 
 
 def is_codeword(word):
@@ -83,9 +77,6 @@ def flipped(chance, word, count):
 
 def some_noise(chance, count):
     return "".join(chance.choice("01") for _ in range(count))
-
-
-# ---- a receiver, bit by bit
 
 
 def syncs(bits):
@@ -186,11 +177,8 @@ def has_slipped(bits, start, polarity, batches):
     """Whether four words of the last batch in a row, or two or three at its end, are codewords one bit beside their places, and
     none in them, unless it is an idle codeword that is beside."""
     end = 17 * batches
-
-    def slips(first, aside):
-        return all(is_beside(bits, start + 32 * place, polarity, aside) for place in range(first, min(first + 4, end)))
-
-    return any(slips(first, aside) for first in range(end - 16, end - 1) for aside in (-1, 1))
+    fours = [[start + 32 * place for place in range(first, min(first + 4, end))] for first in range(end - 16, end - 1)]
+    return any(all(is_beside(bits, at, polarity, aside) for at in four) for four in fours for aside in (-1, 1))
 
 
 def read_words(bits, start, polarity, batches, near, front):
@@ -264,14 +252,9 @@ def read_object(page, transmission, texts=()):
     return told | {"transmission": number, "inverted": polarity == "inverted", "bit": bit}
 
 
-# ---- the program
-
-
 def rows_in(listing):
     """The rows of a listing of a capture."""
-    if not listing.startswith(HEADER):
-        return listing
-    return rows_of(listing)[1:]
+    return rows_of(listing)[1:] if listing.startswith(HEADER) else listing
 
 
 def with_states(some, cut):
@@ -504,7 +487,6 @@ def series():
 
 
 def try_by_hand(tally, folder):
-    """Cases worked by hand."""
     assert repaired(LOST) is None
     rows = [(*row, "") for row in (*CASES, *gaps(), *series())] + [(name, given, [], [], likely) for name, given, likely in UNLIKE]
     for name, given, due, told, likely in rows:
@@ -541,7 +523,6 @@ def try_words(tally, folder):
 
 
 def try_speed(tally, folder):
-    """100 MB of random noise."""
     (folder / "noise.bin").write_bytes(random.Random(1).randbytes(NOISE_BYTES))
     before = resource.getrusage(resource.RUSAGE_CHILDREN)
     done = run(["decode", "--capture", "noise.bin"], folder)

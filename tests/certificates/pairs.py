@@ -8,7 +8,7 @@ import checker
 import wrong
 from checker import CLOSE, CLOSED_END, CUT, IDLE_END, OPEN_END, OVERLOAD, SPLIT
 from rounds import HEADER, edge_files, large_files, near_pages, odd_file, page_file, small_pages
-from trees import UNEXAMINED, Builder, certificate, overload
+from trees import UNEXAMINED, Builder, certificate, overload, wide
 
 DEEPEST_SHAPE = 5
 TREES_OF_A_SHAPE = 3
@@ -99,21 +99,10 @@ def of_files(source):
 
 
 def chain(depth, leaf=UNEXAMINED):
-    """A tree of that depth, of splits."""
     tree = leaf
     for _ in range(depth - 1):
         tree = (SPLIT, 0, 0, 1, (tree, UNEXAMINED))
     return tree
-
-
-def wide(count):
-    """A tree of so many nodes, of cuts."""
-    if count == 1:
-        return UNEXAMINED
-    children = min(288, count - 1)
-    sizes = [(count - 1) // children + (place < (count - 1) % children) for place in range(children)]
-    below = {size: wide(size) for size in set(sizes)}
-    return CUT, 1, 0, 0, tuple(below[size] for size in sizes)
 
 
 def at_edges():
@@ -164,7 +153,7 @@ def of_vectors():
 def large():
     """Pairs that take long: many pages, many nodes."""
     yield from (("many pages", data, THREE_OVERLOADED) for data in large_files())
-    yield from (("many nodes", LONE_TONE, certificate(OPEN_END, 1, wide(count))) for count in (1_000_000, 1_000_001))
+    yield from (("many nodes", LONE_TONE, b"PCB2\0\0\0\0\1" + wide(count)) for count in (1_000_000, 1_000_001))
 
 
 def pairs(source):

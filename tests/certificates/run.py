@@ -2,11 +2,10 @@
 """Runs the product's checker and the one in checker.py, which shares nothing with it, over page files and
 certificates, and the wrong checkers of wrong.py.
 
-The pairs are some that are worked by hand, those that the program plans for small random rounds, those of
-pairs.py, among them the vectors, accepted trees with each kind of node on each of their first four levels and page
-files of every sort, and some thousands that are made from them by changing bytes or nodes. The two have to give the same
-verdict each time, each by its text and its status, and each wrong checker has to err on some pair of pairs.py.
-The last line is 'N passed, M failed'.
+The pairs are some that are worked by hand, those that the program plans for small random rounds, those of pairs.py,
+among them the vectors, accepted trees with each kind of node on each of their first four levels and page files of every
+sort, and some thousands that are made from them by changing bytes or nodes. The two have to give the same verdict each
+time, each by its text and its status, and each wrong checker has to err on some pair of pairs.py.
 """
 
 import pathlib
@@ -185,7 +184,6 @@ def errs(row):
 
 
 def check_wrong(tally, judged):
-    """Each wrong checker errs on some pair."""
     with ProcessPoolExecutor(initializer=JUDGED.extend, initargs=(judged,)) as processes:
         for row, has_erred in zip(wrong.WRONG, processes.map(errs, wrong.WRONG)):
             tally.check(f"wrong checker: {row[0]}", has_erred, "errs on no pair")

@@ -45,6 +45,16 @@ def halved(number, first, last, leaf):
     return head + halved(number, first, middle - 1, leaf) + halved(number, middle, last, leaf)
 
 
+def wide(count):
+    """The bytes of a tree of so many nodes, of cuts at {0}."""
+    if count == 1:
+        return bytes([OPEN])
+    children = min(288, count - 1)
+    sizes = [(count - 1) // children + (place < (count - 1) % children) for place in range(children)]
+    below = {size: wide(size) for size in set(sizes)}
+    return bytes([CUT, 0, 1, 0]) + two_bytes(children) + b"".join(below[size] for size in sizes)
+
+
 def nodes(tree, path=()):
     """Each node of a tree with the way to it from the root."""
     yield path, tree

@@ -3,8 +3,7 @@
 
 The sentences of `explain`, in shown.txt, and the numbers of its drawings are written by hand, from the rules of
 docs/CERTIFICATES.md over rounds that a person can count. The verdict has to be that of `check`, whatever the certificate.
-The frames are counted again from the page file and from the letters of `show`. It takes the binary that the gate left in
-crates/pocsag_app/out. The last line is 'N passed, M failed'.
+The frames are counted again from the page file and from the letters of `show`.
 """
 
 import json
@@ -232,20 +231,16 @@ def found_column(group):
     return group.findtext(SVG + "title"), (rect.get("class"), *box(rect)), paths, numbers
 
 
-def try_size(tally, name, root):
-    """The texts stand one below the other, and the last of them in the drawing."""
-    bases, tall = [int(node.get("y")) for node in root.findall(SVG + "text")], int(root.get("height"))
-    holds = root.get("viewBox") == f"0 0 540 {tall}" and bases == sorted(set(bases)) and bases[-1] < tall
-    tally.check(f"{name}: size", holds, (root.attrib, bases))
-
-
 def try_drawings(tally, folder):
     for name, pages, text, status, heading, last, nodes in drawn():
         done = explained(folder, pages, text, "--svg")
         tally.check(f"drawing: {name}", (done.returncode, done.stderr) == (status, b"") and done.stdout.endswith(b"</svg>\n"), done)
         root = ElementTree.fromstring(done.stdout)
         check_form(tally, f"drawing: {name}", root, done.stdout, "pocsag-why")
-        try_size(tally, f"drawing: {name}", root)
+        # The texts stand one below the other, and the last of them in the drawing.
+        bases, tall = [int(node.get("y")) for node in root.findall(SVG + "text")], int(root.get("height"))
+        holds = root.get("viewBox") == f"0 0 540 {tall}" and bases == sorted(set(bases)) and bases[-1] < tall
+        tally.check(f"drawing: {name}: size", holds, (root.attrib, bases))
         tally.check(f"drawing: {name}: heading", root.findtext(SVG + "title") == heading, root.findtext(SVG + "title"))
         seen = words_of(root.findall(SVG + "text"))
         tally.check(f"drawing: {name}: words", seen == f"{heading} {last}{root.findtext(SVG + 'desc')}", seen)
@@ -261,15 +256,6 @@ def try_drawings(tally, folder):
             lines = [path.get("d") for path in inner.findall(SVG + "path") if path.get("class") == "s"]
             due = [f"M{LEFT + WIDTH * boundary} 6V102" for boundary in boundaries]
             tally.check(f"drawing: {name}: boundaries of {number}", lines == due, lines)
-
-
-def idles_of(grid):
-    """How many full stops of each frame stand in the lines of `show`."""
-    found = [0] * 8
-    for line in grid.decode().splitlines()[2:]:
-        for frame, pair in enumerate(line.split()[1:]):
-            found[frame] += pair.count(".")
-    return found
 
 
 def try_planned(tally, folder):
@@ -295,7 +281,8 @@ def try_planned(tally, folder):
         tally.check(f"planned {number}: the verdict of check", same and (b"not shown" in done.stdout) == (checked.stdout == b"not shown\n"), (checked, done))
         words = ["report", names[0], "--rate", "1200", *end, "--always"]
         plain, framed = run(words), run([*words, "--frames"])
-        idles = idles_of(run(["show", names[1]]).stdout)
+        grid = [line.split()[1:] for line in run(["show", names[1]]).stdout.decode().splitlines()[2:]]
+        idles = [sum(row[frame].count(".") for row in grid) for frame in range(8)]
         rows = [
             (idles[frame], frame, f"frame {frame} pages {len(mine)} codewords {sum(mine)} room {idles[frame]}\n")
             for frame in range(8) for mine in [[n for at, n in pages if at == frame]]

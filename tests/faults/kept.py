@@ -1,9 +1,8 @@
 """`open --journal` with one call refused in turn: what is answered `ok` is there at the next start."""
 
 import os
-import subprocess
 
-from codewords import HEADER
+import sessions
 from tally import PROGRAM
 
 LINES = [b"add,8,alpha,Ward 3", b"add,16,tone0,", b"add,16,tone0,", b"cancel,8", b"add,24,numeric,55"]
@@ -15,32 +14,14 @@ LONG = [b"add,8,alpha," + b"A" * 4000, b"cancel,8"] * 265
 ANEW_AT = 521
 
 
-def after(pages, line):
-    """The records of the pages after an edit that is accepted."""
-    word, rest = line.split(b",", 1)
-    address = rest.split(b",")[0]
-    left = [page for page in pages if page.split(b",")[0] != address]
-    if word == b"cancel":
-        return left
-    return pages if len(left) < len(pages) else pages + [rest]
-
-
-def listed(path):
-    """The records that the next start has; nothing where it does not start."""
-    done = subprocess.run([str(PROGRAM), "open", "--journal", str(path)], input=b"list\n", capture_output=True, timeout=60)
-    if done.returncode != 0 or not done.stdout.startswith(HEADER):
-        return None
-    return done.stdout[len(HEADER) : done.stdout.rfind(b"ok ")].splitlines()
-
-
 def may_be(lines, told):
-    """What may be there after these answers: the edits that were answered ok, or these and the next one."""
+    """What may be listed after these answers: the edits that were answered ok, or these and the next one."""
     pages = []
     for line, answer in zip(lines, told):
         if answer.startswith(b"ok "):
-            pages = after(pages, line)
-    more = after(pages, lines[len(told)]) if len(told) < len(lines) else pages
-    return pages, more
+            pages = sessions.edited(pages, line)[1]
+    more = sessions.edited(pages, lines[len(told)])[1] if len(told) < len(lines) else pages
+    return sessions.listing(pages), sessions.listing(more)
 
 
 def try_once(tally, library, path, run, lines, kind, number):
@@ -50,7 +31,7 @@ def try_once(tally, library, path, run, lines, kind, number):
     done, reached = run(command, library, kind, number, stdin=b"".join(line + b"\n" for line in lines))
     told = done.stdout.splitlines()
     if reached:
-        found = listed(path)
+        found, _ = sessions.listed(path.parent, path)
         tally.check(f"journal without {kind} {number}", found in may_be(lines, told), (done, found))
     for left in path.parent.glob(f"{path.name}.*.new"):
         os.unlink(left)

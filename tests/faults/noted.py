@@ -2,9 +2,7 @@
 without it, and the line behind it names the file that the system refused, with its reason."""
 
 import os
-import sys
 
-sys.dont_write_bytecode = True
 from codewords import HEADER
 from tally import CANNOT_OPEN, CANNOT_WRITE, PROGRAM, fault
 
@@ -32,32 +30,27 @@ def commands(folder):
     ]
 
 
-def try_command(tally, run, each_refusal, library, command):
-    words, stdin, read, written = command
-    ample, _ = run([str(PROGRAM), *words], library, stdin=stdin)
-    noted = [str(PROGRAM), *words, "--verbose"]
-    same, _ = run(noted, library, stdin=stdin)
-    tally.check(f"noted: {words[:1]}", ample.returncode == 0 and (same.stdout, same.stderr) == (ample.stdout, b""), same)
-    for kind, text in TEXTS.items():
-        places = {"ALLOC": {}, "READ": read, "WRITE": written}[kind]
-        due = {f"pocsag: {role}{' ' + name if name else ''}".encode() + REASON for role, name in places.items()}
-        met = set()
-
-        def judge(number, done):
-            first, *notes = done.stderr.splitlines(True) or [b""]
-            if kind == "ALLOC":
-                is_ample = (done.returncode, done.stdout, done.stderr) == (0, ample.stdout, b"")
-                holds = is_ample or (done.returncode, first) == (3, text) and all(line.startswith(b"pocsag: ") for line in notes)
-            else:
-                holds = (done.returncode, first) == (3, text) and len(notes) == 1 and notes[0] in due
-                met.update(notes)
-            tally.check(f"noted: {words[:1]} without {kind} {number}", holds, done)
-
-        count = each_refusal(noted, library, kind, stdin, judge)
-        tally.check(f"noted: {words[:1]} tells each file, {kind}", count > 0 and met == due, (count, met, due))
-
-
 def try_noted(tally, run, each_refusal, library, folder):
     (folder / "noted.csv").write_bytes(HEADER + b"0,numeric,12345\n9,alpha,Hello\n8,tone1,\n")
-    for command in commands(folder):
-        try_command(tally, run, each_refusal, library, command)
+    for words, stdin, read, written in commands(folder):
+        ample, _ = run([str(PROGRAM), *words], library, stdin=stdin)
+        noted = [str(PROGRAM), *words, "--verbose"]
+        same, _ = run(noted, library, stdin=stdin)
+        tally.check(f"noted: {words[:1]}", ample.returncode == 0 and (same.stdout, same.stderr) == (ample.stdout, b""), same)
+        for kind, text in TEXTS.items():
+            places = {"ALLOC": {}, "READ": read, "WRITE": written}[kind]
+            due = {f"pocsag: {role}{' ' + name if name else ''}".encode() + REASON for role, name in places.items()}
+            met = set()
+
+            def judge(number, done):
+                first, *notes = done.stderr.splitlines(True) or [b""]
+                if kind == "ALLOC":
+                    is_ample = (done.returncode, done.stdout, done.stderr) == (0, ample.stdout, b"")
+                    holds = is_ample or (done.returncode, first) == (3, text) and all(line.startswith(b"pocsag: ") for line in notes)
+                else:
+                    holds = (done.returncode, first) == (3, text) and len(notes) == 1 and notes[0] in due
+                    met.update(notes)
+                tally.check(f"noted: {words[:1]} without {kind} {number}", holds, done)
+
+            count = each_refusal(noted, library, kind, stdin, judge)
+            tally.check(f"noted: {words[:1]} tells each file, {kind}", count > 0 and met == due, (count, met, due))

@@ -1,9 +1,7 @@
 """`plan --verify` where a file is read back as other bytes than were written."""
 
 import os
-import sys
 
-sys.dont_write_bytecode = True
 from codewords import APART, HEADER, HEADS, IDLE, ONES, SYNC, ZERO, transmission
 from tally import ENDS, fault, run
 

@@ -1,12 +1,9 @@
 #!/usr/bin/env python3
-"""Runs the compiled programs with memory and devices refused, one call at a time.
+"""Runs the compiled programs with memory and devices refused, one call at a time. For each Nth growth of memory, each
+Nth read and each Nth write, counting upwards until a run ends without a refusal, the answer must be the answer with
+ample memory, or the fault of what was refused, and never another."""
 
-It takes the binaries that the gate left in crates/NAME/out/NAME. For each Nth growth of memory, each
-Nth read and each Nth write, counting upwards until a run ends without a refusal, the answer must be the
-answer with ample memory, or the fault of what was refused, and never another.
-The last line is 'N passed, M failed'.
-"""
-
+import functools
 import os
 import pathlib
 import subprocess
@@ -21,6 +18,7 @@ import read_back
 import trees
 from codewords import APART, HEADER, IDLE, MESSAGE, ZERO, codeword, digits, in_order, transmission
 from noted import TEXTS
+from sessions import edited, listing
 from tally import ENDS, NAMED_TWICE, PROGRAM, TOP, run_parts
 
 TRIAL = TOP / "crates/pocsag_trial/out/pocsag_trial"
@@ -66,6 +64,11 @@ def each_refusal(command, library, kind, stdin, judge, prepare=lambda: None):
     raise SystemExit(f"{command}: over {MOST} calls of {kind}")
 
 
+def all_refusals(command, library, stdin, judge, **how):
+    """The same of each kind; how many calls of it there are."""
+    return {kind: each_refusal(command, library, kind, stdin, functools.partial(judge, kind), **how) for kind in TEXTS}
+
+
 def is_told(done, kind, printed):
     """Whether a run ended by the fault of what was refused, with a part of what is printed with ample memory. The fault is missing where
     it is standard error that cannot be written."""
@@ -85,13 +88,6 @@ LACK, LACK_IN_ROUND = b": out of memory", b": out of memory in the round"
 def is_stream(name):
     """Whether the call tells want of memory in the round apart from that behind it."""
     return name.startswith((b"first_stream ", b"plan_stream ", b"plan_stream_always "))
-
-
-def are_in_turn(name, answers):
-    """First the round lacks memory, and then what is behind it."""
-    in_round = answers.count(name + LACK_IN_ROUND)
-    behind = len(answers) - in_round
-    return in_round > 0 and behind > 0 and answers[in_round:] == [name + LACK] * behind
 
 
 def try_trial(tally, library, folder):
@@ -115,7 +111,9 @@ def try_trial(tally, library, folder):
     never = {name for name, answers in lacks.items() if not answers}
     tally.check("trial: each call but one lacked memory", never == {COPY}, f"{count}, {never}")
     for name in filter(is_stream, lacks):
-        tally.check(f"{name.decode()}: the round and then the rest", are_in_turn(name, lacks[name]), lacks[name])
+        in_round = lacks[name].count(name + LACK_IN_ROUND)
+        in_turn = in_round > 0 and {*lacks[name][in_round:]} == {name + LACK}
+        tally.check(f"{name.decode()}: the round and then the rest", in_turn, lacks[name])
     in_round, in_layout = len(lacks[READ]), len(lacks[READ_AND_LAID]) - len(lacks[READ])
     due = [STREAM + LACK_IN_ROUND] * in_round + [STREAM + LACK] * in_layout
     tally.check("trial: whose memory was wanting", in_layout > 0 and lacks[STREAM] == due, lacks[STREAM])
@@ -200,18 +198,15 @@ def try_plan(tally, library, folder, name, page_file, count):
             return sent in (b"an older transmission", b"") and certified == b"an older certificate"
         return due.startswith(sent) and shown.startswith(certified) and (not certified or sent == due)
 
-    def judge(kind):
-        def judge_one(number, done):
-            sent, certified = tx.read_bytes(), cert.read_bytes()
-            is_ample = kind == "ALLOC" and done.returncode == 0 and (sent, certified) == (due, shown)
-            is_refused = is_told(done, kind, ample.stdout) and are_left(sent, certified)
-            is_grown = kind == "ALLOC" and is_refused and sent not in (b"an older transmission", b"")
-            tally.check(f"{name} without {kind} {number}", (is_refused or is_ample) and pages.read_bytes() == page_file, done)
-            tally.check(f"{name} grows nothing after the first byte: {number}", not is_grown, done)
+    def judge(kind, number, done):
+        sent, certified = tx.read_bytes(), cert.read_bytes()
+        is_ample = kind == "ALLOC" and done.returncode == 0 and (sent, certified) == (due, shown)
+        is_refused = is_told(done, kind, ample.stdout) and are_left(sent, certified)
+        is_grown = kind == "ALLOC" and is_refused and sent not in (b"an older transmission", b"")
+        tally.check(f"{name} without {kind} {number}", (is_refused or is_ample) and pages.read_bytes() == page_file, done)
+        tally.check(f"{name} grows nothing after the first byte: {number}", not is_grown, done)
 
-        return judge_one
-
-    counts = {kind: each_refusal(command, library, kind, b"", judge(kind), prepare) for kind in TEXTS}
+    counts = all_refusals(command, library, b"", judge, prepare=prepare)
     tally.check(f"{name}: growths and reads", counts["ALLOC"] > 3 and counts["READ"] > 0, counts)
     prepare()
     short, _ = run(command, library, REFUSE_SHORT="1")
@@ -242,18 +237,15 @@ def try_printing(tally, library, folder, words, files, in_pieces=False, stdin=b"
     tally.check(name, ample.returncode == 0 and len(ample.stdout) > 5, ample)
     behind = set()
 
-    def judge(kind):
-        def judge_one(number, done):
-            is_ample = kind == "ALLOC" and done.returncode == 0 and done.stdout == ample.stdout
-            is_part = done.stdout != ample.stdout and (kind == "WRITE" or in_pieces or not done.stdout)
-            is_refused = is_told(done, kind, ample.stdout) and is_part
-            behind.update({kind} if is_refused and done.stdout else ())
-            kept = all((folder / file).read_bytes() == content for file, content in files.items())
-            tally.check(f"{name} without {kind} {number}", (is_ample or is_refused) and kept, done)
+    def judge(kind, number, done):
+        is_ample = kind == "ALLOC" and done.returncode == 0 and done.stdout == ample.stdout
+        is_part = done.stdout != ample.stdout and (kind == "WRITE" or in_pieces or not done.stdout)
+        is_refused = is_told(done, kind, ample.stdout) and is_part
+        behind.update({kind} if is_refused and done.stdout else ())
+        kept = all((folder / file).read_bytes() == content for file, content in files.items())
+        tally.check(f"{name} without {kind} {number}", (is_ample or is_refused) and kept, done)
 
-        return judge_one
-
-    counts = {kind: each_refusal(command, library, kind, stdin, judge(kind)) for kind in TEXTS}
+    counts = all_refusals(command, library, stdin, judge)
     tally.check(f"{name}: calls of each kind", min(counts.values()) > 0, counts)
     tally.check(f"{name}: memory refused behind a part", ("ALLOC" in behind) == in_pieces, behind)
     short, _ = run(command, library, stdin=stdin, REFUSE_SHORT="1")
@@ -265,38 +257,22 @@ class Answers:
     """What `open` answers line by line, where one call may be refused: an edit that is refused changes nothing."""
 
     def __init__(self, lines):
-        self.lines = lines
-        self.pages = {}
-        self.refused = []
+        self.lines, self.pages, self.refused = lines, [], []
 
     def due(self, line):
         """What a line is answered with ample memory; the pages are those after it."""
-        word, _, rest = line.partition(b",")
-        address = rest.partition(b",")[0]
+        word, count = line.partition(b",")[0], len(self.pages)
         if word == b"list":
-            listed = [address + record for address, record in self.pages.items()]
-            return [b"address,kind,message", *listed, b"ok %d" % len(self.pages)]
-        if word == b"plan" and not self.pages:
-            return [b"refused: there are no pages"]
-        if word == b"plan" and line.count(b",") == 4:
-            sent = len(self.pages)
-            self.pages.clear()
-            return [b"batches 1, sent %d" % sent]
-        if word == b"plan":
-            return [b"batches 1"]
-        if word == b"add" and address in self.pages:
-            return [b"refused: the address is already there"]
-        if word == b"cancel" and address not in self.pages:
-            return [b"refused: no such page"]
-        if word == b"add":
-            self.pages[address] = rest[len(address):]
-        elif word == b"cancel":
-            del self.pages[address]
-        elif word == b"clear":
-            self.pages.clear()
-        else:
+            return [*listing(self.pages).splitlines(), b"ok %d" % count]
+        if word == b"bogus":
             return [b"refused: unknown edit"]
-        return [b"ok %d" % len(self.pages)]
+        if word == b"plan" and count and line.count(b",") == 4:
+            self.pages = []
+            return [b"batches 1, sent %d" % count]
+        if word == b"plan":
+            return [b"batches 1" if count else b"refused: there are no pages"]
+        answer, self.pages = edited(self.pages, line)
+        return [answer]
 
     def are(self, told, refusal, refusable):
         """Whether these are the answers, where the refusal may stand in place of those to lines of such words."""
@@ -331,23 +307,20 @@ def try_open(tally, library, folder):
     tally.check("open with ample memory", holds, ample)
     wanting = []
 
-    def judge(kind):
-        def judge_one(number, done):
-            kept, answers = Answers(edits), done.stdout.splitlines()
-            if kind == "ALLOC" and done.returncode == 0:
-                refusable = (b"add", b"cancel", b"list", b"plan", b"clear", b"bogus")
-                holds = kept.are(answers, b"refused: out of memory", refusable) and len(kept.refused) <= 1 and not done.stderr
-                wanting.extend(kept.refused)
-            elif kind == "WRITE" and done.returncode == 0:
-                holds = kept.are(answers, b"refused: cannot write", (b"plan",)) and len(kept.refused) == 1
-            else:
-                is_part = {"ALLOC": not answers, "READ": done.stdout in (b"", ample.stdout), "WRITE": done.stdout != ample.stdout}
-                holds = is_told(done, kind, ample.stdout) and is_part[kind]
-            tally.check(f"open without {kind} {number}", holds, done)
+    def judge(kind, number, done):
+        kept, answers = Answers(edits), done.stdout.splitlines()
+        if kind == "ALLOC" and done.returncode == 0:
+            refusable = (b"add", b"cancel", b"list", b"plan", b"clear", b"bogus")
+            holds = kept.are(answers, b"refused: out of memory", refusable) and len(kept.refused) <= 1 and not done.stderr
+            wanting.extend(kept.refused)
+        elif kind == "WRITE" and done.returncode == 0:
+            holds = kept.are(answers, b"refused: cannot write", (b"plan",)) and len(kept.refused) == 1
+        else:
+            is_part = {"ALLOC": not answers, "READ": done.stdout in (b"", ample.stdout), "WRITE": done.stdout != ample.stdout}
+            holds = is_told(done, kind, ample.stdout) and is_part[kind]
+        tally.check(f"open without {kind} {number}", holds, done)
 
-        return judge_one
-
-    counts = {kind: each_refusal(command, library, kind, stdin, judge(kind)) for kind in TEXTS}
+    counts = all_refusals(command, library, stdin, judge)
     tally.check("open: calls of each kind", min(counts.values()) > 1, counts)
     tally.check("open: each word that takes memory lacked it", {b"add", b"list", b"plan"} <= set(wanting), wanting)
     short, _ = run(command, library, stdin=stdin, REFUSE_SHORT="1")

@@ -1,15 +1,13 @@
 #!/usr/bin/env python3
 """Plans small random rounds with the built program and compares them with a brute force of its own.
 
-For each round and end, with `--always` and without: the batches are those of the brute force; the transmission's codewords, read here,
-are the round's pages, and the last one is what the end asks for; and the certificate is accepted by the program's
-checker and by the second one, and by neither for one batch more. So is each certificate of some larger rounds: there the
-closed end takes no fewer batches than the open one, the idle end no fewer than the closed one, and at most one more than
-the open one. Fronts are compared in the same way. The last line is 'N passed, M failed'.
+For each round and end, with `--always` and without: the batches are those of the brute force; the transmission's codewords,
+read here, are the round's pages, and the last one is what the end asks for; and the certificate is accepted by the program's
+checker and by the second one, and by neither for one batch more. So is each certificate of some larger rounds: there the closed
+end takes no fewer batches than the open one, the idle end no fewer than the closed one, and at most one more than the open one.
+Fronts are compared in the same way.
 """
 
-import csv
-import io
 import itertools
 import pathlib
 import random
@@ -19,10 +17,9 @@ import tempfile
 from functools import lru_cache
 
 sys.dont_write_bytecode = True
-HERE = pathlib.Path(__file__).resolve().parent
-sys.path[:0] = [str(HERE.parent), str(HERE.parent / "certificates")]
+sys.path[:0] = [str(pathlib.Path(__file__).resolve().parents[1] / it) for it in (".", "certificates")]
 import checker
-from codewords import HEADER, IDLE, codewords_of, transmission
+from codewords import HEADER, IDLE, codewords_of, rows_of, transmission
 from rounds import page_file
 from tally import ENDS, MEMORY, run, run_parts, said
 from trees import certificate
@@ -89,10 +86,6 @@ def page_file_of(pages):
     return HEADER + b"".join(b"%d,%s\n" % (address, b"numeric," + b"1" * 5 * items if items else b"tone0,") for address, items in pages)
 
 
-def rows(data):
-    return list(csv.reader(io.StringIO(data.decode())))
-
-
 def framed(pages):
     return tuple((address % 8, 1 + items) for address, items in pages)
 
@@ -121,19 +114,14 @@ def ends_as(sent, end):
 
 
 def one_more(text):
-    """The certificate with one batch more."""
     end, batches, tree = checker.parse(text)
     return certificate(end, batches + 1, tree)
 
 
-def is_of(text, end):
-    """Whether the certificate is in the version that is written for the end."""
-    known = checker.parse(text)
-    return known is not None and TOLD[end] == checker.TOLD[known[0]] and text == certificate(*known)
-
-
 def try_second_checker(tally, pages, text, end, batches):
-    tally.check("certificate's version", is_of(text, end), (end, pages, text.hex()))
+    known = checker.parse(text)
+    is_of_end = known is not None and TOLD[end] == checker.TOLD[known[0]] and text == certificate(*known)
+    tally.check("certificate's version", is_of_end, (end, pages, text.hex()))
     tally.check("second checker", checker.verdict(pages, text) == f"at least {batches} batches{TOLD[end]}", (pages, text.hex()))
     tally.check("second checker, one more", checker.verdict(pages, one_more(text)) == "not shown", (pages, text.hex()))
 
@@ -183,7 +171,7 @@ def try_checks(tally, folder, source):
             tally.check("verified", planned.stdout.endswith(b"\nverified\n"), planned)
             try_own_checker(tally, folder, end)
             decoded = run(["decode", "tx.bin"], folder)
-            tally.check("decoded", sorted(rows(decoded.stdout)) == sorted(rows(text)), decoded)
+            tally.check("decoded", sorted(rows_of(decoded.stdout)) == sorted(rows_of(text)), decoded)
 
 
 def larger_round(source):
@@ -240,7 +228,7 @@ def try_front(tally, folder, pages, end, batches, needs):
     tally.check("front's end", ends_as(sent, end), (case, sent[-4:].hex()))
     due = f"at least {needs[count - 1]} batches{TOLD[end]}"
     tally.check("front's certificate", checker.verdict(page_file_of(pages[:count]), shown) == due, (case, shown.hex()))
-    tally.check("the rest", rows((folder / "rest.csv").read_bytes()) == rows(page_file_of(pages[count:])), case)
+    tally.check("the rest", rows_of((folder / "rest.csv").read_bytes()) == rows_of(page_file_of(pages[count:])), case)
     why = (folder / "why.bin").read_bytes()
     if count == len(pages):
         tally.check("nothing is left", why == b"", (case, why.hex()))

@@ -1,5 +1,5 @@
 #!/usr/bin/env python3
-"""Tries how `./test` counts its parts, with stand-ins for them. The last line is 'N passed, M failed'."""
+"""Tries how `./test` counts its parts, with stand-ins for them."""
 
 import io
 import os
@@ -7,7 +7,6 @@ import pathlib
 import re
 import subprocess
 import sys
-import tempfile
 import time
 
 sys.dont_write_bytecode = True
@@ -18,7 +17,7 @@ import lanes
 from gate import Gate
 from lanes import Lanes, Task
 from spent import watched
-from tally import Tally
+from tally import put, put_script, run_parts
 
 # What a part prints, its status, and what the gate counts of it.
 PARTS = [
@@ -38,13 +37,14 @@ PARTS = [
 ]
 
 
-def try_part(tally, name, script, status, counts):
-    gate = Gate(TOP, io.StringIO())
-    found = gate.part("part", "sh", "-c", script), (gate.passed, gate.failed), gate.end(), gate.out.getvalue().splitlines()[-1]
-    tally.check(name, found == (status == 0, counts, status, f"{counts[0]} passed, {counts[1]} failed"), found)
+def try_parts(tally, _):
+    for name, script, status, counts in PARTS:
+        gate = Gate(TOP, io.StringIO())
+        found = gate.part("part", "sh", "-c", script), (gate.passed, gate.failed), gate.end(), gate.out.getvalue().splitlines()[-1]
+        tally.check(name, found == (status == 0, counts, status, f"{counts[0]} passed, {counts[1]} failed"), found)
 
 
-def try_others(tally):
+def try_others(tally, _):
     gate = Gate(TOP, io.StringIO())
     gate.part("missing", "/nowhere/no-such-command")
     tally.check("a command that is not there fails", (gate.passed, gate.failed) == (0, 1))
@@ -55,7 +55,7 @@ def try_others(tally):
     tally.check("one failure fails the whole", gate.end() == 1)
 
 
-def try_notes(tally):
+def try_notes(tally, _):
     """What a part says of the release is told again at the end, and what was left out is counted."""
     gate = Gate(TOP, io.StringIO())
     gate.part("part", "sh", "-c", "echo 'release 1.0.0 is of other sources'; echo 'the release 1'; echo '1 passed, 0 failed'")
@@ -68,7 +68,7 @@ def try_notes(tally):
     tally.check("what is left out is named and counted", told[-1] == "1 passed, 0 failed, 2 skipped", told)
 
 
-def try_beside(tally):
+def try_beside(tally, _):
     """The same parts side by side: the same counts, and what each prints stays together."""
     gate = Gate(TOP, io.StringIO())
     gate.beside([(name, "sh", "-c", script) for name, script, _, _ in PARTS])
@@ -91,7 +91,7 @@ def try_beside(tally):
     tally.check("side by side: no part waits for another", took < 1.4, took)
 
 
-def try_last(tally):
+def try_last(tally, _):
     """The last parts begin once the first has passed, and not at all where it did not."""
     for status, wanted in ((0, ["first", "last"]), (1, ["first"])):
         gate = Gate(TOP, io.StringIO())
@@ -101,7 +101,7 @@ def try_last(tally):
         tally.check(f"the last parts after status {status}", found == wanted, gate.out.getvalue())
 
 
-def try_bill(tally):
+def try_bill(tally, _):
     """What processors were busy with, by kinds of parts and as multiples of the lowest crate."""
     gate = Gate(TOP, io.StringIO())
     busy = f"{sys.executable} -c 'import time\nwhile time.process_time() < {{}}: pass'; echo '1 passed, 0 failed'".format
@@ -123,7 +123,7 @@ def try_bill(tally):
     tally.check("no multiple without the lowest crate", " w," not in gate.out.getvalue(), gate.out.getvalue())
 
 
-def try_spent(tally):
+def try_spent(tally, _):
     """The seconds of processes below another, by what they are for; a process counts for those below it."""
     busy = "import os, sys, time\nif len(sys.argv) > 3: os.fork()\nwhile time.process_time() < 1.5: pass\nif len(sys.argv) > 3: time.sleep(2.5)"
     words = [f"{sys.executable} -c '{busy}' {more} &" for more in ("--crate-name low", "--crate-name low fork", "--crate-name low --test", "beside")]
@@ -133,7 +133,7 @@ def try_spent(tally):
         tally.check(f"the time of {name}", wanted - 1.4 < spent.get(name, 0) < wanted + 0.6, spent)
 
 
-def try_lanes(tally):
+def try_lanes(tally, _):
     """The order in which tasks begin, how many jobs each gets, and what is left out."""
     echo = lambda jobs: ["echo", str(jobs)]
     tasks = [Task("low", echo, TOP, (), 5), Task("beside", echo, TOP, (), 9), Task("high", echo, TOP, ("low", "no task"), 9)]
@@ -150,7 +150,7 @@ def try_lanes(tally):
     tally.check("what still runs is ended", it.name == "quick" and time.monotonic() - began < 5, it)
 
 
-def try_width(tally):
+def try_width(tally, _):
     """How many tasks the gate runs side by side."""
     given, found = os.environ.pop("RT_JOBS"), lanes.width()
     tally.check("one processor of four is idle", lanes.width_of_gate() == found - found // 4 >= 1, (found, lanes.width_of_gate()))
@@ -172,40 +172,27 @@ print(kit.check_words("."), kit.cross_words(".", "made", "arm"), type(kit.lock([
 """
 
 
-def try_unknown(tally):
+def try_unknown(tally, folder):
     """Each step of the toolchain by its command alone, where `rt` is not the script that is known."""
-    with tempfile.TemporaryDirectory() as folder:
-        command, calls = pathlib.Path(folder, "rt"), pathlib.Path(folder, "calls")
-        command.write_text(UNKNOWN)
-        command.chmod(0o755)
-        settings = {**os.environ, "PATH": f"{folder}:{os.environ['PATH']}", "CALLS": str(calls)}
-        run = lambda *words: subprocess.run([sys.executable, *words], cwd=TOP, env=settings, capture_output=True, text=True)
-        done = [run("tools/kit.py", "lib", "2"), run("tools/kit.py", "run", "1", "--help"), run("-c", STEPS)]
-        tally.check("the commands for an unknown toolchain", [it.returncode for it in done] == [0, 0, 0], done)
-        told = calls.read_text().splitlines()
-        tally.check("what they call", told == ["lib --jobs 2", "run --jobs 1 -- --help", "lib --jobs 1"], told)
-        tally.check("what else is known of it", done[2].stdout == "['rt', 'check', '--jobs', '1'] None ExitStack True 0\n", done[2].stdout)
+    put_script(folder / "rt", UNKNOWN)
+    settings = {**os.environ, "PATH": f"{folder}:{os.environ['PATH']}", "CALLS": str(folder / "calls")}
+    run = lambda *words: subprocess.run([sys.executable, *words], cwd=TOP, env=settings, capture_output=True, text=True)
+    done = [run("tools/kit.py", "lib", "2"), run("tools/kit.py", "run", "1", "--help"), run("-c", STEPS)]
+    tally.check("the commands for an unknown toolchain", [it.returncode for it in done] == [0, 0, 0], done)
+    told = (folder / "calls").read_text().splitlines()
+    tally.check("what they call", told == ["lib --jobs 2", "run --jobs 1 -- --help", "lib --jobs 1"], told)
+    tally.check("what else is known of it", done[2].stdout == "['rt', 'check', '--jobs', '1'] None ExitStack True 0\n", done[2].stdout)
 
 
-def try_layout(tally):
+def try_layout(tally, folder):
     """A crate with a file that `rt fmt` would change; without the toolchain all pass."""
-    with tempfile.TemporaryDirectory() as folder:
-        source = pathlib.Path(folder, "src/lib.rt")
-        source.parent.mkdir()
-        for text, is_laid_out in ("pub fn one() -> u32 {\n    1\n}\n", True), ("pub fn one() -> u32 { 1 }\n", kit.script() is None):
-            source.write_text(text)
-            tally.check("the layout of a crate", kit.is_laid_out(folder) == is_laid_out, text)
-
-
-def main():
-    os.environ["RT_JOBS"] = "3"
-    tally = Tally()
-    for row in PARTS:
-        try_part(tally, *row)
-    for part in (try_others, try_notes, try_beside, try_lanes, try_width, try_last, try_bill, try_spent, try_layout, try_unknown):
-        part(tally)
-    return tally.end()
+    for text, is_laid_out in ("pub fn one() -> u32 {\n    1\n}\n", True), ("pub fn one() -> u32 { 1 }\n", kit.script() is None):
+        put(folder, {"src/lib.rt": text})
+        tally.check("the layout of a crate", kit.is_laid_out(folder) == is_laid_out, text)
 
 
 if __name__ == "__main__":
-    sys.exit(main())
+    os.environ["RT_JOBS"] = "3"
+    sys.exit(run_parts(
+        try_parts, try_others, try_notes, try_beside, try_lanes, try_width, try_last, try_bill, try_spent, try_layout, try_unknown, apart=True,
+    ))  # fmt: skip

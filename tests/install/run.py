@@ -1,8 +1,5 @@
 #!/usr/bin/env python3
-"""Installs the built program into a folder and runs it from there, as another user and without the toolchain.
-
-The last line is 'N passed, M failed'.
-"""
+"""Installs the built program into a folder and runs it from there, as another user and without the toolchain."""
 
 import os
 import pathlib
@@ -15,14 +12,15 @@ sys.dont_write_bytecode = True
 TESTS = pathlib.Path(__file__).resolve().parents[1]
 sys.path[:0] = [str(TESTS), str(TESTS.parent / "tools")]
 import version
-from tally import PROGRAM, TOP, as_nobody, run_parts
+from tally import PROGRAM, TOP, as_nobody, put_script, run_parts
 
 PLACES = ["bin/pocsag", "share/man/man1/pocsag.1", "share/bash-completion/completions/pocsag", "share/zsh/site-functions/_pocsag",
           "share/fish/vendor_completions.d/pocsag.fish", "share/pocsag/examples/next-slot", "share/pocsag/examples/enqueue"]
 # The Python that runs `install` has the module in its own folder.
 PYTHON = shutil.which("python3")
 WORDS = [PYTHON, "-c", "import sys; print(*sys.version_info[:2], sep='.')"]
-MODULE = f"lib/python{subprocess.run(WORDS, capture_output=True, text=True).stdout.strip()}/site-packages/pocsag/__init__.py"
+SITE = f"lib/python{subprocess.run(WORDS, capture_output=True, text=True).stdout.strip()}/site-packages"
+MODULE = f"{SITE}/pocsag/__init__.py"
 PACKAGE = "lib/pkgconfig/pocsag.pc"
 DOCUMENTS = ["share/doc/pocsag/LIBRARY.md", "share/pocsag/examples/plan.c", "share/pocsag/examples/plan.py"]
 LIBRARY = ["lib/libpocsag.a", "lib/libpocsag.so.1", "include/pocsag.h", MODULE, MODULE.replace("__init__.py", "py.typed"), PACKAGE, *DOCUMENTS, "lib/libpocsag.so"]
@@ -81,24 +79,21 @@ def try_library(tally, folder):
     try_moved(tally, folder)
 
 
-def python(folder, prefix, path):
-    """What Python prints of a plan by the installed module, as a user with no rights here."""
+def python(folder, prefix):
+    """What a Python that anybody may run prints of a plan by the installed module, as a user with no rights here."""
+    command = "/usr/bin/python3" if pathlib.Path("/usr/bin/python3").exists() else PYTHON
     script = "import pocsag; plan = pocsag.Pocsag().plan(bytearray(open('room/round.csv', 'rb').read())); print(plan.batches)"
-    environment = {"PATH": "/usr/bin:/bin", "PYTHONPATH": str(prefix / path), "PYTHONDONTWRITEBYTECODE": "1"}
-    return subprocess.run([*as_nobody(folder), python_of_system(), "-c", script], capture_output=True, text=True, cwd=folder, env=environment)
-
-
-def python_of_system():
-    """A Python that anybody may run."""
-    return "/usr/bin/python3" if pathlib.Path("/usr/bin/python3").exists() else PYTHON
+    environment = {"PATH": "/usr/bin:/bin", "PYTHONPATH": str(prefix / SITE), "PYTHONDONTWRITEBYTECODE": "1"}
+    return subprocess.run([*as_nobody(folder), command, "-c", script], capture_output=True, text=True, cwd=folder, env=environment)
 
 
 def try_moved(tally, folder):
     """What is installed still finds itself where its folder is moved as a whole."""
     prefix, moved = folder / "prefix", folder / "moved"
-    tally.check("Python plans by the installed module", python(folder, prefix, pathlib.Path(MODULE).parents[1]).stdout == "2\n", python(folder, prefix, pathlib.Path(MODULE).parents[1]))
+    ran = python(folder, prefix)
+    tally.check("Python plans by the installed module", ran.stdout == "2\n", ran)
     shutil.copytree(prefix, moved, symlinks=True)
-    ran = python(folder, moved, pathlib.Path(MODULE).parents[1])
+    ran = python(folder, moved)
     tally.check("and so from another folder", ran.stdout == "2\n", ran)
     text = (moved / PACKAGE).read_text()
     number = re.search(r"#define POCSAG_VERSION (\d+)u", (moved / "include/pocsag.h").read_text())[1]
@@ -117,12 +112,11 @@ def try_loader(tally, folder):
     told = folder / "told"
     fake = folder / "commands"
     fake.mkdir()
-    (fake / "ldconfig").write_text(f"#!/bin/sh\necho \"$@\" >> '{told}'\n")
-    (fake / "ldconfig").chmod(0o755)
+    put_script(fake / "ldconfig", f"#!/bin/sh\necho \"$@\" >> '{told}'\n")
     prefix = folder / "prefix"
     environment = {**os.environ, "PATH": f"{fake}:{os.environ['PATH']}"}
     ran = subprocess.run([str(TOP / "install"), str(prefix)], capture_output=True, text=True, env=environment, timeout=600)
-    lines = [f"export {name}={prefix / path}" for name, path in (("LD_LIBRARY_PATH", "lib"), ("PYTHONPATH", pathlib.Path(MODULE).parents[1]), ("PKG_CONFIG_PATH", "lib/pkgconfig"))]
+    lines = [f"export {name}={prefix / path}" for name, path in (("LD_LIBRARY_PATH", "lib"), ("PYTHONPATH", SITE), ("PKG_CONFIG_PATH", "lib/pkgconfig"))]
     tally.check("the lines that are needed are printed", ran.returncode == 0 and all(line in ran.stderr for line in lines), ran.stderr)
     tally.check("the loader's list of another folder is left", "\n\n" not in f"\n{told.read_text()}" if told.exists() else True, told)
     script = "import importlib.machinery as m, pathlib, sys; i = m.SourceFileLoader('i', sys.argv[1]).load_module(); [i.list_for_loader(pathlib.Path(p)) for p in sys.argv[2:]]"

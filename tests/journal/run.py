@@ -2,8 +2,7 @@
 """Keeps an open round in a journal through kills, cuts, refused calls, a full disk, a full file system, and others who move
 it or write to it; lists it without holding it; and reads what `--verbose` tells of it.
 
-Each start must list what the edits that were answered `ok` leave, or these and one more. It takes the binary that the
-gate left in crates/pocsag_app/out. The last line is 'N passed, M failed'.
+Each start must list what the edits that were answered `ok` leave, or these and one more.
 """
 
 import itertools
@@ -102,9 +101,7 @@ def random_tone(chooser, pages):
 
 
 def listed(folder):
-    """What a start lists, without the line that ends it, and what it tells."""
-    done = run(folder, [b"list"])
-    return done.stdout[: done.stdout.rfind(b"ok ")] if done.returncode == 0 else None, done.stderr
+    return sessions.listed(folder, NAME)
 
 
 def check_listed(tally, name, folder, pages, told):
@@ -286,11 +283,6 @@ def move(path):
     path.rename(path.with_name("moved"))
 
 
-def move_and_replace(path):
-    move(path)
-    path.write_bytes(FIRST_LINE)
-
-
 def append(path, text=b"add,80,tone0,\n"):
     with path.open("ab") as file:
         file.write(text)
@@ -298,7 +290,7 @@ def append(path, text=b"add,80,tone0,\n"):
 
 HARMS = [
     move,
-    move_and_replace,
+    lambda path: (move(path), path.write_bytes(FIRST_LINE)),
     append,
     lambda path: path.unlink(),
     lambda path: os.truncate(path, 0),
@@ -647,11 +639,9 @@ def try_growth(tally, place):
     tally.check("a long day: written anew", path.read_bytes() == FIRST_LINE)
 
 
-PARTS = (
-    try_kills, try_cuts, try_lost_sectors, try_synchronised, try_bad_lines, try_others, try_harms,
-    try_rights, try_failed_look, try_no_locks, try_read_only, try_use, try_full_disk, try_full_system, try_verbose, try_verbose_later,
-    try_announced, try_long_start, try_growth,
-)  # fmt: skip
-
 if __name__ == "__main__":
-    sys.exit(run_parts(*PARTS, apart=True))
+    sys.exit(run_parts(
+        try_kills, try_cuts, try_lost_sectors, try_synchronised, try_bad_lines, try_others, try_harms,
+        try_rights, try_failed_look, try_no_locks, try_read_only, try_use, try_full_disk, try_full_system, try_verbose, try_verbose_later,
+        try_announced, try_long_start, try_growth, apart=True,
+    ))  # fmt: skip

@@ -1,8 +1,8 @@
 #!/usr/bin/env python3
 """Runs the script `pocsag` at the top of the repository with a stand-in for the toolchain's `rt`.
 
-The stand-in writes down how it was called and makes a small program in place of the proved one, so that
-each way in which a build can go is tried in a moment. The last line is 'N passed, M failed'.
+The stand-in writes down how it was called and makes a small program in place of the proved one, so that each way in
+which a build can go is tried in a moment.
 """
 
 import os
@@ -12,12 +12,11 @@ import shutil
 import signal
 import subprocess
 import sys
-import tempfile
 import time
 
 sys.dont_write_bytecode = True
 sys.path.insert(0, str(pathlib.Path(__file__).resolve().parents[1]))
-from tally import TOP, Tally, as_nobody
+from tally import TOP, as_nobody, put_script, room_in, run_parts
 
 CRATES = "low:\nmiddle: low csv\npocsag_app: clap middle low\npocsag_beside: middle\npocsag_trial: low\n"
 NAMES = ("low", "middle", "pocsag_app", "pocsag_beside", "pocsag_trial")
@@ -58,13 +57,8 @@ class Clone:
     """A small clone of the repository, with a folder of commands and one for temporary files."""
 
     def __init__(self, folder, stand_in):
-        self.top = folder / "clone"
-        self.commands = folder / "commands"
-        self.temporary = folder / "temporary"
-        self.calls = folder / "calls"
-        self.compiler = folder / "compiler"
-        for made in (self.top, self.commands, self.temporary):
-            made.mkdir()
+        self.top, self.commands, self.temporary = (room_in(folder, it) for it in ("clone", "commands", "temporary"))
+        self.calls, self.compiler = folder / "calls", folder / "compiler"
         shutil.copy(TOP / "pocsag", self.top / "pocsag")
         shutil.copytree(TOP / "tools", self.top / "tools")
         (self.top / "crates.txt").write_text(CRATES)
@@ -82,8 +76,7 @@ class Clone:
     def stand_in(self, name):
         told = f'echo "$(basename "$(pwd)") $*" >> {self.calls}\necho "${{RT_BACKEND:-llvm}}" > {self.compiler}\n'
         self.made = f'#!/bin/bash\n{told}[ "$1" = run ] || exit 0\n{STAND_INS[name]}'
-        self.change("", "")
-        (self.commands / "rt").chmod(0o755)
+        put_script(self.commands / "rt", self.made)
 
     def change(self, old, new):
         """Has the stand-in do this in place of what it did at first."""
@@ -259,10 +252,6 @@ def try_missing(tally, clone):
     tally.check_run("no program, and no python3", clone.run(["u"]), 3, "", "python3")
 
 
-def try_nothing_left(tally, clone):
-    tally.check_run("no program left", clone.run(), 3, "", "left no program")
-
-
 def try_edit_meanwhile(tally, clone):
     clone.check_builds(tally, "an edit during the build", 1)
     clone.stand_in("makes")
@@ -372,21 +361,18 @@ TRIALS = {
     "makes": (try_success, try_multiples, try_unit, try_compilers, try_gate, try_old_times, try_forms, try_options, try_unwritable, try_side_by_side),
     "fails": (try_failure,),
     None: (try_missing,),
-    "leaves nothing": (try_nothing_left,),
+    "leaves nothing": (lambda tally, clone: tally.check_run("no program left", clone.run(), 3, "", "left no program"),),
     "edits meanwhile": (try_edit_meanwhile,),
     "is slow": (try_two_at_once,),
     "never ends": (try_interrupt,),
 }
 
 
-def main():
-    tally = Tally()
-    for stand_in, trials in TRIALS.items():
-        for trial in trials:
-            with tempfile.TemporaryDirectory() as name:
-                trial(tally, Clone(pathlib.Path(name).resolve(), stand_in))
-    return tally.end()
+def try_all(tally, folder):
+    folder.chmod(0o755)
+    for number, (stand_in, trial) in enumerate((it, trial) for it, trials in TRIALS.items() for trial in trials):
+        trial(tally, Clone(room_in(folder, str(number)), stand_in))
 
 
 if __name__ == "__main__":
-    sys.exit(main())
+    sys.exit(run_parts(try_all))

@@ -1,10 +1,9 @@
 #!/usr/bin/env python3
 """Wants each lemma to stand once: compares the statements of all lemmas of the crates' proofs.
 
-Two statements are the same where they differ in nothing but the names of their variables, in whether a
-premise has a name or is written in braces, and in how names are imported. A parameter of a module is a
-premise of its lemmas. What std has is std's: no lemma is one of std's at some types. What answers a goal of
-the prover is no lemma. The last line is 'N passed, M failed'.
+Two statements are the same where they differ in nothing but the names of their variables, in whether a premise has
+a name or is written in braces, and in how names are imported. A parameter of a module is a premise of its lemmas.
+What std has is std's: no lemma is one of std's at some types. What answers a goal of the prover is no lemma.
 """
 
 import pathlib
@@ -14,7 +13,7 @@ import sys
 
 sys.dont_write_bytecode = True
 sys.path.insert(0, str(pathlib.Path(__file__).resolve().parents[1]))
-from tally import TOP, Tally
+from tally import TOP, run_parts
 
 IMPORT = re.compile(r"^use ([\w.-]+)\.\{([^}]*)\}", re.MULTILINE)
 OPENING = re.compile(r"(?:pub )?(?:abbrev )?(?:pub )?([^\s(){}:]+) : (.*)")
@@ -160,25 +159,16 @@ class Form:
         return self.given.get(token, token)
 
 
-def premises_bare(form):
-    """The form with a premise written the same whether it stood in brackets of its own or not."""
-    text = " ".join(form)
-    return re.sub(r"\( ([^()]*) \) →", r"\1 →", text)
-
-
-def is_lemma(form):
-    """Whether the form says something of values: the type of a function or of a definition does not."""
-    speaks = re.search(r"#\d|[≡≤<≢⊎\[]|(?<!\S)[a-z_]", form)
-    return bool(speaks) and not form.endswith("Type 0")
-
-
 def lemmas(file):
     """The name, the statement and the form of each lemma of a file, but of what answers a goal of the prover."""
     text = file.read_text()
     given = aliases(text)
     for name, statement in statements(text):
-        form = premises_bare(Form(given).of(TOKEN.findall(statement), {}))
-        if not statement.startswith("goal.") and is_lemma(form):
+        # A premise is written the same whether it stood in brackets of its own or not.
+        form = re.sub(r"\( ([^()]*) \) →", r"\1 →", " ".join(Form(given).of(TOKEN.findall(statement), {})))
+        # It says something of values: the type of a function or of a definition does not.
+        speaks = re.search(r"#\d|[≡≤<≢⊎\[]|(?<!\S)[a-z_]", form) and not form.endswith("Type 0")
+        if speaks and not statement.startswith("goal."):
             yield name, statement, form
 
 
@@ -233,8 +223,7 @@ def passed_on(kit, text):
                 yield (alias or name).strip(), forms[name]
 
 
-def main():
-    tally = Tally()
+def try_lemmas(tally, _folder):
     seen, given = {}, lemmas_of_std()
     if not given:
         print("no kit was found by `rt doc`: the lemmas are not compared with those of std")
@@ -245,8 +234,7 @@ def main():
             twins += [seen[form]] if form in seen else []
             tally.check(place, not twins, f"is the lemma {', '.join(twins)}: {statement}")
             seen.setdefault(form, place)
-    return tally.end()
 
 
 if __name__ == "__main__":
-    sys.exit(main())
+    sys.exit(run_parts(try_lemmas))

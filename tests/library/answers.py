@@ -27,7 +27,6 @@ def is_same(answer, told):
 
 
 def attempt(call, *words, **named):
-    """What a call gives, or its fault."""
     try:
         return call(*words, **named)
     except pocsag.Fault as fault:

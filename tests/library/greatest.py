@@ -3,11 +3,7 @@ up for want of memory above some size. `tests/calls/largest.txt` names these run
 of `tests/program/largest.py`, and all numbers are worked by hand."""
 
 import ctypes
-import pathlib
-import sys
 
-TESTS = pathlib.Path(__file__).resolve().parents[1]
-sys.path[:0] = [str(TESTS / it) for it in (".", "calls", "program")]
 import largest
 import pocsag
 import sizes

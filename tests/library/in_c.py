@@ -3,14 +3,13 @@
 import pathlib
 import re
 
-HERE = pathlib.Path(__file__).resolve().parent
-TOP = HERE.parents[1]
 import make
 import pocsag
 import trees
 from answers import WORDS, attempt
-from tally import PROGRAM, call as run
+from tally import PROGRAM, TOP, call as run
 
+HERE = pathlib.Path(__file__).resolve().parent
 ROUND = TOP / "examples/round.csv"
 
 

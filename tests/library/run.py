@@ -6,12 +6,9 @@ the refusals of its calls with the program's over random rounds and over files t
 libraries with each other over some thousand more; runs the examples; refuses each growth of memory; gives buffers one
 byte too small with guard pages behind them; calls from eight threads; and runs the same under valgrind and the
 sanitizers where they are installed.
-The last line is 'N passed, M failed'.
 """
 
-import csv
 import functools
-import io
 import os
 import pathlib
 import random
@@ -22,8 +19,7 @@ import sys
 
 sys.dont_write_bytecode = True
 HERE = pathlib.Path(__file__).resolve().parent
-TOP = HERE.parents[1]
-sys.path[:0] = [str(HERE.parent / it) for it in (".", "certificates", "library", "wrong_bodies", "../clib", "../tools")]
+sys.path[:0] = [str(HERE.parent / it) for it in (".", "calls", "certificates", "library", "program", "wrong_bodies", "../clib", "../tools")]
 import greatest
 import in_c
 import in_python
@@ -34,8 +30,8 @@ import version
 import workspace
 from prover import Room
 from answers import TOLD, WORDS, attempt, check_fault, is_same, program
-from codewords import HEADER, IDLE, TONE, changed, random_file, transmission
-from tally import LIBRARY, call as run, run_parts
+from codewords import HEADER, IDLE, TONE, changed, random_file, rows_of, transmission
+from tally import LIBRARY, TOP, call as run, run_parts
 
 EXAMPLES = TOP / "clib/examples"
 ROUND = TOP / "examples/round.csv"
@@ -216,15 +212,6 @@ def try_faults(tally, library):
     tally.check("a certificate of another round may not be shown, and is judged", other.batches == 2, other)
 
 
-def try_large(tally, room):
-    """The example in C reads to the end: 20,000 pages in more than a mebibyte."""
-    lines = [f"{8 + number},alpha,{number:060}" for number in range(20_000)]
-    file = room / "large.csv"
-    file.write_text("\n".join(["address,kind,message", *lines, ""]))
-    ran = run(room / "plan", file)
-    tally.check("the example in C reads a large file whole", ran.stdout.startswith(b"pages 20000\n"), ran.stdout)
-
-
 def try_reports(tally, library):
     """The seven numbers of the sample round, as the program prints them."""
     names = pocsag.Report._fields[:-1]
@@ -350,7 +337,6 @@ def try_readings(tally, library, plans, seed):
 
 
 def try_sounds(tally, library, plans, seed):
-    """The sounds of transmissions, beside the program."""
     source, call, wrong = random.Random(seed), library.pocsag.wav, []
     for number, (_, plan) in enumerate(plans[::30]):
         rate, samples = source.choice([512, 1200, 2400]), source.choice([2_400, 8_000, 48_000, 2_399, 192_001])
@@ -410,8 +396,7 @@ def try_records(tally, library, seed):
         tally.check("a record is no longer than the header says", len(pages[-1]) <= 2 * len(message) + 20, pages[-1])
     file = pocsag.HEADER + b"".join(pages)
     tally.check("records of every character are read", library.pocsag.plan(file).pages == len(rows))
-    # A reader of CSV that is not ours. It takes a line end for the end of a record, so the file is read as text without any.
-    read = {int(row[0]): row[2].encode() for row in csv.reader(io.StringIO(file.decode(), newline=""))if row[0] != "address"}
+    read = {int(row[0]): row[2].encode() for row in rows_of(file)[1:]}  # by Python's own reader of CSV
     tally.check("another reader of CSV reads them alike", read == rows, [it for it in rows.items() if read.get(it[0]) != it[1]][:3])
     tally.check("each quote stands as it is to", attempt(library.pocsag.strict, file) is None)
     for tail, wanted, place in (
@@ -457,7 +442,10 @@ def try_examples(tally, folder, room):
         tally.check(f"the example in C, with the {name}", ran.stdout == wanted, (built.stderr, ran))
     ran = run(sys.executable, EXAMPLES / "plan.py", ROUND, env={**beside, "LD_LIBRARY_PATH": ""})
     tally.check("the example in Python", ran.stdout == wanted, ran)
-    try_large(tally, room)
+    lines = [f"{8 + number},alpha,{number:060}\n" for number in range(20_000)]  # more than a mebibyte
+    (room / "large.csv").write_text("".join(["address,kind,message\n", *lines]))
+    ran = run(room / "plan", room / "large.csv")
+    tally.check("the example in C reads a large file whole", ran.stdout.startswith(b"pages 20000\n"), ran.stdout)
     if shutil.which("c++"):
         (room / "plan.cc").write_text(IN_CPP)
         flags = ["-Wall", "-Wextra", "-Wold-style-cast", "-Wuseless-cast", "-Wconversion", "-Wno-unknown-warning-option", "-Werror", f"-I{folder}"]
@@ -485,14 +473,13 @@ def try_page(tally, folder, room):
         tally.check(f"the {name} plan in Python", ran.stdout == printed, ran)
 
 
-def ways_to_try():
-    """How the calls in C are built and run: a name, words of the compiler, and words before the program."""
-    ways = [("as it is", ["-O1"], [])]
-    if shutil.which("valgrind"):
-        ways.append(("under valgrind", ["-O1", "-g"], ["valgrind", "-q", "--error-exitcode=9", "--leak-check=no"]))
-    ways.append(("with the sanitizer of undefined behaviour", ["-fsanitize=undefined", "-fno-sanitize-recover"], []))
-    ways.append(("with the sanitizer of addresses", ["-fsanitize=address"], []))
-    return ways
+# How the calls in C are built and run: a name, words of the compiler, and words before the program.
+WAYS = [
+    ("as it is", ["-O1"], []),
+    *[("under valgrind", ["-O1", "-g"], ["valgrind", "-q", "--error-exitcode=9", "--leak-check=no"])] * bool(shutil.which("valgrind")),
+    ("with the sanitizer of undefined behaviour", ["-fsanitize=undefined", "-fno-sanitize-recover"], []),
+    ("with the sanitizer of addresses", ["-fsanitize=address"], []),
+]
 
 
 def try_calls(tally, folder, room, ways):
@@ -593,7 +580,7 @@ def try_library(tally, room):
     try_explanations(tally, library)
     try_examples(tally, folder, room)
     try_page(tally, folder, room)
-    try_calls(tally, folder, room, ways_to_try())
+    try_calls(tally, folder, room, WAYS)
     plans = try_bytes(tally, library, ROUNDS, 1)
     try_fronts(tally, library, plans, 4)
     try_frames(tally, library, plans, 8)

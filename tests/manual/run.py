@@ -1,8 +1,7 @@
 #!/usr/bin/env python3
 """Compares the manual page with the help of the compiled program, and has it read by `man` and `mandoc`.
 
-It takes the binary that the gate left in crates/pocsag_app/out; where `man` or `mandoc` is missing, that part is left
-out. The last line is 'N passed, M failed'.
+Where `man` or `mandoc` is missing, that part is left out.
 """
 
 import pathlib
@@ -14,7 +13,7 @@ import sys
 sys.dont_write_bytecode = True
 sys.path.insert(0, str(pathlib.Path(__file__).resolve().parents[1]))
 from helped import commands, help_of, options_of
-from tally import TOP, Tally, run
+from tally import TOP, run, run_parts
 
 MANUAL = TOP / "docs/pocsag.1"
 EVERYWHERE = {"-h", "--help", "-V", "--version"}
@@ -75,8 +74,7 @@ def compare(tally, text):
         tally.check(f"help within 80 columns: {words}", not wide, wide)
 
 
-def main():
-    tally = Tally()
+def try_manual(tally, _folder):
     text = plain(MANUAL.read_text())
     compare(tally, text)
     statuses = terms(section(text, "EXIT STATUS"))
@@ -89,8 +87,7 @@ def main():
     if shutil.which("mandoc"):
         done = subprocess.run(["mandoc", "-T", "lint", str(MANUAL)], capture_output=True, timeout=60)
         tally.check("mandoc finds nothing", done.returncode == 0 and done.stdout + done.stderr == b"", done)
-    return tally.end()
 
 
 if __name__ == "__main__":
-    sys.exit(main())
+    sys.exit(run_parts(try_manual))

@@ -7,7 +7,7 @@ import shutil
 import subprocess
 
 from codewords import rows_of
-from tally import PROGRAM, TOP
+from tally import PROGRAM, TOP, put_script, run, said
 
 COMMANDS = ("cp", "find", "flock", "head", "ls", "mv", "rm", "sync", "tail", "tr", "wc", "xargs")
 HEADER = "address,kind,message\n"
@@ -64,8 +64,7 @@ class Channel:
             (self.folder / "outgoing").symlink_to(outgoing)
         for command in (*COMMANDS, "pocsag"):
             (room / "real" / command).symlink_to(PROGRAM if command == "pocsag" else shutil.which(command))
-            (room / "bin" / command).write_text(STAND_IN)
-            (room / "bin" / command).chmod(0o755)
+            put_script(room / "bin" / command, STAND_IN)
         (self.outgoing / ".number").write_text("0\n")
         (self.folder / "slot.options").write_text(f"{options}\n")
         (self.folder / "queue.csv").write_text(HEADER)
@@ -90,8 +89,7 @@ class Channel:
 
     def run_program(self, *words):
         """The status of the program, and what it prints."""
-        done = subprocess.run([str(PROGRAM), *words], cwd=self.folder, capture_output=True, text=True, timeout=60)
-        return done.returncode, done.stdout, done.stderr
+        return said(run(words, self.folder, subprocess.DEVNULL, text=True))
 
     def send(self, **more):
         return self.run("next-slot", **more)
@@ -128,7 +126,7 @@ class Channel:
         """Takes all that a transmitter would, and gives whether each file is a transmission with a number above the last one."""
         are_good = True
         for path in sorted(self.outgoing.glob("[!.]*")):
-            listed = subprocess.run([str(PROGRAM), "decode", str(path)], capture_output=True, timeout=60)
+            listed = run(["decode", path])
             self.slots.append(pages_of(listed.stdout))
             is_named = re.fullmatch(r"\d{8}\.bin", path.name) and path.name > self.last
             are_good &= listed.returncode == 0 and bool(is_named)

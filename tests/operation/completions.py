@@ -1,9 +1,6 @@
 #!/usr/bin/env python3
 """The completions of three shells, beside the help of the program: the same words for each, and what each shell offers where it
-is installed. With --write it first writes these words into completions/, as the help has them.
-
-It takes the binary that the gate left in crates/pocsag_app/out. The last line is 'N passed, M failed'.
-"""
+is installed. With --write it first writes these words into completions/, as the help has them."""
 
 import functools
 import pathlib
@@ -80,7 +77,6 @@ def offered(shell, line, folder):
 
 
 def try_shells(tally, folder):
-    """What each shell offers, where it is installed."""
     (folder / "named.csv").write_text("")
     for shell in FILES:
         if not shutil.which(shell):

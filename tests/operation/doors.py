@@ -7,27 +7,20 @@ import stat
 import subprocess
 
 from codewords import APART, HEADER
-from tally import CANNOT_OPEN, CANNOT_WRITE, NAMED_TWICE, PROGRAM, as_nobody, fault, faulty, files_of, room_in, run
+from tally import CANNOT_OPEN, CANNOT_WRITE, NAMED_TWICE, PROGRAM, as_nobody, fault, faulty, files_of, put, room_in, run
 
 TONE, BAD = HEADER + b"8,tone0,\n", HEADER + b"8,tone9,\n"
 PLAN = ["plan", "pages.csv", "tx.bin", "cert.bin"]
 OLD = (b"an older transmission", b"an older certificate")
+OLD_FILES = dict(zip(PLAN[2:], OLD))
 NO_OWNER = fault("the new file cannot be given the owner, group and mode of the old one")
 NOBODY = (65534, 65534)  # the user and the group of `as_nobody`
 RENAMES = "rename,renameat,renameat2"
 
 
-def put_old(room):
-    """Has an older transmission and an older certificate stand there."""
-    for name, data in zip(PLAN[2:], OLD):
-        (room / name).write_bytes(data)
-
-
 def fresh(folder, name):
     """A new folder with page files, an older transmission and an older certificate."""
-    room = room_in(folder, name, {"pages.csv": TONE, "apart.csv": APART, "bad.csv": BAD})
-    put_old(room)
-    return room
+    return room_in(folder, name, {"pages.csv": TONE, "apart.csv": APART, "bad.csv": BAD} | OLD_FILES)
 
 
 def stand(room):
@@ -162,7 +155,7 @@ def try_folders(tally, folder):
     (room / "folder").mkdir()
     is_folder = CANNOT_OPEN + fault(f"page file folder: {os.strerror(21)} (os error 21)")
     for pages, note in (("folder", is_folder), ("/proc/self/mem", None)):
-        put_old(room)
+        put(room, OLD_FILES)
         done = run(["plan", pages, "tx.bin", "cert.bin", "--verbose"], room)
         holds = (done.returncode, done.stdout) == (3, b"") and done.stderr.startswith(CANNOT_OPEN) and note in (None, done.stderr)
         tally.check(f"plan {pages}", holds and stand(room) == (b"", b""), (done, stand(room)))
@@ -215,7 +208,7 @@ def try_demands(tally, folder):
     for demand, file, why in REFUSED:
         (room / "round.csv").write_bytes(file)
         for words in (plan, [*plan, "--always"], [*plan, "--keep", "--always"], ["plan", "-", "-", "cert.bin"], report, []):
-            put_old(room)
+            put(room, OLD_FILES)
             done = run([*words, *demand], room, file)
             left = tuple(b"" if name in words and "--keep" not in words else data for name, data in zip(PLAN[2:], OLD))
             due = (1, b"", fault(why)) if words or demand == ["--strict"] else (2, b"", done.stderr)

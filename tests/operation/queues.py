@@ -6,8 +6,7 @@ and on full disks. Each page that `enqueue` took must be sent once, in order.
     tests/operation/queues.py --all    at each system call
     tests/operation/queues.py 10000    sends so many pages while next-slot is ended at random moments, and does nothing else
 
-Where strace is missing, commands are killed before and behind their work, and not at their calls. It takes the binary that
-the gate left in crates/pocsag_app/out. The last line is 'N passed, M failed'.
+Where strace is missing, commands are killed before and behind their work, and not at their calls.
 """
 
 import contextlib
@@ -148,21 +147,17 @@ def transmit(channel, ends, are_good):
         are_good.append(channel.take())
 
 
-def end_at_random(sending, chance, longest):
-    """Ends a run at a random moment, its shell alone or all of it; gives whether it was ended."""
-    time.sleep(chance.uniform(0, longest))
-    if sending.poll() is None:
-        chance.choice([os.kill, os.killpg])(sending.pid, signal.SIGKILL)
-    return sending.wait(60) < 0
-
-
 def kill_at_random(channel, chance):
-    """Runs next-slot and enqueue at the same time and ends next-slot at random moments; gives how often it was ended."""
+    """Runs next-slot and enqueue at the same time and ends next-slot at random moments, its shell alone or all of it; gives how often it was
+    ended."""
     ended, longest = 0, 0.05
     for _ in range(PAGES):
         sending, page = channel.start("next-slot", **SILENT), channel.next_page()
         adding = channel.start("enqueue", *page, **SILENT)
-        was_ended = end_at_random(sending, chance, longest)
+        time.sleep(chance.uniform(0, longest))
+        if sending.poll() is None:
+            chance.choice([os.kill, os.killpg])(sending.pid, signal.SIGKILL)
+        was_ended = sending.wait(60) < 0
         ended += was_ended
         longest = min(longest * (1.1 if was_ended else 0.8), 1.0)
         if adding.wait(60) == 0:
@@ -519,10 +514,8 @@ def try_oversized(tally, folder):
                 file.unlink()
 
 
-PARTS = (
-    try_statuses, try_outgoing, try_words, try_enqueue, try_first, try_quotes, try_link, try_kept, try_new_number, try_other_owner, try_again,
-    try_oversized, try_kills, try_calls, try_additions, try_random, try_full_disks,
-)  # fmt: skip
-
 if __name__ == "__main__":
-    sys.exit(run_parts(*[try_random] if ASKED else PARTS))
+    sys.exit(run_parts(*[try_random] if ASKED else (
+        try_statuses, try_outgoing, try_words, try_enqueue, try_first, try_quotes, try_link, try_kept, try_new_number, try_other_owner, try_again,
+        try_oversized, try_kills, try_calls, try_additions, try_random, try_full_disks,
+    )))  # fmt: skip

@@ -2,8 +2,7 @@
 """Runs the compiled program as an operator does: `--keep` under kills and refused calls, pipes, terminals, and each
 command of docs/OPERATION.md. The scripts of its queue have a test of their own, queues.py.
 
-It takes the binary that the gate left in crates/pocsag_app/out; where `strace` is missing, the kills at single system
-calls are left out. The last line is 'N passed, M failed'.
+Where `strace` is missing, the kills at single system calls are left out.
 """
 
 import os
@@ -25,9 +24,10 @@ import doors
 import turns
 from codewords import APART, HEADER
 from doors import OLD, PLAN, TONE, fresh, names, stand
-from tally import CANNOT_OPEN, NAMED_TWICE, PROGRAM, TOP, faulty, room_in, run, run_parts
+from tally import CANNOT_OPEN, NAMED_TWICE, PROGRAM, TOP, faulty, module_at, put, put_script, room_in, run, run_parts
 
 KILLS = 200
+papers = module_at("papers", "tests/papers/run.py")
 
 
 def planned(folder, file, name):
@@ -102,11 +102,6 @@ def try_kills(tally, folder):
     kill_often(tally, folder / "kills of open", [str(PROGRAM), "open", "pages.csv", "--keep"], b"plan,tx.bin,cert.bin\n", KILLS // 4)
 
 
-def heed_interrupts():
-    """Has a process end on SIGINT, also where a shell started all of this in the background, which has it ignored."""
-    signal.signal(signal.SIGINT, signal.SIG_DFL)
-
-
 def kill_often(tally, room, words, lines, kills):
     """Ends the command at random moments, its page file now this one and now that one. What is waited for at most follows
     how long the command takes, which depends on what else runs on this machine. A command that reads `lines` runs on."""
@@ -123,7 +118,8 @@ def kill_often(tally, room, words, lines, kills):
         before, due = stand(room), dues[number % 2]
         (room / "pages.csv").write_bytes(files[number % 2])
         how = {"cwd": room, "stdin": subprocess.PIPE, "stdout": subprocess.DEVNULL, "stderr": subprocess.DEVNULL}
-        process = subprocess.Popen(words, preexec_fn=heed_interrupts, **how)
+        # It is to end on SIGINT also where a shell started all of this in the background, which has that ignored.
+        process = subprocess.Popen(words, preexec_fn=lambda: signal.signal(signal.SIGINT, signal.SIG_DFL), **how)
         process.stdin.write(lines)
         process.stdin.flush()
         time.sleep(chance.uniform(0, longest))
@@ -271,32 +267,19 @@ done
 }
 
 
-def blocks(kind):
-    """The code blocks of a kind in docs/OPERATION.md."""
-    text = (TOP / "docs/OPERATION.md").read_text()
-    return re.findall(rf"^```{kind}\n(.*?)^```", text, re.M | re.S)
-
-
 def room_of_the_page(folder, name):
     """A folder with what the page's commands are given, and the program in PATH."""
-    room = folder / name
-    (room / "bin").mkdir(parents=True)
-    (room / "channels").mkdir()
-    (room / "bin/pocsag").symlink_to(PROGRAM)
-    for name, text in STAND_INS.items():
-        (room / name).write_text(text)
-        (room / name).chmod(0o755)
-    for number in range(3):
-        (room / f"channels/{number}.csv").write_bytes(APART)
-    (room / "round.csv").write_bytes(APART)
-    shutil.copytree(TOP / "examples", room / "examples")
-    return room, dict(os.environ, PATH=f"{room / 'bin'}:{room / 'usr/bin'}:{os.environ['PATH']}")
+    room, environment = papers.fresh(folder, name)
+    put(room, dict.fromkeys(("round.csv", *(f"channels/{number}.csv" for number in range(3))), APART))
+    for path, text in STAND_INS.items():
+        put_script(room / path, text)
+    return room, environment | {"PATH": f"{room}/bin:{room}/usr/bin:{os.environ['PATH']}"}
 
 
 def try_page(tally, folder):
     """Each command of docs/OPERATION.md runs, and prints what the page says."""
     room, environment = room_of_the_page(folder, "page")
-    shells, pythons = blocks("bash"), blocks("python")
+    shells, pythons, inis, crontabs, parts = (papers.blocks(TOP / "docs/OPERATION.md", it) for it in ("bash", "python", "ini", "crontab", "sh"))
     tally.check("the page has commands", len(shells) > 4 and len(pythons) == 1, (len(shells), len(pythons)))
     for kind, texts in (("bash", shells), ("python", pythons)):
         for text in texts:
@@ -312,21 +295,20 @@ def try_page(tally, folder):
     tally.check("the line with ssh writes both", holds, os.listdir(room))
     sent = {(room / f"channels/{number}.bin").read_bytes() for number in range(3)}
     tally.check("the line with parallel plans each channel", {len(it) for it in sent} == {len(due)}, os.listdir(room / "channels"))
-    for text in blocks("ini") + blocks("crontab"):
+    for text in inis + crontabs:
         for line in re.findall(r"^(?:ExecStart=|(?:\S+ ){5})(.*)$", text, re.M):
             line = line.replace("/srv/paging", str(room)).replace("/usr/local", str(room / "usr"))
             done = subprocess.run(["sh", "-c", line], cwd=room, env=environment, capture_output=True, timeout=60)
             tally.check(f"unit: {line}", done.returncode == 0, done)
-    script = (TOP / "examples/next-slot").read_text()
-    for text in blocks("sh"):
-        tally.check("the part of next-slot that the page shows", text in script, text)
+    for text in parts:
+        tally.check("the part of next-slot that the page shows", text in (TOP / "examples/next-slot").read_text(), text)
 
 
 def try_recipe(tally, folder):
     """README's recipe for many channels, as it stands there, over a hundred of which one is bad and the
     transmission of another cannot be put in place: both are named, and all others are planned."""
     room, environment = room_of_the_page(folder, "recipe")
-    recipe = [text for text in re.findall(r"^```bash\n(.*?)^```", (TOP / "README.md").read_text(), re.M | re.S) if "xargs" in text]
+    recipe = [text for text in papers.blocks(TOP / "README.md", "bash") if "xargs" in text]
     tally.check("README has one recipe", len(recipe) == 1, recipe)
     for number in range(100):
         (room / f"channels/{number}.csv").write_bytes(APART)
@@ -347,10 +329,8 @@ def try_recipe(tally, folder):
     tally.check("and plans the others", holds, made)
 
 
-PARTS = (
-    try_keep, try_keep_open, try_kills, try_single_calls, try_order, try_verify, try_pipes, try_terminal, try_page, try_recipe,
-    *doors.PARTS, *turns.PARTS,
-)  # fmt: skip
-
 if __name__ == "__main__":
-    sys.exit(run_parts(*PARTS))
+    sys.exit(run_parts(
+        try_keep, try_keep_open, try_kills, try_single_calls, try_order, try_verify, try_pipes, try_terminal, try_page, try_recipe,
+        *doors.PARTS, *turns.PARTS,
+    ))  # fmt: skip

@@ -52,22 +52,12 @@ def left_in(room):
     return sorted(name for name in os.listdir(room) if ".pocsag" in name)
 
 
-def at_once(calls, room, stdins=(b"", b""), before=()):
-    """Starts all calls at once; gives their statuses."""
-    runs = [subprocess.Popen([*before, str(PROGRAM), *words], cwd=room, **SILENT) for words in calls]
-    for it, text in zip(runs, stdins):
-        with contextlib.suppress(BrokenPipeError):
-            it.stdin.write(text)
-            it.stdin.close()
-    return [it.wait(60) for it in runs]
-
-
 def check_taken(tally, name, done, room, due):
     """Whether a run put its files there and left none beside them."""
     tally.check(name, done.returncode == 0 and stand(room) == due and not left_in(room), (done, left_in(room)))
 
 
-def check_pairs(tally, name, place, count, calls, **how):
+def check_pairs(tally, name, place, count, calls, stdins=(b"", b""), before=()):
     """Whether two runs at once, again and again, leave all files of one of them, whether there were older ones or none; the place is a
     folder, the names of the files, and what each run makes of them."""
     room, names, dues = place
@@ -75,7 +65,12 @@ def check_pairs(tally, name, place, count, calls, **how):
         if number % 4 == 0:
             for file in names:
                 (room / file).unlink()
-        statuses = at_once(calls, room, **how)
+        runs = [subprocess.Popen([*before, str(PROGRAM), *words], cwd=room, **SILENT) for words in calls]
+        for it, text in zip(runs, stdins):
+            with contextlib.suppress(BrokenPipeError):
+                it.stdin.write(text)
+                it.stdin.close()
+        statuses = [it.wait(60) for it in runs]
         found = [it in map(list, zip(*dues)) for it in stand(room, names)]
         tally.check(f"pair {number}{name}", statuses == [0, 0] and stand(room, names) in dues, (statuses, found))
 

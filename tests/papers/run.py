@@ -3,8 +3,7 @@
 paper says ('# prints: ..' below a command). docs/OPERATION.md and docs/LIBRARY.md have tests of their own; the example in C
 of the latter is also built here, with the library that `./install` brings.
 
-It takes the binary that the gate left in crates/pocsag_app/out; where `cc` or `pkg-config` is missing, the example in C
-is left out. The last line is 'N passed, M failed'.
+Where `cc` or `pkg-config` is missing, the example in C is left out.
 """
 
 import os
@@ -16,7 +15,7 @@ import sys
 
 sys.dont_write_bytecode = True
 sys.path.insert(0, str(pathlib.Path(__file__).resolve().parents[1]))
-from tally import PROGRAM, TOP, run_parts
+from tally import PROGRAM, TOP, put_script, run_parts
 
 ELSEWHERE = {"OPERATION.md", "LIBRARY.md"}
 PAPERS = [TOP / "README.md"] + sorted(path for path in (TOP / "docs").glob("*.md") if path.name not in ELSEWHERE)
@@ -39,31 +38,25 @@ def fresh(folder, name):
     (room / "bin").mkdir()
     for place in (room / "pocsag", room / "bin/pocsag"):
         place.symlink_to(PROGRAM)
-    script = room / "install"
-    script.write_text(f'#!/bin/sh\nexec {TOP}/install "$@" "{room}/usr"\n')
-    script.chmod(0o755)
-    environment = dict(os.environ, PATH=f"{room}/bin:{os.environ['PATH']}", PKG_CONFIG_PATH=f"{room}/usr/lib/pkgconfig")
-    return room, environment
+    put_script(room / "install", f'#!/bin/sh\nexec {TOP}/install "$@" "{room}/usr"\n')
+    return room, dict(os.environ, PATH=f"{room}/bin:{os.environ['PATH']}", PKG_CONFIG_PATH=f"{room}/usr/lib/pkgconfig")
 
 
 def run(words, room, environment):
     return subprocess.run(words, cwd=room, env=environment, capture_output=True, text=True, timeout=600)
 
 
-def is_as_printed(done, text):
-    """The command succeeded and printed what stands below it; where nothing stands there, the paper leaves its output out."""
-    wanted = re.findall(r"^ *# prints: (.*)$", text, re.M)
-    return done.returncode == 0 and (not wanted or done.stdout.splitlines() == wanted)
-
-
 def try_commands(tally, folder):
-    """Each block of commands of each paper, those of a paper one after the other in one folder."""
+    """Each block of commands of each paper, those of a paper one after the other in one folder. Where the paper leaves out what a command
+    prints, it has to succeed alone."""
     count = 0
     for paper in PAPERS:
         room, environment = fresh(folder, paper.name)
         for text in blocks(paper, "bash"):
             done = run(["bash", "-euo", "pipefail", "-c", text], room, environment)
-            tally.check(f"{paper.name}: {text.splitlines()[0]}", is_as_printed(done, text), done)
+            wanted = re.findall(r"^ *# prints: (.*)$", text, re.M)
+            holds = done.returncode == 0 and (not wanted or done.stdout.splitlines() == wanted)
+            tally.check(f"{paper.name}: {text.splitlines()[0]}", holds, done)
             count += 1
     tally.check("the papers have commands", count >= 3, count)
 

@@ -1,9 +1,6 @@
 #!/usr/bin/env python3
 """Runs `show` of the compiled program on transmissions: its text, its listing, its drawing, and memory and devices
-refused; and makes the pictures of docs/pictures again and compares them.
-
-It takes the binary that the gate left in crates/pocsag_app/out. The last line is 'N passed, M failed'.
-"""
+refused; and makes the pictures of docs/pictures again and compares them."""
 
 import bisect
 import itertools
@@ -39,10 +36,6 @@ VISIONS = {
 }
 
 
-def millis(batches, rate):
-    return -(-1000 * (576 + 544 * batches) // rate)
-
-
 def pages_of(words):
     """Where each page begins, behind which codeword it ends, and its number: how many pages have a smaller address."""
     found = [(start, end, address_at(words, start)) for start, end in pages_in(words)]
@@ -63,7 +56,7 @@ def text_of(words, first=1, last=None):
         letters[start:end] = [chr(65 + number % 26)] + [chr(97 + number % 26)] * (end - start - 1)
     batches, idles = len(words) // 16, letters.count(".")
     share = (200 * idles + len(words)) // (2 * len(words))
-    times = ", ".join(f"{millis(batches, rate)} ms at {rate} bit/s" for rate in (512, 1200, 2400))
+    times = ", ".join(f"{-(-1000 * (576 + 544 * batches) // rate)} ms at {rate} bit/s" for rate in (512, 1200, 2400))
     lines = [f"batches {batches}, codewords {len(words) - idles}, idles {idles} ({share}%), airtime {times}", HEAD]
     for batch in range(first - 1, min(last or batches, batches)):
         row = "".join(letters[16 * batch : 16 * batch + 16])
@@ -99,16 +92,12 @@ def check_text(tally, folder):
         tally.check(f"text of {batches} batches", done.returncode == 0 and done.stdout == text_of(words), done.stdout[:300])
 
 
-def many_records(count):
-    """Records of so many pages of every kind."""
-    rows = (b"tone0,", b"tone1,", b"tone2,", b"tone3,", b"numeric,5550199", b'alpha,"Ward 3, ""bed"" 2"', b"alpha,\x01\x7f")
-    return b"".join(b"%d,%s\n" % (5 * place, rows[place % len(rows)]) for place in range(count))
-
-
 def check_list(tally, folder):
     """The places of the pages in the listing, beside the codewords, and the decoder's fields."""
     page_file, tx = folder / "pages.csv", folder / "tx"
-    for records in (b'0,numeric,12345\n8,tone2,\n11,alpha,"a,b ""c"""\n', many_records(1_000)):
+    kinds = (b"tone0,", b"tone1,", b"tone2,", b"tone3,", b"numeric,5550199", b'alpha,"Ward 3, ""bed"" 2"', b"alpha,\x01\x7f")
+    many = b"".join(b"%d,%s\n" % (5 * place, kinds[place % len(kinds)]) for place in range(1_000))
+    for records in (b'0,numeric,12345\n8,tone2,\n11,alpha,"a,b ""c"""\n', many):
         page_file.write_bytes(HEADER + records)
         run(["plan", page_file, tx, folder / "cert"])
         listed, decoded = (rows_of(run(words).stdout) for words in (["show", tx, "--list"], ["decode", tx]))
@@ -205,7 +194,8 @@ def check_drawing(tally, name, text, words, sent, first=1, last=None):
     root = ElementTree.fromstring(text)
     check_form(tally, name, root, text, "pocsag")
     low, high = first - 1, min(last or len(words) // 16, len(words) // 16)
-    due, drawn = due_groups(words, fields_of(run(["decode", sent]).stdout), low, high)
+    listed = [[field.encode("latin-1") for field in row] for row in rows_of(run(["decode", sent]).stdout)[1:]]
+    due, drawn = due_groups(words, listed, low, high)
     found = [(group.get("class"), group.findtext(SVG + "title"), found_pieces(group)) for group in root.findall(SVG + "g")]
     wrong = [pair for pair in zip(found, due) if pair[0] != pair[1]]
     tally.check(f"{name}: pages and legend", len(found) == len(due) and not wrong, wrong[:1] or (len(found), len(due)))
@@ -214,11 +204,6 @@ def check_drawing(tally, name, text, words, sent, first=1, last=None):
     tall = 116 + ROW * (max(high - low, 0) + lines)
     tally.check(f"{name}: size", root.get("viewBox") == f"0 0 540 {tall}", root.get("viewBox"))
     return root
-
-
-def fields_of(listing):
-    """The address, the kind and the message of each record of a listing, in bytes."""
-    return [[field.encode("latin-1") for field in row] for row in rows_of(listing)[1:]]
 
 
 def check_svg(tally, folder):
@@ -236,19 +221,17 @@ def check_svg(tally, folder):
         tally.check(f"{name}: status", done.returncode == 0 and done.stderr == b"", done.stderr)
         check_drawing(tally, name, done.stdout, words, path)
     page_file = folder / "pages.csv"
-    page_file.write_bytes(HEADER + b'11,alpha,"<b>&amp; ""x"" ]]> \x01\x7f"\n')
-    run(["plan", page_file, path, folder / "cert"])
-    text = run(["show", path, "--svg"]).stdout
-    root = check_drawing(tally, "escaped", text, codewords_of(path.read_bytes()), path)
-    titles = [node.text for node in root.iter(SVG + "title")]
-    tally.check("escaped message", 'A: address 11, alpha: <b>&amp; "x" ]]> \u2401\u2421' in titles, titles)
     every = bytes(range(1, 128)).replace(b'"', b'""')
-    page_file.write_bytes(HEADER + b'11,alpha,"%s"\n20,alpha,"\r\n\t"\n0,numeric,0123456789*U -][\n' % every)
-    run(["plan", page_file, path, folder / "cert"])
-    root = check_drawing(tally, "all characters", run(["show", path, "--svg"]).stdout, codewords_of(path.read_bytes()), path)
-    titles = [node.text for node in root.iter(SVG + "title")]
-    due = "address 11, alpha: " + "".join(map(shown_byte, range(1, 128)))
-    tally.check("each character of a message", any(title.endswith(due) for title in titles), titles)
+    for name, records, due in (
+        ("escaped", b'11,alpha,"<b>&amp; ""x"" ]]> \x01\x7f"\n', 'A: address 11, alpha: <b>&amp; "x" ]]> \u2401\u2421'),
+        ("all characters", b'11,alpha,"%s"\n20,alpha,"\r\n\t"\n0,numeric,0123456789*U -][\n' % every,
+         "B: address 11, alpha: " + "".join(map(shown_byte, range(1, 128)))),
+    ):  # fmt: skip
+        page_file.write_bytes(HEADER + records)
+        run(["plan", page_file, path, folder / "cert"])
+        root = check_drawing(tally, name, run(["show", path, "--svg"]).stdout, codewords_of(path.read_bytes()), path)
+        titles = [node.text for node in root.iter(SVG + "title")]
+        tally.check(f"{name}: the message", due in titles, titles)
 
 
 def check_rows_wanted(tally, folder):
@@ -339,9 +322,5 @@ def check_pictures(tally, _folder):
         tally.check(f"picture {name}", kept.is_file() and kept.read_bytes() == text, "run docs/pictures/make.py")
 
 
-PARTS = (
-    check_text, check_list, check_svg, check_rows_wanted, check_hues, check_refusals, check_pictures,
-)  # fmt: skip
-
 if __name__ == "__main__":
-    sys.exit(run_parts(*PARTS))
+    sys.exit(run_parts(check_text, check_list, check_svg, check_rows_wanted, check_hues, check_refusals, check_pictures))

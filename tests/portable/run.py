@@ -4,9 +4,8 @@
     tests/portable/run.py             by this machine's compiler
     tests/portable/run.py --others    with musl, and for 32-bit ARM and RISC-V under emulators
 
-It is made over the proofs that stand; without the toolchain it is the one of release/. What is compiled is kept in out/portable,
-which release/make takes it from too. Where a tool is missing, that part is left out and says so.
-The last line is 'N passed, M failed'.
+It is made over the proofs that stand; without the toolchain it is the one of release/. What is compiled is kept in
+out/portable, which release/make takes it from too. Where a tool is missing, that part is left out and says so.
 """
 
 import os
@@ -24,7 +23,7 @@ import packages
 import products
 import version
 from cases import CASES
-from tally import LIBRARY, PROGRAM, as_nobody, put, run_parts, said, skipped
+from tally import LIBRARY, PROGRAM, as_nobody, put, put_script, run_parts, said, skipped
 
 HERE = pathlib.Path(__file__).resolve().parent
 # The scripts that run the program, and of how many of their cases one is tried here: the host is not another in each. Those of
@@ -163,9 +162,8 @@ def try_package(tally, folder):
     done = subprocess.run(["make", "-s", "PREFIX=/usr", f"DESTDIR={folder}/there", "install"], **in_folder)
     brought = [folder / "there/usr" / it for it in ("bin/pocsag", "share/man/man1/pocsag.1", "share/pocsag/examples/enqueue")]
     tally.check("make install", done.returncode == 0 and all(it.is_file() for it in brought), done)
-    (folder / "wrong").write_text('#!/bin/sh\n"$REAL" "$@" | sed "s/2/3/"\n')
-    (folder / "wrong").chmod(0o755)
-    environment = {**os.environ, "PROGRAM": str(folder / "wrong"), "REAL": str(folder / "bin/pocsag")}
+    wrong = put_script(folder / "wrong", '#!/bin/sh\n"$REAL" "$@" | sed "s/2/3/"\n')
+    environment = {**os.environ, "PROGRAM": str(wrong), "REAL": str(folder / "bin/pocsag")}
     done = subprocess.run(["sh", "check.sh"], env=environment, **in_folder)
     tally.check("which finds a wrong program", done.returncode == 1 and "FAILED loops apart" in done.stdout, done)
 
@@ -198,7 +196,6 @@ def try_others(tally, room):
 
 
 def try_native(tally, room):
-    """The program by this machine's compiler."""
     room.chmod(0o755)
     folder = compiled(room, "native", "CFLAGS=-O1")
     program = shutil.copy(folder / "bin/pocsag", room / "pocsag")

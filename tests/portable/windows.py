@@ -3,7 +3,6 @@
 
 Texts, statuses and the bytes of all files are compared. The program is made over the proofs that stand; without the toolchain
 it is that of release/. Where Wine, mingw or wabt is missing it says so.
-The last line is 'N passed, M failed'.
 """
 
 import itertools
@@ -24,8 +23,8 @@ import run as program
 import version
 import windows
 from codewords import APART, HEADER
-from hosts import ROUND
-from tally import CANNOT_OPEN, CANNOT_WRITE, ENDS, LIBRARY, NAMED_TWICE, fault, files_of, put, run_parts, said, skipped
+from hosts import ROUND, native
+from tally import CANNOT_OPEN, CANNOT_WRITE, ENDS, LIBRARY, NAMED_TWICE, fault, files_of, own_disk, put, run_parts, skipped
 
 TOOLS = {"wine": "wine", "wineserver": "wine", "wasm2c": "wabt", "wat2wasm": "wabt", windows.COMPILER: "gcc-mingw-w64-x86-64"}  # with Debian's packages
 STREAMS = ("stdin", "stdout", "stderr")
@@ -61,7 +60,6 @@ class Windows:
 
 
 def released():
-    """The program of the release."""
     name = f"pocsag-{version.VERSION}-windows-x86_64"
     return packages.read(f"{name}.zip", (TOP / f"release/{name}.zip").read_bytes())[f"{name}/{windows.PROGRAM}"].data
 
@@ -70,10 +68,6 @@ def ended(process, stdin=b""):
     """The status of a process, and what it wrote."""
     out, err = process.communicate(stdin, timeout=110)
     return process.returncode, out or b"", err or b""
-
-
-def native(words, folder, stdin=b""):
-    return said(program.run(words, folder, stdin))
 
 
 def begin(folder, files):
@@ -93,8 +87,6 @@ def try_same(tally, room, wine, files, words, stdin=b""):
     wrong = [name for name in left.keys() | wanted.keys() if left.get(name) != wanted.get(name)]
     tally.check(f"as the native program: {words} {stdin[:40]}", found[0] == found[1], str((told, due, wrong))[:2000])
 
-
-# ---- beside the native program
 
 # Devices that Wine has from the system, and journals that are not written.
 LINES = [
@@ -119,9 +111,6 @@ def try_rounds(tally, room, wine):
         try_same(tally, room, wine, {"pages.csv": HEADER + program.ROUNDS[name][0]}, [*words, *ENDS[end], "--verify"])
     for name in list(program.REFUSED)[::3]:
         try_same(tally, room, wine, {"pages.csv": program.REFUSED[name][0] or b""}, [*words, "--verbose"])
-
-
-# ---- names and paths
 
 
 def try_names(tally, room, wine):
@@ -164,9 +153,6 @@ def try_paths(tally, room, wine):
     told = wine.run(["plan", "folder/pages.csv", "folder\\Pages.CSV", "a.cert", "--verbose"], folder)
     due = NAMED_TWICE + fault("page file folder/pages.csv and transmission folder/Pages.CSV are one file")
     tally.check("names that differ in case", told == (1, b"", due), told)
-
-
-# ---- files that stay whole
 
 
 def try_journal(tally, room, wine):
@@ -248,13 +234,12 @@ def try_killed(tally, room, wine):
 
 def try_full(tally, room, wine):
     """A file system without room, where one can be mounted."""
-    folder, small = room / "full", room / "full/folder"
+    folder = room / "full"
     begin(folder, {"many.csv": HEADER + b"".join(b"%d,alpha,%s\n" % (8 * k + 1, b"w" * 90) for k in range(2_000))})
-    words = ["mount", "-t", "tmpfs", "-o", "size=64k", "tmpfs", str(small)]
-    if not shutil.which(words[0]) or subprocess.run(words, capture_output=True).returncode:
-        print("left out: a full file system, since none can be mounted here")
-        return
-    try:
+    with own_disk(folder / "folder", "size=64k") as small:
+        if not small:
+            print("left out: a full file system, since none can be mounted here")
+            return
         (small / "sent.bin").write_bytes(b"older")
         words = ["plan", "many.csv", "folder/sent.bin", "many.cert", "--always", "--verbose"]
         due = CANNOT_WRITE + fault("transmission folder/sent.bin: No space left on device (os error 28)")
@@ -262,11 +247,6 @@ def try_full(tally, room, wine):
         tally.check("a full file system, kept", told == (3, b"", due) and files_of(small) == {"sent.bin": b"older"}, (told, sorted(files_of(small))))
         told = wine.run(words, folder)
         tally.check("a full file system", told == (3, b"", due), told)
-    finally:
-        subprocess.run(["umount", "-l", str(small)], check=True, timeout=60)
-
-
-# ---- streams
 
 
 def try_streams(tally, room, wine):
@@ -318,8 +298,6 @@ def try_shell(tally, room, wine):
     tally.check("the device NUL as a stream", told == (1, b"", fault("the header must be address,kind,message")), told)
 
 
-# ---- what the module cannot do
-
 TRAPS = """(module
   (import "env" "read" (func $read (param i32 i64 i64) (result i64)))
   (memory (export "memory") 1)
@@ -347,15 +325,11 @@ def try_traps(tally, room, wine):
         tally.check(f"trap {why}", told == (3, b"", fault(why)), told)
 
 
-PARTS = (
-    try_beside, try_rounds, try_names, try_paths, try_journal, try_kept, try_left, try_killed, try_full, try_streams, try_shell, try_traps,
-)  # fmt: skip
-
-
 def try_windows(tally, room):
     wine = Windows(room)
     try:
-        for part in PARTS:
+        for part in (try_beside, try_rounds, try_names, try_paths, try_journal, try_kept, try_left, try_killed, try_full, try_streams,
+                     try_shell, try_traps):  # fmt: skip
             part(tally, room, wine)
     finally:
         wine.end()

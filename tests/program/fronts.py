@@ -24,10 +24,6 @@ NO_PAGES, NEEDS_TWO, BAD_KIND, NO_LATER, STOPPED = map(fault, (
 ))  # fmt: skip
 
 
-def fresh(folder, name):
-    return room_in(folder, name, FILES)
-
-
 def counts_of(sent, batches, left, *aside):
     """What `plan` prints of so many pages."""
     lines = zip(("pages", "batches", "left", "oversized"), (sent, batches, left, *aside))
@@ -50,7 +46,7 @@ def try_options(tally, folder):
     """Each option of a plan beside each other one, and the files that they leave."""
     flags = (["--always"], ["--verify"], ["--keep"], ["--strict"], ["--expect", "3"], ["--limit", "1000"], ["--end", "open"])
     for number, chosen in sampled(enumerate(itertools.product((False, True), repeat=len(flags)))):
-        room = fresh(folder, f"options {number}")
+        room = room_in(folder, f"options {number}", FILES)
         words = [word for is_chosen, flag in zip(chosen, flags) if is_chosen for word in flag]
         check_front(tally, room, ["pages.csv", "--at-most", "2", *OTHERS, *words], counts_of(2, 2, 1), [FIRST, TONE], rest=[LAST])
         tally.check(f"files of a front with {words}", {*os.listdir(room)} == {*NAMES, *FILES}, os.listdir(room))
@@ -60,7 +56,7 @@ def try_options(tally, folder):
 
 def try_limits(tally, folder):
     """From no batch to more than all need; the same by time."""
-    room = fresh(folder, "limits")
+    room = room_in(folder, "limits", FILES)
     for batches, count in ((0, None), (1, None), (2, 2), (3, 3), (4, 3), (2**32 - 1, 3)):
         for name in NAMES:
             (room / name).write_bytes(b"old")
@@ -86,7 +82,7 @@ WRONG |= dict.fromkeys(("--oversized o", "--later --rest r --oversized o", "--at
 
 def try_refusals(tally, folder):
     """Words that do not go together, and names of one file."""
-    room = fresh(folder, "refusals")
+    room = room_in(folder, "refusals", FILES)
     for words, told in WRONG.items():
         tally.check_usage(f"wrong words {words}", run([*PLAN, *words.split()], room), told, {*os.listdir(room)} == {*FILES})
     (room / "link").symlink_to("pages.csv")
@@ -105,7 +101,7 @@ def try_refusals(tally, folder):
 
 def try_later(tally, folder):
     """`--later`: the first page of each address is sent, and the others are left in the order of the file."""
-    room = fresh(folder, "later")
+    room = room_in(folder, "later", FILES)
     some, every = (counts_of(2, 2, 3), [FIRST, TONE], [TONES[0], LAST, TONES[1]]), (counts_of(3, 3, 2), PAGES, TONES)
     for words, (told, sent, left) in (
         (["--at-most", "2"], some), (["--at-most", "3"], every), ([], every), (["--airtime", "1387", "--rate", "1200"], some),
@@ -128,7 +124,7 @@ def try_later(tally, folder):
 
 def try_oversized(tally, folder):
     """`--oversized`: a page that alone needs more batches than are allowed is set aside, unless all do."""
-    room = fresh(folder, "oversized")
+    room = room_in(folder, "oversized", FILES)
     names = ["--rest", "rest.csv", "--oversized", "over.csv"]
     for file, words, sent, left, aside in (
         ("pages.csv", "--at-most 1", [TONE], [LAST], [FIRST]),
@@ -151,7 +147,7 @@ def try_oversized(tally, folder):
 
 def try_runs(tally, folder):
     """Slot by slot each page of a queue is sent once, and the pages of an address in the order of the file."""
-    room, chance = fresh(folder, "runs"), random.Random(60)
+    room, chance = room_in(folder, "runs", FILES), random.Random(60)
     records = [b"%d,alpha,%d\n" % (chance.choice((0, 1, 8, 11, 2_000_000)), number) for number in range(60)]
     (room / "queue.csv").write_bytes(HEADER + b"".join(records))
     sent = []
@@ -211,7 +207,7 @@ def planned(file, words):
 
 def try_slots(tally, folder):
     """`report` of a front prints what `plan` would print and what it takes on the air, with the same faults, and writes no file."""
-    room, other = fresh(folder, "slots"), fresh(folder, "plans of slots")
+    room, other = room_in(folder, "slots", FILES), room_in(folder, "plans of slots", FILES)
     for file, words, told in SLOTS:
         tally.check_done(f"slot {file} {words}", run(["report", file, *words.split()], room), 0, told)
         lines = b"".join(line for line in told.splitlines(True) if not line.startswith(COUNTS))

@@ -1,7 +1,7 @@
 #!/usr/bin/env python3
-"""Each command with each option at the largest size that its limits allow, and at one between: contracts cannot exclude that a call
-gives up for want of memory above some size. `tests/calls/largest.txt` says which of these runs is the largest of each call. All numbers
-are worked by hand, and transmissions are made by `forms.py`. The last line is 'N passed, M failed'."""
+"""Each command with each option at the largest size that its limits allow, and at one between: contracts cannot exclude that a
+call gives up for want of memory above some size. `tests/calls/largest.txt` says which of these runs is the largest of each call.
+All numbers are worked by hand, and transmissions are made by `forms.py`."""
 
 import pathlib
 import subprocess
@@ -9,8 +9,7 @@ import sys
 import tempfile
 
 sys.dont_write_bytecode = True
-HERE = pathlib.Path(__file__).resolve().parent
-sys.path[:0] = [str(HERE), *(str(HERE.parent / it) for it in (".", "calls", "certificates"))]
+sys.path[:0] = [str(pathlib.Path(__file__).resolve().parents[1] / it) for it in ("program", ".", "calls", "certificates", "../tools")]
 import checker
 import sizes
 import trees
@@ -367,7 +366,6 @@ def try_journals(tally, folder):
 
 
 def try_table(tally, _):
-    """The table of the largest runs names checks that were made."""
     missing = sizes.runs_of("tests/program/largest.py") - tally.names
     tally.check("each run that tests/calls/largest.txt names was made", not missing, missing)
 

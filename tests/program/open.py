@@ -1,9 +1,6 @@
 #!/usr/bin/env python3
 """Drives `pocsag open` over pipes as a paging centre's script does: each answer is awaited before the next
-line is sent, and edits by the thousand are compared with a list that is kept here.
-
-It takes the binary that the gate left in crates/pocsag_app/out. The last line is 'N passed, M failed'.
-"""
+line is sent, and edits by the thousand are compared with a list that is kept here."""
 
 import collections
 import os
@@ -28,14 +25,12 @@ NO_FILE, NO_WRITE, NO_PAGE = b"refused: cannot read or open a file", b"refused: 
 
 
 def ask_all(tally, session, rows):
-    """Whether each line is answered as it is due."""
     for line, due in rows:
         found = session.ask(line)
         tally.check(f"{line[:40]!r} is answered {due!r}", found == due, found)
 
 
 def check_list(tally, name, session, *records):
-    """Whether a list has these records."""
     found = session.lines(b"list")
     tally.check(name, found == [HEADER.strip(), *records, b"ok %d" % len(records)], found)
 
@@ -73,7 +68,12 @@ def many_edits(tally, folder):
     tally.check(f"{EDITS} edits are answered as a list answers them", not wrong, wrong[:3])
     tally.check("each kind of edit was taken, and each but `clear` refused", len(words) == 5 and min(words.values()) > 3, words)
     tally.check(f"the {len(lists)} lists in between are that list, in its order", all(lists) and len(lists) >= 10, lists)
-    plans_of_the_list(tally, folder, session, listing(pages).splitlines()[1:])
+    records = listing(pages).splitlines()[1:]
+    for end, told in ((b"open", b""), (b"closed", b" with a closed end"), (b"idle", b" with an idle last")):
+        answer, found = session.ask(b"plan,many.bin,many.cert," + end), sent_by(folder, "many.bin")
+        tally.check(f"a plan with the {end.decode()} end sends the pages of the list", found == sorted(records), found[:3])
+        shown, due = shown_by(folder, "many.cert", records), b"at least " + answer[len("batches ") :] + b" batches" + told + b"\n"
+        tally.check("its certificate shows its batches for the list", shown == due, (answer, shown))
     check_end(tally, "the end of the input ends it with status 0", session)
 
 
@@ -86,15 +86,6 @@ def shown_by(folder, name, records):
     """What `check` prints of a certificate for the page file of these records."""
     (folder / "shown.csv").write_bytes(HEADER + b"".join(record + b"\n" for record in records))
     return run(["check", "shown.csv", name], folder).stdout
-
-
-def plans_of_the_list(tally, folder, session, records):
-    """What is planned holds the pages of the list, and the certificate shows its batches for them."""
-    for end, told in ((b"open", b""), (b"closed", b" with a closed end"), (b"idle", b" with an idle last")):
-        answer, found = session.ask(b"plan,many.bin,many.cert," + end), sent_by(folder, "many.bin")
-        tally.check(f"a plan with the {end.decode()} end sends the pages of the list", found == sorted(records), found[:3])
-        shown, due = shown_by(folder, "many.cert", records), b"at least " + answer[len("batches ") :] + b" batches" + told + b"\n"
-        tally.check("its certificate shows its batches for the list", shown == due, (answer, shown))
 
 
 # Lines as long as may be, and one byte longer: the end of the first tells what is answered.
@@ -307,10 +298,7 @@ def demands(tally, folder):
         tally.check_usage(f"no PAGES {words}", run(["open", *words], room), also=os.listdir(room) == ["pages.csv"])
 
 
-PARTS = (
-    words_of_answers, devices_of_a_plan, many_edits, hard_plans, slots_of_a_day, begins_with_pages,
-    demands, last_line, worked_session,
-)  # fmt: skip
-
 if __name__ == "__main__":
-    sys.exit(run_parts(*PARTS))
+    sys.exit(run_parts(
+        words_of_answers, devices_of_a_plan, many_edits, hard_plans, slots_of_a_day, begins_with_pages, demands, last_line, worked_session,
+    ))  # fmt: skip

@@ -5,7 +5,7 @@ import itertools
 import random
 
 import tally as shared
-from codewords import HEADER, in_order
+from codewords import in_order
 from tally import BAD_LIMIT, BAD_RATE, fault, module_at, sampled
 
 ENDS = ([], ["--end", "open"], ["--end", "closed"], ["--end=closed"], ["--idle-last"], ["--end", "idle"])
@@ -76,11 +76,6 @@ class Due:
         )
 
 
-def told_bound(lines, batches):
-    """The bound that a text prints behind a plan of so many batches, which stands there only where it is below."""
-    return int(lines[0].split()[2]) if lines and lines[0].startswith(b"at least ") else batches
-
-
 def judged(due, done, limit, is_always):
     """The batches and the bound that a call prints; none where it is refused as it may be, and false where the
     answer is wrong. With a limit of one node alone the search may stop."""
@@ -88,7 +83,7 @@ def judged(due, done, limit, is_always):
     said = dict(line.split(b" ", 1) for line in text if b" " in line)
     if done.returncode == 0:
         batches = int(said.get(b"batches", b"0"))
-        bound = told_bound([line for line in text if line.startswith(b"at least ")], batches)
+        bound = next((int(line.split()[2]) for line in text if line.startswith(b"at least ")), batches)  # it stands there only where it is below
         is_fewest = batches == bound == due.fewest
         is_near = is_always and "1" in limit and bound + 1 == batches and bound <= due.fewest <= batches
         return (batches, bound) if is_fewest or is_near else False
@@ -103,7 +98,6 @@ def combinations(*lists):
 
 
 def try_plan_options(tally, folder):
-    """`plan` with each end, limit, `--always`, `--verify` and `--verbose`."""
     flags = ([], ["--always"]), ([], ["--verify"]), VERBOSE
     for pages, end, limit, always, verify, verbose in combinations(ROUNDS, ENDS, LIMITS, *flags):
         due = Due(pages, end_in(end))
@@ -158,7 +152,6 @@ def try_open_options(tally, folder):
 
 
 def try_input_options(tally, folder):
-    """No words: the fewest batches for the open end."""
     for pages, verbose in combinations(ROUNDS, VERBOSE):
         due = Due(pages, "open")
         told = b"pages %d\nbatches %d\n" % (len(pages), due.fewest)

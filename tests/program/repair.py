@@ -43,7 +43,6 @@ def try_transmission(tally, folder, source):
 
 
 def try_beyond(tally, folder, source, sent):
-    """Three wrong bits in one word."""
     place = source.randrange((len(sent) - FRONT) // WORD)
     at = FRONT + WORD * place
     wrong = flipped(sent[at : at + WORD], *source.sample(range(32), 3))

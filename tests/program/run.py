@@ -1,8 +1,5 @@
 #!/usr/bin/env python3
-"""Runs the compiled program on real files as a user would: what it prints, its status, its files.
-
-It takes the binary that the gate left in crates/pocsag_app/out. The last line is 'N passed, M failed'.
-"""
+"""Runs the compiled program on real files as a user would: what it prints, its status, its files."""
 
 import itertools
 import os
@@ -20,7 +17,7 @@ import repair
 import usage
 import verbose
 from codewords import HEADER, HEADS, IDLE, ONES as MESSAGE, TONE, ZERO, flipped, transmission
-from tally import BAD_LIMIT, BAD_RATE, CANNOT_OPEN, CANNOT_WRITE, ENDS, NAMED_TWICE, TOO_LARGE, fault, make_huge, run, run_parts, sampled
+from tally import BAD_LIMIT, BAD_RATE, CANNOT_OPEN, CANNOT_WRITE, ENDS, NAMED_TWICE, TOO_LARGE, fault, make_huge, put, run, run_parts, sampled
 from worked import BOTH_WAYS, EXACT, HARD, LONE_TONE, LONG_ALPHA, LOOP_APART, ONE_FULL, TIGHT, of_ones, shaped
 
 # What `check` prints of a certificate for each end.
@@ -80,7 +77,6 @@ def shown_of(batches, end):
 
 
 def try_round(tally, folder, name, end):
-    """A round planned, checked, decoded and read back."""
     records, *fewest, _, sent = ROUNDS[name]
     batches = dict(zip(ENDS, fewest))[end]
     if batches is None:
@@ -139,27 +135,18 @@ def try_reports(tally, folder):
     tally.check("report with the closed end", done.stdout.split(b"\n")[2:4] == [b"in_order 2", b"batches 3"], done)
 
 
-def put_older(folder):
-    """A transmission and a certificate that stood there before."""
-    for made in ("tx.bin", "cert.bin"):
-        (folder / made).write_bytes(b"older")
-
-
-def are_empty(folder):
-    return [(folder / made).read_bytes() for made in ("tx.bin", "cert.bin")] == [b"", b""]
-
-
 def try_limits(tally, folder):
     """`node-limit`, and limits that are none."""
     (folder / "pages.csv").write_bytes(HEADER + ROUNDS["loops-apart"][0])
     stopped = fault("search limit reached: at least 2 batches, 3 would do")
     for limit, status, why in (("2", 1, stopped), ("3", 0, b""), ("0", 1, BAD_LIMIT), ("1000001", 1, BAD_LIMIT)):
         for words in (PLAN, ["report", "pages.csv", "--rate", "512"]):
-            put_older(folder)
+            put(folder, dict.fromkeys(PLAN[2:], b"older"))
             done = run([*words, "--limit", limit], folder)
             tally.check(f"{words[0]} limit {limit}", (done.returncode, done.stderr) == (status, why), done)
             if status == 1 and words[0] == "plan":
-                tally.check(f"limit {limit} leaves empty files", are_empty(folder) and done.stdout == b"", done)
+                left = {(folder / made).read_bytes() for made in PLAN[2:]}
+                tally.check(f"limit {limit} leaves empty files", left == {b""} and done.stdout == b"", done)
 
 
 def try_always(tally, folder):
@@ -255,10 +242,6 @@ def try_receivers(tally, folder):
         tally.check_done(f"missing file {words}", run(words, folder), 3, b"", CANNOT_OPEN)
 
 
-def main():
-    parts = (part for module in (usage, doors, edges, forms, fronts, options, repair, verbose) for part in module.PARTS)
-    return run_parts(try_rounds, try_reports, try_limits, try_always, try_files, try_receivers, *parts)
-
-
 if __name__ == "__main__":
-    sys.exit(main())
+    parts = (part for module in (usage, doors, edges, forms, fronts, options, repair, verbose) for part in module.PARTS)
+    sys.exit(run_parts(try_rounds, try_reports, try_limits, try_always, try_files, try_receivers, *parts))

@@ -1,7 +1,7 @@
 #!/usr/bin/env python3
 """Runs the program and the C library for ARM64 under qemu-user, beside those for x86-64 and by the scripts of this repository.
 
-Where the cross compiler of Debian or qemu-user is missing, it is left out. The last line is 'N passed, M failed'.
+Where the cross compiler of Debian or qemu-user is missing, it is left out.
 """
 
 import pathlib
@@ -18,7 +18,7 @@ import lanes
 import make
 import products
 from codewords import random_file
-from tally import PROGRAM, files_of, room_in, run_parts, said, skipped
+from tally import PROGRAM, files_of, put_script, room_in, run_parts, said, skipped
 
 EMULATORS = {products.ARM: "qemu-aarch64", products.ARMHF: "qemu-arm"}
 SCRIPTS = ("tests/program/run.py", "tests/program/open.py", "tests/journal/run.py", "tests/sound/run.py", "tests/vectors/run.py")
@@ -38,10 +38,7 @@ def why_not(processor=products.ARM):
 
 def emulated(folder, name, program, processor=products.ARM):
     """A script that runs a program for a processor."""
-    script = folder / name
-    script.write_text(f'#!/bin/sh\nexec {EMULATORS[processor]} -L /usr/{processor.triple} "{program}" "$@"\n')
-    script.chmod(0o755)
-    return script
+    return put_script(folder / name, f'#!/bin/sh\nexec {EMULATORS[processor]} -L /usr/{processor.triple} "{program}" "$@"\n')
 
 
 # What is run of each round, one command after the other in one folder.

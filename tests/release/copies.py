@@ -1,16 +1,13 @@
 """A copy of the repository with a release of its sources, for this processor alone, and those who run it."""
 
 import os
-import pathlib
 import re
 import shutil
 import subprocess
 import sys
 
-TESTS = pathlib.Path(__file__).resolve().parents[1]
-sys.path[:0] = [str(TESTS), str(TESTS.parent / "tools")]
 import workspace
-from tally import LIBRARY, TOP
+from tally import LIBRARY, TOP, put_script
 
 PARTS = ("VERSION", "LICENSE-APACHE", "LICENSE-MIT", "clib", "completions", "README.md", "crates.txt", "docs/LIBRARY.md", "docs/pocsag.1",
          "examples", "install", "pocsag", "portable", "release", "tests/tally.py", "tools", "web")
@@ -84,8 +81,7 @@ class User:
         self.calls = self.commands / "calls"
         for name in (*BARE, *commands):
             if name == "rt":
-                (self.commands / name).write_text(RT.format(calls=self.calls))
-                (self.commands / name).chmod(0o755)
+                put_script(self.commands / name, RT.format(calls=self.calls))
             elif shutil.which(name):
                 (self.commands / name).symlink_to(os.path.realpath(shutil.which(name)))
 

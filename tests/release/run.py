@@ -2,7 +2,7 @@
 """Packs what is built here, forges and spoils the packages, and has them used by those who have no toolchain.
 
 Without the toolchain it takes the release that is there. Where `lintian`, `dpkg-deb` or `pip` is missing, that part is
-left out. The last line is 'N passed, M failed'.
+left out.
 """
 
 import dataclasses
@@ -18,14 +18,13 @@ import sys
 import time
 
 sys.dont_write_bytecode = True
-sys.path.insert(0, str(pathlib.Path(__file__).resolve().parent))
-from copies import Copy, User
-from tally import LIBRARY, TOP, module_at, run_parts
-
-sys.path[:0] = [str(TOP / "release"), str(TOP / "clib")]
+TOP = pathlib.Path(__file__).resolve().parents[2]
+sys.path[:0] = [str(TOP / it) for it in ("tests/release", "tests", "release", "clib", "tools")]
 import packages
 import version
+from copies import Copy, User
 from packages import File
+from tally import LIBRARY, module_at, put_script, run_parts
 
 ENDINGS = (".tar.xz", ".deb", ".whl")
 WORDS = ("plan", "examples/round.csv", "round.bin", "round.cert")
@@ -289,24 +288,18 @@ def try_refused(tally, copy):
     copy.drop_built()
     tally.check_run("another processor", bare.run(*WORDS, HOSTTYPE="riscv64"), 3, "", "nothing can be built")
     files = kept(copy)
-    for name, spoil in (("spoiled", flip_in_place), ("forged", forge_program)):
-        spoil(copy)
+    for name in ("spoiled", "forged"):
+        for ending, program in ((".tar.xz", "bin/pocsag"), (".deb", "usr/bin/pocsag")):
+            path = copy.package(ending)
+            if name == "spoiled":
+                path.write_bytes(spoiled(path.read_bytes()))
+            else:
+                forge(copy, ending, lambda it, program=program: flipped(it, program))
         tally.check_run(f"a {name} package", bare.run(*WORDS), 3, "", "is not used")
         tally.check_run(f"a {name} package, with the toolchain", builder.run("decode"), 0, "built decode\n")
         tally.check("nothing of it is kept", not (copy.top / "out/release/current").exists(), list((copy.top / "out").glob("release/*")))
         copy.drop_built()
         put_back(copy, files)
-
-
-def flip_in_place(copy):
-    for ending in (".tar.xz", ".deb"):
-        path = copy.package(ending)
-        path.write_bytes(spoiled(path.read_bytes()))
-
-
-def forge_program(copy):
-    forge(copy, ".tar.xz", lambda it: flipped(it, "bin/pocsag"))
-    forge(copy, ".deb", lambda it: flipped(it, "usr/bin/pocsag"))
 
 
 def try_at_once(tally, copy):
@@ -323,8 +316,7 @@ def try_at_once(tally, copy):
         other = f'[ -n "$OTHER" ] || {{ OTHER=1 ./pocsag {" ".join(command[1:])}; {link} out/release/current/bin/pocsag "{first}"; }} > /dev/null 2>&1'
         real = (user.commands / name).readlink()
         (user.commands / name).unlink()
-        (user.commands / name).write_text(f'#!/bin/sh\n{other}\nexec {real} "$@"\n')
-        (user.commands / name).chmod(0o755)
+        put_script(user.commands / name, f'#!/bin/sh\n{other}\nexec {real} "$@"\n')
     tally.check("a call that another overtakes", user.run(*command[1:]) == (0, "at least 2 batches\n", ""))
     tally.check("the other's program stays", first.samefile(copy.top / "out/release/current/bin/pocsag"))
     tally.check("nothing else is left", len(list((copy.top / "out/release").iterdir())) == 2)

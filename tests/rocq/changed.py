@@ -42,9 +42,3 @@ CHANGES = {
     "a preamble of 71 bytes": lambda source, sent: sent[1:],
     "a byte less": lambda source, sent: sent[:-1],
 }
-
-
-def one_of(source, sent):
-    """One change and the bytes that it makes, if it can be made."""
-    what = source.choice([*CHANGES, "two pages exchanged", "two pages exchanged"])
-    return what, CHANGES[what](source, sent)

@@ -1,9 +1,6 @@
 #!/usr/bin/env python3
 """Runs `wav` of the compiled program: its header and each of its samples, beside those that are worked out here from the
-bits; every option with every other; what it refuses; pipes; and writes that fail.
-
-It takes the binary that the gate left in crates/pocsag_app/out. The last line is 'N passed, M failed'.
-"""
+bits; every option with every other; what it refuses; pipes; and writes that fail."""
 
 import io
 import itertools
@@ -164,7 +161,5 @@ def try_failing_writes(tally, folder):
         tally.check_done(f"a disk of {size} bytes", done, *due, also=(folder / "out.wav").read_bytes() == whole[:size])
 
 
-PARTS = (try_by_hand, try_rounds, try_options, try_numbers, try_lengths, try_pipes, try_failing_writes)
-
 if __name__ == "__main__":
-    sys.exit(run_parts(*PARTS))
+    sys.exit(run_parts(try_by_hand, try_rounds, try_options, try_numbers, try_lengths, try_pipes, try_failing_writes))

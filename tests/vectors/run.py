@@ -1,23 +1,22 @@
 #!/usr/bin/env python3
 """Runs `check`, `explain` and `decode` of the compiled program, and the second checker, over the vectors of vectors/.
 
-What is due stands in vectors/table.csv, worked out by hand. The last line is 'N passed, M failed'.
+What is due stands in vectors/table.csv, worked out by hand.
 """
 
 import csv
 import hashlib
+import pathlib
 import sys
 
 sys.dont_write_bytecode = True
-from pathlib import Path
-
-TOP = Path(__file__).resolve().parents[2]
+TOP = pathlib.Path(__file__).resolve().parents[2]
 VECTORS = TOP / "vectors"
 sys.path[:0] = [str(TOP / "tests"), str(TOP / "tests/certificates"), str(VECTORS)]
 import checker
 import make
 from codewords import IDLE, rows_of
-from tally import run as tally_run, run_parts, sampled
+from tally import put, run as tally_run, run_parts, sampled
 
 FAULT = "pocsag: "
 PAGES = "772c6dd34c2dfd0305b3c8770f9074d0cf62698fdb1d26c872fcd89746a0701e"  # the names and the bytes of vectors/pages
@@ -38,9 +37,8 @@ def run(folder, *words):
 def try_files(tally, folder):
     """The files of the repository are those that make.py spells, and the page files those of which the table was worked out; all of
     them are in use, and no row comes twice."""
-    make.write(folder, make.small())
-    make.write(folder, make.large())
-    spelled = dict(make.small())
+    spelled, large = dict(make.small()), dict(make.large())
+    put(folder, spelled | large)
     for name, data in spelled.items():
         path = VECTORS / name
         tally.check(f"{name} as it is spelled", path.exists() and path.read_bytes() == data)
@@ -48,7 +46,7 @@ def try_files(tally, folder):
     tally.check("no page file was changed", hashlib.sha256(pages).hexdigest() == PAGES, hashlib.sha256(pages).hexdigest())
     table = rows()
     used = {row[column] for row in table for column in ("pages", "tx", "cert") if row[column]}
-    made = {str(path.relative_to(folder)) for path in folder.rglob("*") if path.is_file()}
+    made = {*spelled, *large}
     here = {f"{part}/{path.name}" for part in ("pages", "certs", "sent") for path in (VECTORS / part).iterdir()}
     tally.check("each file is in use", used == made and here == spelled.keys(), (used ^ made, here ^ spelled.keys()))
     tally.check("each name stands once", len({row["name"] for row in table}) == len(table))

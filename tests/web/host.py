@@ -6,15 +6,13 @@ import os
 import re
 import shutil
 import subprocess
-import sys
 import time
 
+import arm64
 import hosts
 from codewords import HEADER
-from tally import CANNOT_OPEN, CANNOT_WRITE, PROGRAM, TOO_LARGE, TOP, as_nobody, fault, faulty, files_of, put
-
-sys.path.insert(0, str(TOP / "tests/release"))
-import arm64
+from hosts import native
+from tally import CANNOT_OPEN, CANNOT_WRITE, PROGRAM, TOO_LARGE, TOP, as_nobody, fault, faulty, files_of, put, put_script
 
 TONE = HEADER + b"8,tone0,\n"
 OLD = {"pages.csv": TONE, "tx.bin": b"older", "cert.bin": b"older too"}
@@ -38,17 +36,12 @@ def outcome(command, folder, stdin=b"", **how):
     return done.returncode, done.stdout, done.stderr
 
 
-def native(words, folder, stdin=b""):
-    return outcome([str(PROGRAM), *words], folder, stdin)
-
-
 class Node:
     """The program in Node, as a command of its own."""
 
     def __init__(self, room, made, node):
-        self.made, self.node, self.path = made, node, room / "pocsag"
-        self.path.write_text(f'#!/bin/sh\nexec "{node}" $FLAGS_OF_NODE "{made}/cli.mjs" "$@"\n')
-        self.path.chmod(0o755)
+        self.made, self.node = made, node
+        self.path = put_script(room / "pocsag", f'#!/bin/sh\nexec "{node}" $FLAGS_OF_NODE "{made}/cli.mjs" "$@"\n')
 
     def run(self, words, folder, stdin=b"", before=(), **how):
         return outcome([*before, str(self.path), *words], folder, stdin, **how)
@@ -186,7 +179,6 @@ def try_limits(tally, room, node):
 
 
 def try_hosts(tally, room, made, path):
-    """All of this, with the Node of a path."""
     room.mkdir()
     room.parent.chmod(0o755)
     node = Node(room, made, path)

@@ -37,7 +37,6 @@ class Native:
 
 
 def answers_of_module(node, script, module, calls):
-    """What the module answers to all of these calls."""
     lines = "".join(json.dumps(it) + "\n" for it in calls)
     ran = subprocess.run([node, script, module], input=lines.encode(), capture_output=True, timeout=1200)
     if ran.returncode:

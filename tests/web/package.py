@@ -2,17 +2,13 @@
 
 import functools
 import json
-import pathlib
 import re
 import shutil
-import sys
 
-TOP = pathlib.Path(__file__).resolve().parents[2]
-sys.path[:0] = [str(TOP / it) for it in ("release", "tools")]
 import contents
 import packages
 import version
-from tally import call, put
+from tally import TOP, call, put
 
 PLANNED = 'import { plan, Pocsag, Fault } from "pocsag"; console.log(plan("address,kind,message\\n8,tone0,\\n").batches, typeof Pocsag, typeof Fault);'
 USE = """import { plan, planAtMost, check, decode, hear, show, wav, writePage, KINDS, Fault, Pocsag, type Plan, type Front } from "pocsag";

@@ -5,7 +5,6 @@ It makes them twice, in two folders; makes the same calls of the module and of t
 files and buffers that are too small; runs the published vectors and the worked examples; refuses memory; runs the program by
 its hosts in Node and in memory; and uses the page as a user does. Where the C library is that of the release, it tries the
 release's files. Where Node, the toolchain, Binaryen or a browser is missing it says so and tries the rest.
-The last line is 'N passed, M failed'.
 """
 
 import json
@@ -19,13 +18,12 @@ import tarfile
 
 sys.dont_write_bytecode = True
 HERE = pathlib.Path(__file__).resolve().parent
-TOP = HERE.parents[1]
-sys.path[:0] = [str(HERE), str(HERE.parent)]
+sys.path[:0] = [str(HERE.parent / it) for it in ("web", ".", "release", "../release", "../tools")]
 import host
 import native
 import package
 from codewords import HEADER, changed, random_file
-from tally import LIBRARY, PROGRAM, call as run, module_at, run_parts
+from tally import LIBRARY, PROGRAM, TOP, call as run, module_at, run_parts
 
 
 ROUNDS, PER_BATCH = 2_000, 500
@@ -240,14 +238,10 @@ def billed(part, *given):
     print(f"{part.__name__}: {sum(os.times()[:4]) - sum(before[:4]):.0f} s of processors", flush=True)
 
 
-def has_node():
-    """Whether there is a Node of version 20 or later."""
-    return bool(NODE) and int(re.match(rb"v(\d+)", run(NODE, "--version").stdout)[1]) >= 20
-
-
 def main(tally, room):
     makers = [] if LIBRARY else [(name, shutil.which(name)) for name in ("rt", "wasm-opt")]
-    missing = [name for name, found in [("node 20", has_node()), *makers] if not found]
+    has_node = NODE and int(re.match(rb"v(\d+)", run(NODE, "--version").stdout)[1]) >= 20
+    missing = [name for name, found in [("node 20", has_node), *makers] if not found]
     if missing:
         print(f"skipped: {' and '.join(missing)} missing in PATH")
         tally.check("nothing to try", True)

@@ -5,8 +5,8 @@ crates give a name to two things, a module aside, but for the names of twice.txt
 a clause ends at column 120; that `thiserror` derives each fault, and a table of tests
 has its text; and that a crate uses the libraries that crates.txt gives it.
 
-A clause is public where it stands on a function that its crate passes on, or on a method of a type or trait that it
-passes on. The last line is 'N passed, M failed'.
+A clause is public where it stands on a function that its crate passes on, or on a method of a type or trait that it passes
+on.
 """
 
 import pathlib
@@ -19,7 +19,7 @@ import definitions
 import workspace
 from sizes import Source
 from sources import texts_of
-from tally import TOP, Tally
+from tally import TOP, run_parts
 
 IMPORT = re.compile(r"ghost use Rattle\.(pocsag_\w+)\.specs\.([\w.]+)\.\{([^}]*)\};")
 MODULE_IMPORT = re.compile(r"ghost use Rattle\.(pocsag_\w+)\.specs\.([\w.]+) as (\w+);")
@@ -51,7 +51,7 @@ def imports(text):
     return words
 
 
-def check_meanings(tally):
+def check_meanings(tally, _):
     """Wants each name that is given in specs/ to be given in one module alone."""
     givers = {}
     for file in sorted(TOP.glob("crates/*/specs/*.antt")):
@@ -70,7 +70,7 @@ def sources():
                 yield crate.name, file
 
 
-def check_items(tally):
+def check_items(tally, _):
     """Wants each name that the code of two crates gives to an item to stand in twice.txt, and no other to stand there."""
     givers = {}
     for crate, file in sources():
@@ -87,7 +87,7 @@ def check_items(tally):
             print(f"{name} of twice.txt is given once: its line may go")
 
 
-def check_faults(tally):
+def check_faults(tally, _):
     """Wants `thiserror` to derive each type whose name ends in `Fault`, and none of them to be told by hand."""
     for crate, file in sources():
         text = file.read_text()
@@ -98,7 +98,7 @@ def check_faults(tally):
             tally.check(f"derived text of {crate} {name}", is_derived and not by_hand, f"derives {sorted(derived)}")
 
 
-def check_texts(tally):
+def check_texts(tally, _):
     """Wants each fault and each of its variants to have a row in a table of texts, a `fault_texts.rt` of the tests."""
     tables = "".join(table.read_text() for table in TOP.glob("crates/*/src/fault_texts.rt"))
     rows = re.sub(r"^use [^;]*;", "", tables, flags=re.MULTILINE)
@@ -109,7 +109,7 @@ def check_texts(tally):
                 tally.check(f"text of {crate} {told}", re.search(rf"(?<!::)\b{told}\b", rows), "no row of a fault_texts.rt has it")
 
 
-def check_libraries(tally):
+def check_libraries(tally, _):
     """Wants each crate that crates.txt gives one of the libraries to use it."""
     for line in (TOP / "crates.txt").read_text().split("\n"):
         crate, _, needed = line.partition(":")
@@ -119,7 +119,7 @@ def check_libraries(tally):
             tally.check(f"{library} in {crate}", used, "stands in crates.txt alone")
 
 
-def check_lengths(tally):
+def check_lengths(tally, _):
     """Wants each line of a clause to end at the last column."""
     for crate, file in sources():
         lines = file.read_text().split("\n")
@@ -128,7 +128,7 @@ def check_lengths(tally):
         tally.check(f"clauses of {crate} {file.name}", not there, f"end behind column {LAST_COLUMN} at the lines {there}")
 
 
-def check_reader(tally):
+def check_reader(tally, _):
     """Wants `csv::Reader` to read what `pocsag_pages` reads, and code to use each library that was chosen for the product."""
     texts = [(crate, file.read_text()) for crate, file in sources()]
     of_pages = "".join(text for crate, text in texts if crate == "pocsag_pages")
@@ -161,10 +161,8 @@ def wanted_words():
     return wanted
 
 
-def main():
-    tally = Tally()
-    for part in (check_meanings, check_items, check_lengths, check_faults, check_texts, check_libraries, check_reader):
-        part(tally)
+def check_comments(tally, _):
+    """Wants a comment above each word that a public clause cites, which tools/definitions.py prints."""
     wanted, told = wanted_words(), set(definitions.told())
     for word, cited in sorted(wanted.items()):
         tally.check(".specs.".join(word[:2]) + f".{word[2]}", definitions.given_at(word) in told, f"cited by {cited}: its definition has no comment")
@@ -172,8 +170,7 @@ def main():
     for crate in sorted({word[0] for word in given}):
         text = definitions.section(crates[crate], given)
         tally.check(f"what tools/definitions.py prints of {crate}", all(f"`{name}`" in text for place, _, name in given if place == crate), text)
-    return tally.end()
 
 
 if __name__ == "__main__":
-    sys.exit(main())
+    sys.exit(run_parts(check_meanings, check_items, check_lengths, check_faults, check_texts, check_libraries, check_reader, check_comments))

@@ -5,8 +5,6 @@
                           is kept until what its verdict rests on changes; contracts are narrowed, and other bodies emptied
   selftest.py --prover    with the prover: among wrong bodies of pocsag_text stand a body that is right, one that does not
                           compile and one that only no longer fits its proof file, and are reported by name
-
-The last line is 'N passed, M failed'.
 """
 
 import pathlib
