@@ -51,7 +51,7 @@ extern "C" {
 
 /* The number of this interface, which pocsag_version answers, and the version of the package that it is part of. */
 #define POCSAG_VERSION 5u
-#define POCSAG_RELEASE "1.2.0-rc.6"
+#define POCSAG_RELEASE "1.2.0-rc.7"
 
 /* The end of a transmission: it ends the last message, or the last codeword is no message codeword, or an idle one. */
 #define POCSAG_END_OPEN 0u
@@ -98,8 +98,8 @@ extern "C" {
  * fronts take in all. What is left of a mebibyte is added. */
 #define POCSAG_CHECK_STACK 372736u   /* measured: 234,856 */
 #define POCSAG_EXPLAIN_STACK 372736u /* measured: 239,336 */
-#define POCSAG_PLAN_STACK 1048576u   /* pocsag_plan_at_most, pocsag_report and pocsag_frames too; measured: 146,600 */
-#define POCSAG_LISTING_STACK 196608u /* all others; measured: 103,720 */
+#define POCSAG_PLAN_STACK 1048576u   /* pocsag_plan_at_most, pocsag_report and pocsag_frames too; measured: 129,960 */
+#define POCSAG_LISTING_STACK 196608u /* all others; measured: 87,144 */
 
 /* Statuses. */
 #define POCSAG_OK 0u

@@ -12,18 +12,18 @@ Exit status: 0 done, 1 not done, 2 usage.
 import contextlib
 import fcntl
 import hashlib
-import importlib.machinery
-import importlib.util
 import os
 import pathlib
 import shutil
 import subprocess
 import sys
-import tempfile
 
 sys.dont_write_bytecode = True
 HERE = pathlib.Path(os.path.realpath(__file__)).parent
 TOP = HERE.parent
+sys.path[:0] = [str(TOP / "tools")]
+from workspace import module_at
+
 STATE = TOP / "out/portable"
 WEB = TOP / "web/make.py"
 RUNTIME = pathlib.Path("/usr/src/wasm2c")  # where Debian's wabt has it
@@ -37,22 +37,16 @@ class Missing(Exception):
     """A tool that is needed is not there, and which."""
 
 
+def version_of(command, package):
+    """What a tool prints of its version."""
+    if not shutil.which(command):
+        raise Missing(f"{command} is missing; on Debian: apt-get install {package}")
+    return subprocess.run([command, "--version"], check=True, capture_output=True, text=True).stdout
+
+
 def tools():
     """What makes the C of the module, as it names itself."""
-    found = []
-    for command, package in (("wasm-opt", "binaryen"), ("wasm2c", "wabt")):
-        if not shutil.which(command):
-            raise Missing(f"{command} is missing; on Debian: apt-get install {package}")
-        found.append(f"{command} {subprocess.run([command, '--version'], check=True, capture_output=True, text=True).stdout.split()[-1]}")
-    return ", ".join(found)
-
-
-def web():
-    """The script that makes the module, as one of Python."""
-    loader = importlib.machinery.SourceFileLoader("web_make", str(WEB))
-    made = importlib.util.module_from_spec(importlib.util.spec_from_loader(loader.name, loader))
-    loader.exec_module(made)
-    return made
+    return ", ".join(f"{it} {version_of(it, package).split()[-1]}" for it, package in (("wasm-opt", "binaryen"), ("wasm2c", "wabt")))
 
 
 def sum_of(paths, *words):
@@ -82,7 +76,7 @@ def made_once(name, total):
 
 def c_of_module(room):
     """Makes the C of the program's module in a folder."""
-    module, maker = room / "pocsag.wasm", web()
+    module, maker = room / "pocsag.wasm", module_at("web_make", WEB)
     maker.make_module(maker.PROGRAM, module)
     subprocess.run(["wasm2c", module.name, "-n", "pocsag", "-o", "pocsag.c"], check=True, cwd=room)
     module.unlink()
@@ -117,14 +111,15 @@ def program(name, *settings, of=None):
         return folder / "bin/pocsag"
 
 
-def main(words):
+def main(words, made=sources, usage=__doc__):
+    """Puts the files that a function gives into the folder that the words name."""
     if len(words) != 1 or words[0].startswith("-"):
-        print(__doc__, file=sys.stderr)
+        print(usage, file=sys.stderr)
         return 2
     try:
-        files = sources()
+        files = made()
     except (Missing, subprocess.CalledProcessError) as why:
-        print(f"make.py: {why}", file=sys.stderr)
+        print(f"{pathlib.Path(sys.argv[0]).name}: {why}", file=sys.stderr)
         return 1
     folder = pathlib.Path(words[0])
     folder.mkdir(parents=True, exist_ok=True)

@@ -10,7 +10,6 @@ Exit status: 0 done, 1 not done, 2 usage.
 
 import os
 import pathlib
-import shutil
 import subprocess
 import sys
 
@@ -35,9 +34,7 @@ BESIDE |= {name: TOP / name for name in ("LICENSE-APACHE", "LICENSE-MIT")}
 
 def compiler():
     """What makes the program of the C files, as it names itself."""
-    if not shutil.which(COMPILER):
-        raise make.Missing(f"{COMPILER} is missing; on Debian: apt-get install gcc-mingw-w64-x86-64")
-    return subprocess.run([COMPILER, "--version"], check=True, capture_output=True, text=True).stdout.splitlines()[0]
+    return make.version_of(COMPILER, "gcc-mingw-w64-x86-64").splitlines()[0]
 
 
 def compile_in(room, files):
@@ -51,7 +48,6 @@ def compile_in(room, files):
 
 
 def program():
-    """The path of the program."""
     files = {name: data for name, data in make.sources().items() if name.endswith((".c", ".h"))}
     parts = [pathlib.Path(__file__), HERE / "host_windows.c"]
     with make.made_once("windows", make.sum_of(parts, sorted(files.items()), compiler())) as (folder, is_made):
@@ -65,21 +61,5 @@ def packed():
     return {PROGRAM: program().read_bytes(), **{name: path.read_bytes() for name, path in BESIDE.items()}}
 
 
-def main(words):
-    if len(words) != 1 or words[0].startswith("-"):
-        print(__doc__, file=sys.stderr)
-        return 2
-    try:
-        files = packed()
-    except (make.Missing, subprocess.CalledProcessError) as why:
-        print(f"windows.py: {why}", file=sys.stderr)
-        return 1
-    folder = pathlib.Path(words[0])
-    folder.mkdir(parents=True, exist_ok=True)
-    for name, data in files.items():
-        (folder / name).write_bytes(data)
-    return 0
-
-
 if __name__ == "__main__":
-    sys.exit(main(sys.argv[1:]))
+    sys.exit(make.main(sys.argv[1:], packed, __doc__))

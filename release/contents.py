@@ -6,7 +6,6 @@ import functools
 import hashlib
 import pathlib
 import re
-import shutil
 import subprocess
 import sys
 import tempfile
@@ -15,7 +14,7 @@ import objects
 import packages
 import products
 from packages import File
-from products import ARM, ARMHF, HERE, TOP, Missing, make, tree, workspace
+from products import ARM, ARMHF, HERE, TOP, make, tree, workspace
 import version
 
 DEBIAN = HERE / "debian"
@@ -51,11 +50,8 @@ def placed_for_debian(processor, files):
     places |= {it: f"usr/{it}" for it in ("share/bash-completion/completions", "share/fish/vendor_completions.d")}
     places |= {"share/zsh/site-functions": "usr/share/zsh/vendor-completions", "share/pocsag/examples": "usr/share/doc/pocsag/examples"}
     places |= {"python/pocsag": "usr/lib/python3/dist-packages/pocsag", "share/doc/pocsag": "usr/share/doc/pocsag"}
-    placed = {}
-    for name, file in files.items():
-        folder, _, last = name.rpartition("/")
-        if folder in places:
-            placed[f"{places[folder]}/{last}"] = file
+    parted = {pathlib.PurePosixPath(name): file for name, file in files.items()}
+    placed = {f"{places[str(it.parent)]}/{it.name}": file for it, file in parted.items() if str(it.parent) in places}
     documents = "usr/share/doc/pocsag"
     return placed | {
         "usr/share/man/man1/pocsag.1.gz": File(packages.zipped(files["share/man/man1/pocsag.1"].data)),
@@ -137,14 +133,9 @@ def of_processor(processor, page):
     return dict([tar_package(processor, files), deb_package(processor, files, page), wheel_package(processor, files)])
 
 
-def of_c():
-    """The program as C, and the files beside it."""
-    return {f"pocsag-{version.VERSION}-c.tar.xz": products.in_c()}
-
-
 def of_armhf():
-    """The program for 32-bit ARM, made of that."""
-    return dict([deb_package(ARMHF, products.for_armhf())])
+    """The program for 32-bit ARM, made of that as C."""
+    return dict([deb_package(ARMHF, {"bin/pocsag": File(products.armhf_program().read_bytes(), 0o755)} | products.beside())])
 
 
 def made_by(script):
@@ -174,24 +165,16 @@ def of_web():
 
 
 def page():
-    """The page, where it can be made."""
     return of_web()[PAGE][PAGE] if WEB.is_file() else None
-
-
-def optimizer():
-    """What makes the module of the page, as it names itself."""
-    if not shutil.which("wasm-opt"):
-        raise Missing("wasm-opt is missing; on Debian: apt-get install binaryen")
-    return subprocess.run(["wasm-opt", "--version"], check=True, capture_output=True, text=True).stdout.strip()
 
 
 def groups(page=None):
     """What is packed for whom: a name, what names the tools beside the toolchain, and what gives the packages, each with its files. The
     packages for Debian that have the library hold the page."""
     found = [(it.name, functools.partial(products.linker_of, it), functools.partial(of_processor, it, page)) for it in products.PROCESSORS]
-    found += [("web", optimizer, of_web)] * WEB.is_file()
-    found += [("c", products.portable.tools, of_c), (ARMHF.debian, products.compiler_of_armhf, of_armhf)]
-    return found + [("windows", products.compiler_of_windows, of_windows)]
+    found += [("web", lambda: products.portable.version_of("wasm-opt", "binaryen").strip(), of_web)] * WEB.is_file()
+    found += [("c", products.portable.tools, lambda: {f"pocsag-{version.VERSION}-c.tar.xz": products.in_c()})]
+    return found + [(ARMHF.debian, products.compiler_of_armhf, of_armhf), ("windows", products.compiler_of_windows, of_windows)]
 
 
 # What is not compared where the linkers differ, since it has the sums and the sizes of what is linked.
@@ -222,7 +205,6 @@ def sources(kind):
     names = {"program": ["pocsag_app"], "packages": ["pocsag_app", "pocsag_c"]}[kind]
     found = ["crates.txt", *workspace.sources(workspace.below(crates, *names).values())]
     if kind == "packages":
-        found += ["LICENSE-APACHE", "LICENSE-MIT", "VERSION", "clib", "completions", "docs/LIBRARY.md", "docs/pocsag.1", "examples", "portable"]
-        found += ["README.md", "web"]
+        found += [*LICENSES, "VERSION", "clib", "completions", "docs/LIBRARY.md", "docs/pocsag.1", "examples", "portable", "README.md", "web"]
         found += [f"release/{it}" for it in ("README", "c", "debian", "contents.py", "objects.py", "packages.py", "products.py")]
     return found

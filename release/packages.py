@@ -6,7 +6,7 @@ import gzip
 import hashlib
 import io
 import lzma
-import posixpath
+import pathlib
 import tarfile
 import time
 import zipfile
@@ -39,11 +39,7 @@ def plain(name, file):
 
 def folders(names):
     """The folders of the files, each behind the one that it is in."""
-    found = set()
-    for name in names:
-        while name := posixpath.dirname(name):
-            found.add(name)
-    return sorted(found)
+    return sorted({str(it) for name in names for it in pathlib.PurePosixPath(name).parents} - {"."})
 
 
 def compressed(data):

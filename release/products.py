@@ -4,7 +4,6 @@ program as C, and the files beside them."""
 import contextlib
 import dataclasses
 import functools
-import importlib.util
 import os
 import pathlib
 import shutil
@@ -45,15 +44,7 @@ class Processor:
         return f"{self.tools}gcc" if self.tools else "cc"
 
 
-def portable_make():
-    """The script that makes the program as C, whose name others have too."""
-    described = importlib.util.spec_from_file_location("portable_make", TOP / "portable/make.py")
-    made = importlib.util.module_from_spec(described)
-    described.loader.exec_module(made)
-    return made
-
-
-portable = portable_make()
+portable = workspace.module_at("portable_make", TOP / "portable/make.py")  # whose name others have too
 Missing = portable.Missing
 NATIVE = Processor("x86_64", "amd64", "x86_64-linux-gnu", "", "gcc libc6-dev")
 ARM = Processor("aarch64", "arm64", "aarch64-linux-gnu", "aarch64-linux-gnu-", "gcc-aarch64-linux-gnu libc6-dev-arm64-cross")
@@ -74,11 +65,7 @@ def linker_of(processor):
     """The compiler and the linker that make the library, as they name themselves."""
     if processor is ARM and kit.script() is None:
         raise Missing("the toolchain's command rt is none that is known to build for ARM64")
-    lines = []
-    for tool in (processor.compiler, f"{processor.tools}ld"):
-        if not shutil.which(tool):
-            raise Missing(f"{tool} is missing; on Debian: apt-get install {processor.package}")
-        lines.append(subprocess.run([tool, "--version"], check=True, capture_output=True, text=True).stdout.splitlines()[0])
+    lines = [portable.version_of(it, processor.package).splitlines()[0] for it in (processor.compiler, f"{processor.tools}ld")]
     if subprocess.run([processor.compiler, "-E", "c/memory.c"], cwd=HERE, capture_output=True).returncode:
         raise Missing(f"{processor.compiler} finds no C library; on Debian: apt-get install {processor.package}")
     return ", ".join(lines)
@@ -93,25 +80,18 @@ def compiler_of_armhf():
 
 def compiler_of_windows():
     """What makes the program for Windows of the module, as it names itself."""
-    if not shutil.which(MINGW):
-        raise Missing(f"{MINGW} is missing; on Debian: apt-get install gcc-mingw-w64-x86-64")
-    told = subprocess.run([MINGW, "--version"], check=True, capture_output=True, text=True).stdout
+    told = portable.version_of(MINGW, "gcc-mingw-w64-x86-64")
     return f"{portable.tools()}, {told.splitlines()[0]}"
 
 
-def cross_task(crate, made):
-    """The command by which the toolchain compiles a proved crate for ARM64, over what its check kept."""
-    return lanes.Task(crate.name, kit.cross_words(crate.folder, made, "aarch64-unknown-linux-gnu"), crate.folder)
-
-
 class Cross:
-    """What the toolchain compiles for ARM64 of a crate, and the sum of what it was made from."""
+    """What the toolchain compiles for ARM64 of a proved crate, over what its check kept, and the sum of what it was made from."""
 
     def __init__(self, crates, name):
         crate = crates[name]
         self.path = CROSS / (f"{name}.o" if crate.is_program else f"lib{name}.a")
         self.record, self.sum = self.path.with_suffix(".sum"), f"{build.Product(crates, name).sum} {toolchain()}"
-        self.task = cross_task(crate, self.path)
+        self.task = lanes.Task(name, kit.cross_words(crate.folder, self.path, "aarch64-unknown-linux-gnu"), crate.folder)
 
     def is_old(self):
         return not self.path.is_file() or not self.record.is_file() or self.record.read_text() != self.sum
@@ -182,11 +162,6 @@ def in_c():
 def armhf_program():
     """The program for 32-bit ARM, made of that as C. Beyond -O1 the compiler takes twice as long."""
     return portable.program("armhf", f"CC={ARMHF.compiler}", "CFLAGS=-O1", "LDFLAGS=-s")
-
-
-def for_armhf():
-    """The files that are packed for 32-bit ARM."""
-    return {"bin/pocsag": File(armhf_program().read_bytes(), 0o755)} | beside()
 
 
 def tree(processor):

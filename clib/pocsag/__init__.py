@@ -20,7 +20,7 @@ import os
 import pathlib
 from typing import Any, Callable, Dict, List, Literal, NamedTuple, Optional, Sequence, Tuple, Type, Union
 
-__version__ = "1.2.0rc6"
+__version__ = "1.2.0rc7"
 __all__ = ["Pocsag", "Plan", "Front", "Report", "Frame", "Frames", "Shown", "Explanation"]
 __all__ += ["OPEN", "CLOSED", "IDLE", "IN_WORDS", "AS_JSON", "PLAIN", "REPAIRED", "CAPTURED", "SHOW_TEXT", "SHOW_LIST", "SHOW_DRAWING"]
 __all__ += ["KINDS", "HEADER", "ALL_BATCHES", "FAULTS", "Fault", "BadEnd", "OutOfMemory", "BadRate", "BadLimit", "SearchLimit", "BadForm"]
@@ -395,14 +395,9 @@ class Pocsag:
         return self._text(self.library.pocsag_text_of_status, small_number(status, "a status")).decode()
 
     def plan(
-        self,
-        pages: PageFile,
-        limit: int = 100_000,
-        end: End = OPEN,
-        always: bool = True,
-        sizes: Tuple[int, int] = (65_536, 65_536),
-        strict: bool = False,
-    ) -> Plan:
+        self, pages: PageFile, limit: int = 100_000, end: End = OPEN, always: bool = True,
+        sizes: Tuple[int, int] = (65_536, 65_536), strict: bool = False,
+    ) -> Plan:  # fmt: skip
         """The plan of a page file. It is asked for once more where one of the sizes does not do. Unless `always` is False no round
         is refused, and the batches may be one more than the bound. Here and below `strict` is as the call of this name."""
         tx_size, cert_size = sizes
@@ -415,15 +410,9 @@ class Pocsag:
         return Plan(tx.written(), cert.written(), *(getattr(info, name) for name in Plan._fields[2:]))
 
     def plan_at_most(
-        self,
-        pages: PageFile,
-        batches: int,
-        limit: int = 100_000,
-        end: End = OPEN,
-        always: bool = True,
-        sizes: Tuple[int, int, int, int] = (65_536, 65_536, 65_536, 65_536),
-        strict: bool = False,
-    ) -> Front:
+        self, pages: PageFile, batches: int, limit: int = 100_000, end: End = OPEN, always: bool = True,
+        sizes: Tuple[int, int, int, int] = (65_536, 65_536, 65_536, 65_536), strict: bool = False,
+    ) -> Front:  # fmt: skip
         """The plan of as many first pages of a page file as so many batches carry, the page file of the others, and the
         certificate of one page more; of these two None where their size is 0. It is asked for once more where a size does
         not do."""
