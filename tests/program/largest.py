@@ -98,16 +98,20 @@ def try_plans(tally, folder):
         full = pages * codewords // 16
         (folder / "pages.csv").write_bytes(HEADER + texts(0, pages, letters))
         plan = ["plan", "pages.csv", "tx.bin", "cert.bin"]
-        options = ["--strict", "--limit", "1000000", "--verbose", "--expect", str(pages)]
+        options, expect = ["--strict", "--limit", "1000000", "--verbose"], ["--expect", str(pages)]
         for words, batches in ((["--idle-last", "--always"], full + 1), (["--end", "open"], full)):
             done = run([*plan, *options, *words, "--verify", *["--keep"] * (batches > full)], folder)
             tally.check_done(f"plan {words[0]} of {pages} pages", done, 0, b"pages %d\nbatches %d\nverified\n" % (pages, batches))
-            done = run(["report", "pages.csv", "--rate", "2400", "--frames", *options, *words], folder)
+            done = run(["report", "pages.csv", "--rate", "2400", "--frames", *options, *expect, *words], folder)
             counts = [f"pages {pages}", f"codewords {pages * codewords}", f"batches {batches}", f"idles {16 * (batches - full)}"]
             frames = [f"frame {it} pages {pages // 8} codewords {pages // 8 * codewords} room {2 * (batches - full)}" for it in range(8)]
             told = done.stdout.decode().splitlines()
             holds = (done.returncode, done.stderr, told[:2] + told[3:5]) == (0, b"", counts) and sorted(told[7:]) == frames
             tally.check(f"report {words[0]} of {pages} pages", holds, brief(done))
+        done = run([*plan, *options, *expect], folder)
+        tally.check_done(f"plan --expect of {pages} pages", done, 0, b"pages %d\nbatches %d\n" % (pages, full))
+        done = run([*plan, *expect, "--limit", "0"], folder)
+        tally.check_done(f"plan --limit 0 of {pages} pages", done, 1, b"", b"pocsag: the limit must be 1 to 1000000\n")
         if pages < PAGES:
             done = run([*plan, "--expect", str(pages - 1)], folder)
             tally.check(f"{pages} pages where one fewer is expected", done.returncode == 1 and not done.stdout, brief(done))

@@ -4,7 +4,6 @@ pub mod Endings
 pub mod FirstPart
 pub mod FrontRuns
 mod Judged
-pub mod PlanFaults
 pub mod Plans
 pub mod Prelude
 pub mod QueueRounds

@@ -1,23 +1,24 @@
 -- The commands of a centre: what each does over the bytes of its files.
-use Rattle.std.specs.Prelude.{◌≡◌, ◌⊎◌, ℕ, Bool, List}
+use Rattle.std.specs.Prelude.{◌≡◌, ℕ, Bool, List}
 use Rattle.pocsag_words.specs.Devices.{HasFailed}
 use Rattle.pocsag_words.specs.declared.device.Sink.{Ghosts as Writer}
 use Rattle.pocsag_words.specs.declared.device.Source.{Ghosts as Reader}
 use Rattle.pocsag_words.specs.declared.ending.End.{End}
 use Rattle.pocsag_pages.specs.declared.fault.RoundFault.TheVariants as round
 use Rattle.pocsag_tree.specs.declared.refusals.CertificateFault.TheVariants as certificate
+use Rattle.pocsag_branch.specs.Found.{IsNodeLimit}
 use Rattle.pocsag_plan.specs.Streams.{WritesCertificatePart, WritesPart}
-use Rattle.pocsag_plan.specs.declared.search.Search.{Search}
 use Rattle.pocsag_shell.specs.Readers.{FailedCut, IsUncut}
 use Rattle.pocsag_shell.specs.Runs.{Work}
 use Rattle.pocsag_shell.specs.declared.fault.FileFault.TheVariants as file_fault
 use Rattle.pocsag_centre.specs.Commands.{PlannedAndPrinted, PrintedPlan}
 use Rattle.pocsag_centre.specs.Faults.{centre_status}
 use Rattle.pocsag_centre.specs.Judgements.{PrintsVerdict}
-use Rattle.pocsag_centre.specs.Refusals.{ExplainsNoPlan, ExplainsUnwritten, default_search}
+use Rattle.pocsag_centre.specs.Refusals.{ExplainsNoPlan, HoldsExpected, default_asked}
 use Rattle.pocsag_centre.specs.Reports.{ExplainsReporting, IsReportPrinted}
 use Rattle.pocsag_centre.specs.declared.fault.CentreFault.{CentreFault}
 use Rattle.pocsag_centre.specs.declared.fault.CentreFault.TheVariants as fault
+use Rattle.pocsag_centre.specs.declared.plan.PlanAsked.{PlanAsked}
 use Rattle.pocsag_centre.specs.declared.plan.PlanFiles.{PlanFiles}
 use Rattle.pocsag_centre.specs.declared.report.ReportAsked.{ReportAsked}
 
@@ -75,7 +76,7 @@ of_pages Pages pages pages_after Prints Explains = of_whole Pages pages
 
 -- No words: prints the counts of a plan of a page file.
 abbrev pub counts_plan : {P : Type 0} → Reader P → (pages pages_after : P) → Work CentreFault
-counts_plan Pages pages pages_after = of_pages Pages pages pages_after PrintedPlan (λ file. ExplainsNoPlan file default_search)
+counts_plan Pages pages pages_after = of_pages Pages pages pages_after PrintedPlan (λ file. ExplainsNoPlan file default_asked)
 
 -- `report`: prints the report of a plan of a page file.
 abbrev pub reports : {P : Type 0} → Reader P → ReportAsked → (pages pages_after : P) → Work CentreFault
@@ -89,26 +90,34 @@ judges Pages Cert Tells Explains pages pages_after cert cert_after = of_whole Pa
     (OrFailed (FailedCut Pages pages pages_after) ⊥ (HasFailed (Cert.failures cert) (Cert.failures cert_after))
     (λ f. Pages.is_known → Cert.is_known → Explains (Pages.held pages) (Cert.held cert) f))
 
--- Why `plan` prints nothing, and what it leaves then: a writer that failed took a part, the one of the transmission all before that
--- of the certificate was begun; and where another fault is told both are as they were.
-abbrev pub ExplainsPlanFiles : {P T C : Type 0} → Reader P → Writer T → Writer C → Search → (files files_after : PlanFiles P T C) → CentreFault → Type 0
-ExplainsPlanFiles Pages Tx Cert search files files_after (fault.File file_fault.Write) =
-    (HasFailed (Tx.failures files.tx) (Tx.failures files_after.tx) × (files_after.cert ≡ files.cert)
-    × (Pages.is_known → Tx.is_known →
-    WritesPart search.on_limit (Pages.held files.pages) search.end (Tx.taken files.tx) (Tx.taken files_after.tx)))
-    ⊎ (HasFailed (Cert.failures files.cert) (Cert.failures files_after.cert)
-    × (Pages.is_known → Tx.is_known → Cert.is_known →
-    WritesCertificatePart search.on_limit (Pages.held files.pages) search.end (Tx.taken files.tx) (Tx.taken files_after.tx)
-    (Cert.taken files.cert) (Cert.taken files_after.cert)))
-ExplainsPlanFiles Pages Tx Cert search files files_after f =
-    (files_after.tx ≡ files.tx) × (files_after.cert ≡ files.cert)
-    × OrFailed (FailedCut Pages files.pages files_after.pages) ⊥ ⊥
-    (λ e. Pages.is_known → ExplainsUnwritten (Pages.held files.pages) search e) f
+-- Why `plan` prints nothing, and what it leaves of its files then.
+pub data ExplainsPlanFiles {P T C : Type 0} (Pages : Reader P) (Tx : Writer T) (Cert : Writer C) (asked : PlanAsked) (files files_after : PlanFiles P T C) (f : CentreFault) : Type 0 where
+  -- The limit is judged before the page file is read.
+  bad_limit : f ≡ fault.BadLimit → (¬ IsNodeLimit asked.search.limit) → files_after ≡ files
+      → ExplainsPlanFiles Pages Tx Cert asked files files_after f
+  -- The page file has no plan, or its reader failed: nothing was written.
+  unplanned : IsNodeLimit asked.search.limit
+      → OrFailed (FailedCut Pages files.pages files_after.pages) ⊥ ⊥
+      (λ e. Pages.is_known → ExplainsNoPlan (Pages.held files.pages) asked e) f
+      → (files_after.tx ≡ files.tx) × (files_after.cert ≡ files.cert)
+      → ExplainsPlanFiles Pages Tx Cert asked files files_after f
+  -- A writer failed: that of the transmission behind a part of it, before the certificate was begun,
+  unsent : f ≡ fault.File file_fault.Write → HasFailed (Tx.failures files.tx) (Tx.failures files_after.tx) → files_after.cert ≡ files.cert
+      → (Pages.is_known → Tx.is_known → HoldsExpected (Pages.held files.pages) asked.expect
+      × WritesPart asked.search.on_limit (Pages.held files.pages) asked.search.end (Tx.taken files.tx) (Tx.taken files_after.tx))
+      → ExplainsPlanFiles Pages Tx Cert asked files files_after f
+  -- or that of the certificate behind the whole transmission.
+  uncertified : f ≡ fault.File file_fault.Write → HasFailed (Cert.failures files.cert) (Cert.failures files_after.cert)
+      → (Pages.is_known → Tx.is_known → Cert.is_known → HoldsExpected (Pages.held files.pages) asked.expect
+      × WritesCertificatePart asked.search.on_limit (Pages.held files.pages) asked.search.end (Tx.taken files.tx) (Tx.taken files_after.tx)
+      (Cert.taken files.cert) (Cert.taken files_after.cert))
+      → ExplainsPlanFiles Pages Tx Cert asked files files_after f
 
--- `plan`: writes both outputs, and prints the counts of the plan.
-abbrev pub plans : {P T C : Type 0} → Reader P → Writer T → Writer C → Search → (files files_after : PlanFiles P T C) → Work CentreFault
-plans Pages Tx Cert search files files_after = of_whole Pages files.pages
-    (λ status text. (status ≡ 0) × (Pages.is_known → Tx.is_known → Cert.is_known →
-    PlannedAndPrinted (Pages.held files.pages) search (Tx.taken files.tx) (Tx.taken files_after.tx)
+-- `plan`: writes both outputs for a round of as many pages as are expected, and prints the counts of the plan.
+abbrev pub plans : {P T C : Type 0} → Reader P → Writer T → Writer C → PlanAsked → (files files_after : PlanFiles P T C) → Work CentreFault
+plans Pages Tx Cert asked files files_after = of_whole Pages files.pages
+    (λ status text. (status ≡ 0) × (Pages.is_known → HoldsExpected (Pages.held files.pages) asked.expect)
+    × (Pages.is_known → Tx.is_known → Cert.is_known →
+    PlannedAndPrinted (Pages.held files.pages) asked.search (Tx.taken files.tx) (Tx.taken files_after.tx)
     (Cert.taken files.cert) (Cert.taken files_after.cert) text))
-    (ExplainsPlanFiles Pages Tx Cert search files files_after)
+    (ExplainsPlanFiles Pages Tx Cert asked files files_after)

@@ -1,5 +1,6 @@
 //! What the words of a command ask for.
 
+use crate::plan::PlanAsked;
 use crate::words::{
     AIRTIME, AT_MOST, CLOSED_END, DEPTH, EACH_FRAME, END, IDLE_END, IDLE_LAST, JSON, LATER, LIMIT,
     OPEN_END, OVERSIZED, RATE, REST, VERIFY, WHY,
@@ -13,13 +14,11 @@ use pocsag_words::End;
 /// What is asked of the planner, and of the page file.
 #[derive(Clone, Copy)]
 pub(crate) struct SearchArgs {
-    /// How many pages the round must have, if that is given.
-    pub(crate) expect: Option<u32>,
     /// Whether a misplaced quote refuses the page file.
     pub(crate) strict: bool,
     /// Whether a page may wait for an earlier one of its address.
     pub(crate) may_wait: bool,
-    pub(crate) search: Search,
+    pub(crate) plan: PlanAsked,
 }
 
 /// What bounds the front of a page file, where one is planned.
@@ -82,13 +81,15 @@ fn search_in(found: &ArgMatches<'_>) -> Option<SearchArgs> {
         _ => return None,
     };
     Some(SearchArgs {
-        expect: found.get_one::<u32>(EXPECT),
         strict: found.get_flag(STRICT),
         may_wait: found.get_flag(LATER),
-        search: Search {
-            limit: found.get_one::<u32>(LIMIT)?,
-            end,
-            on_limit,
+        plan: PlanAsked {
+            expect: found.get_one::<u32>(EXPECT),
+            search: Search {
+                limit: found.get_one::<u32>(LIMIT)?,
+                end,
+                on_limit,
+            },
         },
     })
 }

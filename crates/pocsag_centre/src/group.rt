@@ -5,8 +5,8 @@ use crate::check::run_check;
 use crate::explain::{ExplainFiles, run_explain};
 use crate::fault::CentreFault;
 use crate::note::{note_file, note_first, quote_asked};
-use crate::plan::{DEFAULT_SEARCH, run_input};
-use crate::plan_files::{Streams, front_asked, plan_command, refuse_before, refuse_unmet, written};
+use crate::plan::{DEFAULT_ASKED, run_input};
+use crate::plan_files::{Streams, front_asked, plan_command, refuse_unmet, written};
 use crate::report::{ReportAsked, run_report};
 use crate::slot::{SlotAsked, run_slot_report};
 use crate::words::{
@@ -111,10 +111,9 @@ fn plan_input(
         let _ = put_whole(&mut context.err(), AT_TERMINAL.as_bytes());
     }
     let asked = SearchArgs {
-        expect: None,
         strict,
         may_wait: false,
-        search: DEFAULT_SEARCH,
+        plan: DEFAULT_ASKED,
     };
     let mut pages = load_file(context, Role::PageFile, None, PAGES_READ)?;
     let quote = refuse_unmet(context, None, &pages, asked)?;
@@ -188,7 +187,7 @@ fn report_path(
     let quote = refuse_unmet(context, args.pages, &pages, args.search)?;
     let asked = ReportAsked {
         rate: args.rate,
-        search: args.search.search,
+        plan: args.search.plan,
         frames: args.frames,
     };
     let status = run_report(
@@ -216,7 +215,7 @@ fn report_slot(
     }
     let front = front_asked(slot, limit)?;
     let mut pages = load_file(context, Role::PageFile, slot.pages, PAGES_READ)?;
-    let quote = refuse_before(context, slot.pages, &pages, slot.search)?;
+    let quote = refuse_unmet(context, slot.pages, &pages, slot.search)?;
     let begins = first_asked(context, pages.lent().unwrap_or(&[]));
     let asked = SlotAsked { rate, front };
     let status = run_slot_report(

@@ -25,7 +25,7 @@ pub use explain::{ExplainFiles, run_explain};
 pub use fault::CentreFault;
 pub use front::{FrontAsked, FrontFiles, run_front};
 pub use group::Centre;
-pub use plan::{PlanFiles, run_input, run_plan};
+pub use plan::{PlanAsked, PlanFiles, run_input, run_plan};
 pub use readback::{WrittenFront, run_verify, run_verify_front};
 pub use report::{ReportAsked, run_report};
 pub use slot::{SlotAsked, run_slot_report};

@@ -42,7 +42,8 @@ const BAD_OVERSIZED: &str = "--oversized names a file, and goes with --at-most o
 const MORE: &str = "\n\nFor more information, try 'pocsag plan --help'.\n";
 
 /// Refuses a page file that does not meet what is asked of it. What cannot be read is for the command to refuse. Returns the first
-/// misplaced quote, where `--verbose` asks for it; one that `--strict` let pass has none.
+/// misplaced quote, where `--verbose` asks for it; one that `--strict` let pass has none. If the limit of the search is in range,
+/// the plan counts the pages itself.
 pub(crate) fn refuse_unmet(
     context: Context<'_>,
     path: Option<&str>,
@@ -61,9 +62,12 @@ pub(crate) fn refuse_unmet(
     } else {
         quote = quote_asked(context, pages);
     }
-    let Some(expected) = asked.expect else {
+    let Some(expected) = asked.plan.expect else {
         return Ok(quote);
     };
+    if is_node_limit(asked.plan.search.limit) {
+        return Ok(quote);
+    }
     match expected_file(context.alloc, asked.may_wait, file, expected) {
         Ok(()) => Ok(quote),
         Err(fault) => {
@@ -71,21 +75,6 @@ pub(crate) fn refuse_unmet(
             Err(fault)
         }
     }
-}
-
-/// The same before a front is planned. If the limit of the search is in range, the plan of the front counts the pages
-/// itself.
-pub(crate) fn refuse_before(
-    context: Context<'_>,
-    path: Option<&str>,
-    pages: &LoadedFile,
-    asked: SearchArgs,
-) -> Result<Option<QuoteFault>, CentreFault> {
-    let mut asked = asked;
-    if is_node_limit(asked.search.limit) {
-        asked.expect = None;
-    }
-    refuse_unmet(context, path, pages, asked)
 }
 
 /// `plan`: plans from file to files, or from and to the standard streams. Where standard output takes one of
@@ -227,8 +216,13 @@ fn plan_loaded<T: Sink + Drop, C: Sink + Drop, O: Sink>(
     out: &mut O,
 ) -> Result<u8, CentreFault> {
     let quote = refuse_unmet(context, args.pages, &files.pages, args.search)?;
-    let search = args.search.search;
-    let status = run_plan(context.alloc, search, files, out, &mut streams.err);
+    let status = run_plan(
+        context.alloc,
+        args.search.plan,
+        files,
+        out,
+        &mut streams.err,
+    );
     note_file(
         context,
         args.pages,
@@ -263,7 +257,7 @@ fn write_front<O: Sink>(
     let others = open_others(context, args)?;
     let outputs = opened.emptied(context)?;
     let pages = load(context, &mut source, PAGES_READ)?;
-    let quote = refuse_before(context, args.pages, &pages, args.search)?;
+    let quote = refuse_unmet(context, args.pages, &pages, args.search)?;
     let begins = first_asked(context, pages.lent().unwrap_or(&[]));
     let mut files = FrontFiles {
         pages,
@@ -309,8 +303,8 @@ pub(crate) fn front_asked(
         batches,
         may_wait: args.search.may_wait,
         sets_aside: args.oversized.is_some(),
-        expect: args.search.expect,
-        search: args.search.search,
+        expect: args.search.plan.expect,
+        search: args.search.plan.search,
     })
 }
 
@@ -383,7 +377,7 @@ fn read_files_back<O: Sink>(
     let cert = load_file(context, Role::Certificate, Some(args.cert), CERT_READ)?;
     let mut files = PlanFiles { pages, tx, cert };
     let mut lines: MemorySink<LINES> = MemorySink::new(LINES, LINES as u64);
-    let (alloc, search, err) = (context.alloc, args.search.search, &mut streams.err);
+    let (alloc, search, err) = (context.alloc, args.search.plan.search, &mut streams.err);
     let status = match sent {
         Some(sent) => run_verify_front(alloc, sent, &mut files, &mut lines, err),
         None => run_verify(alloc, search, &mut files, &mut lines, err),

@@ -10,8 +10,8 @@ ghost use Rattle.pocsag_centre.specs.Works.{reports};
 
 use crate::fault::CentreFault;
 use crate::lines::print_below;
-use crate::plan::{RoundPlan, read_plan};
-use pocsag_plan::{FrameRoom, Report, Search, frames_of, report};
+use crate::plan::{PlanAsked, RoundPlan, read_plan};
+use pocsag_plan::{FrameRoom, Report, frames_of, report};
 use pocsag_shell::{CommandAnswer, ErrorStream, FileFault, print_answer, print_numbers};
 use pocsag_words::{GrowingSink, OutOfMemory, Sink, Source};
 use std::alloc::Global;
@@ -21,7 +21,7 @@ use std::alloc::Global;
 pub struct ReportAsked {
     /// Bits a second.
     pub rate: u32,
-    pub search: Search,
+    pub plan: PlanAsked,
     /// Whether the frames are reported too.
     pub frames: bool,
 }
@@ -49,7 +49,7 @@ fn answer_report<P: Source>(
 ) -> Result<CommandAnswer, CentreFault>
     ensures answers { IsAnswerOf (reports P.Source asked pages.old pages.new) result }
 {
-    let found = read_plan(alloc, pages, asked.search)?;
+    let found = read_plan(alloc, pages, asked.plan)?;
     let report = match report(&found.bounded.plan, asked.rate) {
         Ok(report) => report,
         Err(_) => return Err(CentreFault::BadRate),

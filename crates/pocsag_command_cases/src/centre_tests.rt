@@ -2,9 +2,9 @@
 
 use crate::same;
 use pocsag_centre::{
-    CentreFault, FrontAsked, FrontFiles, PlanFiles, ReportAsked, WrittenFront, expected_file,
-    run_check, run_front, run_input, run_plan, run_report, run_verify, run_verify_front,
-    strict_file,
+    CentreFault, FrontAsked, FrontFiles, PlanAsked, PlanFiles, ReportAsked, WrittenFront,
+    expected_file, run_check, run_front, run_input, run_plan, run_report, run_verify,
+    run_verify_front, strict_file,
 };
 use pocsag_pages::{FieldFault, QuoteFault, RecordFault, RoundFault};
 use pocsag_plan::{DEFAULT_LIMIT, OnLimit, Search};
@@ -108,6 +108,12 @@ const SOUND: Faults = Faults {
 };
 
 fn plan(alloc: Global, search: Search, file: &[u8], faults: Faults) -> Planned {
+    let expect = None;
+    plan_expecting(alloc, PlanAsked { expect, search }, file, faults)
+}
+
+// The same where a number of pages may be expected.
+fn plan_expecting(alloc: Global, asked: PlanAsked, file: &[u8], faults: Faults) -> Planned {
     let mut files = PlanFiles {
         pages: MemorySource::new(file, 4, faults.pages),
         tx: MemorySink::<300>::new(9, faults.tx),
@@ -115,7 +121,7 @@ fn plan(alloc: Global, search: Search, file: &[u8], faults: Faults) -> Planned {
     };
     let mut out = MemorySink::<500>::new(1, 1000);
     let mut err = errors();
-    let status = run_plan(alloc, search, &mut files, &mut out, &mut err);
+    let status = run_plan(alloc, asked, &mut files, &mut out, &mut err);
     Planned {
         told: Printed { status, out, err },
         tx: files.tx,
@@ -258,11 +264,9 @@ fn run(alloc: Global, command: Command, file: &[u8], planned: &Planned) -> Print
             run_verify(alloc, search, &mut files, &mut out, &mut err)
         }
         Command::Report(rate, search, frames) => {
-            let asked = ReportAsked {
-                rate,
-                search,
-                frames,
-            };
+            let expect = None;
+            let plan = PlanAsked { expect, search };
+            let asked = ReportAsked { rate, plan, frames };
             run_report(alloc, asked, &mut pages, &mut out, &mut err)
         }
     };
@@ -484,7 +488,9 @@ fn lent_plan(
         cert: GrowingSink::new(alloc),
     };
     let (mut out, mut err) = (MemorySink::<500>::new(1, 1000), errors());
-    same!(rt; run_plan(alloc, search, &mut files, &mut out, &mut err), 0);
+    let expect = None;
+    let asked = PlanAsked { expect, search };
+    same!(rt; run_plan(alloc, asked, &mut files, &mut out, &mut err), 0);
     same!(rt; err.fault(), None);
     same!(rt; out.bytes(), lines);
     let left = files.pages.lent().map(|rest| rest.len());
@@ -726,6 +732,12 @@ fn page_files_are_refused(rt: HostRuntime) -> Result<(), Fail> {
     ];
     for (file, expected, due) in cases {
         same!(rt; expected_file(alloc, false, file, expected), due);
+        let expect = Some(expected);
+        let search = OPEN;
+        let planned = plan_expecting(alloc, PlanAsked { expect, search }, file, SOUND);
+        same!(rt; planned.told.err.fault(), due.err());
+        same!(rt; planned.tx.bytes().is_empty(), due.is_err());
+        same!(rt; planned.cert.bytes().is_empty(), due.is_err());
     }
     Ok(())
 }

@@ -1,4 +1,5 @@
 use Rattle.pocsag_centre.proofs.Prelude.{◌++◌, ◌∙◌, List, ap, refl, flat_map, report_text, FrameRoom, frame_text, below_text}
+use Rattle.pocsag_centre.proofs.Plans.{holds_expected}
 use Rattle.pocsag_centre.proofs.report.answer_report.Goals as goal
 
 pub returns-in-Err : goal.returns-in-Err
@@ -13,6 +14,7 @@ returns-in-Err g c = record {
           bounded = c.in_ok-found.found.bounded;
           plan_of = record { round = c.in_ok-found.found.round; read = c.in_ok-found.ensures.read known; holds = c.in_ok-found.ensures.plan };
         },
+        holds_expected _ c.args.asked.plan c.in_ok-found.found.round (c.in_ok-found.ensures.read known) c.in_ok-found.ensures.expected,
       ),
     ),
   );
@@ -33,6 +35,7 @@ returns-in-Ok-print_frames g c = record {
               round = found.round;
               read = c.in_ok-found.ensures.read known;
               bounded = found.bounded;
+              expected = c.in_ok-found.ensures.expected;
               plan_of = c.in_ok-found.ensures.plan;
               report = report;
               report_of = c.in-Ok.ensures.report;
