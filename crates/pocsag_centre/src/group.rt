@@ -16,7 +16,7 @@ use crate::words::{
 use clap::{ArgMatches, Error};
 use pocsag_findings::Format;
 use pocsag_shell::{
-    CERT, Call, Context, Group, Names, PAGES, PAGES_READ, Role, STANDARD, STRICT, TX, Tables,
+    CERT, Call, Context, Group, NamedFile, PAGES, PAGES_READ, Role, STANDARD, STRICT, TX, Tables,
     first_asked, is_kept, load_both, load_file, path_of, put_whole,
 };
 use pocsag_words::Source;
@@ -72,33 +72,30 @@ impl Group for Centre {
         if let Some(Some(role)) = fault.map(|fault| fault.refused()) {
             context.diagnostics.note_refusal(role);
         }
-        Some(Ok(streams.end(context, names_of(call), done)))
+        Some(Ok(streams.end(context, &files_of(call), done)))
     }
 }
 
-// The words for the files of a call. A command that has not all of these words has none for the others.
-fn names_of<'a>(call: Call<'a, '_>) -> Names<'a> {
+// The files of a call, with the words for them. A command that has not all of these words has none for the others.
+fn files_of<'a>(call: Call<'a, '_>) -> [NamedFile<'a>; 6] {
     let found = call.found;
     let pages = match call.name {
         None => Some(STANDARD),
         Some(_) => found.get_str(PAGES),
     };
     // A flag of `report` has the name of a file of `plan`.
-    if matches!(call.name, None | Some(REPORT)) {
-        return Names {
-            pages,
-            ..Names::NONE
-        };
-    }
-    Names {
-        pages,
-        tx: found.get_str(TX),
-        cert: found.get_str(CERT),
-        rest: found.get_str(REST),
-        oversized: found.get_str(OVERSIZED),
-        why: found.get_str(WHY),
-        ..Names::NONE
-    }
+    let word = |id| match call.name {
+        None | Some(REPORT) => None,
+        Some(_) => found.get_str(id),
+    };
+    [
+        NamedFile(Role::PageFile, pages),
+        NamedFile(Role::Transmission, word(TX)),
+        NamedFile(Role::Certificate, word(CERT)),
+        NamedFile(Role::Rest, word(REST)),
+        NamedFile(Role::Oversized, word(OVERSIZED)),
+        NamedFile(Role::Why, word(WHY)),
+    ]
 }
 
 // Plans the page file of standard input.

@@ -12,13 +12,12 @@ use crate::readback::{WrittenFront, run_verify, run_verify_front};
 use pocsag_pages::{FILE_LIMIT, QuoteFault};
 use pocsag_plan::{is_node_limit, most_batches};
 use pocsag_shell::{
-    CERT_READ, Context, FileFault, KEPT_BYTES, LoadedFile, MemoryStreams, Output, Outputs,
-    PAGES_READ, Role, STANDARD, StagedFile, first_asked, is_kept, is_regular, is_regular_or_none,
+    CERT_READ, Context, FileFault, KEPT_BYTES, LoadedFile, MemoryStreams, NamedFile, Output,
+    Outputs, PAGES_READ, Role, STANDARD, StagedFile, first_asked, is_kept, is_regular, is_unkept,
     load, load_file, open_output, open_outputs, open_source, path_of, put_staged, put_whole,
     refuse_equal, refuse_input, refuse_one_file, refuse_shared, write_over,
 };
 use pocsag_words::{GrowingSink, MemorySink, Sink, Source};
-use std::fs::File;
 
 /// Standard output and standard error of a command of the centre.
 pub(crate) type Streams = MemoryStreams<CentreFault>;
@@ -117,26 +116,14 @@ pub(crate) fn plan_command(
 // The files that a plan writes, in the order in which `--keep` puts them at their places. The page file of the rest goes
 // first, so that no page is both in it and in a transmission that is not there; and no transmission ever stands without
 // its certificate.
-fn places<'a>(args: PlanArgs<'a>) -> [(Role, Option<&'a str>); 5] {
+fn places<'a>(args: PlanArgs<'a>) -> [NamedFile<'a>; 5] {
     [
-        (Role::Rest, args.rest),
-        (Role::Oversized, args.oversized),
-        (Role::Why, args.why),
-        (Role::Certificate, Some(args.cert)),
-        (Role::Transmission, Some(args.tx)),
+        NamedFile(Role::Rest, args.rest),
+        NamedFile(Role::Oversized, args.oversized),
+        NamedFile(Role::Why, args.why),
+        NamedFile(Role::Certificate, Some(args.cert)),
+        NamedFile(Role::Transmission, Some(args.tx)),
     ]
-}
-
-// Whether `--keep` cannot keep what stands at a place. A note names it.
-fn is_unkept(context: Context<'_>, role: Role, place: Option<&str>) -> bool {
-    let Some(place) = place else {
-        return false;
-    };
-    if place != STANDARD && is_regular_or_none(context.rt, place) {
-        return false;
-    }
-    context.note(format_args!("{role} {place}: no regular file"));
-    true
 }
 
 // The first option of the order that its files do not serve, as the text that refuses it. It reads nothing of them.
@@ -159,8 +146,8 @@ fn misuse(context: Context<'_>, args: PlanArgs<'_>) -> Option<&'static str> {
     if !args.keep {
         return None;
     }
-    for (role, place) in places(args) {
-        if is_unkept(context, role, place) {
+    for file in places(args) {
+        if is_unkept(context, file) {
             return Some(BAD_KEEP);
         }
     }
@@ -315,12 +302,9 @@ pub(crate) fn front_asked(
 }
 
 // Opens the files of a front beside its transmission and certificate, behind these and before any file is emptied.
-fn open_others(
-    context: Context<'_>,
-    args: PlanArgs<'_>,
-) -> Result<Vec<(Role, Output<File>)>, FileFault> {
+fn open_others(context: Context<'_>, args: PlanArgs<'_>) -> Result<Vec<(Role, Output)>, FileFault> {
     let mut others = Vec::new(context.alloc);
-    for (role, word) in &places(args)[..3] {
+    for NamedFile(role, word) in &places(args)[..3] {
         if let Some(word) = *word {
             others.push((*role, open_output(context, *role, word)?))?;
         }
@@ -333,7 +317,7 @@ fn open_others(
 // Writes the files of a front, the rest first.
 fn put_front_files<S: Sink + Drop>(
     context: Context<'_>,
-    others: Vec<(Role, Output<File>)>,
+    others: Vec<(Role, Output)>,
     mut outputs: Outputs<S>,
     files: FrontFiles<LoadedFile, GrowingSink>,
 ) -> Result<(), FileFault> {
@@ -425,7 +409,7 @@ fn plan_among<O: Sink>(
     streams: &mut Streams,
     lines: &mut O,
 ) -> Result<u8, CentreFault> {
-    for (role, place) in places(args) {
+    for NamedFile(role, place) in places(args) {
         let Some(place) = place else {
             continue;
         };

@@ -2,7 +2,7 @@
 
 use csv::ByteRecord;
 use pocsag_journal::{Line, line_of, record_of};
-use pocsag_shell::{Context, Excerpt, Names};
+use pocsag_shell::{Context, Excerpt};
 
 // What is wrong with a line that is neither an edit nor a `plan`.
 fn wrong_words(row: &ByteRecord) -> &'static str {
@@ -48,5 +48,5 @@ pub(crate) fn print_refused(context: Context<'_>, line: &[u8]) {
         },
         Err(_) => context.note(text),
     }
-    context.print_more(Names::NONE);
+    context.print_more(&[]);
 }
