@@ -1,5 +1,5 @@
 -- What the outputs of a plan hold, and why it is refused.
-use Rattle.pocsag_open.proofs.Prelude.{◌≡◌, inr, ℕ, List, [], ◌++◌, append-nil, refl, sym, ap, ◌∙◌, subst, arith, Some, End, Page, OnLimit, ArePlacesOfRefused, ExplainsFrontUndone, ExplainsUndone, HasFailedOutput, IsUnplaced, PlacementResult, plan_search, undone_of}
+use Rattle.pocsag_open.proofs.Prelude.{◌≡◌, inr, ℕ, List, [], ◌++◌, append-nil, refl, sym, ap, ◌∙◌, subst, arith, None, Some, End, Page, OnLimit, ArePlacesOfRefused, ExplainsPlanUndone, HasFailedOutput, IsUnplaced, PlacementResult, plan_search, undone_of}
 use Rattle.pocsag_tree.specs.Views.{bound_tree_of}
 use Rattle.pocsag_plan.specs.declared.fault.PlanFault.TheVariants as planning
 use Rattle.pocsag_plan.specs.declared.fault.StreamFault.{StreamFault}
@@ -20,7 +20,7 @@ all_held Holds tx tx_after cert cert_after none no_text w =
 
 -- the fault of a stream of the pages explains why their plan is refused
 pub explains : (on_limit : OnLimit) (end : End) (pages : List Page) (limit : ℕ) (f : StreamFault) → limit ≡ default_limit →
-    ExplainsBookStream on_limit end pages limit f → ExplainsUndone on_limit end pages (undone_of f)
+    ExplainsBookStream on_limit end pages limit f → ExplainsPlanUndone on_limit end None pages (undone_of f)
 explains on_limit end pages limit (streaming.Plan planning.BadLimit) e h = absurd (h (record { some = omega (arith, e); few = omega (arith, e) }))
 explains on_limit end pages limit (streaming.Plan (planning.SearchLimit stop)) e h = (
   h.0,
@@ -33,9 +33,12 @@ explains on_limit end pages limit f e h = tt
 
 -- and so does that of a stream of a front
 pub explains_front : (on_limit : OnLimit) (end : End) (most : ℕ) (pages : List Page) (f : StreamFault) →
-    ExplainsBookFront (plan_search on_limit end) pages most (front.Stream f) → ExplainsFrontUndone on_limit end most pages (undone_of f)
+    ExplainsBookFront (plan_search on_limit end) pages most (front.Stream f) → ExplainsPlanUndone on_limit end (Some most) pages (undone_of f)
+explains_front on_limit end most pages (streaming.Plan planning.BadLimit) h = explains on_limit end pages default_limit _ refl h
 explains_front on_limit end most pages (streaming.Plan (planning.SearchLimit stop)) h = (h.0, h.2, (bound_tree_of stop.tree, h.3))
-explains_front on_limit end most pages f h = explains on_limit end pages default_limit f refl h
+explains_front on_limit end most pages (streaming.Plan planning.OutOfMemory) h = h.1
+explains_front on_limit end most pages (streaming.Round f) h = h.1
+explains_front on_limit end most pages f h = tt
 
 -- a store whose outputs failed, or one of whose outputs could not be written, did not place them
 pub unsent : {Output : Type 0} (failures : Output → ℕ) (IsKnown : Type 0) (tx_name cert_name : List ℕ) (before after : List PlacementResult)

@@ -1,5 +1,5 @@
 -- The replies to lines, one after another.
-use Rattle.pocsag_open.proofs.Prelude.{◌≡◌, inl, inr, ℕ, List, [], refl, subst, Bor, Option, Some, None, End, Row, Page, OnLimit, Asked, IsDone, IsEdit, asked_of, first_record, UndoneFault, ArePlacesOfRefused, ExplainsPlanUndone, PlacementResult, IsEditReply, IsFrontReply, IsPlanRefused, IsRefusalDue, IsReply, edited, front_refused, front_sent, refused, sent_first}
+use Rattle.pocsag_open.proofs.Prelude.{◌≡◌, inl, inr, ℕ, List, [], refl, subst, Bor, Option, Some, None, End, Row, Page, OnLimit, Asked, IsDone, IsEdit, asked_of, first_record, UndoneFault, refusal_answer, ArePlacesOfRefused, ExplainsPlanUndone, PlacementResult, AsksForPlan, IsEditReply, IsLineReply, IsPlanRefused, IsRefusalDue, IsReply, edited, read, refused}
 use Rattle.pocsag_journal.specs.Asks.{AsksNone, AsksPlan, IsAskedBy, list_record}
 use Rattle.pocsag_journal.specs.declared.edits.Line.{Line}
 use Rattle.pocsag_journal.specs.declared.edits.Line.TheVariants as line
@@ -83,11 +83,11 @@ edit_reply IsKnown OutputFails on_limit row before after printed none (inr h) =
     } in
     refused h.1.0 due h.0 h.1.3
 
--- the reply to a record that asks for a plan of a front
-pub front_reply : (IsKnown OutputFails : Type 0) (on_limit : OnLimit) (end : End) (most : ℕ) (tx cert : List ℕ) (row : Row) (before after : List Page)
-    (printed : List ℕ) (placed : List PlacementResult) → AsksPlan end (Some most) tx cert row → None ≡ asked_of row →
-    IsFrontReply IsKnown OutputFails on_limit end most tx cert before after printed placed → IsReply IsKnown OutputFails on_limit row before after printed placed
-front_reply IsKnown OutputFails on_limit end most tx cert row before after printed placed asks e (front_sent count batches bound sent is left t n) =
-    sent_first end most tx cert count batches bound sent asks is left t n
-front_reply IsKnown OutputFails on_limit end most tx cert row before after printed placed asks e (front_refused fault explained same t n) =
-    refused (refusal.Undone fault) (plan_due OutputFails on_limit end (Some most) tx cert row before fault placed asks e explained n) same t
+-- the reply to a line that asks for a plan which is refused
+pub plan_refused : (IsKnown OutputFails : Type 0) (on_limit : OnLimit) (end : End) (most : Option ℕ) (tx cert line : List ℕ) (pages : List Page)
+    (fault : UndoneFault) (placed : List PlacementResult) → AsksForPlan end most tx cert line → ExplainsPlanUndone on_limit end most pages fault →
+    ArePlacesOfRefused tx cert OutputFails fault placed →
+    IsLineReply IsKnown OutputFails on_limit line pages pages (refusal_answer (refusal.Undone fault)) placed
+plan_refused IsKnown OutputFails on_limit end most tx cert line pages fault placed a explained places =
+    read a.row a.short a.text (refused (refusal.Undone fault)
+    (plan_due OutputFails on_limit end most tx cert a.row pages fault placed a.asks a.no_edit explained places) refl refl)

@@ -86,28 +86,35 @@ pub record IsFrontPlanned (IsKnown : Type 0) (on_limit : OnLimit) (end : End) (m
   pub planned : IsPlanned IsKnown on_limit end (take count pages) batches bound sent
   pub within : batches ≤ most
 
+-- What is asked for is planned: all pages; or the front that is required for so many batches, these first pages.
+abbrev pub IsAskedPlanned : (IsKnown : Type 0) → OnLimit → End → (at_most : Option ℕ) → List Page → (count : Option ℕ) → (batches bound : ℕ) → PlanBytes → Type 0
+IsAskedPlanned IsKnown on_limit end None pages None batches bound sent = IsPlanned IsKnown on_limit end pages batches bound sent
+IsAskedPlanned IsKnown on_limit end (Some most) pages (Some count) batches bound sent =
+    IsFrontPlanned IsKnown on_limit end most pages count batches bound sent
+IsAskedPlanned IsKnown on_limit end _ pages _ batches bound sent = ⊥
+
 -- There is such a plan, and its outputs were put in these two places, behind those of the plans before it.
-pub record IsPlanPlaced (IsKnown : Type 0) (on_limit : OnLimit) (end : End) (tx cert : List ℕ) (pages : List Page) (batches bound : ℕ) (before after : List PlacementResult) : Type 0 where
+pub record IsPlanPlaced (IsKnown : Type 0) (on_limit : OnLimit) (end : End) (at_most : Option ℕ) (tx cert : List ℕ) (pages : List Page)
+    (count : Option ℕ) (batches bound : ℕ) (before after : List PlacementResult) : Type 0 where
   pub sent : PlanBytes
-  pub planned : IsPlanned IsKnown on_limit end pages batches bound sent
+  pub planned : IsAskedPlanned IsKnown on_limit end at_most pages count batches bound sent
   pub placed : IsKnown → after ≡ before ++ placed_plan tx cert sent ∷ []
 
--- There is such a plan of a front, and its outputs were put in these two places.
-pub record IsFrontPlaced (IsKnown : Type 0) (on_limit : OnLimit) (end : End) (most : ℕ) (tx cert : List ℕ) (pages : List Page) (count batches bound : ℕ) (before after : List PlacementResult) : Type 0 where
-  pub sent : PlanBytes
-  pub planned : IsFrontPlanned IsKnown on_limit end most pages count batches bound sent
-  pub placed : IsKnown → after ≡ before ++ placed_plan tx cert sent ∷ []
-
--- Why a plan is refused, and what is so of the pages then: there are none; or the search stopped at its limit between these
--- two numbers of batches, which happens only where the fewest alone are an answer; or memory was wanting for a plan of a
--- round.
-abbrev pub ExplainsUndone : OnLimit → End → List Page → UndoneFault → Type 0
-ExplainsUndone on_limit end pages undone.NoPages = pages ≡ []
-ExplainsUndone on_limit end pages (undone.SearchLimit least found) =
+-- Why a plan is refused that a line asks for, of all pages or of the front for so many batches, and what is so of the pages
+-- then: there are none; or the search stopped at its limit between these two numbers of batches, for all pages or for some first
+-- ones, which happens only where the fewest alone are an answer; or the first page alone needs more; or memory was wanting for
+-- a plan of a round.
+abbrev pub ExplainsPlanUndone : OnLimit → End → (at_most : Option ℕ) → List Page → UndoneFault → Type 0
+ExplainsPlanUndone on_limit end at_most pages undone.NoPages = pages ≡ []
+ExplainsPlanUndone on_limit end at_most pages undone.OutOfMemory = IsRound pages
+ExplainsPlanUndone on_limit end at_most pages (undone.File f) = Unit {0}
+ExplainsPlanUndone on_limit end None pages (undone.SearchLimit least found) =
     MayStop on_limit × IsRound pages × ((tree : BoundTree) × IsStopped end pages default_limit least found tree)
-ExplainsUndone on_limit end pages (undone.FirstPage needed) = ⊥
-ExplainsUndone on_limit end pages undone.OutOfMemory = IsRound pages
-ExplainsUndone on_limit end pages (undone.File f) = Unit {0}
+ExplainsPlanUndone on_limit end (Some most) pages (undone.SearchLimit least found) =
+    MayStop on_limit × IsRound pages × ((tree : BoundTree) × StopsAtFront (plan_search on_limit end) pages most least found tree)
+ExplainsPlanUndone on_limit end None pages (undone.FirstPage needed) = ⊥
+ExplainsPlanUndone on_limit end (Some most) pages (undone.FirstPage needed) =
+    IsRound pages × FirstNeeds (plan_search on_limit end) pages most needed
 
 -- Some output failed.
 abbrev pub HasFailedOutput : {Output : Type 0} → (failures : Output → ℕ) → Type 0
@@ -125,20 +132,6 @@ pub record IsUnplaced (IsKnown OutputFails : Type 0) (tx cert : List ℕ) (befor
   pub placed : List PlacementResult
   pub refused : ArePlacesOfRefused tx cert OutputFails fault placed
   pub outputs : IsKnown → after ≡ before ++ placed
-
--- Why the plan of a front for so many batches is refused: the first page alone needs more; or the search stopped at some first
--- pages; or for the same reason as a plan of all pages.
-abbrev pub ExplainsFrontUndone : OnLimit → End → (most : ℕ) → List Page → UndoneFault → Type 0
-ExplainsFrontUndone on_limit end most pages (undone.FirstPage needed) =
-    IsRound pages × FirstNeeds (plan_search on_limit end) pages most needed
-ExplainsFrontUndone on_limit end most pages (undone.SearchLimit least found) =
-    MayStop on_limit × IsRound pages × ((tree : BoundTree) × StopsAtFront (plan_search on_limit end) pages most least found tree)
-ExplainsFrontUndone on_limit end most pages f = ExplainsUndone on_limit end pages f
-
--- Why a plan is refused that a line asks for, of all pages or of a front.
-abbrev pub ExplainsPlanUndone : OnLimit → End → (at_most : Option ℕ) → List Page → UndoneFault → Type 0
-ExplainsPlanUndone on_limit end None pages f = ExplainsUndone on_limit end pages f
-ExplainsPlanUndone on_limit end (Some most) pages f = ExplainsFrontUndone on_limit end most pages f
 
 -- Which reason the fault of a stream is. The limit of an open round is never a bad one.
 abbrev pub undone_of : StreamFault → UndoneFault

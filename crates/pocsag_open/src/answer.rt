@@ -11,7 +11,6 @@ ghost use Rattle.pocsag_open.specs.KeptAnswers.{ExplainsUnanswered, IsAnswered, 
 ghost use Rattle.pocsag_open.specs.Replies.{IsEditReply, TookMore};
 ghost use Rattle.pocsag_open.specs.Survival.{IsCutShort, ReadsOrReplied};
 
-use crate::front::SentFront;
 use crate::refused::refuse;
 use crate::round_plan::Planned;
 use csv::ByteRecord;
@@ -105,16 +104,20 @@ pub(crate) fn print_planned<O: Sink>(planned: Planned, out: &mut O) -> Result<()
 
 /// The batches of the plan of a front, how many pages it sends, and the bound where it is below the batches.
 #[tactic(auto, unfolding(crate::specs::Answers::front_answer))]
-pub(crate) fn print_sent<O: Sink>(front: SentFront, out: &mut O) -> Result<(), FileFault>
+pub(crate) fn print_sent<O: Sink>(
+    planned: Planned,
+    pages: u32,
+    out: &mut O,
+) -> Result<(), FileFault>
     ensures printed { O.is_known → Delivers result (O.taken out.old) (O.taken out.new)
-        (front_answer front.batches front.pages front.bound) }
+        (front_answer planned.batches pages planned.bound) }
     ensures lost { IfErr result (λ e. e ≡ FileFault.Write) }
     ensures failures { CountsFailures result (O.failures out.old) (O.failures out.new) }
 {
-    let batches = ("batches ", front.batches as u64);
-    let sent = (", sent ", front.pages as u64);
-    if front.bound < front.batches {
-        let bound = (", at least ", front.bound as u64);
+    let batches = ("batches ", planned.batches as u64);
+    let sent = (", sent ", pages as u64);
+    if planned.bound < planned.batches {
+        let bound = (", at least ", planned.bound as u64);
         print_numbers(out, &[batches, sent, bound], "\n")
     } else {
         print_numbers(out, &[batches, sent], "\n")

@@ -1,9 +1,9 @@
-use Rattle.pocsag_open.proofs.Prelude.{inl, ◌≡◌, List, ℕ, [], ◌∷◌, ◌++◌, length, refl, ap, ◌∙◌, append_assoc, append-nil, sym, None, fields_of, named, started, LeavesOnly, pages_answer, HasFailedOutput, placed_plan, IsEditReply, listed, noted, planned, read, refused, unread, FrontRepliesAndPlaces, FrontRepliesTo, ReadsOrReplied, RepliesAndPlaces, RepliesTo, IsLine, read_line}
+use Rattle.pocsag_open.proofs.Prelude.{inl, ◌≡◌, List, ℕ, [], ◌∷◌, ◌++◌, length, refl, ap, ◌∙◌, append_assoc, append-nil, sym, fields_of, named, started, LeavesOnly, pages_answer, HasFailedOutput, IsEditReply, listed, noted, read, refused, unread, ReadsOrReplied, RepliesAndPlaces, RepliesTo, IsLine, read_line}
 use Rattle.std.proofs.Common.{Err}
 use Rattle.pocsag_decode.specs.PageFiles.{page_file}
-use Rattle.pocsag_open.proofs.Sessions.{edit_reply, front_reply, list_due, other_none, plan_due}
+use Rattle.pocsag_open.proofs.Sessions.{edit_reply, list_due, other_none}
 use Rattle.pocsag_open.proofs.Survival.{cut_as, cut_due, cut_front, cut_last, on_err, read_as}
-use Rattle.pocsag_open.proofs.Printed.{on_ok, told_as, told_like, told_once, told_this}
+use Rattle.pocsag_open.proofs.Printed.{on_ok, told_as, told_once, told_this}
 use Rattle.pocsag_open.proofs.Ends.{for_fault, not_answered, text_feedless}
 use Rattle.pocsag_open.proofs.session.answer_line.Goals.{Start}
 use Rattle.pocsag_open.proofs.session.answer_line.Goals as goal
@@ -13,21 +13,35 @@ returns-in-Err-clause-replied g c = λ is_known.
     told_this c.refuse.result _ _ _ _ _ _ [] _ (unread c.in-Err.refusal c.requires c.in-Err.ensures.refused refl refl refl) (λ known. sym (append-nil _))
     ((c.refuse.ensures.printed is_known).0)
 
-pub returns-in-Ok-put_plan-clause-replied : goal.returns-in-Ok-put_plan-clause-replied
-returns-in-Ok-put_plan-clause-replied g c = λ is_known.
-    let asks = rw c.in-None.is at c.in-Plan.ensures.asks in
-    let done = c.in-Ok-put_plan.ensures.planned in
-    told_this c.print_planned.result _ _ _ _ _ _ (placed_plan c.in-Plan.tx.now c.in-Plan.cert.now done.sent ∷ []) _
-    (read _ c.requires c.in-Ok.ensures.spelled (planned _ _ _ _ _ _ asks done.planned refl refl refl)) done.placed
-    ((c.print_planned.ensures.printed is_known).0)
+pub returns-in-Plan-clause-replied : goal.returns-in-Plan-clause-replied
+returns-in-Plan-clause-replied g c = λ is_known.
+    c.answer_plan.ensures.replied is_known c.args.line.now (record {
+      row = fields_of c.in-Ok.row;
+      short = c.requires;
+      text = c.in-Ok.ensures.spelled;
+      asks = c.in-Plan.ensures.asks;
+      no_edit = c.in-Plan.ensures.edit;
+    })
 
-pub returns-in-None-clause-replied : goal.returns-in-None-clause-replied
-returns-in-None-clause-replied g c = λ is_known.
-    let asks = rw c.in-None.is at c.in-Plan.ensures.asks in
-    let un = c.in-Err-put_plan.ensures.unplaced in
-    told_this c.refuse-in-Err-put_plan.result _ _ _ _ _ _ un.placed _ (read _ c.requires c.in-Ok.ensures.spelled
-    (refused _ (plan_due _ _ _ None _ _ _ _ _ _ asks c.in-Plan.ensures.edit c.in-Err-put_plan.ensures.explained un.refused) refl refl))
-    un.outputs ((c.refuse-in-Err-put_plan.ensures.printed is_known).0)
+pub returns-in-Plan-clause-cut : goal.returns-in-Plan-clause-cut
+returns-in-Plan-clause-cut g c = λ keeps is_known stands.
+    c.answer_plan.ensures.cut keeps is_known stands c.args.line.now (record {
+      row = fields_of c.in-Ok.row;
+      short = c.requires;
+      text = c.in-Ok.ensures.spelled;
+      asks = c.in-Plan.ensures.asks;
+      no_edit = c.in-Plan.ensures.edit;
+    })
+
+pub returns-in-Plan-clause-any_moment : goal.returns-in-Plan-clause-any_moment
+returns-in-Plan-clause-any_moment g c = λ keeps stands.
+    c.answer_plan.ensures.any_moment keeps stands c.args.line.now (record {
+      row = fields_of c.in-Ok.row;
+      short = c.requires;
+      text = c.in-Ok.ensures.spelled;
+      asks = c.in-Plan.ensures.asks;
+      no_edit = c.in-Plan.ensures.edit;
+    })
 
 pub returns-in-Ok-write_page_file-clause-replied : goal.returns-in-Ok-write_page_file-clause-replied
 returns-in-Ok-write_page_file-clause-replied g c = λ is_known.
@@ -68,33 +82,6 @@ returns-in-Err-clause-cut g c = λ keeps is_known stands.
     (cut_due _ _ _ _ _ _ _ _ ([], unread c.in-Err.refusal c.requires c.in-Err.ensures.refused refl refl refl, λ known. sym (append-nil _))
     (λ left now. g.K.Keeper.restarts c.args.round.now.keeper c.args.round.now.book left keeps stands now))
     ((c.refuse.ensures.printed is_known).1)
-
-pub returns-in-Ok-put_plan-clause-cut : goal.returns-in-Ok-put_plan-clause-cut
-returns-in-Ok-put_plan-clause-cut g c = λ keeps is_known stands.
-    let asks = rw c.in-None.is at c.in-Plan.ensures.asks in
-    let done = c.in-Ok-put_plan.ensures.planned in
-    on_err c.print_planned.result _ _
-    (cut_due _ _ _ _ _ _ _ _ (
-      placed_plan c.in-Plan.tx.now c.in-Plan.cert.now done.sent ∷ [],
-      read _ c.requires c.in-Ok.ensures.spelled (planned _ _ _ _ _ _ asks done.planned refl refl refl),
-      done.placed,
-    )
-    (λ left now. g.K.Keeper.restarts c.args.round.now.keeper c.args.round.now.book left keeps stands now))
-    ((c.print_planned.ensures.printed is_known).1)
-
-pub returns-in-None-clause-cut : goal.returns-in-None-clause-cut
-returns-in-None-clause-cut g c = λ keeps is_known stands.
-    let asks = rw c.in-None.is at c.in-Plan.ensures.asks in
-    let un = c.in-Err-put_plan.ensures.unplaced in
-    on_err c.refuse-in-Err-put_plan.result _ _
-    (cut_due _ _ _ _ _ _ _ _ (
-      un.placed,
-      read _ c.requires c.in-Ok.ensures.spelled
-          (refused _ (plan_due _ _ _ None _ _ _ _ _ _ asks c.in-Plan.ensures.edit c.in-Err-put_plan.ensures.explained un.refused) refl refl),
-      un.outputs,
-    )
-    (λ left now. g.K.Keeper.restarts c.args.round.now.keeper c.args.round.now.book left keeps stands now))
-    ((c.refuse-in-Err-put_plan.ensures.printed is_known).1)
 
 pub returns-in-Ok-write_page_file-clause-cut : goal.returns-in-Ok-write_page_file-clause-cut
 returns-in-Ok-write_page_file-clause-cut g c = λ keeps is_known stands.
@@ -146,41 +133,6 @@ returns-clause-cut g c = λ keeps is_known stands.
     (λ after printed is. ([], read _ c.requires c.in-Ok.ensures.spelled (edit_reply _ _ _ _ _ _ _ neither is), λ known. sym (append-nil _))))
     (c.answer_edit-done.ensures.cut keeps is_known stands)
 
-pub returns-in-Plan-clause-replied : goal.returns-in-Plan-clause-replied
-returns-in-Plan-clause-replied g c = λ is_known.
-    let asks = rw c.in-Some.is at c.in-Plan.ensures.asks in
-    told_like c.answer_front.result _ _ _ _ _ _ _
-    (λ printed sent is. read _ c.requires c.in-Ok.ensures.spelled (front_reply _ _ _ _ _ _ _ _ _ _ _ _ asks c.in-Plan.ensures.edit is))
-    (c.answer_front.ensures.replied is_known)
-
-pub returns-in-Plan-clause-cut : goal.returns-in-Plan-clause-cut
-returns-in-Plan-clause-cut g c = λ keeps is_known stands.
-    let asks = rw c.in-Some.is at c.in-Plan.ensures.asks in
-    on_err c.answer_front.result _ _
-    (cut_as (FrontRepliesAndPlaces g.P.OutputStore.is_known (HasFailedOutput g.P.Output.Sink.failures) c.args.settings.now.on_limit c.in-Plan.end c.in-Some.batches c.in-Plan.tx.now c.in-Plan.cert.now
-    (g.P.OutputStore.placed c.args.settings.now.store) (g.P.OutputStore.placed c.answer_front.new.settings.store))
-    (RepliesAndPlaces g.P.OutputStore.is_known (HasFailedOutput g.P.Output.Sink.failures) c.args.settings.now.on_limit c.args.line.now (g.P.OutputStore.placed c.args.settings.now.store) (g.P.OutputStore.placed c.answer_front.new.settings.store)) c.args.round.now.book (g.O.Sink.taken c.args.out.now) (g.O.Sink.taken c.answer_front.new.out) g.K.Keeper.reads_as
-    (g.K.Keeper.may_leave c.answer_front.new.round.keeper)
-    (λ after printed is. (
-      is.0,
-      read _ c.requires c.in-Ok.ensures.spelled (front_reply _ _ _ _ _ _ _ _ _ _ _ _ asks c.in-Plan.ensures.edit is.1),
-      is.2,
-    )))
-    (c.answer_front.ensures.cut keeps is_known stands)
-
-pub returns-in-Plan-clause-any_moment : goal.returns-in-Plan-clause-any_moment
-returns-in-Plan-clause-any_moment g c = λ keeps stands.
-    let asks = rw c.in-Some.is at c.in-Plan.ensures.asks in
-    named g.K.Keeper.moment g.K.Keeper.left_since c.args.round.now.keeper c.answer_front.new.round.keeper _ _
-    (c.answer_front.ensures.any_moment keeps stands)
-    (λ left now.
-    read_as (FrontRepliesTo g.P.OutputStore.is_known (HasFailedOutput g.P.Output.Sink.failures) c.args.settings.now.on_limit c.in-Plan.end c.in-Some.batches c.in-Plan.tx.now c.in-Plan.cert.now)
-    (RepliesTo g.P.OutputStore.is_known (HasFailedOutput g.P.Output.Sink.failures) c.args.settings.now.on_limit c.args.line.now) c.args.round.now.book g.K.Keeper.reads_as left
-    (λ after printed is. (
-      is.0,
-      read _ c.requires c.in-Ok.ensures.spelled (front_reply _ _ _ _ _ _ _ _ _ _ _ _ asks c.in-Plan.ensures.edit is.1),
-    )) now)
-
 pub returns-clause-any_moment : goal.returns-clause-any_moment
 returns-clause-any_moment g c = λ keeps stands.
     let neither =
@@ -205,12 +157,6 @@ unmoved g c = λ keeps stands.
 
 pub returns-in-Err-clause-any_moment : goal.returns-in-Err-clause-any_moment
 returns-in-Err-clause-any_moment g c = unmoved g (goal.at.returns-in-Err-clause-any_moment g c).Start
-
-pub returns-in-Ok-put_plan-clause-any_moment : goal.returns-in-Ok-put_plan-clause-any_moment
-returns-in-Ok-put_plan-clause-any_moment g c = unmoved g (goal.at.returns-in-Ok-put_plan-clause-any_moment g c).Start
-
-pub returns-in-None-clause-any_moment : goal.returns-in-None-clause-any_moment
-returns-in-None-clause-any_moment g c = unmoved g (goal.at.returns-in-None-clause-any_moment g c).Start
 
 pub returns-in-Ok-write_page_file-clause-any_moment : goal.returns-in-Ok-write_page_file-clause-any_moment
 returns-in-Ok-write_page_file-clause-any_moment g c = unmoved g (goal.at.returns-in-Ok-write_page_file-clause-any_moment g c).Start
