@@ -79,4 +79,4 @@ status_text status =
 
 -- The version of the package.
 abbrev pub release_text : List ℕ
-release_text = codes "1.2.0-rc.7"
+release_text = codes "1.2.0"
