@@ -11,7 +11,7 @@ use crate::words::{
 };
 use clap::error::ErrorKind;
 use clap::{ArgMatches, Error};
-use pocsag_capture::{CaptureFault, Polarity, Reception, ReceptionStats};
+use pocsag_capture::{CaptureFault, Polarity, ReceptionStats};
 use pocsag_decode::{DecodeFault, Repaired};
 use pocsag_pager::PagerFault;
 use pocsag_shell::{
@@ -65,20 +65,14 @@ fn asked_of(alloc: Global, name: &str, found: &ArgMatches<'_>) -> Option<Request
             form: wanted_form(found)?,
             repairing,
         })),
-        (DECODE, true) => Some(Request::ListCapture(CaptureListing {
-            picking: CaptureOptions {
-                only: None,
-                form: wanted_form(found)?,
-            },
-            heard,
-        })),
         (HEAR, false) => Some(Request::Hear(Hearing {
             form: wanted_form(found)?,
             address: found.get_one::<u32>(ADDRESS)?,
         })),
-        (HEAR, true) => Some(Request::ListCapture(CaptureListing {
+        (DECODE | HEAR, true) => Some(Request::ListCapture(CaptureListing {
             picking: CaptureOptions {
-                only: Some(found.get_one::<u32>(ADDRESS)?),
+                // `decode` has no address.
+                only: found.get_one::<u32>(ADDRESS),
                 form: wanted_form(found)?,
             },
             heard,
@@ -205,8 +199,13 @@ fn print_received(
 ) {
     match asked {
         Request::Hear(_) => {}
-        Request::Decode(decoding) => note_repair(context, file, decoding.repairing),
-        Request::Show(showing) => note_repair(context, file, showing.repairing),
+        Request::Decode(Decoding { repairing, .. }) | Request::Show(Showing { repairing, .. }) => {
+            if repairing.is_asked {
+                let Repaired { words, bits } = repairing.corrected;
+                context.note(format_args!("{file}: corrected bits {bits}, words {words}"));
+                context.print_more(&[file]);
+            }
+        }
         Request::ListCapture(capture_listing) => {
             let heard = capture_listing.heard.as_slice();
             if heard.is_empty() {
@@ -257,15 +256,6 @@ fn note_capture(
     }
 }
 
-// With `--repair` reports how much was corrected.
-fn note_repair(context: Context<'_>, file: NamedFile<'_>, repairing: Repairing) {
-    if repairing.is_asked {
-        let Repaired { words, bits } = repairing.corrected;
-        context.note(format_args!("{file}: corrected bits {bits}, words {words}"));
-        context.print_more(&[file]);
-    }
-}
-
 // With `--verbose` reports how transmissions of a capture were received, of which the first has this number.
 fn print_heard(context: Context<'_>, first: u64, heard: &[ReceptionStats]) {
     if !context.diagnostics.is_asked() {
@@ -273,32 +263,21 @@ fn print_heard(context: Context<'_>, first: u64, heard: &[ReceptionStats]) {
     }
     let mut number = first;
     for printed in heard {
-        let ReceptionStats {
-            reception,
-            steady: _,
-            corrected,
-            lost,
-            cut,
-        } = *printed;
-        let Reception {
-            bit,
-            polarity,
-            batches,
-            words: _,
-            words_in_front,
-        } = reception;
-        let batches = batches.saturating_add(u64::from(words_in_front > 0));
-        let batches_of = match polarity {
+        let reception = printed.reception;
+        let batches = reception
+            .batches
+            .saturating_add(u64::from(reception.words_in_front > 0));
+        let batches_of = match reception.polarity {
             Polarity::Upright => ", upright, batches ",
             Polarity::Inverted => ", inverted, batches ",
         };
         let numbers = [
             ("pocsag: transmission ", number),
-            (": bit ", bit),
+            (": bit ", reception.bit),
             (batches_of, batches),
-            (", corrected bits ", corrected),
-            (", lost words ", lost),
-            (", cut pages ", cut),
+            (", corrected bits ", printed.corrected),
+            (", lost words ", printed.lost),
+            (", cut pages ", printed.cut),
         ];
         let _ = print_numbers(&mut context.err(), &numbers, "\n");
         number = number.saturating_add(1);
