@@ -47,6 +47,7 @@ pub(crate) fn refuse_unmet(
     path: Option<&str>,
     pages: &LoadedFile,
     asked: SearchArgs,
+    is_front: bool,
 ) -> Result<Option<QuoteFault>, CentreFault> {
     let Some(file) = pages.lent() else {
         return Ok(None);
@@ -60,31 +61,17 @@ pub(crate) fn refuse_unmet(
     } else {
         quote = quote_asked(context, pages);
     }
-    let Some(expected) = asked.expect else {
+    // If the limit of the search is in range, the plan of a front counts the pages itself.
+    if is_front && is_node_limit(asked.search.limit) {
         return Ok(quote);
-    };
-    match expected_file(context.alloc, asked.may_wait, file, expected) {
-        Ok(()) => Ok(quote),
-        Err(fault) => {
+    }
+    if let Some(expected) = asked.expect {
+        if let Err(fault) = expected_file(context.alloc, asked.may_wait, file, expected) {
             note_file(context, path, pages, None, Some(fault));
-            Err(fault)
+            return Err(fault);
         }
     }
-}
-
-/// The same before a front is planned. If the limit of the search is in range, the plan of the front counts the pages
-/// itself.
-pub(crate) fn refuse_before(
-    context: Context<'_>,
-    path: Option<&str>,
-    pages: &LoadedFile,
-    asked: SearchArgs,
-) -> Result<Option<QuoteFault>, CentreFault> {
-    let mut asked = asked;
-    if is_node_limit(asked.search.limit) {
-        asked.expect = None;
-    }
-    refuse_unmet(context, path, pages, asked)
+    Ok(quote)
 }
 
 /// `plan`: plans from file to files, or from and to the standard streams. Where standard output takes one of
@@ -213,16 +200,11 @@ fn plan_loaded<T: Sink + Drop, C: Sink + Drop, O: Sink>(
     streams: &mut Streams,
     out: &mut O,
 ) -> Result<u8, CentreFault> {
-    let quote = refuse_unmet(context, args.pages, &files.pages, args.search)?;
+    let quote = refuse_unmet(context, args.pages, &files.pages, args.search, false)?;
     let search = args.search.search;
     let status = run_plan(context.alloc, search, files, out, &mut streams.err);
-    note_file(
-        context,
-        args.pages,
-        &files.pages,
-        quote,
-        streams.err.fault(),
-    );
+    let fault = streams.err.fault();
+    note_file(context, args.pages, &files.pages, quote, fault);
     Ok(status)
 }
 
@@ -250,7 +232,7 @@ fn write_front<O: Sink>(
     let others = open_others(context, args)?;
     let outputs = opened.emptied(context)?;
     let pages = load(context, &mut source, PAGES_READ)?;
-    let quote = refuse_before(context, args.pages, &pages, args.search)?;
+    let quote = refuse_unmet(context, args.pages, &pages, args.search, true)?;
     let begins = first_asked(context, pages.lent().unwrap_or(&[]));
     let mut files = FrontFiles {
         pages,
@@ -262,13 +244,8 @@ fn write_front<O: Sink>(
         count: 0,
     };
     let mut lines: MemorySink<LINES> = MemorySink::new(LINES, LINES as u64);
-    let status = run_front(
-        context.alloc,
-        asked,
-        &mut files,
-        &mut lines,
-        &mut streams.err,
-    );
+    let (alloc, err) = (context.alloc, &mut streams.err);
+    let status = run_front(alloc, asked, &mut files, &mut lines, err);
     let fault = streams.err.fault();
     note_file(context, args.pages, &files.pages, quote, fault);
     note_first(context, args, asked, begins, fault);
@@ -414,9 +391,7 @@ fn plan_among<O: Sink>(
             continue;
         };
         let made = StagedFile::make(context, role, place, files.as_slice())?;
-        files
-            .push(made)
-            .map_err(|_| CentreFault::File(FileFault::OutOfMemory))?;
+        files.push(made).map_err(FileFault::from)?;
     }
     let status = plan_files(context, staged(args, files.as_slice()), streams, lines)?;
     if status == 0 {
