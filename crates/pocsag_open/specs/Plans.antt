@@ -15,7 +15,7 @@ use Rattle.pocsag_plan.specs.declared.bounded.BoundedPlan.{BoundedPlan}
 use Rattle.pocsag_plan.specs.declared.search.Search.{Search}
 use Rattle.pocsag_plan.specs.Fronts.{FirstNeeds, IsFrontFor, IsLongestFront, StopsAtFront}
 use Rattle.pocsag_plan.specs.Headline.{RoundHeadline}
-use Rattle.pocsag_plan.specs.Plans.{IsBounded, IsNoWorse, IsStopped, MayStop}
+use Rattle.pocsag_plan.specs.Plans.{IsPlanFor, IsStopped, MayStop}
 use Rattle.pocsag_plan.specs.Searches.{default_limit}
 use Rattle.pocsag_shell.specs.declared.fault.FileFault.{FileFault}
 use Rattle.pocsag_shell.specs.declared.fault.FileFault.TheVariants as file
@@ -26,56 +26,42 @@ use Rattle.pocsag_journal.specs.declared.refusal.UndoneFault.TheVariants as undo
 abbrev pub PlanBytes : Type 0
 PlanBytes = List ℕ × List ℕ
 
--- What was put in the two places of a plan: the names of both, and what their outputs hold.
-pub record PlacedPlan : Type 0 where
-  pub tx : List ℕ
-  pub cert : List ℕ
-  pub sent : PlanBytes
-
 -- The names of the places of a transmission and of its certificate.
 abbrev pub PlaceNames : Type 0
 PlaceNames = List ℕ × List ℕ
 
--- Why outputs for two places were not made or not put.
-abbrev pub PlaceFault : Type 0
-PlaceFault = PlaceNames × FileFault
-
--- What became of the places of a plan: its outputs were put there; or they could not be made or put, for this fault.
+-- What became of the places of a plan: its outputs, which hold these bytes, were put there; or they could not be made or put, for
+-- this fault.
 pub data PlacementResult : Type 0 where
-  put : PlacedPlan → PlacementResult
-  failed : PlaceFault → PlacementResult
+  put : PlaceNames → PlanBytes → PlacementResult
+  failed : PlaceNames → FileFault → PlacementResult
 
--- No names, no bytes, no plan, one that was put, and one that failed.
+-- No names, no plan, one that was put, and one that failed.
 abbrev pub no_names : Option PlaceNames
 no_names = None
-
-abbrev pub no_bytes : PlanBytes
-no_bytes = ([], [])
 
 abbrev pub no_plans : List PlacementResult
 no_plans = []
 
 abbrev pub placed_plan : (tx cert : List ℕ) → PlanBytes → PlacementResult
-placed_plan tx cert sent = put (record { tx = tx; cert = cert; sent = sent })
+placed_plan tx cert sent = put (tx, cert) sent
 
 abbrev pub failed_plan : (tx cert : List ℕ) → FileFault → PlacementResult
-failed_plan tx cert f = failed ((tx, cert), f)
-
--- A plan of the pages for the end has so many batches and this bound, which is its batches where only the fewest are an
--- answer, and is below them only where a search stopped at the limit of an open round; and its two outputs, where it is known what they hold, hold the transmission and the certificate of the headline of
--- these pages, this end, these batches and this bound.
-pub record IsPlanned (IsKnown : Type 0) (on_limit : OnLimit) (end : End) (pages : List Page) (batches bound : ℕ) (sent : PlanBytes) : Type 0 where
-  pub made : BoundedPlan
-  pub plan_of : IsBounded end pages made.plan bound
-  pub same : batches ≡ made.plan.batches
-  pub its_bound : bound ≡ made.bound
-  pub no_worse : IsNoWorse end pages default_limit made
-  pub fewest : on_limit ≡ Fewest → bound ≡ batches
-  pub headline : IsKnown → RoundHeadline pages end batches bound (bound_tree_of made.plan.tree) sent.0 sent.1
+failed_plan tx cert f = failed (tx, cert) f
 
 -- The search of a plan for the end.
 abbrev pub plan_search : OnLimit → End → Search
 plan_search on_limit end = record { limit = default_limit; end = end; on_limit = on_limit }
+
+-- The plan that is required for the pages and the end, with the limit of an open round, has so many batches and this bound, which is
+-- its batches where only the fewest are an answer; and its two outputs, where it is known what they hold, hold the transmission and
+-- the certificate of the headline of these pages, this end, these batches and this bound.
+pub record IsPlanned (IsKnown : Type 0) (on_limit : OnLimit) (end : End) (pages : List Page) (batches bound : ℕ) (sent : PlanBytes) : Type 0 where
+  pub made : BoundedPlan
+  pub plan : IsPlanFor (plan_search on_limit end) pages made
+  pub same : batches ≡ made.plan.batches
+  pub its_bound : bound ≡ made.bound
+  pub headline : IsKnown → RoundHeadline pages end batches bound (bound_tree_of made.plan.tree) sent.0 sent.1
 
 -- The first `count` pages are the front that is required for so many batches, the longest where only the fewest are an answer; and
 -- they are planned, in no more batches. The pages may stand in a round.

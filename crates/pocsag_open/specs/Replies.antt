@@ -14,7 +14,7 @@ use Rattle.pocsag_journal.specs.declared.refusal.Refusal.{Refusal}
 use Rattle.pocsag_journal.specs.declared.refusal.Refusal.TheVariants as refusal
 use Rattle.pocsag_journal.specs.declared.refusal.UndoneFault.{UndoneFault}
 use Rattle.pocsag_journal.specs.declared.refusal.UndoneFault.TheVariants as undone
-use Rattle.pocsag_open.specs.Answers.{front_answer, pages_answer, plan_answer, refusal_answer}
+use Rattle.pocsag_open.specs.Answers.{pages_answer, plan_answer, refusal_answer}
 use Rattle.pocsag_open.specs.Lines.{AreLines, line_limit}
 use Rattle.pocsag_open.specs.Plans.{ArePlacesOfRefused, ExplainsPlanUndone, IsFrontPlanned, IsPlanned, PlacementResult, PlanBytes, placed_plan}
 
@@ -72,14 +72,14 @@ pub data IsReply (IsKnown OutputFails : Type 0) (on_limit : OnLimit) (row : Row)
   planned :
       (end : End) (tx cert : List ℕ) (batches bound : ℕ) (sent : PlanBytes) → AsksPlan end None tx cert row →
       IsPlanned IsKnown on_limit end before batches bound sent →
-      after ≡ before → printed ≡ plan_answer batches bound → placed ≡ placed_plan tx cert sent ∷ [] →
+      after ≡ before → printed ≡ plan_answer batches None bound → placed ≡ placed_plan tx cert sent ∷ [] →
       IsReply IsKnown OutputFails on_limit row before after printed placed
   -- It asks for a plan of the longest front that so many batches carry: the pages of the front are taken out, and the reply is
   -- the batches of its plan, how many pages it sends, and the bound.
   sent_first :
       (end : End) (most : ℕ) (tx cert : List ℕ) (count batches bound : ℕ) (sent : PlanBytes) → AsksPlan end (Some most) tx cert row →
       IsFrontPlanned IsKnown on_limit end most before count batches bound sent →
-      after ≡ drop count before → printed ≡ front_answer batches count bound → placed ≡ placed_plan tx cert sent ∷ [] →
+      after ≡ drop count before → printed ≡ plan_answer batches (Some count) bound → placed ≡ placed_plan tx cert sent ∷ [] →
       IsReply IsKnown OutputFails on_limit row before after printed placed
   -- It is refused, for a reason that is due.
   refused :

@@ -2,7 +2,7 @@ ghost use Rattle.std.specs.Prelude.{◌≡◌, ◌≤◌, [], ◌∷◌, ◌++�
 ghost use Rattle.pocsag_words.specs.Frame.{input_limit};
 ghost use Rattle.pocsag_pages.specs.Quotes.{IsWellQuoted, text_of_file};
 ghost use Rattle.pocsag_open.specs.FirstFiles.{ExplainsRefused, HoldsRoundOf};
-ghost use Rattle.pocsag_open.specs.Plans.{failed_plan, no_bytes, no_names, no_plans, placed_plan};
+ghost use Rattle.pocsag_open.specs.Plans.{failed_plan, no_names, no_plans, placed_plan};
 
 use crate::fault::OpenFault;
 use crate::line_note::print_refused;
@@ -197,7 +197,7 @@ impl<'a> OutputStore for RoundFiles<'a> {
     ) -> Result<(), FileFault>
         // Nothing is known of what files hold.
         ensures placed { ⊥ → no_names ≡ Some (tx.now, cert.now) → OnOk result
-            (no_plans ≡ no_plans ++ placed_plan tx.now cert.now no_bytes ∷ []) }
+            (no_plans ≡ no_plans ++ placed_plan tx.now cert.now ([], []) ∷ []) }
         ensures failed { ⊥ → IfErr result (λ fault. no_plans ≡
             no_plans ++ failed_plan tx.now cert.now fault ∷ []) }
         ensures none_left { ⊥ → no_names ≡ Some (tx.now, cert.now) → no_names ≡ None }

@@ -10,7 +10,7 @@ ghost use Rattle.pocsag_open.specs.Plans.{ExplainsPlanUndone, HasFailedOutput, I
 ghost use Rattle.pocsag_open.specs.Replies.{AsksForPlan, IsLineReply, PrintsAndPlaces};
 ghost use Rattle.pocsag_open.specs.Survival.{IsCutShort, ReadsOrReplied, RepliesAndPlaces, RepliesTo};
 
-use crate::answer::{KeptRound, print_planned, print_sent};
+use crate::answer::{KeptRound, print_planned};
 use crate::outputs::OutputStore;
 use crate::refused::refuse;
 use crate::session::PlanSettings;
@@ -18,7 +18,7 @@ use csv::ByteRecord;
 use pocsag_journal::{Keeper, Refusal, UndoneFault, sent_row};
 use pocsag_plan::{Book, DEFAULT_LIMIT, PlanFault, Search, StreamFault, UnsentFront};
 use pocsag_shell::{FileFault, Outputs};
-use pocsag_words::{End, Sink};
+use pocsag_words::{End, OutOfMemory, Sink};
 use std::alloc::Global;
 
 /// What a line that plans asks for.
@@ -86,11 +86,11 @@ pub(crate) fn answer_plan<P: OutputStore + Drop, K: Keeper + Drop, O: Sink>(
         Err(fault) => return refuse(Refusal::Undone(fault), out),
     };
     let Some(front) = sent else {
-        return print_planned(planned, out);
+        return print_planned(planned, None, out);
     };
     round.book.drop_first(front.pages as usize);
     round.keeper.keep(alloc, &front.row)?;
-    print_sent(planned, front.pages, out)
+    print_planned(planned, Some(front.pages), out)
 }
 
 // Plans the pages for the end, writes the two outputs that a line names, and puts them in their places once both are whole.
@@ -112,12 +112,16 @@ fn place_plan<P: OutputStore + Drop>(
     ensures none_left { P.is_known → P.made_for settings.new.store ≡ None }
     ensures on_limit { settings.new.on_limit ≡ settings.old.on_limit }
 {
-    let (planned, sent, outputs) = match send_plan(alloc, settings, book, asked) {
+    let (planned, pages, outputs) = match send_plan(settings, book, asked) {
         Ok(sent) => sent,
         Err(fault) => {
             settings.store.leave(asked.tx, asked.cert);
             return Err(fault);
         }
+    };
+    let Ok(sent) = front_of(alloc, pages) else {
+        settings.store.leave(asked.tx, asked.cert);
+        return Err(UndoneFault::OutOfMemory);
     };
     match settings.store.put(asked.tx, asked.cert, outputs) {
         Ok(()) => Ok((planned, sent)),
@@ -125,17 +129,28 @@ fn place_plan<P: OutputStore + Drop>(
     }
 }
 
-// Makes both outputs, and writes them whole.
+// The front of so many pages, if one is sent.
+fn front_of(alloc: Global, pages: Option<u32>) -> Result<Option<SentFront>, OutOfMemory>
+    ensures same { IfOk result (λ sent. option_map (λ front. front.pages) sent ≡ pages) }
+    ensures edit { IfOk result (λ sent. IfSome sent (λ front. fields_of front.row ≡ sent_record front.pages)) }
+    ensures some { OnErr result (pages ≢ None) }
+{
+    let Some(pages) = pages else {
+        return Ok(None);
+    };
+    let row = sent_row(alloc, pages)?;
+    Ok(Some(SentFront { pages, row }))
+}
+
+// Makes both outputs, and writes them whole. Returns too how many first pages are sent, where a front is asked for.
 fn send_plan<P: OutputStore + Drop>(
-    alloc: Global,
     settings: &mut PlanSettings<P>,
     book: &Book,
     asked: PlanRequest<'_>,
-) -> Result<(Planned, Option<SentFront>, Outputs<P::Output>), UndoneFault>
+) -> Result<(Planned, Option<u32>, Outputs<P::Output>), UndoneFault>
     ensures planned { IfOk result (λ all. IsAskedPlanned P.is_known settings.old.on_limit asked.entry.end
-        asked.entry.at_most book.now (option_map (λ front. front.pages) all.1) all.0.batches all.0.bound
+        asked.entry.at_most book.now all.1 all.0.batches all.0.bound
         (P.Output.taken all.2.tx, P.Output.taken all.2.cert)) }
-    ensures edit { IfOk result (λ all. IfSome all.1 (λ front. fields_of front.row ≡ sent_record front.pages)) }
     ensures explained { IfErr result
         (ExplainsPlanUndone settings.old.on_limit asked.entry.end asked.entry.at_most book.now) }
     ensures unplaced { IfErr result (IsUnplaced P.is_known (HasFailedOutput P.Output.failures)
@@ -164,15 +179,9 @@ fn send_plan<P: OutputStore + Drop>(
     };
     match book.front_stream(&mut outputs.tx, &mut outputs.cert, most, search) {
         Ok(bounded) => {
-            let (batches, bound, pages) = (bounded.plan.batches, bounded.bound, bounded.plan.pages);
-            let Ok(row) = sent_row(alloc, pages) else {
-                return Err(UndoneFault::OutOfMemory);
-            };
-            Ok((
-                Planned { batches, bound },
-                Some(SentFront { pages, row }),
-                outputs,
-            ))
+            let (batches, bound) = (bounded.plan.batches, bounded.bound);
+            let pages = bounded.plan.pages;
+            Ok((Planned { batches, bound }, Some(pages), outputs))
         }
         Err(UnsentFront::FirstPage(needed)) => Err(UndoneFault::FirstPage(needed)),
         Err(UnsentFront::Stream(fault)) => Err(undone(fault)),

@@ -104,10 +104,7 @@ pub fn run_open_pages<P: OutputStore + Drop, F: Source, I: Source, O: Sink>(
         book: book_of(alloc, pages)?,
         keeper: NoKeeper,
     };
-    match run_open_kept(alloc, settings, &mut round, input, out) {
-        Ok(()) => Ok(()),
-        Err(fault) => Err(OpenFault::File(fault)),
-    }
+    Ok(run_open_kept(alloc, settings, &mut round, input, out)?)
 }
 
 /// A book of the pages of a page file.

@@ -9,11 +9,9 @@ returns-in-Err-clause-unplaced g c =
 pub returns-in-Ok-bounded_stream-clause-planned : goal.returns-in-Ok-bounded_stream-clause-planned
 returns-in-Ok-bounded_stream-clause-planned g c = rw c.in_default.is (record {
   made = c.in-Ok-bounded_stream.bounded;
-  plan_of = c.in-Ok-bounded_stream.ensures.plan.plan_of;
+  plan = c.in-Ok-bounded_stream.ensures.plan;
   same = refl;
   its_bound = refl;
-  no_worse = c.in-Ok-bounded_stream.ensures.plan.no_worse;
-  fewest = λ never. c.in-Ok-bounded_stream.ensures.plan.fewest never;
   headline = λ is_known.
       let known = c.in-Ok.ensures.known is_known in
       let empty = c.in-Ok.ensures.empty is_known in
@@ -24,7 +22,7 @@ pub returns-in-Err-bounded_stream-clause-explained : goal.returns-in-Err-bounded
 returns-in-Err-bounded_stream-clause-explained g c =
     rw c.in_default.is
     (subst (λ (f : UndoneFault). ExplainsPlanUndone c.args.settings.now.on_limit c.args.asked.end None c.args.book.now f) (sym c.undone.ensures)
-    (explains _ _ _ _ c.in-Err-bounded_stream.fault refl c.in-Err-bounded_stream.ensures.explained))
+    (explains _ _ _ c.in-Err-bounded_stream.fault c.in-Err-bounded_stream.ensures.explained))
 
 pub returns-in-Err-bounded_stream-clause-unplaced : goal.returns-in-Err-bounded_stream-clause-unplaced
 returns-in-Err-bounded_stream-clause-unplaced g c =
@@ -38,11 +36,9 @@ returns-in-Ok-front_stream-clause-planned g c = rw c.in-Some.is (record {
   longest = c.in-Ok-front_stream.ensures.longest;
   planned = record {
     made = c.in-Ok-front_stream.bounded;
-    plan_of = c.in-Ok-front_stream.ensures.plan.plan_of;
+    plan = c.in-Ok-front_stream.ensures.plan;
     same = refl;
     its_bound = refl;
-    no_worse = c.in-Ok-front_stream.ensures.plan.no_worse;
-    fewest = λ never. c.in-Ok-front_stream.ensures.plan.fewest never;
     headline = λ is_known.
         let known = c.in-Ok.ensures.known is_known in
         let empty = c.in-Ok.ensures.empty is_known in
@@ -51,24 +47,17 @@ returns-in-Ok-front_stream-clause-planned g c = rw c.in-Some.is (record {
   within = c.in-Ok-front_stream.ensures.within;
 })
 
-pub returns-in_default-clause-explained : goal.returns-in_default-clause-explained
-returns-in_default-clause-explained g c = c.in-Ok-front_stream.ensures.round
-
-pub returns-in_default-clause-unplaced : goal.returns-in_default-clause-unplaced
-returns-in_default-clause-unplaced g c =
-    record { placed = []; refused = refl; outputs = λ known. c.in-Ok.ensures.same known ∙ sym (append-nil _) }
-
 pub returns-clause-explained : goal.returns-clause-explained
 returns-clause-explained g c =
     rw c.in-Some.is
     (subst (λ (f : UndoneFault). ExplainsPlanUndone c.args.settings.now.on_limit c.args.asked.end (Some c.in-Some.most) c.args.book.now f)
-    (sym c.undone.ensures)
+    (sym c.undone-in-Err-Stream.ensures)
     (explains_front c.args.settings.now.on_limit c.args.asked.end c.in-Some.most c.args.book.now c.in-Err-Stream.fault
     (rw c.in-Err-Stream.field-0-is at c.in-Err-Stream.ensures.explained)))
 
 pub returns-clause-unplaced : goal.returns-clause-unplaced
 returns-clause-unplaced g c =
-    rw c.undone.ensures
+    rw c.undone-in-Err-Stream.ensures
     (unsent g.P.Output.Sink.failures _ _ _ _ _ _ _ _ _ c.in-Err-Stream.fault (rw c.in-Err-Stream.field-0-is at c.in-Err-Stream.ensures.writers) c.in-Ok.ensures.same)
 
 pub returns-in-Err-FirstPage-clause-unplaced : goal.returns-in-Err-FirstPage-clause-unplaced
