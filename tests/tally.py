@@ -10,6 +10,7 @@ import re
 import resource
 import shutil
 import subprocess
+import sys
 import tempfile
 
 TOP = pathlib.Path(__file__).resolve().parents[1]
@@ -148,6 +149,13 @@ def run_parts(*parts, apart=False):
     return tally.end()
 
 
+def run_all(*modules, apart=False):
+    """The same of each function of the started script, and of these modules, whose name begins with `try_`, in their order."""
+    modules = sys.modules["__main__"], *modules
+    parts = [it for module in modules for name, it in vars(module).items() if name.startswith("try_") and it.__module__ == module.__name__]
+    return run_parts(*parts, apart=apart)
+
+
 def as_nobody(folder):
     """The words that run a command as a user without rights, where we are the superuser and such a user can enter the folder."""
     words = ["setpriv", "--reuid=65534", "--regid=65534", "--clear-groups"]
@@ -174,6 +182,15 @@ def own_disk(folder, options):
 def with_most_bytes(size):
     """How a program is started that may make no file longer than this."""
     return {"preexec_fn": lambda: resource.setrlimit(resource.RLIMIT_FSIZE, (size, size)), "restore_signals": False}
+
+
+def at_terminal(command, folder, text):
+    """What a command does and prints whose standard input is a terminal that gives this text and then ends it."""
+    ours, theirs = os.openpty()
+    os.write(ours, text + b"\x04")
+    done = subprocess.run(command, cwd=folder, stdin=theirs, capture_output=True, timeout=60)
+    os.close(ours), os.close(theirs)
+    return said(done)
 
 
 def put(folder, files):

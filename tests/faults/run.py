@@ -12,18 +12,19 @@ import sys
 sys.dont_write_bytecode = True
 HERE = pathlib.Path(__file__).resolve().parent
 sys.path[:0] = [str(HERE), str(HERE.parent), str(HERE.parent / "certificates")]
-import kept
-import noted
 import read_back
 import trees
 from codewords import APART, HEADER, IDLE, MESSAGE, ZERO, codeword, digits, in_order, transmission
-from noted import TEXTS
-from sessions import edited, listing
-from tally import ENDS, NAMED_TWICE, PROGRAM, TOP, run_parts
+from sessions import edited, listed, listing
+from tally import CANNOT_OPEN, CANNOT_WRITE, ENDS, NAMED_TWICE, PROGRAM, TOP, fault, run_parts
 
 TRIAL = TOP / "crates/pocsag_trial/out/pocsag_trial"
 MOST = 20_000
 LONE_TONE = HEADER + b"8,tone0,\n"
+# How each kind of call is told that was refused, and why the system refused it.
+TEXTS = {"ALLOC": fault("out of memory"), "READ": CANNOT_OPEN, "WRITE": CANNOT_WRITE}
+REASON = f": {os.strerror(5)} (os error 5)\n".encode()
+MORE = b"(and more after a write that failed)"
 
 
 def build(folder):
@@ -49,7 +50,7 @@ def run(command, library, kind=None, number=0, stdin=b"", **settings):
     refused = {f"REFUSE_{kind}": str(number)} if kind else {}
     done, told = marked(command, library, stdin, "REFUSE_MARK", **refused, **settings)
     if b"a" in told:
-        done.stdout += kept.MORE
+        done.stdout += MORE
     return done, b"x" in told
 
 
@@ -410,13 +411,120 @@ def try_printings(tally, library, folder):
     tally.check("input: growths and writes", counts["ALLOC"] > 3 and counts["WRITE"] == 1, counts)
 
 
+# The edits of a journal, and what is said of the third, which is refused. A line that standard error refused does not keep it back.
+EDITS = [b"add,8,alpha,Ward 3", b"add,16,tone0,", b"add,16,tone0,", b"cancel,8", b"add,24,numeric,55"]
+REFUSED = b"pocsag: add,16,tone0,"
+# The journal has more than a megabyte once the line of this number is kept, and is written anew.
+LONG = [b"add,8,alpha," + b"A" * 4000, b"cancel,8"] * 265
+ANEW_AT = 521
+
+
+def check_kept(tally, path, lines, name, done):
+    """Whether the next start lists the edits that were answered ok, or these and one more; gives the answers."""
+    told, pages = done.stdout.splitlines(), []
+    for line, answer in zip(lines, told):
+        if answer.startswith(b"ok "):
+            pages = edited(pages, line)[1]
+    more = edited(pages, lines[len(told)])[1] if len(told) < len(lines) else pages
+    found, _ = listed(path.parent, path)
+    tally.check(name, found in (listing(pages), listing(more)), (done, found))
+    return told
+
+
+def names_it(done, path):
+    """The fault is told in one line, and in another the journal by its name with the system's reason."""
+    first, *notes = [line for line in done.stderr.splitlines(True) if b" edits read, " not in line and line.rstrip() != REFUSED]
+    return first.startswith(b"pocsag: cannot ") and notes == [f"pocsag: journal {path}".encode() + REASON]
+
+
+def try_kept(tally, library, folder):
+    """A journal without each growth, read, write, synchronisation and renaming in turn; then without those with which a long one is
+    written anew."""
+    path = folder / "kept.journal"
+    command = [str(PROGRAM), "open", "--journal", str(path), "--verbose"]
+
+    def prepare():
+        for left in folder.glob("kept.journal*"):
+            left.unlink()
+
+    for kind, least in (("ALLOC", 20), ("READ", 3), ("WRITE", 8), ("SYNC", 6), ("RENAME", 1)):
+        named = []
+
+        def judge(number, done):
+            told = check_kept(tally, path, EDITS, f"journal without {kind} {number}", done)
+            is_fault = done.returncode == 3 and (b"pocsag: " in done.stderr or kind == "WRITE")
+            is_told = kind == "ALLOC" and b"refused: out of memory" in told
+            is_done = kind in ("ALLOC", "WRITE") and done.returncode == 0 and len(told) - told.count(MORE) == len(EDITS)
+            tally.check(f"journal without {kind} {number}: the status", is_fault or is_told or is_done, done)
+            named.append(is_fault and names_it(done, path))
+
+        count = each_refusal(command, library, kind, b"\n".join(EDITS) + b"\n", judge, prepare)
+        tally.check(f"journal: {kind}", count >= least, count)
+        tally.check(f"journal: {kind} named", sum(named) >= {"ALLOC": 0, "SYNC": count, "RENAME": count}.get(kind, 1), named)
+    anew = 0
+    for kind, numbers in (("RENAME", [2]), ("SYNC", range(ANEW_AT, ANEW_AT + 7)), ("WRITE", range(2 * ANEW_AT, 2 * ANEW_AT + 7))):
+        for number in numbers:
+            prepare()
+            done, reached = run(command, library, kind, number, b"\n".join(LONG) + b"\n")
+            told = check_kept(tally, path, LONG, f"a long journal without {kind} {number}: what is kept", done)
+            tally.check(f"a long journal without {kind} {number}", reached and done.returncode == 3, done.returncode)
+            anew += len(told) == ANEW_AT and names_it(done, path)
+    tally.check("a long journal that could not be written anew", anew >= 4, anew)
+
+
+def noted_commands(folder):
+    """Words, standard input, and the roles of what is read and of what is written, with the names of the files."""
+    names = {role: str(folder / file) for role, file in (("page file", "noted.csv"), ("transmission", "noted.bin"), ("certificate", "noted.cert"))}
+    pages, sent, shown = names.values()
+    output = {"standard output": None}
+    tx, cert, file = ({role: names[role]} for role in ("transmission", "certificate", "page file"))
+    return [
+        (["plan", pages, sent, shown, "--verify"], b"", {**file, **tx, **cert}, {**tx, **cert, **output}),
+        (["plan", pages, sent, shown, "--keep", "--expect", "3"], b"", file, {**tx, **cert, **output}),
+        ([], (folder / "noted.csv").read_bytes(), {"page file": "-"}, output),
+        (["check", pages, shown], b"", {**file, **cert}, output),
+        (["explain", pages, shown], b"", {**file, **cert}, output),
+        (["decode", sent], b"", tx, output),
+        (["hear", "8", sent], b"", tx, output),
+        (["show", sent], b"", tx, output),
+        (["report", pages, "--rate", "512"], b"", file, output),
+        (["report", pages, "--rate", "512", "--frames"], b"", file, output),
+    ]
+
+
+def try_noted(tally, library, folder):
+    """`--verbose` with each call refused in turn: the first line is that of a run without it, and the line behind it names the file that
+    the system refused, with its reason."""
+    (folder / "noted.csv").write_bytes(HEADER + b"0,numeric,12345\n9,alpha,Hello\n8,tone1,\n")
+    for words, stdin, read, written in noted_commands(folder):
+        ample, _ = run([str(PROGRAM), *words], library, stdin=stdin)
+        noted = [str(PROGRAM), *words, "--verbose"]
+        same, _ = run(noted, library, stdin=stdin)
+        tally.check(f"noted: {words[:1]}", ample.returncode == 0 and (same.stdout, same.stderr) == (ample.stdout, b""), same)
+        for kind, places in (("ALLOC", {}), ("READ", read), ("WRITE", written)):
+            due = {f"pocsag: {role}{' ' + name if name else ''}".encode() + REASON for role, name in places.items()}
+            met = set()
+
+            def judge(number, done):
+                first, *notes = done.stderr.splitlines(True) or [b""]
+                holds = (done.returncode, first) == (3, TEXTS[kind])
+                if kind == "ALLOC":
+                    is_ample = (done.returncode, done.stdout, done.stderr) == (0, ample.stdout, b"")
+                    holds = is_ample or holds and all(line.startswith(b"pocsag: ") for line in notes)
+                else:
+                    holds = holds and len(notes) == 1 and notes[0] in due
+                    met.update(notes)
+                tally.check(f"noted: {words[:1]} without {kind} {number}", holds, done)
+
+            count = each_refusal(noted, library, kind, stdin, judge)
+            tally.check(f"noted: {words[:1]} tells each file, {kind}", count > 0 and met == due, (count, met, due))
+
+
 def try_all(tally, folder):
     library = build(folder)
     for part in (try_trial, try_large_trial, try_plans, try_open, try_open_pages, try_late_growths, try_devices,
-                 read_back.try_lost, read_back.try_read_back, read_back.try_fronts, try_printings):  # fmt: skip
+                 read_back.try_lost, read_back.try_read_back, read_back.try_fronts, try_printings, try_kept, try_noted):  # fmt: skip
         part(tally, library, folder)
-    kept.try_kept(tally, library, folder, run)
-    noted.try_noted(tally, run, each_refusal, library, folder)
 
 
 if __name__ == "__main__":

@@ -17,7 +17,7 @@ import lanes
 from gate import Gate
 from lanes import Lanes, Task
 from spent import watched
-from tally import put, put_script, run_parts
+from tally import put, put_script, run_all
 
 # What a part prints, its status, and what the gate counts of it.
 PARTS = [
@@ -193,6 +193,4 @@ def try_layout(tally, folder):
 
 if __name__ == "__main__":
     os.environ["RT_JOBS"] = "3"
-    sys.exit(run_parts(
-        try_parts, try_others, try_notes, try_beside, try_lanes, try_width, try_last, try_bill, try_spent, try_layout, try_unknown, apart=True,
-    ))  # fmt: skip
+    sys.exit(run_all(apart=True))

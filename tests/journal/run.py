@@ -23,7 +23,7 @@ import tally as shared
 from codewords import HEADER
 from sessions import listing
 from tally import CANNOT_OPEN, CANNOT_WRITE, IS_EMULATED, ONE_IN, PROGRAM, as_nobody, fault, faulty
-from tally import files_of, own_disk, room_in, run_parts, sampled, with_most_bytes
+from tally import files_of, own_disk, room_in, run_all, sampled, with_most_bytes
 
 FIRST_LINE = b"pocsag journal,1\n"
 EDITS, KILLS, TURNS = (500, 30, 2_000) if IS_EMULATED else (5_000, 300, 20_000)
@@ -523,6 +523,7 @@ CANNOT, TWICE = "cannot read or open a file", "the same file is named twice"
 REFUSED = [
     (["--journal", "none/j"], 3, CANNOT, f"journal none/j: {NO_FILE}"),
     (["--journal", "folder"], 3, CANNOT, f"journal folder: {IS_FOLDER}"),
+    (["--journal", "folder", "--read-only"], 3, CANNOT, f"journal folder: {IS_FOLDER}"),
     (["--journal", "link"], 3, CANNOT, "journal link: no regular file"),
     (["--journal", "/dev/full"], 3, CANNOT, "journal /dev/full: no regular file"),
     (["--journal", "fifo"], 3, CANNOT, "journal fifo: no regular file"),
@@ -640,8 +641,4 @@ def try_growth(tally, place):
 
 
 if __name__ == "__main__":
-    sys.exit(run_parts(
-        try_kills, try_cuts, try_lost_sectors, try_synchronised, try_bad_lines, try_others, try_harms,
-        try_rights, try_failed_look, try_no_locks, try_read_only, try_use, try_full_disk, try_full_system, try_verbose, try_verbose_later,
-        try_announced, try_long_start, try_growth, apart=True,
-    ))  # fmt: skip
+    sys.exit(run_all(apart=True))

@@ -3,7 +3,6 @@
 import pathlib
 import re
 
-import make
 import pocsag
 import trees
 from answers import WORDS, attempt
@@ -13,8 +12,9 @@ HERE = pathlib.Path(__file__).resolve().parent
 ROUND = TOP / "examples/round.csv"
 
 
-def try_header(tally, folder, room):
+def try_header(tally, library):
     """What stands in the header alone: the texts of statuses, sizes that suffice, and what a compiler warns of."""
+    folder, room = library.folder, library.room
     sized = room / "sized"
     built = run("cc", "-std=c11", "-Wall", "-Wextra", "-Werror", HERE / "header.c", f"-I{folder}", "-o", sized)
     tally.check("the header's own functions are compiled", built.returncode == 0, built.stderr)
@@ -24,7 +24,7 @@ def try_header(tally, folder, room):
     texts = dict(line.split(" ", 1) for line in told)
     wrong = [(number, text) for number, text in wanted.items() if texts.get(str(number)) != text]
     tally.check("a status has the package's text", not wrong and len(texts) == 100, wrong)
-    exported = {number: pocsag.Pocsag(str(folder / make.SONAME)).status_text(int(number)) for number in texts}
+    exported = {number: library.pocsag.status_text(int(number)) for number in texts}
     tally.check("the library tells the header's texts", exported == texts, {it for it in texts.items() if exported[it[0]] != it[1]})
     unknown = {number for number, text in texts.items() if text == "unknown status"}
     tally.check("each status of a fault has one", not {str(number) for number in pocsag.NAMES} & unknown, unknown)
@@ -45,14 +45,14 @@ def crowded_files():
     yield [f"{address},tone0," for address in range(1, 8)]
 
 
-def try_bound(tally, call, room):
+def try_bound(tally, library):
     """No plan is longer than the header says of so many bytes, nor has its certificate more than the limit allows."""
-    wrong, number = [], 0
+    call, sized, wrong, number = library.pocsag, library.room / "sized", [], 0
     for lines in crowded_files():
         for ending in ("", "\n"):
             data = ("\n".join(["address,kind,message", *lines]) + ending).encode()
             for end in WORDS:
-                *sizes, _ = [int(word) for word in run(room / "sized", len(data), 1_000).stdout.split()]
+                *sizes, _ = [int(word) for word in run(sized, len(data), 1_000).stdout.split()]
                 plan = attempt(call.plan, data, limit=1_000, end=end, always=True, sizes=sizes)
                 number += 1
                 fits = isinstance(plan, pocsag.Plan) and len(plan.transmission) <= sizes[0] and len(plan.certificate) <= sizes[1]
@@ -62,7 +62,7 @@ def try_bound(tally, call, room):
     # The pages that are left grow as they are written: quotes that stood alone, and fields that went on behind their quotes.
     for message in ('a"b', "x" + '"' * 900, '"a"b"c', '"a,b"', "a" * 40):
         data = "\n".join(["address,kind,message", "8,tone0,", *(f"{number},alpha,{message}" for number in range(9, 99))]).encode()
-        tx, cert, rest = [int(word) for word in run(room / "sized", len(data), 1_000).stdout.split()]
+        tx, cert, rest = [int(word) for word in run(sized, len(data), 1_000).stdout.split()]
         front = attempt(call.plan_at_most, data, 1, limit=1_000, sizes=(tx, cert, rest, cert))
         fits = isinstance(front, pocsag.Front) and front.left > 80 and len(front.rest) <= rest and len(front.why) <= cert
         tally.check(f"a front of pages of {message[:9]} fits", fits, (rest, str(front)[:200]))
@@ -87,10 +87,10 @@ def deep_certificates():
             yield kind, leaf is held, pages, trees.certificate(trees.IDLE_END if kind == "closes" else 0, 12, tree)
 
 
-def try_memory(tally, folder, room):
+def try_memory(tally, library):
     """No call holds more memory than the header says, also of the smallest files, nor gives more text than it says suffices."""
-    call, pages, other = pocsag.Pocsag(str(folder / make.SONAME)), room / "held.csv", room / "held.bin"
-    text = re.sub(r"\s*\n \*\s*", " ", (folder / "pocsag.h").read_text())
+    call, room, pages, other = library.pocsag, library.room, library.room / "held.csv", library.room / "held.bin"
+    text = re.sub(r"\s*\n \*\s*", " ", (library.folder / "pocsag.h").read_text())
     words = re.search(r"at most ([\d,]+) bytes, for a drawing or an explanation ([\d,]+), for a page file of (\d+) pages or more ([\d,]+) more, and beside them (\d+) for .*? a picture (\d+) and a drawing (\d+), for a sound three times its", text)
     fixed, large, many, marks, byte, picture, drawing = (int(it.replace(",", "")) for it in words.groups())
     wrong = []
@@ -120,9 +120,9 @@ def held_too_much(room, files, name, most, suffices):
     return [] if is_well else [(files[0].stat().st_size, files[1].stat().st_size, name, most, suffices, told)]
 
 
-def try_stack(tally, folder, room):
+def try_stack(tally, library):
     """Each call does with the stack that the header names, also for certificates as deep as there are."""
-    text = (folder / "pocsag.h").read_text()
+    text, room = (library.folder / "pocsag.h").read_text(), library.room
     rows = re.findall(r"#define POCSAG_(\w+)_STACK (\d+)u +/\*.*?measured: ([\d,]+) \*/", text)
     named, figures = {name: int(size) for name, size, _ in rows}, {name: int(figure.replace(",", "")) for name, _, figure in rows}
     tally.check("the header names four sizes of the stack", len(named) == 4, named)
@@ -145,7 +145,7 @@ def try_stack(tally, folder, room):
         tally.check(f"the program explains {what} with 2 MiB of stack", told.returncode == int(not is_held), (told.returncode, told.stderr))
     for name, data in (("a sample", ROUND.read_bytes()), ("many tones", data)):
         pages.write_bytes(data)
-        cert.write_bytes(pocsag.Pocsag(str(folder / make.SONAME)).plan(data).transmission)
+        cert.write_bytes(library.pocsag.plan(data).transmission)
         for call in ("plan", "front", "report", "frames"):
             on_stack(call, "PLAN", {0}, name)
         for call in ("decode", "hear", "repaired", "captured", "heard", "text", "list", "drawing", "sound", "order", "strict", "row"):
@@ -155,12 +155,13 @@ def try_stack(tally, folder, room):
         tally.check(f"the header's figure for {name}", abs(figure - used[name]) <= 1_024, (figure, used[name]))
 
 
-def try_c(tally, folder, room):
+def try_c(tally, library):
     """All of these, of a library in a folder."""
-    try_header(tally, folder, room)
-    try_bound(tally, pocsag.Pocsag(str(folder / make.SONAME)), room)
+    folder, room = library.folder, library.room
+    try_header(tally, library)
+    try_bound(tally, library)
     words = ["-Wall", "-Wextra", HERE / "stack.c", folder / "libpocsag.a", f"-I{folder}", "-pthread", "-Wl,--wrap=malloc,--wrap=realloc,--wrap=free"]
     built = run("cc", "-std=c11", "-O1", *words, "-o", room / "stack")
     tally.check("the calls on a stack of their own are built", built.returncode == 0, built.stderr)
-    try_memory(tally, folder, room)
-    try_stack(tally, folder, room)
+    try_memory(tally, library)
+    try_stack(tally, library)

@@ -171,9 +171,9 @@ class Own(pocsag.Pocsag):
         raise NotImplementedError
 
 
-def try_own(tally, library):
+def try_own(tally, call):
     """A class of a user, whose calls have parameters of their own."""
-    call, own, pages = pocsag.Pocsag(library), Own(library), HEADER + "8,tone0,\n16,tone0,\n24,tone0,\n"
+    own, pages = Own(call.path), HEADER + "8,tone0,\n16,tone0,\n24,tone0,\n"
     plan = call.plan(pages)
     given = own.plan(pages), own.plan_at_most(pages), own.explain(pages)
     tally.check("a class over the calls", given == (plan, call.plan_at_most(pages, 1), call.explain(pages, plan.certificate)), given)
@@ -204,15 +204,12 @@ def try_types(tally, room):
         tally.check(f"mypy refuses {text}", ran.returncode == 1 and ran.stdout.count(": error: ") == 1 and ":4: error" in ran.stdout, ran.stdout)
 
 
-def try_python(tally, library, header, room):
-    """All of these, with a library and the text of its header."""
-    call = pocsag.Pocsag(library)
-    try_declared(tally, header)
-    try_copies(tally, call)
-    try_names(tally, call)
-    try_numbers(tally, call)
-    try_own(tally, library)
-    try_pools(tally, library, room)
-    try_types(tally, room)
-    ran = run(sys.executable, HERE / "values.py", library, 20_000)
+def try_python(tally, library):
+    """All of these."""
+    try_declared(tally, (library.folder / "pocsag.h").read_text())
+    for part in (try_copies, try_names, try_numbers, try_own):
+        part(tally, library.pocsag)
+    try_pools(tally, library.path, library.room)
+    try_types(tally, library.room)
+    ran = run(sys.executable, HERE / "values.py", library.path, 20_000)
     tally.check("wrong values end in exceptions alone", ran.returncode == 0 and re.fullmatch(r"\d{4,} done, \d{3,} refused, \d{4,} in vain\n", ran.stdout), ran)

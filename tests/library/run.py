@@ -54,9 +54,10 @@ class Library:
     """The library in a folder, loaded, beside files that the program reads."""
 
     def __init__(self, folder, room):
-        self.folder = folder
-        self.pocsag = pocsag.Pocsag(str(folder / make.SONAME))
+        self.folder, self.room, self.path = folder, room, folder / make.SONAME
+        self.pocsag = pocsag.Pocsag(str(self.path))
         self.pages, self.tx, self.cert = room / "pages.csv", room / "pages.bin", room / "pages.cert"
+        self.plans = []  # of random rounds, each a page file with what the library makes of it
 
     def beside_program(self, pages, end, always, batches=None):
         """Whether a plan, or the front of so many batches, is that of the program, with its files and its text, and its certificate is
@@ -104,55 +105,51 @@ class Library:
         return told, program("explain", self.pages, self.cert, *words)
 
 
-def try_bytes(tally, library, rounds, seed):
-    source = random.Random(seed)
-    wrong, plans = [], []
-    for number in range(rounds):
+def try_bytes(tally, library):
+    source, wrong = random.Random(1), []
+    for number in range(ROUNDS):
         pages = random_file(source)
         same, plan = library.beside_program(pages, source.randrange(3), source.randrange(4) == 0)
-        plans += [(pages, plan)] * (plan is not None)
+        library.plans += [(pages, plan)] * (plan is not None)
         wrong += [number] * (not same)
-    tally.check(f"{rounds} rounds are planned as the program plans them", not wrong, wrong[:5])
-    return plans
+    tally.check(f"{ROUNDS} rounds are planned as the program plans them", not wrong, wrong[:5])
 
 
-def try_fronts(tally, library, plans, seed):
+def try_fronts(tally, library):
     """Fronts of random rounds, beside the program; and of the sample round, as its picture in two batches shows them."""
-    source = random.Random(seed)
+    source, plans = random.Random(4), library.plans[::3]
     wrong, kinds = [], set()
-    for number, (pages, plan) in enumerate(plans[::3]):
+    for number, (pages, plan) in enumerate(plans):
         batches = source.randrange(plan.batches + 2)
         same, front = library.beside_program(pages, source.randrange(3), source.randrange(4) == 0, batches)
         wrong += [number] * (not same)
         kinds.add("none" if front is None else "all" if front.left == 0 else "some")
-    tally.check(f"{len(plans[::3])} fronts are planned as the program plans them", not wrong, wrong[:5])
+    tally.check(f"{len(plans)} fronts are planned as the program plans them", not wrong, wrong[:5])
     tally.check("some have no page, some each, and some a part", kinds == {"none", "all", "some"}, kinds)
-    call, tones = library.pocsag.plan_at_most, [b"%d,tone0,\n" % (8 * number) for number in range(1, 6)]
     # Each tone wants a slot of frame 0, of which a batch has two: five need three batches, and two batches carry four.
-    front = call(b"address,kind,message\n" + b"".join(tones), 2)
+    call, tones = library.pocsag.plan_at_most, HEADER + b"".join(b"%d,tone0,\n" % (8 * number) for number in range(1, 6))
+    front = call(tones, 2)
     numbers = (front.pages, front.left, front.codewords, front.batches, front.bound, front.beyond)
     tally.check("four of five tones of one frame in two batches", numbers == (4, 1, 4, 2, 2, 3), front)
-    tally.check("the fifth is left", front.rest == b"address,kind,message\n40,tone0,\n", front.rest)
-    shown = library.pocsag.check(b"address,kind,message\n" + b"".join(tones), front.why)
+    tally.check("the fifth is left", front.rest == HEADER + b"40,tone0,\n", front.rest)
+    shown = library.pocsag.check(tones, front.why)
     tally.check("five need three batches, as is certified", shown == (True, 0, 3), shown)
-    whole = call(b"address,kind,message\n" + b"".join(tones), 3)
+    whole = call(tones, 3)
     tally.check("three batches carry all", (whole.pages, whole.left, whole.why, whole.beyond) == (5, 0, b"", 0), whole)
-    fault = attempt(call, b"address,kind,message\n8,alpha,%s\n" % (b"a" * 50), 1)
+    fault = attempt(call, HEADER + b"8,alpha,%s\n" % (b"a" * 50), 1)
     tally.check("a first page of 19 codewords needs two batches", (type(fault), fault.found) == (pocsag.FirstPage, 2), fault)
     for sizes in ((0, 0, 0, 0), (1, 0, 1, 1), (0, 4_096, 4_096, 0)):
-        given = call(b"address,kind,message\n" + b"".join(tones), 2, sizes=sizes)
+        given = call(tones, 2, sizes=sizes)
         tally.check(f"a front with buffers of {sizes} bytes at first", given[:2] == front[:2] and given.rest in (None, front.rest), given)
-    unwanted = call(b"address,kind,message\n" + b"".join(tones), 2, sizes=(4_096, 4_096, 0, 0))
+    unwanted = call(tones, 2, sizes=(4_096, 4_096, 0, 0))
     tally.check("what is not wanted is not given", (unwanted.pages, unwanted.rest, unwanted.why) == (4, None, None), unwanted)
 
 
-def try_changed(tally, library, plans, count, seed):
-    source = random.Random(seed)
-    wrong, refused = [], 0
-    for number in range(count):
-        pages, plan = source.choice(plans)
-        files = [pages, plan.transmission, plan.certificate]
-        which = source.randrange(3)
+def try_changed(tally, library):
+    source, wrong, refused = random.Random(2), [], 0
+    for number in range(CHANGED):
+        pages, plan = source.choice(library.plans)
+        files, which = [pages, plan.transmission, plan.certificate], source.randrange(3)
         files[which] = changed(source, files[which])
         address = int(pages.split(b"\n")[1].split(b",")[0]) if source.randrange(5) else source.randrange(2_100_000)
         if which == 0:
@@ -160,7 +157,7 @@ def try_changed(tally, library, plans, count, seed):
             refused += planned is None
             wrong += [number] * (not same)
         wrong += [number] * (not library.reads_alike(*files, address))
-    tally.check(f"{count} changed files are judged as the program judges them", not wrong, wrong[:5])
+    tally.check(f"{CHANGED} changed files are judged as the program judges them", not wrong, wrong[:5])
     tally.check("some of them are refused", refused > 0)
 
 
@@ -221,10 +218,10 @@ def try_reports(tally, library):
         tally.check(f"the report at {rate}", (0, text) == program("report", ROUND, "--rate", rate), told)
 
 
-def try_frames(tally, library, plans, seed):
+def try_frames(tally, library):
     """The frames of plans, as the program prints them with the least room first; and those of a round worked by hand."""
-    source, call, wrong = random.Random(seed), library.pocsag.frames, []
-    for number, (pages, plan) in enumerate(plans[::4]):
+    source, call, wrong, plans = random.Random(8), library.pocsag.frames, [], library.plans[::4]
+    for number, (pages, plan) in enumerate(plans):
         end, always = source.randrange(3), source.randrange(4) == 0
         library.pages.write_bytes(pages)
         told = program("report", library.pages, "--rate", 1200, "--frames", *WORDS[end], *["--always"] * always)
@@ -238,7 +235,7 @@ def try_frames(tally, library, plans, seed):
         bound = b"at least %d batches\n" % given.bound * (given.bound < given.batches)
         same = same and [frame.frame for frame in given.frames] == list(range(8)) and bound in told[1]
         wrong += [number] * (not same or sum(frame.codewords + frame.room for frame in given.frames) != 16 * given.batches)
-    tally.check(f"{len(plans[::4])} plans have the frames that the program prints", not wrong, wrong[:5])
+    tally.check(f"{len(plans)} plans have the frames that the program prints", not wrong, wrong[:5])
     # Five tones of frame 0 need three batches, in which that frame has six codewords. The numeric page has three codewords: two in
     # frame 7 and one in frame 0, since two of them would be one too many there.
     tones = b"".join(b"%d,tone0,\n" % (8 * number) for number in range(1, 6))
@@ -292,16 +289,15 @@ def captured(source, sent):
     return bytes(byte ^ 255 for byte in whole) if source.randrange(2) else whole
 
 
-def try_readings(tally, library, plans, seed):
+def try_readings(tally, library):
     """What is read of damaged transmissions and of captures, and what is shown, beside the program."""
-    source, call, wrong, faults = random.Random(seed), library.pocsag, [], 0
-    repair, capture = ["--repair"], ["--capture"]
-    for number, (pages, plan) in enumerate(plans[::4]):
+    source, call, wrong, faults, plans = random.Random(5), library.pocsag, [], 0, library.plans[::4]
+    for number, (pages, plan) in enumerate(plans):
         address, rows = int(pages.split(b"\n")[1].split(b",")[0]), (source.randrange(1, 4), source.randrange(4, 9))
         for reading, words, sent in (
             (pocsag.PLAIN, [], plan.transmission),
-            (pocsag.REPAIRED, repair, damaged(source, plan.transmission)),
-            (pocsag.CAPTURED, capture, captured(source, damaged(source, plan.transmission))),
+            (pocsag.REPAIRED, ["--repair"], damaged(source, plan.transmission)),
+            (pocsag.CAPTURED, ["--capture"], captured(source, damaged(source, plan.transmission))),
         ):
             library.tx.write_bytes(sent)
             pairs = [(attempt(call.decode, sent, reading), program("decode", library.tx, *words))]
@@ -319,7 +315,7 @@ def try_readings(tally, library, plans, seed):
                     pairs.append((part, told))
             faults += isinstance(pairs[0][0], pocsag.Fault)
             wrong += [(number, reading, k) for k, pair in enumerate(pairs) if not is_same(*pair)]
-    tally.check(f"{len(plans[::4])} transmissions are read and shown as the program does", not wrong, wrong[:5])
+    tally.check(f"{len(plans)} transmissions are read and shown as the program does", not wrong, wrong[:5])
     tally.check("some are past repair", faults > 0)
     sent = call.plan(ROUND.read_bytes()).transmission
     listing = call.decode(sent)
@@ -336,19 +332,19 @@ def try_readings(tally, library, plans, seed):
     tally.check("the second batch alone", len(lines) == 3 and lines[2].startswith(b"  2"), lines)
 
 
-def try_sounds(tally, library, plans, seed):
-    source, call, wrong = random.Random(seed), library.pocsag.wav, []
-    for number, (_, plan) in enumerate(plans[::30]):
+def try_sounds(tally, library):
+    source, call, wrong, plans = random.Random(7), library.pocsag.wav, [], library.plans[::30]
+    for number, (_, plan) in enumerate(plans):
         rate, samples = source.choice([512, 1200, 2400]), source.choice([2_400, 8_000, 48_000, 2_399, 192_001])
         preamble, inverted = source.choice([None, 576, 800, 577, 568]), source.randrange(2) == 0
         words = ["--rate", rate, "--samples", samples, *([] if preamble is None else ["--preamble", preamble]), *["--invert"] * inverted]
         library.tx.write_bytes(plan.transmission)
         given = attempt(call, plan.transmission, rate, samples, preamble, inverted)
         wrong += [(number, words)] * (not is_same(given, program("wav", library.tx, *words)))
-    tally.check(f"{len(plans[::30])} sounds are those of the program", not wrong, wrong[:5])
+    tally.check(f"{len(plans)} sounds are those of the program", not wrong, wrong[:5])
 
 
-def try_orders(tally, library, plans):
+def try_orders(tally, library):
     """Transmissions in the order of the file: one worked by hand, and those of random rounds."""
     call = library.pocsag.lay_in_order
     # Address 9, tone1, starts in frame 1, and address 8, tone0, in frame 0, behind it in the next batch.
@@ -356,17 +352,17 @@ def try_orders(tally, library, plans):
     sent = call(pocsag.HEADER + b"9,tone1,\n8,tone0,\n")
     tally.check("two tones in the order of the file", sent == due, sent.hex())
     wrong = []
-    for number, (pages, plan) in enumerate(plans):
+    for number, (pages, plan) in enumerate(library.plans):
         sent = call(pages)
         wrong += [number] * (len(sent) != 72 + 68 * plan.in_order or library.pocsag.decode(sent) != pages)
-    tally.check(f"{len(plans)} rounds in the order of the file have its pages", not wrong, wrong[:5])
+    tally.check(f"{len(library.plans)} rounds in the order of the file have its pages", not wrong, wrong[:5])
     fault = attempt(call, b"address,kind,message\n8,tone9,\n")
     tally.check("the fault of a page file", (type(fault), fault.record_number) == (pocsag.BadKind, 1), fault)
 
 
-def try_records(tally, library, seed):
+def try_records(tally, library):
     """Records of pages, their quotes, and what `strict` asks of them."""
-    call, source = library.pocsag.write_page, random.Random(seed)
+    call, source = library.pocsag.write_page, random.Random(6)
     for words, wanted in (
         ((0, "numeric", b"5550199"), b"0,numeric,5550199\n"),
         ((2_097_151, "tone3"), b"2097151,tone3,\n"),
@@ -432,7 +428,8 @@ def try_symbols(tally, folder):
     tally.check("it has its name", make.SONAME.encode() in told and b"TEXTREL" not in told, told)
 
 
-def try_examples(tally, folder, room):
+def try_examples(tally, library):
+    folder, room = library.folder, library.room
     wanted = re.search(r"```\n(pages 6\n.*?)```", (TOP / "docs/LIBRARY.md").read_text(), re.DOTALL)[1].encode()
     beside = {**os.environ, "LD_LIBRARY_PATH": str(folder), "PYTHONPATH": str(folder), "PYTHONDONTWRITEBYTECODE": "1"}
     flags = ["-std=c11", "-Wall", "-Wextra", "-Werror", f"-I{folder}"]
@@ -460,8 +457,9 @@ def try_examples(tally, folder, room):
         tally.check("the benchmark of the calls is built", built.returncode == 0, built.stderr)
 
 
-def try_page(tally, folder, room):
+def try_page(tally, library):
     """The first plans of docs/LIBRARY.md, and those in a pool of processes."""
+    folder, room = library.folder, library.room
     (c,), pythons = (re.findall(rf"```{kind}\n(.*?)```", (TOP / "docs/LIBRARY.md").read_text(), re.DOTALL) for kind in ("c", "python"))
     (room / "first.c").write_text(c)
     built = run("cc", "-Wall", "-Werror", room / "first.c", f"-I{folder}", folder / "libpocsag.a", "-o", room / "first")
@@ -482,8 +480,9 @@ WAYS = [
 ]
 
 
-def try_calls(tally, folder, room, ways):
+def try_calls(tally, library, ways=WAYS):
     """Memory that is refused, buffers that just do and do not, and threads."""
+    folder, room = library.folder, library.room
     sources = [HERE / "calls.c", folder / "libpocsag.a", f"-I{folder}", "-pthread", "-Wl,--wrap=malloc,--wrap=realloc,--wrap=free"]
     for name, flags, before in ways:
         built = run("cc", "-std=c11", "-Wall", "-Wextra", *flags, *sources, "-o", room / "calls")
@@ -517,13 +516,12 @@ def all_answers(library, pages, tx, cert, address, end, always):
     return [(type(it), vars(it)) if isinstance(it, pocsag.Fault) else it for it in answers]
 
 
-def try_both(tally, one, other, rounds, count, seed):
+def try_both(tally, one, other):
     """The answers of two libraries, over random rounds and over changed files."""
-    source = random.Random(seed)
-    wrong, files = [], []
-    for number in range(rounds + count):
+    source, wrong, files = random.Random(3), [], []
+    for number in range(ROUNDS_OF_BOTH + CHANGED_OF_BOTH):
         end, always = source.randrange(3), number % 3 == 0
-        if number < rounds:
+        if number < ROUNDS_OF_BOTH:
             pages = random_file(source)
             plan = one.plan(pages, end=end, always=always)
             files.append((pages, plan.transmission, plan.certificate))
@@ -534,14 +532,15 @@ def try_both(tally, one, other, rounds, count, seed):
         address = source.randrange(2_100_000)
         mine, others = (all_answers(it, *given, address, end, always) for it in (one, other))
         wrong += [number] * (mine != others)
-    tally.check(f"{rounds} rounds and {count} changed files are answered alike by both libraries", not wrong, wrong[:5])
+    name = f"{ROUNDS_OF_BOTH} rounds and {CHANGED_OF_BOTH} changed files are answered alike by both libraries"
+    tally.check(name, not wrong, wrong[:5])
 
 
-def try_other_compiler(tally, room, library):
+def try_other_compiler(tally, library):
     """The library as the compiler that is written in Rattle makes it from a copy of the crates, since wrong bodies of them may be
     tried meanwhile."""
     *below, crate = workspace.below(workspace.read_crates(), make.CRATE.name).values()
-    copy, folder = Room(crate, below, room / "copy").folder, room / "other"
+    copy, folder = Room(crate, below, library.room / "copy").folder, library.room / "other"
     words = [sys.executable, kit.__file__, "lib", "1", "--backend", "rattle"]
     built = subprocess.run(words, cwd=copy, stdout=subprocess.PIPE, stderr=subprocess.STDOUT, text=True)
     made = copy / make.MADE.relative_to(make.CRATE)
@@ -551,9 +550,9 @@ def try_other_compiler(tally, room, library):
         return
     make.make(folder, made)
     try_symbols(tally, folder)
-    try_calls(tally, folder, room, [("by the other compiler", ["-O1"], [])])
-    other = pocsag.Pocsag(str(folder / make.SONAME))
-    try_both(tally, library.pocsag, other, ROUNDS_OF_BOTH, CHANGED_OF_BOTH, 3)
+    other = Library(folder, library.room)
+    try_calls(tally, other, [("by the other compiler", ["-O1"], [])])
+    try_both(tally, library.pocsag, other.pocsag)
 
 
 def put_library(folder):
@@ -572,26 +571,11 @@ def try_library(tally, room):
     put_library(folder)
     library = Library(folder, room)
     try_symbols(tally, folder)
-    try_faults(tally, library)
-    in_python.try_python(tally, str(folder / make.SONAME), (folder / "pocsag.h").read_text(), room)
-    in_c.try_c(tally, folder, room)
-    try_reports(tally, library)
-    greatest.try_greatest(tally, library)
-    try_explanations(tally, library)
-    try_examples(tally, folder, room)
-    try_page(tally, folder, room)
-    try_calls(tally, folder, room, WAYS)
-    plans = try_bytes(tally, library, ROUNDS, 1)
-    try_fronts(tally, library, plans, 4)
-    try_frames(tally, library, plans, 8)
-    try_readings(tally, library, plans, 5)
-    try_sounds(tally, library, plans, 7)
-    try_orders(tally, library, plans)
-    try_records(tally, library, 6)
-    try_airtimes(tally, library)
-    try_changed(tally, library, plans, CHANGED, 2)
+    for part in (try_faults, in_python.try_python, in_c.try_c, try_reports, greatest.try_greatest, try_explanations, try_examples, try_page, try_calls,
+                 try_bytes, try_fronts, try_frames, try_readings, try_sounds, try_orders, try_records, try_airtimes, try_changed):  # fmt: skip
+        part(tally, library)
     if not LIBRARY:
-        try_other_compiler(tally, room, library)
+        try_other_compiler(tally, library)
 
 
 if __name__ == "__main__":

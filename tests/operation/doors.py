@@ -74,13 +74,6 @@ def try_streams(tally, folder):
     done = shell("printf 'add,8,tone0,\\nplan,/dev/stdout,c\\nplan,o.bin,c\\n' | pocsag open > o.bin", room)
     told = (room / "o.bin").read_bytes()
     tally.check("a line plan", told == b"ok 1\n" + 2 * b"refused: the same file is named twice\n" and "c" not in names(room), (done, told))
-    for closed in ("<&- >&-", ">&-", "<&- >&- 2>&-"):
-        (room / "t").write_bytes(OLD[0])
-        done = shell(f"pocsag plan pages.csv t c2 {closed}", room)
-        sent = (room / "t").read_bytes()
-        told = b"" if "2>&-" in closed else CANNOT_WRITE
-        tally.check_done(f"closed: {closed}", done, 3, b"", told, sent[:72] == 72 * b"\xaa" and len(sent) == 140)
-        (room / "t").unlink()
     for line in ("plan pages.csv /dev/null c > /dev/null 2>&1", "plan pages.csv - c > o.bin", "plan pages.csv t c > lines", "plan - t c < pages.csv"):
         done = shell(f"pocsag {line}", room)
         tally.check(f"taken: {line}", done.returncode == 0, done)
@@ -149,23 +142,6 @@ def try_last_step(tally, folder):
         tally.check(name, holds, (done, new, names(room)))
 
 
-def try_folders(tally, folder):
-    """A folder in place of PAGES is refused as any file that cannot be read, and after the faults that come first."""
-    room = fresh(folder, "folders")
-    (room / "folder").mkdir()
-    is_folder = CANNOT_OPEN + fault(f"page file folder: {os.strerror(21)} (os error 21)")
-    for pages, note in (("folder", is_folder), ("/proc/self/mem", None)):
-        put(room, OLD_FILES)
-        done = run(["plan", pages, "tx.bin", "cert.bin", "--verbose"], room)
-        holds = (done.returncode, done.stdout) == (3, b"") and done.stderr.startswith(CANNOT_OPEN) and note in (None, done.stderr)
-        tally.check(f"plan {pages}", holds and stand(room) == (b"", b""), (done, stand(room)))
-    for words in (["check", "folder", "cert.bin"], ["report", "folder", "--rate", "512"], ["open", "folder"], ["explain", "folder", "cert.bin"]):
-        tally.check_done(f"{words}", run([*words, "--verbose"], room), 3, b"", is_folder)
-    tally.check_done("a fault of the page file comes first", run(["check", "bad.csv", "folder"], room), 1, b"", fault("record 1: unknown kind"))
-    for words in (["decode", "folder"], ["check", "pages.csv", "folder"], ["open", "--journal", "folder"], ["open", "--journal", "folder", "--read-only"]):
-        tally.check_done(f"{words}", run(words, room), 3, b"", CANNOT_OPEN)
-
-
 def try_file_size(tally, folder):
     """A limit on the size of files, under a signal that is ignored as OPERATION says."""
     room = fresh(folder, "file size")
@@ -192,8 +168,6 @@ WELL_QUOTED = [
     b'\xef\xbb\xbf"address","kind","message"\n"8","tone0",""\n',
     HEADER + b'8,tone0,""\r\n\r\n9,alpha,"x"',
 ]
-
-
 SWALLOWED = HEADER + b'8,tone0,\n9,alpha,"Pump 4\n16,tone0,\n24,tone0,\n'
 REFUSED = [(["--strict"], *row) for row in MISPLACED]
 REFUSED += [(["--expect", "4"], SWALLOWED, "pages 2, where 4 were expected"), (["--expect", "1"], BAD, "record 1: unknown kind")]
@@ -223,6 +197,3 @@ def try_demands(tally, folder):
             tally.check_done(f"taken {words} {demand} {file[21:40]}", done, 0, plain.stdout, b"", plain.returncode == 0)
     for words in (["--strict", *PLAN], ["decode", "tx.bin", "--strict"], ["--strict", "decode", "tx.bin"], [*PLAN, "--expect", "x"]):
         tally.check_usage(f"usage: {words}", run(words, room))
-
-
-PARTS = (try_streams, try_rights, try_last_step, try_folders, try_file_size, try_demands)

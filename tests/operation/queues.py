@@ -23,7 +23,7 @@ import time
 sys.dont_write_bytecode = True
 sys.path.insert(0, str(pathlib.Path(__file__).resolve().parents[1]))
 from channel import HEADER, KILLS, Channel, calls_of, can_trace, pages_of
-from tally import MEMORY, TOP, as_nobody, files_of, own_disk, run_parts
+from tally import MEMORY, TOP, as_nobody, files_of, own_disk, run_all, run_parts
 
 IS_EACH = sys.argv[1:] == ["--all"]
 ASKED = sum(int(word) for word in sys.argv[1:] if word.isdigit())
@@ -74,7 +74,7 @@ def faults_at(calls):
     yield from ((f"error=EIO at {call}", call.fault("error=EIO")) for call in calls if call.can_fail)
 
 
-def try_sending(tally, channel, faults):
+def check_sending(tally, channel, faults):
     """Runs of next-slot that meet these faults: one that is ended is told."""
     for name, fault in faults:
         channel.fill()
@@ -87,7 +87,7 @@ def try_kills(tally, folder):
     """Kills before and behind each command of next-slot. Each slot is kept with its pages and its certificate."""
     channel = Channel(folder / "kills", options="--at-most 1 --idle-last")
     commands = turns_of(channel)
-    try_sending(tally, channel, kills(commands))
+    check_sending(tally, channel, kills(commands))
     tally.check("next-slot starts commands", len(commands) > 10, commands)
     for path in channel.folder.glob("sent.*.cert"):
         done = channel.run_program("check", path.with_suffix(".csv").name, path.name)
@@ -106,7 +106,7 @@ def try_calls(tally, folder):
         calls = calls_of(channel, "next-slot")
         channel.take()
         tally.check("next-slot makes calls", len(calls) > 500 and channel.is_balanced(), (len(calls), channel.told()))
-        try_sending(tally, channel, faults_at(calls))
+        check_sending(tally, channel, faults_at(calls))
 
 
 def planned(channel, commands):
@@ -115,7 +115,7 @@ def planned(channel, commands):
     channel.send(at=commands.index("mv") + 1, fault=KILLS[3])
 
 
-def try_adding(tally, channel, commands, faults):
+def check_adding(tally, channel, commands, faults):
     """Runs of enqueue that meet these faults while a planned slot waited: the slot is sent, and the page counts or not."""
     for name, fault in faults:
         planned(channel, commands)
@@ -132,13 +132,13 @@ def try_additions(tally, folder):
     channel.take()
     planned(channel, commands)
     channel.add(at=0)
-    try_adding(tally, channel, commands, kills(channel.started()))
+    check_adding(tally, channel, commands, kills(channel.started()))
     if can_trace():
         planned(channel, commands)
         page = channel.next_page()
         calls = calls_of(channel, "enqueue", *page)
         channel.added.append(page)
-        try_adding(tally, channel, commands, faults_at(calls))
+        check_adding(tally, channel, commands, faults_at(calls))
 
 
 def transmit(channel, ends, are_good):
@@ -515,7 +515,4 @@ def try_oversized(tally, folder):
 
 
 if __name__ == "__main__":
-    sys.exit(run_parts(*[try_random] if ASKED else (
-        try_statuses, try_outgoing, try_words, try_enqueue, try_first, try_quotes, try_link, try_kept, try_new_number, try_other_owner, try_again,
-        try_oversized, try_kills, try_calls, try_additions, try_random, try_full_disks,
-    )))  # fmt: skip
+    sys.exit(run_parts(try_random) if ASKED else run_all())

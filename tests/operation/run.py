@@ -7,7 +7,6 @@ Where `strace` is missing, the kills at single system calls are left out.
 
 import os
 import pathlib
-import pty
 import random
 import re
 import shutil
@@ -24,7 +23,7 @@ import doors
 import turns
 from codewords import APART, HEADER
 from doors import OLD, PLAN, TONE, fresh, names, stand
-from tally import CANNOT_OPEN, NAMED_TWICE, PROGRAM, TOP, faulty, module_at, put, put_script, room_in, run, run_parts
+from tally import CANNOT_OPEN, NAMED_TWICE, PROGRAM, TOP, at_terminal, faulty, module_at, put, put_script, room_in, run, run_all
 
 KILLS = 200
 papers = module_at("papers", "tests/papers/run.py")
@@ -238,16 +237,11 @@ def try_pipes(tally, folder):
 def try_terminal(tally, folder):
     """With no words at a terminal it says what it waits for."""
     try:
-        ours, theirs = pty.openpty()
+        status, out, err = at_terminal([str(PROGRAM)], folder, TONE)
     except OSError as why:
         print(f"skipped: a bare pocsag at a terminal, since there is no pseudo terminal: {why}")
         return
-    process = subprocess.Popen([str(PROGRAM)], cwd=folder, stdin=theirs, stdout=subprocess.PIPE, stderr=subprocess.PIPE)
-    os.close(theirs)
-    os.write(ours, TONE + b"\x04")
-    out, err = process.communicate(timeout=60)
-    os.close(ours)
-    holds = process.returncode == 0 and out == b"pages 1\nbatches 1\n" and err.startswith(b"reading a page file from standard input; ")
+    holds = (status, out) == (0, b"pages 1\nbatches 1\n") and err.startswith(b"reading a page file from standard input; ")
     tally.check("a bare pocsag at a terminal", holds and err.count(b"\n") == 1, (out, err))
     done = run([], folder, TONE)
     tally.check("and none at a pipe", done.stderr == b"", done)
@@ -330,7 +324,4 @@ def try_recipe(tally, folder):
 
 
 if __name__ == "__main__":
-    sys.exit(run_parts(
-        try_keep, try_keep_open, try_kills, try_single_calls, try_order, try_verify, try_pipes, try_terminal, try_page, try_recipe,
-        *doors.PARTS, *turns.PARTS,
-    ))  # fmt: skip
+    sys.exit(run_all(doors, turns))

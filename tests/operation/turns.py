@@ -107,7 +107,7 @@ def try_held(tally, folder):
         lock.touch()
         lock.chmod(mode)
         check_taken(tally, f"a lock of mode {mode:o} that is left", run(plan(0), room), room, dues[0])
-    try_failed_locks(tally, room, dues, lock)
+    check_failed_locks(tally, room, dues, lock)
     if not shutil.which("strace"):
         return
     for number in range(1, 5):
@@ -127,7 +127,7 @@ def modes_of_locks(room):
     return {stat.S_IMODE((room / name).stat().st_mode) for name in left_in(room) if name.endswith(".lock")}
 
 
-def try_failed_locks(tally, room, dues, lock):
+def check_failed_locks(tally, room, dues, lock):
     """A lock that cannot be had for another reason than a run that holds it: that is told, and at once."""
     told = CANNOT_WRITE + fault("certificate cert.bin: cannot lock cert.bin.pocsag.lock: no regular file")
     for name, make in (
@@ -250,7 +250,7 @@ def try_others(tally, folder):
         done = run(plan(0, "--always"), room, before=user)
     tally.check_done("a lock that the superuser holds", done, 3, b"", CANNOT_WRITE, stand(room) == dues[0])
     lock.unlink()
-    try_killed_locks(tally, room, dues, user)
+    check_killed_locks(tally, room, dues, user)
     before = stand(room)
     room.chmod(0o555)
     done = run(plan(0), room, before=user)
@@ -258,7 +258,7 @@ def try_others(tally, folder):
     tally.check_done("a folder that cannot be written to", done, 3, b"", CANNOT_OPEN, stand(room) == before and not left_in(room))
 
 
-def try_killed_locks(tally, room, dues, user):
+def check_killed_locks(tally, room, dues, user):
     """The superuser, whose mask leaves nothing to others, is killed at each call of the system that makes a lock; then another user
     plans."""
     if not shutil.which("strace"):
@@ -312,6 +312,3 @@ def try_left(tally, folder):
     done = run(["open", "--journal", "round.journal"], room)
     tally.check("a round begins in a folder with files of ended rounds", done.returncode == 0 and not left_in(room), (left, done, left_in(room)))
     tally.check("at most those of the last ended round were there", len(left) <= 8, left)
-
-
-PARTS = (try_pairs, try_held, try_containers, try_taken_away, try_failed_look, try_others, try_left)

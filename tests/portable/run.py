@@ -22,8 +22,7 @@ import arm64
 import packages
 import products
 import version
-from cases import CASES
-from tally import LIBRARY, PROGRAM, as_nobody, put, put_script, run_parts, said, skipped
+from tally import LIBRARY, PROGRAM, as_nobody, put, put_script, run_parts, said, samples, skipped
 
 HERE = pathlib.Path(__file__).resolve().parent
 # The scripts that run the program, and of how many of their cases one is tried here: the host is not another in each. Those of
@@ -93,7 +92,8 @@ def ran(script, program, folder):
 def try_cases(tally, room, program):
     """Each case has the native program's texts, statuses and files."""
     has_strace = bool(shutil.which("strace"))
-    for name, wanted, script in CASES:
+    for name, text in samples(HERE / "cases.txt").items():
+        script, _, wanted = text.removesuffix("\n").partition("---- prints\n")
         if "traced" in script and not has_strace or "as_other" in script and not as_nobody(room):
             print(f"left out: {name}, since there is no strace, or no other user")
             continue

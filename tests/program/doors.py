@@ -235,6 +235,8 @@ def try_certificates(tally, folder):
         ("pages.csv", "/dev/null", 1, fault("the certificate is cut short")),
         ("pages.csv", "long.bin", 1, fault("bytes after the certificate")),
         ("pages.csv", "/proc/self/mem", 3, CANNOT_OPEN),
+        ("pages.csv", ".", 3, CANNOT_OPEN),
+        ("bad.csv", ".", 1, BAD_RECORD),
         ("bad.csv", "/dev/zero", 1, BAD_RECORD),
         ("bad.csv", "pages.csv", 1, BAD_RECORD),
         ("bad.csv", "none.bin", 3, CANNOT_OPEN),
@@ -244,6 +246,3 @@ def try_certificates(tally, folder):
         for command in (["check"], ["explain"], ["explain", "--json"]):
             tally.check_done(f"{command} {pages} {cert}", run([*command, pages, cert], room), status, b"", told)
     (room / "long.bin").unlink()
-
-
-PARTS = (try_words_of_bytes, try_unheard, try_closed, try_limits, try_reports, try_refused, try_fronts, try_input, try_certificates)

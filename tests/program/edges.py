@@ -41,7 +41,7 @@ def try_largest_files(tally, folder):
     """A page file and a transmission of as many bytes as may be, and of one more."""
     path, listing = folder / "largest", HEADER + b"8,tone0,\n"
     plan = ["plan", "largest", "tx.bin", "cert.bin"]
-    for size in (LARGEST, LARGEST + 1):
+    for size in () if IS_EMULATED else (LARGEST, LARGEST + 1):
         due_of = lambda told: (0, told) if size == LARGEST else (1, b"", TOO_LARGE)
         write_padded(path, size, b"", b"\xaa", SYNC + TONE + 15 * IDLE)
         for words, told in ((["decode", "largest"], listing), (["hear", "8", "largest"], listing), (["show", "--list", "largest"], SHOWN)):
@@ -63,7 +63,7 @@ NEAR_THE_LIMIT = [
 def try_default_limit(tally, folder):
     """A round is refused where it takes more nodes than the limit by one, and answered where it takes no more; where no
     limit is named it is 100,000."""
-    for shape, nodes, batches in NEAR_THE_LIMIT:
+    for shape, nodes, batches in () if IS_EMULATED else NEAR_THE_LIMIT:
         records, is_default = shaped(shape), nodes <= 100_000
         (folder / "pages.csv").write_bytes(HEADER + b"".join(records))
         told, stopped = b"pages %d\nbatches %d\n" % (len(shape), batches), f"search limit reached: at least {batches - 1} batches, {batches} would do"
@@ -79,6 +79,3 @@ def try_default_limit(tally, folder):
         done = run(["open"], folder, b"".join(b"add," + record for record in records) + b"plan,tx.bin,cert.bin\n")
         answer = f"batches {batches}" if is_default else f"refused: {stopped}"
         tally.check(f"{nodes} nodes: open", done.returncode == 0 and done.stdout.endswith(f"\n{answer}\n".encode()), done)
-
-
-PARTS = (try_places_of_faults,) if IS_EMULATED else (try_places_of_faults, try_largest_files, try_default_limit)

@@ -54,7 +54,7 @@ def due_of(pages, texts, is_json):
     return HEADER + "".join(f"{it['address']},{field(it['kind'])},{field(it['message'])}\n" for it in objects), objects
 
 
-def try_pages(tally, folder, source, pages, reads):
+def check_pages(tally, folder, source, pages, reads):
     tx = sent(pages)
     rx, words, bits = repair.damaged(tx, source)
     (folder / "tx.bin").write_bytes(tx)
@@ -89,9 +89,9 @@ def try_forms(tally, folder):
         print("left out: lines of JSON that jq reads, since there is no jq")
     every = items_of(range(1, 128), 7, 0)
     for pages in sampled(([(11, function, every) for function in range(4)], [(11, function, [0, 0]) for function in range(4)], [])):
-        try_pages(tally, folder, source, pages or [(12, 0, [])], reads)
+        check_pages(tally, folder, source, pages or [(12, 0, [])], reads)
     for _ in sampled(range(6)):
-        try_pages(tally, folder, source, random_pages(source), reads)
+        check_pages(tally, folder, source, random_pages(source), reads)
 
 
 def try_long(tally, folder):
@@ -154,6 +154,3 @@ def try_words(tally, folder):
                 for verbose, note in (([], b""), (["--verbose"], fault(f"transmission short.bin{hint}"))):
                     told = fault("the preamble is too short") + note
                     tally.check_done(f"{words} {verbose}", run([*words, *verbose], folder), 1, b"", told)
-
-
-PARTS = (try_forms, try_long, try_terminal, try_words)

@@ -240,6 +240,3 @@ def try_slots(tally, folder):
                   "--rate 512 --at-most 2 --rest r"):  # fmt: skip
         tally.check_usage(f"wrong words of a slot {words}", run(["report", "pages.csv", *words.split()], room))
     tally.check("no file is written", {*os.listdir(room)} == {*FILES}, os.listdir(room))
-
-
-PARTS = (try_options, try_limits, try_refusals, try_later, try_oversized, try_runs, try_slots)

@@ -16,7 +16,7 @@ import trees
 import worked
 from codewords import HEADER, IDLE, LARGEST, PREAMBLE, SYNC, address_word, codeword, items_of, letters, sent
 from forms import due_of
-from tally import MEMORY, brief, fault, run, run_parts
+from tally import MEMORY, brief, fault, run, run_all
 
 PAGES = 20_000
 READ_ONLY = ["open", "--journal", "journal", "--read-only"]
@@ -323,7 +323,7 @@ def try_open(tally, folder):
         tally.check_done(f"the journal of {pages} pages", done, 0, kept + count + b"ok 0\n", announced + again)
 
 
-def try_edits(tally, folder):
+def check_edits(tally, folder):
     """An open round of tones, added one by one, planned slot by slot, and what its journal keeps; and the longest line."""
     for pages in (2_000, PAGES):
         (folder / "journal").unlink(missing_ok=True)
@@ -341,10 +341,10 @@ def try_edits(tally, folder):
         tally.check_done(f"a line of {len(line)} bytes", run(["open"], folder, line + b"\n"), 0, due)
 
 
-def try_edits_in_memory(tally, folder):
+def try_edits(tally, folder):
     """The same in memory, if the system has files there: each edit is synchronised before its answer."""
     with tempfile.TemporaryDirectory(dir=MEMORY or folder) as name:
-        try_edits(tally, pathlib.Path(name))
+        check_edits(tally, pathlib.Path(name))
 
 
 def try_journals(tally, folder):
@@ -370,8 +370,5 @@ def try_table(tally, _):
     tally.check("each run that tests/calls/largest.txt names was made", not missing, missing)
 
 
-PARTS = (try_fronts, try_queues, try_plans, try_faults, try_hard, try_certificates, try_readings, try_long_message, try_shows, try_captures, try_sounds,
-         try_open, try_edits_in_memory, try_journals, try_table)
-
 if __name__ == "__main__":
-    sys.exit(run_parts(*PARTS))
+    sys.exit(run_all())

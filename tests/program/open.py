@@ -13,7 +13,7 @@ sys.dont_write_bytecode = True
 sys.path.insert(0, str(pathlib.Path(__file__).resolve().parents[1]))
 from codewords import HEADER
 from sessions import Session, edited, listing
-from tally import CANNOT_OPEN, TOP, fault, room_in, run, run_parts
+from tally import CANNOT_OPEN, TOP, fault, room_in, run, run_all
 from worked import HARD, shaped
 
 PAGE = TOP / "docs/OPEN_ROUND.md"
@@ -54,7 +54,7 @@ def edits_of(chance, count):
             yield b"cancel,%d" % address if draw < 0.998 else b"clear"
 
 
-def many_edits(tally, folder):
+def try_many_edits(tally, folder):
     pages, session = [], Session(folder)
     wrong, lists, words = [], [], collections.Counter()
     for number, line in enumerate(edits_of(random.Random(SEED), EDITS), 1):
@@ -137,7 +137,7 @@ WORDS = [
 ]
 
 
-def words_of_answers(tally, folder):
+def try_answers(tally, folder):
     session = Session(folder)
     ask_all(tally, session, WORDS)
     check_end(tally, "refusals end nothing", session)
@@ -165,7 +165,7 @@ DEVICES = [
 ]
 
 
-def devices_of_a_plan(tally, folder):
+def try_devices(tally, folder):
     session = Session(folder)
     ask_all(tally, session, DEVICES)
     check_list(tally, "no plan changes the round", session, b"5,tone0,", b"13,tone0,", b"21,tone0,")
@@ -176,7 +176,7 @@ HARD_PAGES = [record.strip() for record in shaped(HARD[0][1])]  # nine batches a
 STOPPED = b"refused: search limit reached: at least 8 batches, 9 would do"
 
 
-def hard_plans(tally, folder):
+def try_hard_plans(tally, folder):
     """A round that the search gives up at is planned with `--always`, whether its pages come by lines or from PAGES, and so is a front."""
     (folder / "hard.csv").write_bytes(HEADER + b"\n".join(HARD_PAGES) + b"\n")
     for words in ((), ("--always",), ("hard.csv",), ("hard.csv", "--always"), ("--always", "hard.csv")):
@@ -200,7 +200,7 @@ SLOTS = [b"3,numeric," + LONG, b"8,tone0,", b"0,numeric," + LONG]
 NO_BATCHES = [b"0", b"", b"02", b"+2", b"-2", b"2.", b"2x", b" 2", b"4294967296", b"two", b"2,"]
 
 
-def slots_of_a_day(tally, folder):
+def try_slots_of_a_day(tally, folder):
     """A front is sent, and its pages are taken out; a refused one takes nothing out."""
     session = Session(folder)
     for page in SLOTS:
@@ -229,7 +229,7 @@ def slots_of_a_day(tally, folder):
     check_end(tally, "slots end nothing", session)
 
 
-def begins_with_pages(tally, folder):
+def try_pages(tally, folder):
     path = folder / "pages.csv"
     path.write_bytes(HEADER + b"8,tone0,\n16,numeric,12\n")
     session = Session(folder, "pages.csv")
@@ -245,14 +245,14 @@ def begins_with_pages(tally, folder):
     check_end(tally, "a missing page file is a device's fault", Session(folder, "none.csv"), 3, CANNOT_OPEN)
 
 
-def last_line(tally, folder):
+def try_last_line(tally, folder):
     done = run(["open"], folder, b"add,8,tone0,\nlist")
     tally.check_done("a last line without its line feed is an edit", done, 0, b"ok 1\n" + HEADER + b"8,tone0,\nok 1\n")
     for line, due in ((LONGEST, BAD_AT_ITS_END), (LONGEST + b"1", UNKNOWN)):
         tally.check_done(f"so is one of {len(line)} bytes, answered {due!r}", run(["open"], folder, line), 0, due + b"\n")
 
 
-def worked_session(tally, folder):
+def try_worked_session(tally, folder):
     """The session of the page is answered as the page says. Its commands for a shell are run with those of the other papers."""
     text = PAGE.read_text().split("## A day at a small centre")[1]
     rows = [re.match(r"\| (?:`([^`]*)`)? ?\| `([^`]*)` \|", line) for line in text.split("\n")]
@@ -277,7 +277,7 @@ DEMANDS = [
 ]
 
 
-def demands(tally, folder):
+def try_demands(tally, folder):
     """`--strict` and `--expect` judge PAGES before a line is read, with and without a journal, and change no round that meets them."""
     room = room_in(folder, "demands")
     for journal in ([], ["--journal", "round.journal"]):
@@ -299,6 +299,4 @@ def demands(tally, folder):
 
 
 if __name__ == "__main__":
-    sys.exit(run_parts(
-        words_of_answers, devices_of_a_plan, many_edits, hard_plans, slots_of_a_day, begins_with_pages, demands, last_line, worked_session,
-    ))  # fmt: skip
+    sys.exit(run_all())

@@ -170,6 +170,3 @@ def try_bad_numbers(tally, folder):
             for words in (["report", "pages.csv", "--rate", "512"], ["plan", "pages.csv", "tx.bin", "cert.bin"]):
                 done = run([*words, "--limit", limit, *end, *always], folder)
                 tally.check_done(f"{words[0]} with limit {limit} {end} {always}", done, 1, b"", BAD_LIMIT)
-
-
-PARTS = (try_plan_options, try_report_options, try_open_options, try_input_options, try_bad_numbers)

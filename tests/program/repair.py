@@ -20,7 +20,7 @@ def damaged(sent, source):
     return b"".join(out), words, bits
 
 
-def try_transmission(tally, folder, source):
+def check_transmission(tally, folder, source):
     (folder / "p.csv").write_bytes(random_file(source, 30))
     run(["plan", "p.csv", "tx.bin", "cert.bin", "--always"], folder)
     sent = (folder / "tx.bin").read_bytes()
@@ -39,10 +39,10 @@ def try_transmission(tally, folder, source):
                 tally.check(f"{command} {view} {more} of what was received", holds, (done, told))
             refused = run([command, "rx.bin", *view], folder).returncode
             tally.check(f"{command} {view} refuses it without repair", refused == (1 if words else due.returncode), refused)
-    try_beyond(tally, folder, source, sent)
+    check_beyond(tally, folder, source, sent)
 
 
-def try_beyond(tally, folder, source, sent):
+def check_beyond(tally, folder, source, sent):
     place = source.randrange((len(sent) - FRONT) // WORD)
     at = FRONT + WORD * place
     wrong = flipped(sent[at : at + WORD], *source.sample(range(32), 3))
@@ -56,9 +56,6 @@ def try_beyond(tally, folder, source, sent):
 def try_repair(tally, folder):
     source = random.Random(584)
     for _ in sampled(range(12)):
-        try_transmission(tally, folder, source)
+        check_transmission(tally, folder, source)
     by_pager = run(["hear", "8", "rx.bin"], folder)
     tally.check("hear of the same", by_pager.returncode == 0, by_pager)
-
-
-PARTS = (try_repair,)

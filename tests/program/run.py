@@ -17,7 +17,7 @@ import repair
 import usage
 import verbose
 from codewords import HEADER, HEADS, IDLE, ONES as MESSAGE, TONE, ZERO, flipped, transmission
-from tally import BAD_LIMIT, BAD_RATE, CANNOT_OPEN, CANNOT_WRITE, ENDS, NAMED_TWICE, TOO_LARGE, fault, make_huge, put, run, run_parts, sampled
+from tally import BAD_LIMIT, BAD_RATE, CANNOT_OPEN, CANNOT_WRITE, ENDS, NAMED_TWICE, TOO_LARGE, fault, make_huge, put, run, run_all, sampled
 from worked import BOTH_WAYS, EXACT, HARD, LONE_TONE, LONG_ALPHA, LOOP_APART, ONE_FULL, TIGHT, of_ones, shaped
 
 # What `check` prints of a certificate for each end.
@@ -76,7 +76,7 @@ def shown_of(batches, end):
     return f"at least {batches} batches{TOLD[end]}\n".encode()
 
 
-def try_round(tally, folder, name, end):
+def check_round(tally, folder, name, end):
     records, *fewest, _, sent = ROUNDS[name]
     batches = dict(zip(ENDS, fewest))[end]
     if batches is None:
@@ -102,7 +102,7 @@ def try_round(tally, folder, name, end):
 def try_rounds(tally, folder):
     for name, (records, batches, _, _, in_order, _) in ROUNDS.items():
         for end in ENDS:
-            try_round(tally, folder, name, end)
+            check_round(tally, folder, name, end)
         tally.check_done(f"input {name}", run([], folder, HEADER + records), 0, told_of(len(lines_of(name)), batches))
         if in_order:
             done = run(["report", "pages.csv", "--rate", "1200"], folder)
@@ -243,5 +243,4 @@ def try_receivers(tally, folder):
 
 
 if __name__ == "__main__":
-    parts = (part for module in (usage, doors, edges, forms, fronts, options, repair, verbose) for part in module.PARTS)
-    sys.exit(run_parts(try_rounds, try_reports, try_limits, try_always, try_files, try_receivers, *parts))
+    sys.exit(run_all(usage, doors, edges, forms, fronts, options, repair, verbose))

@@ -62,6 +62,3 @@ def try_logic(tally, _folder):
     told = run(["--version"]).stdout.decode()
     _, logic, number = toolchain.partition(" logic ")
     tally.check("the version names the logic", number.strip() and told.endswith(logic + number), (told, toolchain))
-
-
-PARTS = (try_texts, try_commands, try_logic)

@@ -84,7 +84,6 @@ ONE_FILE = [
     ("check - -", "page file - and certificate - are one file"), ("explain - -", "page file - and certificate - are one file"),
 ]  # fmt: skip
 CASES = [
-    (APART, ["plan", ".", "tx.bin", "cert.bin"], b"", 3, "", "cannot read or open a file", [f"page file .: {IS_FOLDER}"]),
     (APART, ["plan", "p.csv", "/dev/full", "cert.bin"], b"", 3, "", "cannot write", [f"transmission /dev/full: {NO_SPACE}"]),
     (APART, ["plan", "p.csv", "tx.bin", "/dev/full"], b"", 3, "", "cannot write", [f"certificate /dev/full: {NO_SPACE}"]),
     (APART, ["plan", "p.csv", "a\nb/\x1b[2J", "cert.bin"], b"", 3, "", "cannot read or open a file", [f"transmission a?b/?[2J: {NO_FILE}"]),
@@ -141,10 +140,13 @@ CASES = [
      [f"transmission none/tx.bin: {NO_FILE}", f"certificate none/c: {NO_FILE}", f"transmission /dev/full: {NO_SPACE}"]),
 ]
 CASES += [(APART, words.split(), b"", 3, "", "cannot read or open a file", [f"{name}: {NO_FILE}"]) for words, name in MISSING]
+CASES += [(APART, words.split(), b"", 3, "", "cannot read or open a file", [f"page file .: {IS_FOLDER}"]) for words in (
+    "plan . tx.bin cert.bin", "check . other.cert", "report . --rate 512", "open .", "explain . other.cert",
+)]  # fmt: skip
 CASES += [(APART, words.split(), b"", 1, "", TWICE, [told]) for words, told in ONE_FILE]
 
 
-def try_case(tally, folder, case, left=None):
+def check_case(tally, folder, case, left=None):
     """The same status, output and first line with `--verbose` as without it, and behind that line the notes. What TX and CERT hold
     then is told where it is `left`."""
     file, words, stdin, status, out, fault, notes = case
@@ -165,11 +167,11 @@ def try_verbose(tally, folder):
     for file, fault, record in sampled(PAGE_FILES):
         named, unnamed = ([f"page file {name}: {record}" if record else f"page file {name}"] for name in ("p.csv", "-"))
         for words in (PLAN, [*PLAN, "--always"]):
-            try_case(tally, folder, (file, words, b"", 1, "", fault, named), b"")
+            check_case(tally, folder, (file, words, b"", 1, "", fault, named), b"")
         for words in ([], ["report", "-", "--rate", "512", "--always"]):
-            try_case(tally, folder, (APART, words, file, 1, "", fault, unnamed))
+            check_case(tally, folder, (APART, words, file, 1, "", fault, unnamed))
     for case in sampled(CASES):
-        try_case(tally, folder, case)
+        check_case(tally, folder, case)
     (folder / "p.csv").write_bytes(APART)
     link = folder / "link"
     link.symlink_to("tx.bin")
@@ -181,6 +183,3 @@ def try_verbose(tally, folder):
     before = run(["--verbose", "plan", "none.csv", "t", "c"], folder)
     behind = run(["plan", "none.csv", "t", "c", "--verbose"], folder)
     tally.check("--verbose before the command", before.stderr == behind.stderr and before.returncode == 3, before)
-
-
-PARTS = (try_verbose,)

@@ -14,9 +14,8 @@ import sys
 
 sys.dont_write_bytecode = True
 sys.path[:0] = [str(pathlib.Path(__file__).resolve().parents[1] / it) for it in (".", "certificates")]
-import changed
-import wrong_rules
 from checker import CLOSED_END, IDLE_END, OPEN_END, TOLD
+from codewords import IDLE, PREAMBLE, SYNC, codewords_of, pages_in, transmission
 from pairs import of_bytes, of_files, of_trees
 from rounds import HEADER, message_of, page_file, small_pages
 from tally import ENDS, PROGRAM, TOP, call, run_parts, said, skipped
@@ -96,6 +95,48 @@ def try_vectors(tally, copy, folder):
         tally.check(f"vector {row['name']}", (status, told, error) == due_of(row), (status, told, error))
 
 
+def two_pages_exchanged(source, sent):
+    """Two pages of one length in different frames, exchanged; none where there are no such pages."""
+    words = codewords_of(sent)
+    found = pages_in(words)
+    choices = [
+        (a, b) for a in found for b in found
+        if a < b and a[1] - a[0] == b[1] - b[0] and a[0] % 16 // 2 != b[0] % 16 // 2
+        and words[a[0]] != words[b[0]]
+    ]
+    if not choices:
+        return None
+    (a, after_a), (b, after_b) = source.choice(choices)
+    return transmission(words[:a] + words[b:after_b] + words[after_a:b] + words[a:after_a] + words[after_b:])
+
+
+def one_batch_more(source, sent):
+    return sent + SYNC + 16 * IDLE
+
+
+def a_page_lost(source, sent):
+    """Idles in place of a page."""
+    words = codewords_of(sent)
+    begin, end = source.choice(pages_in(words))
+    return transmission(words[:begin] + [IDLE] * (end - begin) + words[end:])
+
+
+def a_bit_wrong(source, sent):
+    place = source.randrange(len(PREAMBLE), len(sent))
+    return sent[:place] + bytes([sent[place] ^ 1 << source.randrange(8)]) + sent[place + 1:]
+
+
+# Changed transmissions, each made from one that carries its round in the fewest batches.
+CHANGES = {
+    "two pages exchanged": two_pages_exchanged,
+    "one batch more": one_batch_more,
+    "a page lost": a_page_lost,
+    "a bit wrong": a_bit_wrong,
+    "a preamble of 71 bytes": lambda source, sent: sent[1:],
+    "a byte less": lambda source, sent: sent[:-1],
+}
+
+
 def try_plans(tally, copy, folder):
     """Plans of the product are shown; changed ones are not."""
     source, judged, refused = random.Random(22), 0, {}
@@ -113,8 +154,8 @@ def try_plans(tally, copy, folder):
         tally.check("plan", found == (0, f"{shown}batches {batches}\n", ""), f"{end} {pages}: {found}")
         tally.check("bound", copy.verify(folder, "pages.csv", "cert.bin") == (0, shown, ""), f"{end} {pages}")
         sent = (folder / "tx.bin").read_bytes()
-        what = source.choice([*changed.CHANGES, "two pages exchanged", "two pages exchanged"])
-        other = changed.CHANGES[what](source, sent)
+        what = source.choice([*CHANGES, "two pages exchanged", "two pages exchanged"])
+        other = CHANGES[what](source, sent)
         if other is None:
             continue
         (folder / "other.bin").write_bytes(other)
@@ -124,7 +165,7 @@ def try_plans(tally, copy, folder):
         due = more if is_legal else (1, shown, ILLEGAL)
         tally.check(what, found == due, f"{end} {pages} {other.hex()}: {found}")
         refused[what] = refused.get(what, 0) + 1
-    tally.check("each change was tried", min(refused.get(it, 0) for it in changed.CHANGES) >= 10, refused)
+    tally.check("each change was tried", min(refused.get(it, 0) for it in CHANGES) >= 10, refused)
 
 
 def verdict_of(done):
@@ -173,7 +214,7 @@ def try_kernel(tally, copy, folder):
     (folder / "pages.csv").write_bytes((TOP / "examples/loops-apart.csv").read_bytes())
     planned = run(PROGRAM, "plan", "pages.csv", "tx.bin", "cert.bin", folder=folder)
     sent = (folder / "tx.bin").read_bytes()
-    (folder / "other.bin").write_bytes(changed.one_batch_more(None, sent))
+    (folder / "other.bin").write_bytes(one_batch_more(None, sent))
     for name, due in ("tx.bin", 0), ("other.bin", 1):
         status, text, error = run(copy.folder / "kernel", "pages.csv", name, "cert.bin", folder=folder)
         (folder / "plan.v").write_text(text)
@@ -182,20 +223,57 @@ def try_kernel(tally, copy, folder):
         tally.check(f"kernel {name}", planned[0] == status == 0 and done[0] == due and told, (planned, error, done))
 
 
+# Wrong rules of the checker, which no longer prove: for each a file, a part of its text, what stands there instead, and the file whose
+# proofs break.
+RULES = [
+    ("overload: as much as there is room for", "Trees.v", "(loss r) (rows l)) <? weight", "(loss r) (rows l)) <=? weight", "Soundness.v"),
+    ("split: one page fewer in the second case", "Trees.v", "[AtMost c (m - 1); AtLeast c m]", "[AtMost c (m - 1); AtLeast c (m + 1)]", "Soundness.v"),
+    ("cut: boundary 0 outside the set", "Trees.v", "(1 <=? b) && has r 0 && is_certain", "(1 <=? b) && is_certain", "Soundness.v"),
+    ("cut: a class with one end outside", "Trees.v", "early && late || early && (1 <=? lo x)", "early || early && (1 <=? lo x)", "Soundness.v"),
+    ("cut: no idle in slot 15", "Trees.v", "(seq 0 16))", "(seq 0 15))", "Soundness.v"),
+    ("close: no page may come last", "Trees.v", "Some (IdleIn 15 :: flat_map page_last (rows l))", "Some [IdleIn 15]", "Soundness.v"),
+    ("close: for the open end", "Trees.v", "| OpenEnd => None", "| OpenEnd => Some [IdleIn 15]", "Soundness.v"),
+    ("open: accepted", "Trees.v", "| Open => None", "| Open => Some []", "Soundness.v"),
+    ("an idle takes two places", "Trees.v", "lower k (b - 1) (caps l)", "lower k (b - 2) (caps l)", "Soundness.v"),
+    ("a codeword of odd parity", "Codewords.v", " && negb (odd_ones w)", "", "Codewords.v"),
+    ("a preamble of 71 bytes", "Transmissions.v", "match after_preamble 72 bytes", "match after_preamble 71 bytes", "Transmissions.v"),
+    ("two pages of different functions taken for the same", "Transmissions.v", " && (function p =? function q)", "", "Transmissions.v"),
+    ("an address twice", "PageFiles.v", "then false\n      else are_distinct_after", "then true\n      else are_distinct_after", "PageFileProofs.v"),
+]  # fmt: skip
+
+
+def compiled(folder, name):
+    """Whether Coq takes a file, and what it says where not."""
+    status, told, error = run("timeout", "120", "coqc", "-q", "-Q", ".", "Pocsag", name, folder=folder)
+    return status == 0, told + error
+
+
+def try_rules(tally, copy, top):
+    """Each wrong rule in a copy of the folder that was built: its definitions are taken, and a proof is not."""
+    for what, name, right, wrong, breaks in RULES:
+        text = (copy.folder / name).read_text()
+        if text.count(right) != 1:
+            tally.check(what, False, f"{right!r} stands {text.count(right)} times in {name}")
+            continue
+        folder = shutil.copytree(copy.folder, top / "wrong")
+        (folder / name).write_text(text.replace(right, wrong))
+        taken, told = (True, "") if name == breaks else compiled(folder, name)
+        proved, why = compiled(folder, breaks)
+        line = re.search(rf'"\./{breaks}", line (\d+)', why)
+        at_a_proof = line and "Error:" in why and "Syntax error" not in why
+        behind = name != breaks or line and int(line[1]) > text[: text.index(right)].count("\n") + 1
+        tally.check(f"wrong rule: {what}", taken and not proved and at_a_proof and behind, told or why or "proved")
+        shutil.rmtree(folder)
+
+
 def try_all(tally, folder):
     copy = Copy(folder)
     if build(tally, copy):
-        for part in (try_theorems, try_words, try_vectors, try_large, try_plans, try_pairs, try_kernel):
+        for part in (try_theorems, try_words, try_vectors, try_large, try_plans, try_pairs, try_kernel, try_rules):
             part(tally, copy, folder)
-        wrong_rules.try_rules(tally, copy.folder, folder)
-
-
-def main():
-    missing = [it for it in NEEDED if not shutil.which(it)]
-    if not missing:
-        return run_parts(try_all)
-    return skipped(f"not installed: {' '.join(missing)} (on Debian: apt-get install coq ocaml-findlib)")
 
 
 if __name__ == "__main__":
-    sys.exit(main())
+    missing = [it for it in NEEDED if not shutil.which(it)]
+    why = f"not installed: {' '.join(missing)} (on Debian: apt-get install coq ocaml-findlib)"
+    sys.exit(skipped(why) if missing else run_parts(try_all))

@@ -12,7 +12,7 @@ import arm64
 import hosts
 from codewords import HEADER
 from hosts import native
-from tally import CANNOT_OPEN, CANNOT_WRITE, PROGRAM, TOO_LARGE, TOP, as_nobody, fault, faulty, files_of, put, put_script
+from tally import CANNOT_OPEN, CANNOT_WRITE, PROGRAM, TOO_LARGE, TOP, as_nobody, at_terminal, fault, faulty, files_of, put, put_script, said
 
 TONE = HEADER + b"8,tone0,\n"
 OLD = {"pages.csv": TONE, "tx.bin": b"older", "cert.bin": b"older too"}
@@ -32,8 +32,7 @@ LINES = [
 
 
 def outcome(command, folder, stdin=b"", **how):
-    done = subprocess.run(command, cwd=folder, input=stdin, capture_output=True, timeout=300, **how)
-    return done.returncode, done.stdout, done.stderr
+    return said(subprocess.run(command, cwd=folder, input=stdin, capture_output=True, timeout=300, **how))
 
 
 class Node:
@@ -125,15 +124,6 @@ def unready(node, words, folder, stdin):
         return process.poll(), output.read(), process.wait(60)
 
 
-def at_terminal(command, folder):
-    """What a command without words does where standard input is a terminal that gives a page file."""
-    ours, theirs = os.openpty()
-    os.write(ours, TONE + b"\x04")
-    done = subprocess.run(command, cwd=folder, stdin=theirs, capture_output=True, timeout=60)
-    os.close(ours), os.close(theirs)
-    return done.returncode, done.stdout, done.stderr
-
-
 def try_streams(tally, room, node):
     """Pipes that are not ready, a terminal, and streams that are closed, which Node opens as /dev/null."""
     folder = put(room / "streams", {"pages.csv": TONE})
@@ -141,7 +131,7 @@ def try_streams(tally, room, node):
     sound, told = native(["wav", "tx.bin"], folder)[1], unready(node, ["wav", "-"], folder, (folder / "tx.bin").read_bytes())
     tally.check("pipes that are not ready", told == (None, sound, 0) and len(sound) > 1 << 16, told[::2])
     try:
-        told, due = (at_terminal(command, folder) for command in ([str(node.path)], [str(PROGRAM)]))
+        told, due = (at_terminal(command, folder, TONE) for command in ([str(node.path)], [str(PROGRAM)]))
         tally.check("no words at a terminal", told == due and told[1] == b"pages 1\nbatches 1\n", (told, due))
     except OSError as why:
         print(f"skipped: no words at a terminal, since there is no pseudo terminal: {why}")

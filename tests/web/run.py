@@ -7,6 +7,8 @@ its hosts in Node and in memory; and uses the page as a user does. Where the C l
 release's files. Where Node, the toolchain, Binaryen or a browser is missing it says so and tries the rest.
 """
 
+import ctypes
+import hashlib
 import json
 import os
 import pathlib
@@ -20,11 +22,9 @@ sys.dont_write_bytecode = True
 HERE = pathlib.Path(__file__).resolve().parent
 sys.path[:0] = [str(HERE.parent / it) for it in ("web", ".", "release", "../release", "../tools")]
 import host
-import native
 import package
 from codewords import HEADER, changed, random_file
 from tally import LIBRARY, PROGRAM, TOP, call as run, module_at, run_parts
-
 
 ROUNDS, PER_BATCH = 2_000, 500
 NODE, CHROMIUM, FIREFOX = shutil.which("node"), shutil.which("chromium"), shutil.which("firefox-esr") or shutil.which("firefox")
@@ -103,6 +103,35 @@ def reading_calls(source, pages, tx, cert, address):
     ]
 
 
+class Native:
+    """The C library, called as C calls it with the words of a line that calls.mjs reads too."""
+
+    def __init__(self, library):
+        self.library = ctypes.CDLL(str(library))
+
+    def call(self, name, *words):
+        given, outs = [], []
+        for kind, value in words:
+            if kind == "number":
+                given.append(ctypes.c_uint32(value))
+            elif kind == "wide":
+                given.append(ctypes.c_uint64(int(value)))
+            elif kind == "info":
+                info = (ctypes.c_uint8 * value)(*b"\x5a" * value)
+                given.append(info)
+                outs.append(lambda info=info: bytes(info).hex())
+            elif kind == "room":
+                room, told = (ctypes.c_uint8 * max(value, 1))(), ctypes.c_size_t()
+                ctypes.memset(room, 0x5A, value)
+                given += [room, ctypes.c_size_t(value), ctypes.byref(told)]
+                outs.append(lambda room=room, told=told, size=value: [str(told.value), hashlib.sha256(bytes(room)[:size]).hexdigest()])
+            else:
+                data = bytes.fromhex(value) if kind == "bytes" else pathlib.Path(value).read_bytes()
+                given += [ctypes.c_char_p(data), ctypes.c_size_t(len(data))]
+        status = getattr(self.library, name)(*given) & 0xFFFFFFFF
+        return [status, *(out() for out in outs)]
+
+
 class Made:
     """What the tests share: the native library and the module, made in folders of their own, and the scripts of other tests."""
 
@@ -115,13 +144,17 @@ class Made:
             shutil.copytree(pathlib.Path(LIBRARY) / "lib", room / "native", dirs_exist_ok=True)
         else:
             self.library.make.make(room / "native")
-        self.native = native.Native(room / "native/libpocsag.so.1")
+        self.native = Native(room / "native/libpocsag.so.1")
         self.python = self.library.pocsag.Pocsag(str(room / "native/libpocsag.so.1"))
         self.folder, self.room = room / "web", room
 
     def compare(self, tally, name, calls):
         """Whether the module answers as the native library does; the statuses that were seen."""
-        answers = native.answers_of_module(NODE, HERE / "calls.mjs", self.folder / "pocsag.wasm", calls)
+        lines = "".join(json.dumps(it) + "\n" for it in calls)
+        ran = run(NODE, HERE / "calls.mjs", self.folder / "pocsag.wasm", input=lines.encode(), timeout=1200)
+        if ran.returncode:
+            raise SystemExit(f"calls.mjs: {ran.stderr.decode()[-2000:]}")
+        answers = [json.loads(line) for line in ran.stdout.splitlines()]
         wanted = [self.native.call(*it) for it in calls]
         wrong = [(call[0], want, got) for call, want, got in zip(calls, wanted, answers) if want != got]
         tally.check(f"{name}: {len(calls)} calls", not wrong and len(answers) == len(calls), (len(wrong), str(wrong[:2])[:1000]))
