@@ -61,6 +61,9 @@ def fault(text):
 CANNOT_OPEN, CANNOT_WRITE, NAMED_TWICE = map(fault, ("cannot read or open a file", "cannot write", "the same file is named twice"))
 BAD_LIMIT, BAD_RATE = map(fault, ("the limit must be 1 to 1000000", "the rate must be 512, 1200 or 2400"))
 TOO_LARGE = fault("the file is too large")
+NO_OWNER = fault("the new file cannot be given the owner, group and mode of the old one")
+# The words of a plan.
+PLAN = ["plan", "pages.csv", "tx.bin", "cert.bin"]
 
 
 def faulty(calls, what, trace="/dev/null"):
@@ -115,10 +118,10 @@ class Tally:
         """Whether words were refused as usage, by an error that begins so and by nothing else, and what else has to hold."""
         self.check(name, (done.returncode, done.stdout) == (2, b"") and done.stderr.startswith(told) and also, (brief(done), also))
 
-    def check_full(self, name, words, folder=None, stdin=b""):
+    def check_full(self, name, words, folder):
         """Whether a run tells that its standard output is a full device."""
         with open("/dev/full", "wb") as full:
-            done = run(words, folder, stdin, stdout=full)
+            done = run(words, folder, stdout=full)
         self.check(name, (done.returncode, done.stderr) == (3, CANNOT_WRITE), done)
 
     def check_run(self, name, done, status, out, *said):

@@ -176,19 +176,15 @@ def names_in(text, is_python):
     return [it for it in found if re.search(r"[a-z]{3}", it)]
 
 
-def has_check(text, name, is_python):
-    """Whether a script has a check of this name, whole or up to a colon."""
-    return any(re.fullmatch(f"{it}(?:: .*)?", name, re.DOTALL) or it.startswith(re.escape(name) + ":") for it in names_in(text, is_python))
-
-
 def missing_runs(top, table):
     """What is wrong with the runs of a table."""
     used = {it for row in table.calls.values() for it in row}
     for name, (_, script, check) in table.runs.items():
         file = top / script
+        names = names_in(file.read_text(), script.endswith(".py")) if file.is_file() else []
         if not file.is_file():
             yield f"run {name}: there is no {script}"
-        elif not has_check(file.read_text(), check, script.endswith(".py")):
+        elif not any(re.fullmatch(f"{it}(?:: .*)?", check, re.DOTALL) or it.startswith(re.escape(check) + ":") for it in names):
             yield f"run {name}: {script} has no check '{check}'"
         if name not in used:
             yield f"run {name}: no call names it"
@@ -219,8 +215,7 @@ def has_two(table, row, call):
 
 def product_of(script):
     """The crate that a script runs, or that a file of tests in Rattle belongs to."""
-    folder = script.rpartition("/")[0]
-    return PRODUCTS.get(folder) or re.sub(r"^crates/(\w+)/.*", r"\1", script)
+    return PRODUCTS.get(script.rpartition("/")[0]) or re.sub(r"^crates/(\w+)/.*", r"\1", script)
 
 
 def reached(crates, product):

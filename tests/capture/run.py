@@ -46,8 +46,7 @@ def some_pages(chance, most):
         elif kind == "numeric":
             pages.append((address, 0, "".join(chance.choice("0123456789") for _ in range(chance.randint(1, 20)))))
         else:
-            text = "".join(chr(chance.randint(33, 126)) for _ in range(chance.randint(1, 30)))
-            pages.append((address, 3, text))
+            pages.append((address, 3, "".join(chr(chance.randint(33, 126)) for _ in range(chance.randint(1, 30)))))
     return pages
 
 
@@ -186,12 +185,9 @@ def read_words(bits, start, polarity, batches, near, front):
     pages."""
     corrected = lost = cut = 0
     behind = start + 544 * batches
-
-    def is_before_idle(at):
-        return (at + 14 - start) % 32 == 0 and word_at(bits, at + 14, polarity) == IDLE
-
     # the last batch is out of step: another synchronisation codeword begins there, and not before an idle codeword in step
-    others = [at for at in range(behind - 543, behind + 32) if at in near and not is_before_idle(at)]
+    others = [at for at in range(behind - 543, behind + 32) if at in near]
+    others = [at for at in others if (at + 14 - start) % 32 or word_at(bits, at + 14, polarity) != IDLE]
     is_out = bool(others) or has_slipped(bits, start, polarity, batches)
     pages, page = [], None  # an open page counts as cut until a codeword ends it
     end = words_read(bits, start, polarity, batches)

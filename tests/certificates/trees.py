@@ -72,14 +72,6 @@ def replaced(tree, path, node):
     return tag, members, c, m, tuple(below)
 
 
-def arcs():
-    """Sets of slots or boundaries that lie side by side, all of them at last."""
-    for length in range(1, 16):
-        for start in range(16):
-            yield sum(1 << (start + place) % 16 for place in range(length))
-    yield 0xFFFF
-
-
 class Builder:
     """Builds trees that are accepted for a round, an end and a number of batches, at random, by the second checker
     or by a wrong one. A leaf holds by one alone where it can, and does not hold under the limits of the node above."""
@@ -89,7 +81,8 @@ class Builder:
         self.count, self.turns = rules.classes_of(pages, end)
         self.classes = [c for c in range(136) if self.count[c]]
         self.root = ((0,) * 136, self.count, (self.b,) * 16)
-        sides = list(arcs())
+        # Slots or boundaries that lie side by side, all of them at last.
+        sides = [sum(1 << (start + place) % 16 for place in range(length)) for length in range(1, 16) for start in range(16)] + [0xFFFF]
         sets = [0xFFFF, *sides[:16], *source.sample(sides, 70)]
         sets += [source.choice(sides) ^ source.choice(sides) or 1 for _ in range(30)]
         self.sets = [self.loads_of(members) for members in dict.fromkeys(sets)]

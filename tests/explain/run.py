@@ -119,8 +119,8 @@ def try_sentences(tally, folder):
     tally.check("explain: slots of more frames", done.returncode == checked.returncode, done)
 
 
-def kind(frame, length, alone=False):
-    return {"frame": frame, "length_modulo_16": length, "alone": alone}
+def kind(frame, length):
+    return {"frame": frame, "length_modulo_16": length, "alone": False}
 
 
 def try_json(tally, folder):

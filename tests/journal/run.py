@@ -22,7 +22,7 @@ import sessions
 import tally as shared
 from codewords import HEADER
 from sessions import listing
-from tally import CANNOT_OPEN, CANNOT_WRITE, IS_EMULATED, ONE_IN, PROGRAM, as_nobody, fault, faulty
+from tally import CANNOT_OPEN, CANNOT_WRITE, IS_EMULATED, NO_OWNER, ONE_IN, PROGRAM, as_nobody, fault, faulty
 from tally import files_of, own_disk, room_in, run_all, sampled, with_most_bytes
 
 FIRST_LINE = b"pocsag journal,1\n"
@@ -316,7 +316,6 @@ def try_harms(tally, folder):
 
 
 NOBODY = 65534
-OWNER = "the new file cannot be given the owner, group and mode of the old one"
 
 
 def rights(path):
@@ -360,7 +359,7 @@ def try_rights(tally, place):
     place.chmod(0o777)
     stood, number = rights(path), path.stat().st_ino
     for more, notes in with_notes(f"journal {NAME}: {os.strerror(1)} (os error 1)"):
-        tally.check_done(f"rights that are refused {more}", run(place, [b"list"], *more, before=user), 3, b"", told(OWNER, notes))
+        tally.check_done(f"rights that are refused {more}", run(place, [b"list"], *more, before=user), 3, b"", NO_OWNER + b"".join(map(fault, notes)))
         holds = (rights(path), path.stat().st_ino) == (stood, number) and path.read_bytes() == FIRST_LINE + b"add,8,tone0,\n"
         tally.check(f"rights that are refused {more}: it stays", holds and os.listdir(place) == [NAME], os.listdir(place))
 

@@ -37,14 +37,6 @@ EXAMPLES = TOP / "clib/examples"
 ROUND = TOP / "examples/round.csv"
 ROUNDS, CHANGED = 1_200, 400
 ROUNDS_OF_BOTH, CHANGED_OF_BOTH = 2_000, 8_000
-IN_CPP = """#include "pocsag.h"
-int main() {
-    size_t tx, cert;
-    pocsag_plan_bound(0, 1, &tx, &cert);
-    bool fits = POCSAG_LISTING_BOUND(tx) > 0 && POCSAG_SHOW_DRAWING_BOUND(tx) > 0 && POCSAG_WAV_BOUND(tx, 512u, 8000u, 0u) > tx;
-    return fits && pocsag_version() == POCSAG_VERSION && tx == 208 && cert == 12 && *pocsag_status_text(0) == 'd' ? 0 : 1;
-}
-"""
 CALLS = {"airtime_batches", "check", "decode", "decode_as", "explain", "hear", "hear_as", "lay_in_order", "plan", "plan_at_most"}
 CALLS |= {"frames", "report", "show", "strict", "text_of_status", "text_of_version", "version", "wav", "write_page"}
 CALLS = {f"pocsag_{name}" for name in CALLS}
@@ -444,9 +436,8 @@ def try_examples(tally, library):
     ran = run(room / "plan", room / "large.csv")
     tally.check("the example in C reads a large file whole", ran.stdout.startswith(b"pages 20000\n"), ran.stdout)
     if shutil.which("c++"):
-        (room / "plan.cc").write_text(IN_CPP)
         flags = ["-Wall", "-Wextra", "-Wold-style-cast", "-Wuseless-cast", "-Wconversion", "-Wno-unknown-warning-option", "-Werror", f"-I{folder}"]
-        built = run("c++", *flags, room / "plan.cc", folder / "libpocsag.a", "-o", room / "plan_cc")
+        built = run("c++", *flags, HERE / "header.cc", folder / "libpocsag.a", "-o", room / "plan_cc")
         tally.check("the header in C++", built.returncode == 0 and run(room / "plan_cc").returncode == 0, built.stderr)
     if shutil.which("rustc"):
         built = run("rustc", "--edition", "2021", EXAMPLES / "plan.rs", "-L", folder, "-l", "dylib=pocsag", "-o", room / "plan_rs")

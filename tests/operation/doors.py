@@ -7,13 +7,11 @@ import stat
 import subprocess
 
 from codewords import APART, HEADER
-from tally import CANNOT_OPEN, CANNOT_WRITE, NAMED_TWICE, PROGRAM, as_nobody, fault, faulty, files_of, put, room_in, run
+from tally import CANNOT_OPEN, CANNOT_WRITE, NAMED_TWICE, NO_OWNER, PLAN, PROGRAM, as_nobody, fault, faulty, files_of, put, room_in, run
 
 TONE, BAD = HEADER + b"8,tone0,\n", HEADER + b"8,tone9,\n"
-PLAN = ["plan", "pages.csv", "tx.bin", "cert.bin"]
 OLD = (b"an older transmission", b"an older certificate")
 OLD_FILES = dict(zip(PLAN[2:], OLD))
-NO_OWNER = fault("the new file cannot be given the owner, group and mode of the old one")
 NOBODY = (65534, 65534)  # the user and the group of `as_nobody`
 RENAMES = "rename,renameat,renameat2"
 

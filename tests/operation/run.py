@@ -22,8 +22,8 @@ sys.path[:0] = [str(pathlib.Path(__file__).resolve().parents[at]) for at in (0, 
 import doors
 import turns
 from codewords import APART, HEADER
-from doors import OLD, PLAN, TONE, fresh, names, stand
-from tally import CANNOT_OPEN, NAMED_TWICE, PROGRAM, TOP, at_terminal, faulty, module_at, put, put_script, room_in, run, run_all
+from doors import OLD, TONE, fresh, names, stand
+from tally import CANNOT_OPEN, NAMED_TWICE, PLAN, PROGRAM, TOP, at_terminal, faulty, module_at, put, put_script, room_in, run, run_all
 
 KILLS = 200
 papers = module_at("papers", "tests/papers/run.py")

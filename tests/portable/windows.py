@@ -24,12 +24,11 @@ import version
 import windows
 from codewords import APART, HEADER
 from hosts import ROUND, native
-from tally import CANNOT_OPEN, CANNOT_WRITE, ENDS, LIBRARY, NAMED_TWICE, fault, files_of, own_disk, put, run_parts, skipped
+from tally import CANNOT_OPEN, CANNOT_WRITE, ENDS, LIBRARY, NAMED_TWICE, NO_OWNER, fault, files_of, own_disk, put, run_parts, skipped
 
 TOOLS = {"wine": "wine", "wineserver": "wine", "wasm2c": "wabt", "wat2wasm": "wabt", windows.COMPILER: "gcc-mingw-w64-x86-64"}  # with Debian's packages
 STREAMS = ("stdin", "stdout", "stderr")
 PLANNED = (0, b"pages 6\nbatches 2\n", b"")  # what a plan of ROUND prints
-NOT_OWNER = fault("the new file cannot be given the owner, group and mode of the old one")
 # Names of several scripts, and with what shells and paths could take otherwise.
 NAMES = ("Zürich.csv", "данные.csv", "頁.csv", "📟 page.csv", "a'b & c.csv", "%TEMP%.csv", "^!.csv", "-.csv")
 
@@ -192,7 +191,7 @@ def try_kept(tally, room, wine):
     tally.check("a closed file is replaced", told == PLANNED and (folder / "sent.bin").read_bytes() == (folder / "a.bin").read_bytes(), told)
     (folder / "sent.bin").chmod(0o444)
     before, told = files_of(folder), wine.run(words, folder)
-    tally.check("a read-only file", told == (3, b"", NOT_OWNER) and files_of(folder) == before, (told, sorted(files_of(folder))))
+    tally.check("a read-only file", told == (3, b"", NO_OWNER) and files_of(folder) == before, (told, sorted(files_of(folder))))
 
 
 def try_left(tally, room, wine):
@@ -298,22 +297,11 @@ def try_shell(tally, room, wine):
     tally.check("the device NUL as a stream", told == (1, b"", fault("the header must be address,kind,message")), told)
 
 
-TRAPS = """(module
-  (import "env" "read" (func $read (param i32 i64 i64) (result i64)))
-  (memory (export "memory") 1)
-  (func $deeper (param i32) (result i32) (i32.add (i32.const 1) (call $deeper (local.get 0))))
-  (func (export "main") (param i32 i64) (result i32)
-    (drop (call $read (i32.const 0) (i64.const 0) (i64.const 1)))
-    (if (i32.eq (i32.load8_u (i32.const 0)) (i32.const 49)) (then (return (i32.load (i32.const 65536)))))
-    (call $deeper (i32.const 0))))
-"""
-
-
 def try_traps(tally, room, wine):
     """A module that reads behind its memory, or calls without end, in place of the program's. Made twice, it has the same bytes."""
     made = []
     for folder in (room / "traps", room / "a folder of another name"):
-        begin(folder, {"pocsag.wat": TRAPS.encode()})
+        begin(folder, {"pocsag.wat": pathlib.Path(__file__).with_name("traps.wat").read_bytes()})
         subprocess.run(["wat2wasm", "pocsag.wat", "-o", "pocsag.wasm"], check=True, cwd=folder)
         subprocess.run(["wasm2c", "-n", "pocsag", "pocsag.wasm", "-o", "pocsag.c"], check=True, cwd=folder)
         (folder / "pocsag.c").write_text((folder / "pocsag.c").read_text().replace(windows.make.ALLOCA, ""))

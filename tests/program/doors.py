@@ -5,7 +5,7 @@ import os
 import subprocess
 
 from codewords import APART, HEADER
-from tally import BAD_LIMIT, BAD_RATE, CANNOT_OPEN, CANNOT_WRITE, IS_EMULATED, NAMED_TWICE, PROGRAM, TOO_LARGE
+from tally import BAD_LIMIT, BAD_RATE, CANNOT_OPEN, CANNOT_WRITE, IS_EMULATED, NAMED_TWICE, PLAN, PROGRAM, TOO_LARGE
 from tally import fault, make_huge, room_in, run, sampled
 
 TONE = HEADER + b"8,tone0,\n"
@@ -20,7 +20,6 @@ For more information, try '--help'.
 """
 BAD_RECORD, STOPPED = map(fault, ("record 2: unknown kind", "search limit reached: at least 2 batches, 3 would do"))
 TOLD = b"pages 1\nbatches 1\n"
-PLAN = ["plan", "pages.csv", "tx.bin", "cert.bin"]
 
 
 def fresh(folder, name):

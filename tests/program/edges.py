@@ -1,10 +1,9 @@
 """The program at the edges of its numbers: places by the thousand, the largest files, the default limit of nodes."""
 
 from codewords import HEADER, IDLE, LARGEST, ONES, PREAMBLE, SYNC, TONE
-from tally import IS_EMULATED, TOO_LARGE, fault, run
+from tally import IS_EMULATED, PLAN, TOO_LARGE, fault, run
 from worked import shaped
 
-PLAN = ["plan", "pages.csv", "tx.bin", "cert.bin"]
 SHOWN = b"batch,frame,slot,codewords,address,kind,message\n1,0,0,1,8,tone0,\n"
 
 

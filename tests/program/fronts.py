@@ -5,7 +5,7 @@ import os
 import random
 
 from codewords import APART, HEADER
-from tally import BAD_LIMIT, BAD_RATE, NAMED_TWICE, fault, room_in, run, said, sampled
+from tally import BAD_LIMIT, BAD_RATE, NAMED_TWICE, PLAN, fault, room_in, run, said, sampled
 from worked import LOOP_APART, ONE_FULL
 
 # Three pages: the first alone and the first two take two batches, and all take three. With its idles in front the first has 22
@@ -17,7 +17,7 @@ TONES = [b"3,tone1,\n", b"8,tone2,\n"]
 QUEUE = HEADER + b"".join([FIRST, TONE, TONES[0], LAST, TONES[1]])
 FILES = {"pages.csv": FILE, "queue.csv": QUEUE, "apart.csv": APART, "bad.csv": FILE + b"9,tone9,\n", "first.csv": HEADER + FIRST + TONE}
 NAMES = ("tx.bin", "cert.bin", "rest.csv", "why.bin")
-PLAN, OTHERS = ["plan", "pages.csv", "tx.bin", "cert.bin"], ["--rest", "rest.csv", "--why", "why.bin"]
+OTHERS = ["--rest", "rest.csv", "--why", "why.bin"]
 NO_PAGES, NEEDS_TWO, BAD_KIND, NO_LATER, STOPPED = map(fault, (
     "there are no pages", "page 1 needs 2 batches", "record 4: unknown kind", "record 3: the address is already there",
     "search limit reached: at least 2 batches, 3 would do",

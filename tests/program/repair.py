@@ -39,10 +39,6 @@ def check_transmission(tally, folder, source):
                 tally.check(f"{command} {view} {more} of what was received", holds, (done, told))
             refused = run([command, "rx.bin", *view], folder).returncode
             tally.check(f"{command} {view} refuses it without repair", refused == (1 if words else due.returncode), refused)
-    check_beyond(tally, folder, source, sent)
-
-
-def check_beyond(tally, folder, source, sent):
     place = source.randrange((len(sent) - FRONT) // WORD)
     at = FRONT + WORD * place
     wrong = flipped(sent[at : at + WORD], *source.sample(range(32), 3))

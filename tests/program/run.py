@@ -17,12 +17,12 @@ import repair
 import usage
 import verbose
 from codewords import HEADER, HEADS, IDLE, ONES as MESSAGE, TONE, ZERO, flipped, transmission
-from tally import BAD_LIMIT, BAD_RATE, CANNOT_OPEN, CANNOT_WRITE, ENDS, NAMED_TWICE, TOO_LARGE, fault, make_huge, put, run, run_all, sampled
+from tally import BAD_LIMIT, BAD_RATE, CANNOT_OPEN, CANNOT_WRITE, ENDS, NAMED_TWICE, PLAN, TOO_LARGE
+from tally import fault, make_huge, put, run, run_all, sampled
 from worked import BOTH_WAYS, EXACT, HARD, LONE_TONE, LONG_ALPHA, LOOP_APART, ONE_FULL, TIGHT, of_ones, shaped
 
 # What `check` prints of a certificate for each end.
 TOLD = {"open": "", "closed": " with a closed end", "idle": " with an idle last"}
-PLAN = ["plan", "pages.csv", "tx.bin", "cert.bin"]
 
 
 def places(word, slots):

@@ -12,12 +12,10 @@ import arm64
 import hosts
 from codewords import HEADER
 from hosts import native
-from tally import CANNOT_OPEN, CANNOT_WRITE, PROGRAM, TOO_LARGE, TOP, as_nobody, at_terminal, fault, faulty, files_of, put, put_script, said
+from tally import CANNOT_OPEN, CANNOT_WRITE, NO_OWNER, PLAN, PROGRAM, TOO_LARGE, TOP, as_nobody, at_terminal, fault, faulty, files_of, put, put_script, said
 
 TONE = HEADER + b"8,tone0,\n"
 OLD = {"pages.csv": TONE, "tx.bin": b"older", "cert.bin": b"older too"}
-PLAN = ["plan", "pages.csv", "tx.bin", "cert.bin"]
-NOT_OWNER = fault("the new file cannot be given the owner, group and mode of the old one")
 # Scripts of the program that run over Node, with one of so many of their cases.
 SCRIPTS = {"tests/program/run.py": 41, "tests/capture/run.py": 41}
 # Places where Wine tells another fault, and journals, of which Node has none.
@@ -102,7 +100,7 @@ def try_way_back(tally, room, node):
     (folder / "shut.csv").chmod(0)
     for words, why in (
         (["plan", "shut.csv", "a", "b"], CANNOT_OPEN + fault("page file shut.csv: Permission denied (os error 13)")),
-        ([*PLAN, "--keep"], NOT_OWNER + fault("certificate cert.bin: Operation not permitted (os error 1)")),
+        ([*PLAN, "--keep"], NO_OWNER + fault("certificate cert.bin: Operation not permitted (os error 1)")),
     ):
         told = node.run([*words, "--verbose"], folder, before=user) if user else (3, b"", why)
         tally.check(f"another user: {words}", told == (3, b"", why), told)

@@ -11,20 +11,7 @@ import version
 from tally import TOP, call, put
 
 PLANNED = 'import { plan, Pocsag, Fault } from "pocsag"; console.log(plan("address,kind,message\\n8,tone0,\\n").batches, typeof Pocsag, typeof Fault);'
-USE = """import { plan, planAtMost, check, decode, hear, show, wav, writePage, KINDS, Fault, Pocsag, type Plan, type Front } from "pocsag";
-declare const console: { log(...words: unknown[]): void };
-const pages = "address,kind,message\\n8,tone0,\\n";
-const made: Plan = plan(pages, { end: "closed", limit: 9, always: false, strict: true });
-const front: Front = planAtMost(new Uint8Array(3).buffer, 2);
-const verdict: { isShown: boolean; batches: number } = check(pages, made.certificate);
-const texts: string[] = [decode(made.transmission, "captured"), hear(8, made.transmission), show(made.transmission, { form: "drawing", first: 1 }), writePage(8, KINDS[0], "")];
-try {
-  const sound: Uint8Array = wav(made.transmission, 1200, { preamble: null });
-  console.log(sound, front.why, verdict, texts, Pocsag);
-} catch (fault) {
-  if (fault instanceof Fault) console.log(fault.name, new Fault(fault.status + 0, fault));
-}
-"""
+USE = (TOP / "tests/web/use.mts").read_text()
 # A use each, and what the compiler says of it.
 REFUSED = {
     'plan(pages, { end: "shut" });': "TS2322", "plan(5);": "TS2345", 'hear("8", pages);': "TS2345", "const n: number = decode(pages);": "TS2322", 'writePage(8, "tone4");': "TS2345",
