@@ -110,6 +110,10 @@ class Tally:
             self.failed += 1
             print(f"FAILED {name}: {told}")
 
+    def check_same(self, name, found, due):
+        """Whether what was found is what is due."""
+        self.check(name, found == due, (found, due))
+
     def check_done(self, name, done, status=0, out=b"", err=b"", also=True):
         """Whether a run ended with this status and printed this alone, and what else has to hold."""
         self.check(name, said(done) == (status, out, err) and also, (brief(done), also))

@@ -106,8 +106,7 @@ def listed(folder):
 
 def check_listed(tally, name, folder, pages, told):
     """Whether a start lists these pages and tells this."""
-    found = listed(folder)
-    tally.check(name, found == (listing(pages), told), found)
+    tally.check_same(name, listed(folder), (listing(pages), told))
 
 
 def one_life(session, chooser, pages, count, edit_of):

@@ -124,8 +124,7 @@ def try_success(tally, clone):
     due = f"pocsag_app: decode a b \nfolder: {clone.top}\ninput\n"
     tally.check_run("arguments, folder, input, status, and each crate as it begins and ends", done, 7, due, *begun, *ended)
     tally.check_run("what it takes is told", done, 7, due, "memory", "disk")
-    calls = clone.builds()[1]
-    tally.check("each crate once, lowest first", calls == ["low lib", "middle lib", "pocsag_app run"], calls)
+    tally.check_same("each crate once, lowest first", clone.builds()[1], ["low lib", "middle lib", "pocsag_app run"])
     clone.check_no_log(tally, "a build")
     for words in ([], ["plan"], ["--help"]):
         status, out, err = clone.run(words)
@@ -191,8 +190,7 @@ def try_options(tally, clone):
     for option in ("noclobber", "errexit", "nounset", "noglob"):
         clone.source("low").write_text(option)
         clone.run(SHELLOPTS=option)
-        told = clone.run(SHELLOPTS=option)
-        tally.check(f"{option} handed down", told == (7, f"pocsag_app: w\nfolder: {clone.top}\n", ""), told)
+        tally.check_same(f"{option} handed down", clone.run(SHELLOPTS=option), (7, f"pocsag_app: w\nfolder: {clone.top}\n", ""))
 
 
 def open_to_all(clone):
@@ -341,8 +339,7 @@ def try_compilers(tally, clone):
         if is_installed:
             clone.build("program", capture_output=True, check=True)
         tally.check(f"{name}: the program runs", clone.run(["w"])[0] == 7)
-        found = clone.compiler.read_text().strip(), clone.builds()[0]
-        tally.check(f"{name}: its compiler", found == (wanted, count), found)
+        tally.check_same(f"{name}: its compiler", (clone.compiler.read_text().strip(), clone.builds()[0]), (wanted, count))
 
 
 def try_gate(tally, clone):
@@ -350,8 +347,7 @@ def try_gate(tally, clone):
     for status, calls in ((1, ["low lib", "middle lib", "pocsag_app run"]), (0, [])):
         clone.change('[ "$1" = run ]', f"""[ "$1" = ci ] && {{ cd crates/pocsag_app; {MAKES} exit {status}; }}\n[ "$1" = run ]""")
         clone.source("low").write_text(f"before status {status}\n")
-        ended = clone.build("ci").returncode
-        tally.check(f"its status {status}", ended == status, ended)
+        tally.check_same(f"its status {status}", clone.build("ci").returncode, status)
         before = len(clone.builds()[1])
         clone.run(["plan"])
         tally.check(f"what is built after status {status}", clone.builds()[1][before:] == calls, clone.builds()[1][before:])

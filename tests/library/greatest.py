@@ -23,8 +23,7 @@ def try_rounds(tally, call):
         told = isinstance(plan, pocsag.Plan) and plan[2:] == numbers and len(plan.transmission) == 72 + 68 * (full + 1)
         tally.check(f"plan of {pages} pages", told, str(plan)[:200])
         certificate = plan.certificate if told else b""
-        shown = attempt(call.check, data, certificate)
-        tally.check(f"check of {pages} pages", shown == (True, pocsag.IDLE, full + 1), shown)
+        tally.check_same(f"check of {pages} pages", attempt(call.check, data, certificate), (True, pocsag.IDLE, full + 1))
         report = attempt(call.report, data, 2400, limit=1_000_000)
         told = isinstance(report, pocsag.Report) and (*report[:5], report.bound) == (*numbers[:3], full, 0, full)
         tally.check(f"report of {pages} pages", told, report)
@@ -56,8 +55,7 @@ def try_files(tally, call):
 def try_certificates(tally, call):
     """Certificates of as many nodes as there may be, and of fewer."""
     for count, pages, certificate in largest.certificates():
-        shown = attempt(call.check, pages, certificate)
-        tally.check(f"check of {count} nodes", shown == (True, pocsag.IDLE, 5_000), shown)
+        tally.check_same(f"check of {count} nodes", attempt(call.check, pages, certificate), (True, pocsag.IDLE, 5_000))
         if count < 1_000_000:
             told = attempt(call.explain, pages, certificate, pocsag.AS_JSON, 300)
             holds = isinstance(told, pocsag.Explanation) and told.is_shown and told.text.count(b"{") > count

@@ -124,8 +124,7 @@ def try_fronts(tally, library):
     numbers = (front.pages, front.left, front.codewords, front.batches, front.bound, front.beyond)
     tally.check("four of five tones of one frame in two batches", numbers == (4, 1, 4, 2, 2, 3), front)
     tally.check("the fifth is left", front.rest == HEADER + b"40,tone0,\n", front.rest)
-    shown = library.pocsag.check(tones, front.why)
-    tally.check("five need three batches, as is certified", shown == (True, 0, 3), shown)
+    tally.check_same("five need three batches, as is certified", library.pocsag.check(tones, front.why), (True, 0, 3))
     whole = call(tones, 3)
     tally.check("three batches carry all", (whole.pages, whole.left, whole.why, whole.beyond) == (5, 0, b"", 0), whole)
     fault = attempt(call, HEADER + b"8,alpha,%s\n" % (b"a" * 50), 1)
@@ -362,8 +361,7 @@ def try_records(tally, library):
         ((11, "alpha", b'say "yes", now'), b'11,alpha,"say ""yes"", now"\n'),
         ((11, "alpha", b"two\nlines"), b'11,alpha,"two\nlines"\n'),
     ):
-        given = attempt(call, *words)
-        tally.check(f"the record of {words}", given == wanted, given)
+        tally.check_same(f"the record of {words}", attempt(call, *words), wanted)
     for words, wanted, text in (
         ((2_097_152, "tone0"), pocsag.BadAddress, "bad address"),
         ((2**32, "tone0"), pocsag.BadAddress, "bad address"),
@@ -407,8 +405,7 @@ def try_airtimes(tally, library):
     """A preamble of 576 bits and a batch of 544 take 933.3 ms at 1200 bits a second, and each batch more 453.3."""
     call = library.pocsag.airtime_batches
     wanted = {(933, 1200): 0, (934, 1200): 1, (1_386, 1200): 1, (1_387, 1200): 2, (2_187, 512): 0, (2_188, 512): 1, (467, 2400): 1}
-    given = {words: call(*words) for words in wanted}
-    tally.check("the batches of an airtime", given == wanted, given)
+    tally.check_same("the batches of an airtime", {words: call(*words) for words in wanted}, wanted)
     tally.check("the version of the package", library.pocsag.release() == version.VERSION, library.pocsag.release())
 
 

@@ -77,8 +77,7 @@ def compare(tally, text):
 def try_manual(tally, _folder):
     text = plain(MANUAL.read_text())
     compare(tally, text)
-    statuses = terms(section(text, "EXIT STATUS"))
-    tally.check("exit statuses", statuses == ["0", "1", "2", "3"], statuses)
+    tally.check_same("exit statuses", terms(section(text, "EXIT STATUS")), ["0", "1", "2", "3"])
     version = re.match(r"pocsag ([^,]+),", run(["--version"]).stdout.decode())[1]
     tally.check("the version", f'"pocsag {version}"' in text, version)
     if shutil.which("man"):

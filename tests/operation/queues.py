@@ -277,8 +277,7 @@ def try_outgoing(tally, folder):
         before = files_of(channel.folder)
         channel.outgoing.rename(folder / "away")
         channel.outgoing.mkdir()
-        done = channel.send()
-        tally.check(f"outgoing is away at {turn}", done == (3, "", "next-slot: cannot read outgoing/.number\n"), done)
+        tally.check_same(f"outgoing is away at {turn}", channel.send(), (3, "", "next-slot: cannot read outgoing/.number\n"))
         channel.outgoing.rmdir()
         (folder / "away").rename(channel.outgoing)
         tally.check(f"and all else is as it was at {turn}", files_of(channel.folder) == before, os.listdir(channel.folder))
@@ -317,8 +316,7 @@ def try_enqueue(tally, folder):
     """Which pages enqueue takes, that they are sent as they were given, and what it says of others."""
     channel = Channel(folder / "enqueue", options="--at-most 9")
     for number, message in enumerate(MESSAGES):
-        done = channel.run("enqueue", str(number), "alpha", message)
-        tally.check(f"enqueue {message!r}", done == DONE, done)
+        tally.check_same(f"enqueue {message!r}", channel.run("enqueue", str(number), "alpha", message), DONE)
     tally.check("they are sent", channel.send() == DONE and channel.take())
     sent = {number: message for number, _, message in channel.slots[0]}
     tally.check("as they were given", sent == {str(number): message for number, message in enumerate(MESSAGES)}, sent)
@@ -478,8 +476,7 @@ def try_again(tally, folder):
     channel = Channel(folder / "again", options="--at-most 9")
     pages = [("8", "alpha", "one"), ("16", "tone1", ""), ("8", "alpha", "two"), ("8", "tone2", ""), ("16", "numeric", "3")]
     for page in pages:
-        done = channel.run("enqueue", *page)
-        tally.check(f"enqueue {page}", done == DONE, done)
+        tally.check_same(f"enqueue {page}", channel.run("enqueue", *page), DONE)
     for due in ([pages[0], pages[1]], [pages[2], pages[4]], [pages[3]]):
         done = channel.send()
         is_good = channel.take()

@@ -244,8 +244,7 @@ def try_full(tally, room, wine):
         due = CANNOT_WRITE + fault("transmission folder/sent.bin: No space left on device (os error 28)")
         told = wine.run([*words, "--keep"], folder)
         tally.check("a full file system, kept", told == (3, b"", due) and files_of(small) == {"sent.bin": b"older"}, (told, sorted(files_of(small))))
-        told = wine.run(words, folder)
-        tally.check("a full file system", told == (3, b"", due), told)
+        tally.check_same("a full file system", wine.run(words, folder), (3, b"", due))
 
 
 def try_streams(tally, room, wine):
@@ -255,13 +254,11 @@ def try_streams(tally, room, wine):
     for line, answers in ((b"add,8,tone0,\n", [b"ok 1\n"]), (b"list\r\n", [HEADER, b"8,tone0,\n", b"ok 1\n"]), (b"plan,a.bin,a.cert,open\n", [b"batches 1\n"])):
         process.stdin.write(line)
         process.stdin.flush()
-        told = [process.stdout.readline() for _ in answers]
-        tally.check(f"each line is answered: {line}", told == answers, told)
+        tally.check_same(f"each line is answered: {line}", [process.stdout.readline() for _ in answers], answers)
     tally.check("the end of a pipe", ended(process) == (0, b"", b""))
     read, write = os.pipe()
     os.close(read)
-    told = wine.run(report, folder, stdout=write)
-    tally.check("a pipe that nobody reads", told == (3, b"", CANNOT_WRITE), told)
+    tally.check_same("a pipe that nobody reads", wine.run(report, folder, stdout=write), (3, b"", CANNOT_WRITE))
     os.close(write)
     with open("/dev/full", "wb") as full:
         told = wine.run([*report, "--verbose"], folder, stdout=full)
@@ -309,8 +306,7 @@ def try_traps(tally, room, wine):
         made.append((folder / windows.PROGRAM).read_bytes())
     tally.check("the same bytes in two folders", made[0] == made[1])
     for stdin, why in ((b"1", "Out-of-bounds access in linear memory or a table"), (b"2", "Call stack exhausted")):
-        told = ended(wine.start([], folder, exe=windows.PROGRAM), stdin)
-        tally.check(f"trap {why}", told == (3, b"", fault(why)), told)
+        tally.check_same(f"trap {why}", ended(wine.start([], folder, exe=windows.PROGRAM), stdin), (3, b"", fault(why)))
 
 
 def try_windows(tally, room):

@@ -38,8 +38,7 @@ def check_front(tally, room, words, told, sent, **left):
     found = sorted(run(["decode", "tx.bin"], room).stdout.splitlines(True))
     tally.check(f"sent of {words}", found == sorted([HEADER, *sent]), found)
     for name, pages in left.items():
-        found = (room / f"{name}.csv").read_bytes()
-        tally.check(f"{name} of {words}", found == HEADER + b"".join(pages), found)
+        tally.check_same(f"{name} of {words}", (room / f"{name}.csv").read_bytes(), HEADER + b"".join(pages))
 
 
 def try_options(tally, folder):

@@ -26,19 +26,16 @@ NO_FILE, NO_WRITE, NO_PAGE = b"refused: cannot read or open a file", b"refused: 
 
 def ask_all(tally, session, rows):
     for line, due in rows:
-        found = session.ask(line)
-        tally.check(f"{line[:40]!r} is answered {due!r}", found == due, found)
+        tally.check_same(f"{line[:40]!r} is answered {due!r}", session.ask(line), due)
 
 
 def check_list(tally, name, session, *records):
-    found = session.lines(b"list")
-    tally.check(name, found == [HEADER.strip(), *records, b"ok %d" % len(records)], found)
+    tally.check_same(name, session.lines(b"list"), [HEADER.strip(), *records, b"ok %d" % len(records)])
 
 
 def check_end(tally, name, session, status=0, err=b""):
     """Whether the session, whose input ends, ends so, and says no more."""
-    found = session.close()
-    tally.check(name, found == (status, b"", err), found)
+    tally.check_same(name, session.close(), (status, b"", err))
 
 
 def edits_of(chance, count):
@@ -222,10 +219,8 @@ def try_slots_of_a_day(tally, folder):
     tally.check("a page comes behind the others", session.ask(b"add,16,tone0,") == b"ok 2")
     tally.check("the first page is told as sent", session.ask(b"sent,1") == b"ok 1")
     check_list(tally, "the other stays", session, b"16,tone0,")
-    found = session.ask(b"plan,f.bin,f.cert,idle,4294967295")
-    tally.check("all pages are sent", found == b"batches 1, sent 1", found)
-    found = session.ask(b"plan,f.bin,f.cert,open,1")
-    tally.check("no page is left", found == NO_PAGES, found)
+    tally.check_same("all pages are sent", session.ask(b"plan,f.bin,f.cert,idle,4294967295"), b"batches 1, sent 1")
+    tally.check_same("no page is left", session.ask(b"plan,f.bin,f.cert,open,1"), NO_PAGES)
     check_end(tally, "slots end nothing", session)
 
 
@@ -236,8 +231,7 @@ def try_pages(tally, folder):
     tally.check("the pages of PAGES are open", session.ask(b"cancel,16") == b"ok 1")
     for spelling in (b"pages.csv", b"./pages.csv"):
         for line in (b"plan,%s,cert.bin", b"plan,tx.bin,%s"):
-            found = session.ask(line % spelling)
-            tally.check("PAGES is never emptied", found == TWICE, found)
+            tally.check_same("PAGES is never emptied", session.ask(line % spelling), TWICE)
     session.close()
     tally.check("PAGES is as it was", path.read_bytes() == HEADER + b"8,tone0,\n16,numeric,12\n")
     path.write_bytes(HEADER + b"8,tone0,\n8,tone0,\n")

@@ -56,8 +56,7 @@ def try_verdicts(tally, folder):
     """Both checkers and `explain` over each row."""
     for row in sampled(rows(), 5):
         due = int(row["status"]), row["line"]
-        told = run(folder, "check", row["pages"], row["cert"])
-        tally.check(f"check: {row['name']}", told == due, told)
+        tally.check_same(f"check: {row['name']}", run(folder, "check", row["pages"], row["cert"]), due)
         status, text = run(folder, "explain", "--depth", "0", row["pages"], row["cert"])
         as_due = text == due[1] if due[1].startswith(FAULT) else text.split("\n")[0].startswith("at least" if due[0] == 0 else "not shown")
         tally.check(f"explain: {row['name']}", status == due[0] and as_due, (status, text))
@@ -90,8 +89,7 @@ def try_transmissions(tally, folder):
         told = ("yes" if is_sent(folder, row, text) else "no") if status == 0 else text
         tally.check(f"decode: {row['name']}", told == row["sent"], (status, told))
         for words in (["show"], ["show", "--svg"], ["show", "--list"], ["wav"]) if status else ():
-            done = run(folder, *words, row["tx"])
-            tally.check(f"{' '.join(words)}: {row['name']}", done == (1, row["sent"]), done)
+            tally.check_same(f"{' '.join(words)}: {row['name']}", run(folder, *words, row["tx"]), (1, row["sent"]))
 
 
 if __name__ == "__main__":

@@ -141,8 +141,7 @@ def try_streams(tally, room, node):
         ("decode tx.bin", ">/dev/full", (3, b"", CANNOT_WRITE)),
         ("plan pages.csv /dev/full b", "", (3, b"", CANNOT_WRITE)),
     ):
-        told = outcome(["sh", "-c", f'"$0" {words} {closed}', str(node.path)], folder)
-        tally.check(f"{words} {closed}", told == due, told)
+        tally.check_same(f"{words} {closed}", outcome(["sh", "-c", f'"$0" {words} {closed}', str(node.path)], folder), due)
     tally.check("a plan beside closed streams", (folder / "a").read_bytes() == (folder / "tx.bin").read_bytes())
 
 
@@ -162,8 +161,7 @@ def try_limits(tally, room, node):
         tally.check(f"{pages} pages of memory", told == due, told)
     for size, due in ((2**28, (0, b"pages 1\nbatches 1\nverified\n", b"")), (2**28 + 1, (1, b"", TOO_LARGE))):
         (folder / "large.csv").write_bytes(HEADER + b"\n" * (size - len(TONE)) + b"8,tone0,\n")
-        told = node.run(["plan", "large.csv", "a", "b", "--verify"], folder)
-        tally.check(f"a page file of {size} bytes", told == due, told)
+        tally.check_same(f"a page file of {size} bytes", node.run(["plan", "large.csv", "a", "b", "--verify"], folder), due)
 
 
 def try_hosts(tally, room, made, path):
