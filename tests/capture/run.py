@@ -499,14 +499,12 @@ def try_words(tally, folder):
     (folder / "air.bin").write_bytes(file_of("1" + bits))
     (folder / "tx.bin").write_bytes(PREAMBLE + file_of(bits))
     piped = run(["decode", "--capture", "-"], folder, file_of("1" + bits))
-    tally.check("standard input", (piped.returncode, piped.stdout) == (0, HEADER + b"8,tone0,,whole\n19,alpha,ab,whole\n"), piped)
-    lines = run(["decode", "--capture", "--json", "air.bin"], folder)
+    tally.check_done("standard input", piped, 0, HEADER + b"8,tone0,,whole\n19,alpha,ab,whole\n")
     due = b"".join(b'{"address":%s,"state":"whole","transmission":1,"inverted":false,"bit":1}\n' % page for page in (
         b'8,"function":0,"kind":"tone0","message":""', b'19,"function":3,"kind":"alpha","message":"ab"',
     ))
-    tally.check("lines of JSON", (lines.returncode, lines.stdout) == (0, due), lines)
-    none = run(["decode", "--capture", "--json", "-"], folder)
-    tally.check("no line of JSON", (none.returncode, none.stdout) == (0, b""), none)
+    tally.check_done("lines of JSON", run(["decode", "--capture", "--json", "air.bin"], folder), 0, due)
+    tally.check_done("no line of JSON", run(["decode", "--capture", "--json", "-"], folder), 0)
     tally.check_done("without --capture", run(["decode", "air.bin"], folder), 1, b"", fault("the preamble is too short"))
     none = run(["show", "air.bin", "--capture", "--nth", "2"], folder)
     tally.check_done("no second transmission", none, 1, b"", fault("transmission 2 of 1: the capture has no such transmission"))

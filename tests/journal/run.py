@@ -23,7 +23,7 @@ import tally as shared
 from codewords import HEADER
 from sessions import listing
 from tally import CANNOT_OPEN, CANNOT_WRITE, IS_EMULATED, NO_OWNER, ONE_IN, PROGRAM, as_nobody, fault, faulty
-from tally import files_of, own_disk, room_in, run_all, sampled, with_most_bytes
+from tally import files_of, own_disk, put, room_in, run_all, sampled, with_most_bytes
 
 FIRST_LINE = b"pocsag journal,1\n"
 EDITS, KILLS, TURNS = (500, 30, 2_000) if IS_EMULATED else (5_000, 300, 20_000)
@@ -136,27 +136,22 @@ def one_life(session, chooser, pages, count, edit_of):
 def try_kills(tally, folder):
     """Random edits, killed at random moments and started again each time; the same where pages are sent slot by slot."""
     for edit_of, kills, edits_due in ((random_edit, KILLS, EDITS), (random_tone, KILLS // 3, EDITS // 5)):
-        many_lives(tally, room_in(folder, edit_of.__name__), edit_of, kills, edits_due)
-
-
-def many_lives(tally, place, edit_of, kills, edits_due):
-    chooser = random.Random(SEED)
-    pages, edits = [], 0
-    for life in range(kills):
-        done = one_life(start(place), chooser, pages, edits_due // kills + 1, edit_of)
-        if done is None:
-            tally.check(f"kill {life}: an answer", False)
-            return
-        sent, answered = done
-        edits += answered
-        found, err = listed(place)
-        kept = pages
-        for line in sent[:answered]:
-            kept = after(kept, line)
-        more = after(kept, sent[answered]) if answered < len(sent) else kept
-        tally.check(f"kill {life}", found in (listing(kept), listing(more)), (found, err))
-        pages = kept if found == listing(kept) else more
-    tally.check("kills: edits in all", edits >= edits_due, edits)
+        place, chooser, pages, edits = room_in(folder, edit_of.__name__), random.Random(SEED), [], 0
+        for life in range(kills):
+            done = one_life(start(place), chooser, pages, edits_due // kills + 1, edit_of)
+            if done is None:
+                tally.check(f"kill {life}: an answer", False)
+                return
+            sent, answered = done
+            edits += answered
+            found, err = listed(place)
+            kept = pages
+            for line in sent[:answered]:
+                kept = after(kept, line)
+            more = after(kept, sent[answered]) if answered < len(sent) else kept
+            tally.check(f"kill {life}", found in (listing(kept), listing(more)), (found, err))
+            pages = kept if found == listing(kept) else more
+        tally.check("kills: edits in all", edits >= edits_due, edits)
 
 
 SAMPLE = [
@@ -483,32 +478,29 @@ def fill(room, left):
 def try_full_system(tally, folder):
     """A file system with no room left: no ok, status 3, and the next start reads what was answered; where there is no
     room to write it anew the program ends with 3 and leaves it as it is."""
-    with own_disk(folder / "small", "size=64k") as room:
-        if room:
-            fill_and_keep(tally, room)
-        else:
-            print("left out: a small file system, since none can be mounted here")
-
-
-def fill_and_keep(tally, room):
     lines = [b"add,%d,alpha,%s" % (8 * number, b"w" * 900) for number in range(40)]
-    for left in (8192, 16384, 24576):
-        (room / NAME).unlink(missing_ok=True)
-        fill(room, left)
-        done, name = run(room, lines), f"a file system with {left} bytes left"
-        answered = done.stdout.count(b"\n")
-        tally.check(name, 0 < answered < 40 and done.returncode == 3 and done.stderr.endswith(CANNOT_WRITE), done)
-        held = (room / NAME).read_bytes()
-        tally.check_done(f"{name}: no room to write it anew", run(room, [b"list"]), 3, b"", CANNOT_WRITE)
-        tally.check(f"{name}: it stays", (room / NAME).read_bytes() == held and not list(room.glob("*.new")), os.listdir(room))
-        (room / "rest").unlink()
-        found, err = listed(room)
-        holds = found in (listing(all_after(lines[:answered])), listing(all_after(lines[: answered + 1])))
-        tally.check(f"{name}: the list", holds, (found, err))
-    fill(room, 0)
-    done = shared.run(["open", "--journal", "new.journal"], room, lines[0] + b"\n")
-    tally.check_done("no room at the start", done, 3, b"", CANNOT_WRITE)
-    tally.check("no room at the start: no file is left", not list(room.glob("new.journal*")), os.listdir(room))
+    with own_disk(folder / "small", "size=64k") as room:
+        if not room:
+            print("left out: a small file system, since none can be mounted here")
+            return
+        for left in (8192, 16384, 24576):
+            (room / NAME).unlink(missing_ok=True)
+            fill(room, left)
+            done, name = run(room, lines), f"a file system with {left} bytes left"
+            answered = done.stdout.count(b"\n")
+            tally.check(name, 0 < answered < 40 and done.returncode == 3 and done.stderr.endswith(CANNOT_WRITE), done)
+            held = (room / NAME).read_bytes()
+            tally.check_done(f"{name}: no room to write it anew", run(room, [b"list"]), 3, b"", CANNOT_WRITE)
+            stays = (room / NAME).read_bytes() == held and not list(room.glob("*.new"))
+            tally.check(f"{name}: it stays", stays, os.listdir(room))
+            (room / "rest").unlink()
+            found, err = listed(room)
+            holds = found in (listing(all_after(lines[:answered])), listing(all_after(lines[: answered + 1])))
+            tally.check(f"{name}: the list", holds, (found, err))
+        fill(room, 0)
+        done = shared.run(["open", "--journal", "new.journal"], room, lines[0] + b"\n")
+        tally.check_done("no room at the start", done, 3, b"", CANNOT_WRITE)
+        tally.check("no room at the start: no file is left", not list(room.glob("new.journal*")), os.listdir(room))
 
 
 NO_FILE, IS_FOLDER, NO_RIGHT, BEYOND = (f"{os.strerror(code)} (os error {code})" for code in (2, 21, 13, 27))
@@ -541,15 +533,12 @@ REFUSED = [
 
 def try_verbose(tally, place):
     """What stands in the way is told by the journal's name and the system's reason, behind what is told without."""
+    put(place, {"held": FIRST_LINE + b"add,8,tone0,\n", "bad": FIRST_LINE + b"add,8,tone0,\nlist\n"})
+    put(place, {"other": b"other\n", "later": b"pocsag journal,2"})
+    put(place, {"pages.csv": HEADER + b"8,tone0,\n", "feed.csv": HEADER + b'16,alpha,"two\nlines"\n'})
     (place / "folder").mkdir()
-    (place / "held").write_bytes(FIRST_LINE + b"add,8,tone0,\n")
-    (place / "bad").write_bytes(FIRST_LINE + b"add,8,tone0,\nlist\n")
-    (place / "other").write_bytes(b"other\n")
-    (place / "later").write_bytes(b"pocsag journal,2")
     (place / "link").symlink_to("held")
     os.mkfifo(place / "fifo")
-    (place / "pages.csv").write_bytes(HEADER + b"8,tone0,\n")
-    (place / "feed.csv").write_bytes(HEADER + b'16,alpha,"two\nlines"\n')
     stood = files_of(place)
     for words, status, text, note in REFUSED:
         for more, notes in with_notes(note):

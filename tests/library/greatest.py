@@ -10,7 +10,7 @@ import sizes
 from answers import attempt
 from codewords import HEADER, LARGEST, in_order, letters
 from forms import due_of
-from largest import ROUNDS, repeated, texts, tone_batch
+from largest import ROUNDS, TONE_BATCH, repeated, texts
 
 
 def try_rounds(tally, call):
@@ -97,7 +97,7 @@ def try_sounds(tally, call):
     """Sounds, of which the length alone is told: that of 4 GB, the longest, does not fit into the memory of each machine."""
     for batches in (20_000, 450_000):
         length, place = ctypes.c_size_t(), pocsag.Place()
-        words = [*pocsag.bytes_in(b"\xaa" * 72 + batches * tone_batch(8)), *map(ctypes.c_uint32, (2400, 2400, 0, 0))]
+        words = [*pocsag.bytes_in(b"\xaa" * 72 + batches * TONE_BATCH), *map(ctypes.c_uint32, (2400, 2400, 0, 0))]
         status = call.library.pocsag_wav(*words, *pocsag.buffer_of(0), ctypes.byref(length), ctypes.byref(place))
         due = 44 + 2 * (576 + 544 * (batches + 1))
         tally.check(f"wav of {batches} batches", (status, length.value) == (10, due), (status, length.value, due))

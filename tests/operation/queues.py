@@ -234,10 +234,9 @@ REFUSED = [
     ("an empty file", {"queue.csv": ""}, 1, "pocsag: the header must be address,kind,message"),
     ("no words of a slot", {"slot.options": "\n"}, 2, "error: "),
     ("wrong words of a slot", {"slot.options": "--at-most x\n"}, 2, "error: "),
-    ("no number of slots", {"slot.options": "--at-most 1\nkeep slots\n"}, 2, "next-slot: slot.options ends with "),
-    ("no slots", {"slot.options": "--at-most 1\nkeep 0 slots\n"}, 2, "next-slot: slot.options ends with "),
-    ("no unit", {"slot.options": "--at-most 1\nkeep 30\n"}, 2, "next-slot: slot.options ends with "),
-    ("a line behind what is kept", {"slot.options": "--at-most 1\nkeep 3 days\n--always\n"}, 2, "next-slot: slot.options ends with "),
+    *((f"a last line {line!r}", {"slot.options": f"--at-most 1\n{line}\n"}, 2, "next-slot: slot.options ends with ") for line in (
+        "keep slots", "keep 0 slots", "keep 30", "keep 3 days\n--always",
+    )),
     ("words that are files", {"slot.options": "*\n"}, 2, "error: "),
     ("each page is too long", {"queue.csv": HEADER + LONG}, 4, "pocsag: page 1 needs 23 batches"),
     ("no queue", {"queue.csv": None}, 3, "pocsag: cannot read or open a file"),

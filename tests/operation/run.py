@@ -189,7 +189,7 @@ def try_verify(tally, folder):
         done = run(["plan", *words, "--verify"], room, TONE)
         tally.check_usage(f"--verify wants regular files: {words}", done, b"error: --verify ", stand(room) == OLD)
     done = run(["plan", "none.csv", "tx.bin", "cert.bin", "--verify"], room)
-    tally.check("--verify of no file", (done.returncode, done.stderr) == (3, CANNOT_OPEN), done)
+    tally.check_done("--verify of no file", done, 3, b"", CANNOT_OPEN)
 
 
 def try_pipes(tally, folder):

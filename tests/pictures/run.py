@@ -240,8 +240,7 @@ def check_rows_wanted(tally, folder):
     words = random_words(chance, 40)
     path.write_bytes(transmission(words))
     for word, first, last in (("3-7", 3, 7), ("3-", 3, None), ("5", 5, 5), ("1-1", 1, 1), ("38-99", 38, 99), ("40", 40, 40)):
-        done = run(["show", path, "--rows", word])
-        tally.check(f"rows {word}", (done.returncode, done.stdout) == (0, text_of(words, first, last)), done.stdout)
+        tally.check_done(f"rows {word}", run(["show", path, "--rows", word]), 0, text_of(words, first, last))
         done = run(["show", path, f"--rows={word}", "--svg"])
         check_drawing(tally, f"rows {word}", done.stdout, words, path, first, last)
     for word in ("0", "0-3", "7-3", "x", "3-x", "-", "3--5", "", "1-2-3", "+3", "18446744073709551616", "1.5"):

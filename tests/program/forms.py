@@ -1,5 +1,6 @@
-"""`--json` and `--text` of `decode` and `hear` with every other option that they can stand beside, on transmissions that this
-script encodes by itself: Python's `json` and `jq` read what is written, and each line is what Python would write."""
+"""`--json`, `--text` and `--repair` of `decode`, `hear` and `show` with every other option that they can stand beside, most of it
+on transmissions that this script encodes by itself: Python's `json` and `jq` read what is written, and each line is what Python
+would write."""
 
 import itertools
 import json
@@ -10,11 +11,12 @@ import subprocess
 import tty
 
 import codewords
-import repair
-from codewords import IDLE, SYNC, items_of, kind_and_message, sent
-from tally import PROGRAM, fault, run, sampled
+from codewords import IDLE, SYNC, flipped, items_of, kind_and_message, random_file, sent
+from tally import PROGRAM, fault, run, said, sampled
 
 HEADER = codewords.HEADER.decode()
+FRONT, WORD = 72, 4  # bytes of the preamble and of a codeword
+VIEWS = ([], ["--rows", "1"], ["--rows", "2-"], ["--svg"], ["--svg", "--rows", "1-2"], ["--list"])
 # The words for functions, in any order and number, and the functions that they name.
 TEXTS = {None: (), "0": (0,), "1": (1,), "2": (2,), "0,1": (0, 1), "2,0": (0, 2), "1,1,1": (1,), "2,1,0": (0, 1, 2)}
 REFUSED = ("", "3", "0,", ",1", "0,,1", "0 1", "0,4", "a", "+1", "00")
@@ -54,9 +56,19 @@ def due_of(pages, texts, is_json):
     return HEADER + "".join(f"{it['address']},{field(it['kind'])},{field(it['message'])}\n" for it in objects), objects
 
 
+def damaged(sent, source):
+    """The bytes with up to two wrong bits in each word, and how many words and bits are wrong."""
+    out, words, bits = [sent[:FRONT]], 0, 0
+    for place in range(FRONT, len(sent), WORD):
+        wrong = source.sample(range(32), source.choice([0, 0, 0, 1, 2]))
+        out.append(flipped(sent[place : place + WORD], *wrong))
+        words, bits = words + bool(wrong), bits + len(wrong)
+    return b"".join(out), words, bits
+
+
 def check_pages(tally, folder, source, pages, reads):
     tx = sent(pages)
-    rx, words, bits = repair.damaged(tx, source)
+    rx, words, bits = damaged(tx, source)
     (folder / "tx.bin").write_bytes(tx)
     (folder / "rx.bin").write_bytes(rx)
     heard = [page for page in pages if page[0] == 11]
@@ -154,3 +166,42 @@ def try_words(tally, folder):
                 for verbose, note in (([], b""), (["--verbose"], fault(f"transmission short.bin{hint}"))):
                     told = fault("the preamble is too short") + note
                     tally.check_done(f"{words} {verbose}", run([*words, *verbose], folder), 1, b"", told)
+
+
+def check_repair(tally, folder, source):
+    """`--repair` of a random transmission with at most two wrong bits in each word, and with three in one of them."""
+    (folder / "p.csv").write_bytes(random_file(source, 30))
+    run(["plan", "p.csv", "tx.bin", "cert.bin", "--always"], folder)
+    sent = (folder / "tx.bin").read_bytes()
+    received, words, bits = damaged(sent, source)
+    (folder / "rx.bin").write_bytes(received)
+    count = f"pocsag: transmission rx.bin: corrected bits {bits}, words {words}\n"
+    for command, views in (("decode", ([],)), ("show", VIEWS)):
+        for view in views:
+            due = run([command, "tx.bin", *view], folder)
+            plain = run([command, "tx.bin", *view, "--repair"], folder)
+            tally.check_done(f"{command} {view} of what was sent", plain, *said(due))
+            for more in ([], ["--verbose"]):
+                done = run([command, "rx.bin", *view, "--repair", *more], folder)
+                told = count if more and due.returncode == 0 else None
+                holds = (done.returncode, done.stdout) == (due.returncode, due.stdout) and (told is None or done.stderr.decode() == told)
+                tally.check(f"{command} {view} {more} of what was received", holds, (done, told))
+            refused = run([command, "rx.bin", *view], folder).returncode
+            tally.check(f"{command} {view} refuses it without repair", refused == (1 if words else due.returncode), refused)
+    place = source.randrange((len(sent) - FRONT) // WORD)
+    at = FRONT + WORD * place
+    wrong = flipped(sent[at : at + WORD], *source.sample(range(32), 3))
+    (folder / "rx.bin").write_bytes(sent[:at] + wrong + sent[at + WORD :])
+    batch, word = divmod(place, 17)
+    why = f"batch {batch}: no synchronisation codeword" if word == 0 else f"codeword {16 * batch + word - 1}: not a codeword"
+    for command in ("decode", "show"):
+        tally.check_done(f"{command} of three wrong bits", run([command, "rx.bin", "--repair"], folder), 1, b"", fault(why))
+
+
+def try_repair(tally, folder):
+    """All is told that is told of the transmission itself, and a word with three wrong bits stays a fault."""
+    source = random.Random(584)
+    for _ in sampled(range(12)):
+        check_repair(tally, folder, source)
+    by_pager = run(["hear", "8", "rx.bin"], folder)
+    tally.check("hear of the same", by_pager.returncode == 0, by_pager)

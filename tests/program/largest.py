@@ -14,7 +14,7 @@ import checker
 import sizes
 import trees
 import worked
-from codewords import HEADER, IDLE, LARGEST, PREAMBLE, SYNC, address_word, codeword, items_of, letters, sent
+from codewords import HEADER, IDLE, LARGEST, PREAMBLE, SYNC, TONE, address_word, codeword, items_of, letters, sent
 from forms import due_of
 from tally import MEMORY, brief, fault, run, run_all
 
@@ -264,14 +264,13 @@ def try_shows(tally, folder):
         tally.check(f"show --svg --rows of {size} bytes", holds, (brief(done), done.stdout[-100:]))
 
 
-def tone_batch(address):
-    """A batch that begins with a tone of frame 0 and is idle from there on."""
-    return SYNC + address_word(address) + 15 * IDLE
+# A batch that begins with a tone of frame 0 and is idle from there on.
+TONE_BATCH = SYNC + TONE + 15 * IDLE
 
 
 def try_captures(tally, folder):
     """Captures of so many bytes, of as many transmissions as fit, each of a batch."""
-    call = b"\xaa" * 8 + tone_batch(8)
+    call = b"\xaa" * 8 + TONE_BATCH
     for size in (2_000_000, LARGEST):
         count = size // len(call)
         (folder / "capture").write_bytes(b"\xaa" * (size - count * len(call)) + count * call)
@@ -290,10 +289,10 @@ def try_sounds(tally, folder):
     """A sound that is kept in memory, and the longest that a WAV file holds, which goes nowhere; each of a sample a bit: a header of
     44 bytes, and behind the bits 255 ms of silence, which are 612 bits."""
     words = ["wav", "tx.bin", "--rate", "2400", "--samples", "2400", "--invert", "--preamble", "584", "--tail", "255", "--verbose"]
-    (folder / "tx.bin").write_bytes(PREAMBLE + 20_000 * tone_batch(8))
+    (folder / "tx.bin").write_bytes(PREAMBLE + 20_000 * TONE_BATCH)
     done, due = run(words, folder), 44 + 2 * (584 + 544 * 20_000 + 612)
     tally.check("wav of 20000 batches", (done.returncode, len(done.stdout), done.stderr) == (0, due, b""), (brief(done), due))
-    (folder / "tx.bin").write_bytes(PREAMBLE + 3_947_578 * tone_batch(8))
+    (folder / "tx.bin").write_bytes(PREAMBLE + 3_947_578 * TONE_BATCH)
     tally.check_done("wav of 3947578 batches", run(words, folder, stdout=subprocess.DEVNULL), 0, None)
 
 
@@ -323,28 +322,25 @@ def try_open(tally, folder):
         tally.check_done(f"the journal of {pages} pages", done, 0, kept + count + b"ok 0\n", announced + again)
 
 
-def check_edits(tally, folder):
-    """An open round of tones, added one by one, planned slot by slot, and what its journal keeps; and the longest line."""
-    for pages in (2_000, PAGES):
-        (folder / "journal").unlink(missing_ok=True)
-        first, then = pages // 32 * 16, pages // 2 - 100
-        lines = b"".join(b"add,%d,tone0,\n" % address for address in range(pages))
-        lines += b"add,20000,tone0,\n" * (pages == PAGES) + b"plan,tx.bin,cert.bin,open,%d\nsent,%d\n" % (pages // 32, then)
-        due = b"".join(b"ok %d\n" % (count + 1) for count in range(pages)) + b"refused: too many pages\n" * (pages == PAGES)
-        due += b"batches %d, sent %d\nok %d\n" % (pages // 32, first, pages - first - then)
-        for words, name, noted in ((["--journal", "journal"], "with", read_again(0, 0)), ([], "without", b"")):
-            tally.check_done(f"{pages} edits {name} a journal", run(["open", *words], folder, lines), 0, due, noted)
-        told = read_again(pages + 2, pages - first - then)
-        tally.check_done(f"the journal of {pages} edits", run(READ_ONLY, folder), 0, HEADER + tones(first + then, pages), told)
-    for message, due in ((b'"' + b'""' * 4_000 + b'"', b"ok 1\n"), (b"a" * (65_536 - len(b"add,8,alpha,")), b"refused: the message is too long\n")):
-        line = b"add,8,alpha," + message
-        tally.check_done(f"a line of {len(line)} bytes", run(["open"], folder, line + b"\n"), 0, due)
-
-
 def try_edits(tally, folder):
-    """The same in memory, if the system has files there: each edit is synchronised before its answer."""
+    """An open round of tones, added one by one, planned slot by slot, and what its journal keeps; and the longest line. It is in
+    memory, if the system has files there: each edit is synchronised before its answer."""
     with tempfile.TemporaryDirectory(dir=MEMORY or folder) as name:
-        check_edits(tally, pathlib.Path(name))
+        folder = pathlib.Path(name)
+        for pages in (2_000, PAGES):
+            (folder / "journal").unlink(missing_ok=True)
+            first, then = pages // 32 * 16, pages // 2 - 100
+            lines = b"".join(b"add,%d,tone0,\n" % address for address in range(pages))
+            lines += b"add,20000,tone0,\n" * (pages == PAGES) + b"plan,tx.bin,cert.bin,open,%d\nsent,%d\n" % (pages // 32, then)
+            due = b"".join(b"ok %d\n" % (count + 1) for count in range(pages)) + b"refused: too many pages\n" * (pages == PAGES)
+            due += b"batches %d, sent %d\nok %d\n" % (pages // 32, first, pages - first - then)
+            for words, name, noted in ((["--journal", "journal"], "with", read_again(0, 0)), ([], "without", b"")):
+                tally.check_done(f"{pages} edits {name} a journal", run(["open", *words], folder, lines), 0, due, noted)
+            done, told = run(READ_ONLY, folder), read_again(pages + 2, pages - first - then)
+            tally.check_done(f"the journal of {pages} edits", done, 0, HEADER + tones(first + then, pages), told)
+        quotes, long = b'add,8,alpha,"%s"' % (b'""' * 4_000), b"add,8,alpha,".ljust(65_536, b"a")
+        for line, due in ((quotes, b"ok 1\n"), (long, b"refused: the message is too long\n")):
+            tally.check_done(f"a line of {len(line)} bytes", run(["open"], folder, line + b"\n"), 0, due)
 
 
 def try_journals(tally, folder):

@@ -13,7 +13,6 @@ import edges
 import forms
 import fronts
 import options
-import repair
 import usage
 import verbose
 from codewords import HEADER, HEADS, IDLE, ONES as MESSAGE, TONE, ZERO, flipped, transmission
@@ -243,4 +242,4 @@ def try_receivers(tally, folder):
 
 
 if __name__ == "__main__":
-    sys.exit(run_all(usage, doors, edges, forms, fronts, options, repair, verbose))
+    sys.exit(run_all(usage, doors, edges, forms, fronts, options, verbose))
