@@ -33,8 +33,8 @@ def attempt(call, *words, **named):
         return fault
 
 
-def check_fault(tally, name, wanted, call, *words, **named):
-    """Whether a call gives a fault of this kind; gives the fault."""
+def check_fault(tally, name, wanted, call, *words, told=None, **named):
+    """Whether a call gives a fault of this kind, and with this text where one is due; gives the fault."""
     fault = attempt(call, *words, **named)
-    tally.check(name, type(fault) is wanted, fault)
+    tally.check(name, type(fault) is wanted and told in (None, str(fault)), (fault, str(fault)))
     return fault

@@ -127,8 +127,8 @@ def try_fronts(tally, library):
     tally.check_same("five need three batches, as is certified", library.pocsag.check(tones, front.why), (True, 0, 3))
     whole = call(tones, 3)
     tally.check("three batches carry all", (whole.pages, whole.left, whole.why, whole.beyond) == (5, 0, b"", 0), whole)
-    fault = attempt(call, HEADER + b"8,alpha,%s\n" % (b"a" * 50), 1)
-    tally.check("a first page of 19 codewords needs two batches", (type(fault), fault.found) == (pocsag.FirstPage, 2), fault)
+    name, page = "a first page of 19 codewords needs two batches", HEADER + b"8,alpha,%s\n" % (b"a" * 50)
+    check_fault(tally, name, pocsag.FirstPage, call, page, 1, told="page 1 needs 2 batches")
     for sizes in ((0, 0, 0, 0), (1, 0, 1, 1), (0, 4_096, 4_096, 0)):
         given = call(tones, 2, sizes=sizes)
         tally.check(f"a front with buffers of {sizes} bytes at first", given[:2] == front[:2] and given.rest in (None, front.rest), given)
@@ -191,8 +191,8 @@ def try_faults(tally, library):
     plan = call.plan(sample)
     for name, wanted, refused, words, named in refused_calls(call, sample, plan.transmission):
         check_fault(tally, name, wanted, refused, *words, **named)
-    fault = attempt(call.plan, b"address,kind,message\n1,tone0,\n2,tone9,\n")
-    tally.check("the record of a fault", (type(fault), fault.record_number) == (pocsag.BadKind, 2), vars(fault))
+    pages = HEADER + b"1,tone0,\n2,tone9,\n"
+    check_fault(tally, "the record of a fault", pocsag.BadKind, call.plan, pages, told="record 2: unknown kind")
     fault = attempt(call.plan, b"address,kind,message\n8,numeric,12x4\n")
     told = type(fault), fault.record_number, fault.at, str(fault)
     tally.check("the place of a fault", told == (pocsag.BadCharacter, 1, 2, "record 1: bad character at 2"), vars(fault))
@@ -315,8 +315,7 @@ def try_readings(tally, library):
     tally.check("two transmissions in a capture", call.decode(sent + sent, pocsag.CAPTURED) == listing + listing.split(b"\n", 1)[1])
     tally.check("noise alone has no pages", call.decode(b"", pocsag.CAPTURED) == pocsag.HEADER)
     wrong_bit = sent[:80] + bytes([sent[80] ^ 6]) + sent[81:]
-    fault = attempt(call.decode, wrong_bit)
-    tally.check("two wrong bits are a fault", (type(fault), fault.at) == (pocsag.BadWord, 1), fault)
+    check_fault(tally, "two wrong bits are a fault", pocsag.BadWord, call.decode, wrong_bit, told="codeword 1: not a codeword")
     tally.check("and are repaired", call.decode(wrong_bit, pocsag.REPAIRED) == listing)
     tally.check("the list has all pages, whatever batches are asked for", call.show(sent, pocsag.SHOW_LIST, (3, 3)) == call.show(sent, pocsag.SHOW_LIST))
     lines = call.show(sent, pocsag.SHOW_TEXT, (2, 2**64 - 1)).splitlines()
@@ -347,8 +346,7 @@ def try_orders(tally, library):
         sent = call(pages)
         wrong += [number] * (len(sent) != 72 + 68 * plan.in_order or library.pocsag.decode(sent) != pages)
     tally.check(f"{len(library.plans)} rounds in the order of the file have its pages", not wrong, wrong[:5])
-    fault = attempt(call, b"address,kind,message\n8,tone9,\n")
-    tally.check("the fault of a page file", (type(fault), fault.record_number) == (pocsag.BadKind, 1), fault)
+    check_fault(tally, "the fault of a page file", pocsag.BadKind, call, HEADER + b"8,tone9,\n", told="record 1: unknown kind")
 
 
 def try_records(tally, library):
@@ -372,8 +370,7 @@ def try_records(tally, library):
         ((8, "numeric", b"12x4"), pocsag.BadCharacter, "bad character at 2"),
         ((8, "alpha", b"a" * 4_001), pocsag.TooLong, "the message is too long"),
     ):
-        fault = attempt(call, *words)
-        tally.check(f"no record of {words[:2]}", (type(fault), str(fault)) == (wanted, text), fault)
+        check_fault(tally, f"no record of {words[:2]}", wanted, call, *words, told=text)
     pages, rows = [], {}
     for address in range(1, 2_000):
         message = bytes(source.choices(range(1, 128), k=source.randrange(1, 12)))
@@ -395,10 +392,9 @@ def try_records(tally, library):
         library.pages.write_bytes(HEADER + tail)
         told = program("plan", library.pages, library.tx, library.cert, "--strict")
         tally.check(f"{tail} is told as the program tells it", is_same(fault, told), told)
-        fault = attempt(library.pocsag.plan, HEADER + tail, strict=True)
-        tally.check(f"a plan of {tail} may be strict", type(fault) is wanted, fault)
-    fault = attempt(library.pocsag.strict, b'"address,kind,message\n')
-    tally.check("a quote of the header is that of record 0", str(fault) == "record 0: the quote in line 1 is not closed", str(fault))
+        check_fault(tally, f"a plan of {tail} may be strict", wanted, library.pocsag.plan, HEADER + tail, strict=True)
+    header, told = b'"address,kind,message\n', "record 0: the quote in line 1 is not closed"
+    check_fault(tally, "a quote of the header is that of record 0", pocsag.QuoteOpen, library.pocsag.strict, header, told=told)
 
 
 def try_airtimes(tally, library):

@@ -70,10 +70,10 @@ def ended(process, stdin=b""):
 
 
 def begin(folder, files):
-    """Makes the folder anew, with these files, and a folder in it."""
+    """Makes the folder anew, with these files, and a folder in it; gives it."""
     shutil.rmtree(folder, ignore_errors=True)
     (folder / "folder").mkdir(parents=True)
-    put(folder, files)
+    return put(folder, files)
 
 
 def try_same(tally, room, wine, files, words, stdin=b""):
@@ -113,8 +113,7 @@ def try_rounds(tally, room, wine):
 
 
 def try_names(tally, room, wine):
-    folder = room / "names"
-    begin(folder, dict.fromkeys(NAMES, ROUND))
+    folder = begin(room / "names", dict.fromkeys(NAMES, ROUND))
     for name in NAMES:
         told = wine.run(["plan", "--keep", "--", name, f"{name}.bin", f"{name}.cert"], folder)
         tally.check(f"the name {name}", told == PLANNED and (folder / f"{name}.bin").is_file(), told)
@@ -135,8 +134,7 @@ def drive_path(path):
 
 def try_paths(tally, room, wine):
     """Words with `\\`, from the folder on and from the drive on, in a path of more than 260 characters too."""
-    folder = room / "paths"
-    begin(folder, {})
+    folder = begin(room / "paths", {})
     deep = pathlib.Path(*(["a folder of fifty characters, of which there are six"] * 6))
     (folder / deep).mkdir(parents=True)
     for place in (pathlib.Path("folder"), deep):
@@ -156,8 +154,7 @@ def try_paths(tally, room, wine):
 
 def try_journal(tally, room, wine):
     """There are no locks, so no journal is written, and none is made."""
-    folder, why = room / "journal", "journal {}: Operation not supported (os error 95)".format
-    begin(folder, {})
+    folder, why = begin(room / "journal", {}), "journal {}: Operation not supported (os error 95)".format
     native(["open", "--journal", "old"], folder, b"add,8,tone0,\n")
     before = files_of(folder)
     for name, told_why in itertools.product(("new", "old"), (False, True)):
@@ -170,8 +167,8 @@ def try_journal(tally, room, wine):
 
 def try_kept(tally, room, wine):
     """`--keep` where the transmission cannot be replaced: another program has it open, or it is read-only."""
-    folder, words = room / "kept", ["plan", "round.csv", "sent.bin", "sent.cert", "--keep"]
-    begin(folder, {"round.csv": ROUND, "sent.cert": b"older"})
+    folder = begin(room / "kept", {"round.csv": ROUND, "sent.cert": b"older"})
+    words = ["plan", "round.csv", "sent.bin", "sent.cert", "--keep"]
     other = wine.start(["plan", "-", "sent.bin", "other.cert"], folder)  # which waits for its pages
     while not (folder / "other.cert").exists() and other.poll() is None:
         time.sleep(0.05)
@@ -196,9 +193,9 @@ def try_kept(tally, room, wine):
 
 def try_left(tally, room, wine):
     """What killed runs left keeps no later run from its files, in a folder with ten thousand names; and stays there."""
-    folder = room / "left"
     left = {f"sent.bin.pocsag.{number}.{ending}": b"left" for number in (4242, 1 << 31) for ending in ("new", "old")}
-    begin(folder, {"round.csv": ROUND, **left, "sent.bin.pocsag.lock": b"", "sent.cert.pocsag.lock": b"", **{f"name {k}": b"" for k in range(10_000)}})
+    others = dict.fromkeys(["sent.bin.pocsag.lock", "sent.cert.pocsag.lock", *(f"name {k}" for k in range(10_000))], b"")
+    folder = begin(room / "left", {"round.csv": ROUND, **left, **others})
     start = time.monotonic()
     told = wine.run(["plan", "round.csv", "sent.bin", "sent.cert", "--keep"], folder)
     tally.check("left-overs", told == PLANNED and time.monotonic() - start < 10, told)
@@ -208,8 +205,7 @@ def try_left(tally, room, wine):
 
 def try_killed(tally, room, wine):
     """A run with --keep that is killed leaves each file whole, and no new transmission beside an old certificate."""
-    folder, source, due = room / "killed", random.Random(80), {}
-    begin(folder, {"round.csv": ROUND, "apart.csv": APART})
+    folder, source, due = begin(room / "killed", {"round.csv": ROUND, "apart.csv": APART}), random.Random(80), {}
     places = [folder / name for name in ("sent.bin", "sent.cert")]
     for name in ("round", "apart"):
         native(["plan", f"{name}.csv", "sent.bin", "sent.cert"], folder)
@@ -233,8 +229,8 @@ def try_killed(tally, room, wine):
 
 def try_full(tally, room, wine):
     """A file system without room, where one can be mounted."""
-    folder = room / "full"
-    begin(folder, {"many.csv": HEADER + b"".join(b"%d,alpha,%s\n" % (8 * k + 1, b"w" * 90) for k in range(2_000))})
+    records = (b"%d,alpha,%s\n" % (8 * k + 1, b"w" * 90) for k in range(2_000))
+    folder = begin(room / "full", {"many.csv": HEADER + b"".join(records)})
     with own_disk(folder / "folder", "size=64k") as small:
         if not small:
             print("left out: a full file system, since none can be mounted here")
@@ -248,8 +244,7 @@ def try_full(tally, room, wine):
 
 
 def try_streams(tally, room, wine):
-    folder, report = room / "streams", ["report", "round.csv", "--rate", "512"]
-    begin(folder, {"round.csv": ROUND})
+    folder, report = begin(room / "streams", {"round.csv": ROUND}), ["report", "round.csv", "--rate", "512"]
     process = wine.start(["open"], folder)
     for line, answers in ((b"add,8,tone0,\n", [b"ok 1\n"]), (b"list\r\n", [HEADER, b"8,tone0,\n", b"ok 1\n"]), (b"plan,a.bin,a.cert,open\n", [b"batches 1\n"])):
         process.stdin.write(line)
@@ -273,8 +268,7 @@ def try_streams(tally, room, wine):
 
 def try_shell(tally, room, wine):
     """The redirections of `cmd`, and words that name the file behind a stream."""
-    folder = room / "shell"
-    begin(folder, {"round.csv": ROUND, "crlf.csv": ROUND.replace(b"\n", b"\r\n")})
+    folder = begin(room / "shell", {"round.csv": ROUND, "crlf.csv": ROUND.replace(b"\n", b"\r\n")})
     native(["plan", "round.csv", "due.bin", "due.cert"], folder)
     due = (folder / "due.bin").read_bytes()
 
