@@ -23,22 +23,12 @@ HARD = [
     ("eight more", [(0, 21), (0, 29), (2, 31), (3, 24), (6, 15), (1, 31), (5, 15), (4, 14)], 13),
     ("ten pages", [(6, 31), (1, 24), (5, 22), (7, 27), (2, 31), (3, 9), (3, 31), (0, 22), (4, 21), (4, 15)], 16),
 ]
-# Certificates (hexadecimal) against rounds: what `check` prints, or the fault that it tells.
+# Certificates (hexadecimal) against rounds that are not among the vectors: what `check` prints, or the fault that it tells.
 CHECKS = [
     ("lone-tone", LONE_TONE, "50434231 00000001 00 0003", "at least 1 batches"),
-    ("lone-tone closed", LONE_TONE, "50434232 01 00000001 00 0003", "at least 1 batches with a closed end"),
-    ("three-tones-one-frame", b"5,tone0,\n13,tone0,\n21,tone0,\n", "50434231 00000002 00 0C00", "at least 2 batches"),
     ("loop-apart", LOOP_APART, "50434231 00000002 02 0001 30 0002 00 0001 00 8000", "at least 2 batches"),
-    ("loops-apart", ONE_FULL + LOOP_APART, "50434231 00000003 02 0001 30 0002 00 0001 00 8000", "at least 3 batches"),
-    ("loops-apart PCB2", ONE_FULL + LOOP_APART, "50434232 00 00000003 02 0001 30 0002 00 0001 00 8000", "at least 3 batches"),
-    ("closed-exact", EXACT, "50434232 01 00000002 04 01 00 FFFF", "at least 2 batches with a closed end"),
-    ("closed-both-ways", BOTH_WAYS, "50434232 01 00000003 04 02 00 FFFF 00 8000", "at least 3 batches with a closed end"),
-    ("lone-tone idle", LONE_TONE, "50434234 00000001 00 0003", "at least 1 batches with an idle last"),
     ("idle-exact", EXACT, "50434234 00000002 04 01 00 FFFF", "at least 2 batches with an idle last"),
-    ("sixteen tones", SIXTEEN, "50434234 00000002 04 01 00 FFFF", "at least 2 batches with an idle last"),
-    ("sixteen tones closed", SIXTEEN, "50434232 01 00000002 04 01 00 FFFF", "not shown"),
     ("idle-both-ways", BOTH_WAYS, "50434234 00000003 04 01 00 FFFF", "at least 3 batches with an idle last"),
-    ("two ways for an idle", BOTH_WAYS, "50434234 00000003 04 02 00 FFFF 00 8000", "not shown"),
     ("a byte of the end in PCB4", LONE_TONE, "50434234 00 00000001 00 0003", "the certificate is malformed"),
     ("long-alpha", LONG_ALPHA, "50434232 00 00000058 00 FFFF", "at least 88 batches"),
     ("last set 4000", ONE_FULL + LOOP_APART, "50434231 00000003 02 0001 30 0002 00 0001 00 4000", "not shown"),
@@ -49,11 +39,8 @@ CHECKS = [
     ("another page fills it", TIGHT, "50434231 00000003 02 0001 30 0002 00 0001 00 8000", "not shown"),
     # Cuts of {0} inside both ways of a cut of {0}: one idle in slot 0, said twice, is one idle.
     ("an idle twice", ONE_FULL + LOOP_APART, "50434231 00000004 02 0001 30 0002" + 2 * "02 0001 30 0002 00 0001 00 8000", "not shown"),
-    ("half-closed", BOTH_WAYS, "50434232 01 00000003 04 01 00 FFFF", "not shown"),
-    ("closed as open", EXACT, "50434232 00 00000002 04 01 00 FFFF", "not shown"),
     ("trailing", ONE_FULL + LOOP_APART, "50434231 00000003 02 0001 30 0002 00 0001 00 8000 00", "bytes after the certificate"),
     ("truncated", ONE_FULL + LOOP_APART, "50434231 00000003 02 0001 30 0002 00 0001 00 80", "the certificate is cut short"),
-    ("empty", LONE_TONE, "", "the certificate is cut short"),
     ("not a certificate", LONE_TONE, "00", "not a certificate"),
     ("version", LONE_TONE, "50434233 00", "unknown certificate version"),
     ("tag", LONE_TONE, "50434231 00000001 07", "the certificate is malformed"),

@@ -144,6 +144,8 @@ def try_limits(tally, folder):
                 done = run(["plan", *files, "--limit", limit, *always], room, stdin)
                 holds = stand(room) == [left, left] and (room / "pages.csv").read_bytes() == TONE
                 tally.check_done(f"plan {files} --limit {limit} {always}", done, status, b"", told, holds)
+    done = run(["plan", "apart.csv", "tx.bin", "cert.bin", "--limit", "3"], room)
+    tally.check_done("a limit that the round does not reach", done, 0, b"pages 2\nbatches 3\n")
     put(room, None)
     tally.check_done("TX and CERT are there and empty", run([*PLAN, "--limit", "0"], room), 1, b"", BAD_LIMIT, stand(room) == [b"", b""])
 
@@ -159,6 +161,7 @@ def try_reports(tally, folder):
         ("pages.csv", "9", "0", 1, BAD_LIMIT),
         ("pages.csv", "512", "1000001", 1, BAD_LIMIT),
         ("apart.csv", "9", "1", 1, STOPPED),
+        ("apart.csv", "512", "2", 1, STOPPED),
         ("apart.csv", "9", "3", 1, BAD_RATE),
     ]
     for pages, rate, limit, status, told in cases:

@@ -13,7 +13,7 @@ sys.dont_write_bytecode = True
 sys.path.insert(0, str(pathlib.Path(__file__).resolve().parents[1]))
 from codewords import HEADER
 from sessions import Session, edited, listing
-from tally import CANNOT_OPEN, TOP, fault, room_in, run, run_all
+from tally import TOP, fault, room_in, run, run_all
 from worked import HARD, shaped
 
 PAGE = TOP / "docs/OPEN_ROUND.md"
@@ -236,7 +236,6 @@ def try_pages(tally, folder):
     tally.check("PAGES is as it was", path.read_bytes() == HEADER + b"8,tone0,\n16,numeric,12\n")
     path.write_bytes(HEADER + b"8,tone0,\n8,tone0,\n")
     check_end(tally, "a refused page file opens no round", Session(folder, "pages.csv"), 1, fault("record 2: the address is already there"))
-    check_end(tally, "a missing page file is a device's fault", Session(folder, "none.csv"), 3, CANNOT_OPEN)
 
 
 def try_last_line(tally, folder):

@@ -98,39 +98,27 @@ def combinations(*lists):
 
 
 def try_plan_options(tally, folder):
-    flags = ([], ["--always"]), ([], ["--verify"]), VERBOSE
-    for pages, end, limit, always, verify, verbose in combinations(ROUNDS, ENDS, LIMITS, *flags):
-        due = Due(pages, end_in(end))
-        (folder / "pages.csv").write_bytes(due.text)
-        done = run(["plan", *end, "pages.csv", "tx.bin", *limit, "cert.bin", *always, *verify, *verbose], folder)
-        name = " ".join(["plan", *end, *limit, *always, *verify, *verbose])
-        answer = judged(due, done, limit, bool(always))
-        tally.check(name, answer is not False, (due.text, due.fewest, done))
-        if answer:
-            batches, bound = answer
-            told = b"pages %d\nbatches %d\n" % (len(pages), batches)
-            told += b"at least %d batches\n" % bound if bound < batches else b""
-            told += b"verified\n" if verify else b""
-            tally.check(f"{name}: told", (done.stdout, done.stderr) == (told, b""), (due.text, told, done))
-            tally.check(f"{name}: files", due.are_written(folder, batches, bound), (due.text, answer))
-
-
-def try_report_options(tally, folder):
-    """`report` with each rate, end, limit, `--always` and `--verbose`, of the plan that `plan` makes with them."""
+    """`plan` with each end, limit, `--always`, `--verify` and `--verbose`, and `report` of that plan at each rate."""
     for pages, end, limit, always, verbose in combinations(ROUNDS, ENDS, LIMITS, ([], ["--always"]), VERBOSE):
-        due = Due(pages, end_in(end))
+        due, asked = Due(pages, end_in(end)), " ".join([*end, *limit, *always, *verbose])
         (folder / "pages.csv").write_bytes(due.text)
-        planned = run(["plan", "pages.csv", "tx.bin", "cert.bin", *end, *limit, *always], folder)
-        of_plan = judged(due, planned, limit, bool(always))
+        for verify in ([], ["--verify"]):
+            planned = run(["plan", *end, "pages.csv", "tx.bin", *limit, "cert.bin", *always, *verify, *verbose], folder)
+            of_plan = judged(due, planned, limit, bool(always))
+            tally.check(f"plan {asked} {verify}", of_plan is not False, (due.text, due.fewest, planned))
+            if of_plan:
+                batches, bound = of_plan
+                at_least = b"at least %d batches\n" % bound if bound < batches else b""
+                told = b"pages %d\nbatches %d\n" % (len(pages), batches) + at_least + b"verified\n" * bool(verify)
+                tally.check_done(f"plan {asked} {verify}: told", planned, 0, told)
+                tally.check(f"plan {asked} {verify}: files", due.are_written(folder, batches, bound), (due.text, of_plan))
         for rate in RATES:
             done = run(["report", *always, "pages.csv", *limit, "--rate", rate, *end, *verbose], folder)
-            name = " ".join(["report", rate, *end, *limit, *always, *verbose])
             answer = judged(due, done, limit, bool(always))
-            tally.check(name, answer is not False and answer == of_plan, (due.text, due.fewest, done, planned))
-            if answer:
-                batches, bound = answer
-                told = due.report(rate, batches) + (b"at least %d batches\n" % bound if bound < batches else b"")
-                tally.check(f"{name}: told", (done.stdout, done.stderr) == (told, b""), (due.text, told, done))
+            holds = answer is not False and answer == of_plan
+            tally.check(f"report {rate} {asked}", holds, (due.text, due.fewest, done, planned))
+            if answer and holds:
+                tally.check_done(f"report {rate} {asked}: told", done, 0, due.report(rate, batches) + at_least)
 
 
 def try_open_options(tally, folder):

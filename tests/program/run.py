@@ -16,8 +16,7 @@ import options
 import usage
 import verbose
 from codewords import HEADER, HEADS, IDLE, ONES as MESSAGE, TONE, ZERO, flipped, transmission
-from tally import BAD_LIMIT, BAD_RATE, CANNOT_OPEN, CANNOT_WRITE, ENDS, NAMED_TWICE, PLAN, TOO_LARGE
-from tally import fault, make_huge, put, run, run_all, sampled
+from tally import BAD_RATE, CANNOT_OPEN, CANNOT_WRITE, ENDS, NAMED_TWICE, PLAN, TOO_LARGE, fault, make_huge, run, run_all, sampled
 from worked import BOTH_WAYS, EXACT, HARD, LONE_TONE, LONG_ALPHA, LOOP_APART, ONE_FULL, TIGHT, of_ones, shaped
 
 # What `check` prints of a certificate for each end.
@@ -103,6 +102,8 @@ def try_rounds(tally, folder):
         for end in ENDS:
             check_round(tally, folder, name, end)
         tally.check_done(f"input {name}", run([], folder, HEADER + records), 0, told_of(len(lines_of(name)), batches))
+        done = run([*PLAN, "--always", "--verify"], folder)
+        tally.check_done(f"plan {name} --always", done, 0, told_of(len(lines_of(name)), batches, "verified"))
         if in_order:
             done = run(["report", "pages.csv", "--rate", "1200"], folder)
             wanted = [b"in_order %d" % in_order, b"batches %d" % batches]
@@ -134,22 +135,8 @@ def try_reports(tally, folder):
     tally.check("report with the closed end", done.stdout.split(b"\n")[2:4] == [b"in_order 2", b"batches 3"], done)
 
 
-def try_limits(tally, folder):
-    """`node-limit`, and limits that are none."""
-    (folder / "pages.csv").write_bytes(HEADER + ROUNDS["loops-apart"][0])
-    stopped = fault("search limit reached: at least 2 batches, 3 would do")
-    for limit, status, why in (("2", 1, stopped), ("3", 0, b""), ("0", 1, BAD_LIMIT), ("1000001", 1, BAD_LIMIT)):
-        for words in (PLAN, ["report", "pages.csv", "--rate", "512"]):
-            put(folder, dict.fromkeys(PLAN[2:], b"older"))
-            done = run([*words, "--limit", limit], folder)
-            tally.check(f"{words[0]} limit {limit}", (done.returncode, done.stderr) == (status, why), done)
-            if status == 1 and words[0] == "plan":
-                left = {(folder / made).read_bytes() for made in PLAN[2:]}
-                tally.check(f"limit {limit} leaves empty files", left == {b""} and done.stdout == b"", done)
-
-
 def try_always(tally, folder):
-    """`--always`: rounds at which the search reaches its limit are answered, and all others as without it."""
+    """`--always`: rounds at which the search reaches its limit are answered."""
     pages, plan = folder / "pages.csv", [*PLAN, "--always", "--verify"]
     for end, (name, shape, batches) in sampled(itertools.product(ENDS, HARD)):
         pages.write_bytes(HEADER + b"".join(shaped(shape)))
@@ -159,9 +146,6 @@ def try_always(tally, folder):
         tally.check_done(f"{name} answered, {end}", run([*plan, *ENDS[end]], folder), 0, told_of(len(shape), batches, "verified"))
         done = run(["check", "pages.csv", "cert.bin"], folder)
         tally.check_done(f"{name} shown to be the fewest, {end}", done, 0, shown_of(batches, end))
-    for name, (records, batches, *_) in ROUNDS.items():
-        pages.write_bytes(HEADER + records)
-        tally.check_done(f"plan {name} --always", run(plan, folder), 0, told_of(len(lines_of(name)), batches, "verified"))
 
 
 # What is told of files that cannot be opened, cannot be written or are named twice, and the three words.
