@@ -59,7 +59,6 @@ TURNS = HEADER + "".join(f"{address},numeric,{'5' * digits}\n" for address, digi
 MANY = HEADER + "".join(f"{address},numeric,{'5' * digits}\n" for address, digits in [*((n, 75) for n in range(8)), (15, 75), (8, 80), (9, 80)])
 LAST_TONE = LOOP + "7,tone0,\n"
 
-
 # Certificates that are shown: their name in shown.txt, the page file, and more words.
 SHOWN = [
     ("the worked case", APART, certificate(OPEN, 3, CUT_APART)),

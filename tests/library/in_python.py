@@ -46,7 +46,6 @@ POOLED = "[1, 2] 1\nBadKind 22 1 record 1: unknown kind\n1 BadKind('record 1: un
 # Uses that a checker of types refuses.
 REFUSED = ("p.plan(5)", "p.plan(b'', end='shut')", "p.plan_at_most(b'', 1, sizes=(1, 2))", "p.show(b'', batches=(1,))", "p.decode('')", "p.plan(b'').batch")
 
-
 run = functools.partial(call, text=True, env={**os.environ, "PYTHONPATH": str(CLIB), "PYTHONDONTWRITEBYTECODE": "1"})
 
 

@@ -27,7 +27,6 @@ NO_CONFIGURATION = {"bash": ["--norc"], "zsh": ["-f"], "fish": ["--no-config"]}
 # What is offered for a value, by its name in the help; for any other value nothing.
 OFFERED = {"END": {"open", "closed", "idle"}, "R": {"512", "1200", "2400"}, **dict.fromkeys(("REST", "FILE", "F"), {"named.csv"})}
 
-
 commands = functools.cache(helped.commands)
 
 

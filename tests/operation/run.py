@@ -274,14 +274,10 @@ def try_page(tally, folder):
     room, environment = room_of_the_page(folder, "page")
     shells, pythons, inis, crontabs, parts = (papers.blocks(TOP / "docs/OPERATION.md", it) for it in ("bash", "python", "ini", "crontab", "sh"))
     tally.check("the page has commands", len(shells) > 4 and len(pythons) == 1, (len(shells), len(pythons)))
-    for kind, texts in (("bash", shells), ("python", pythons)):
+    for kind, words, texts in (("bash", papers.BASH, shells), ("python", [sys.executable, "-c"], pythons)):
         for text in texts:
             text = text.replace("/usr/local", str(room / "usr")).replace("/srv/paging", str(room))
-            words = ["bash", "-euo", "pipefail", "-c", text] if kind == "bash" else [sys.executable, "-c", text]
-            done = subprocess.run(words, cwd=room, env=environment, capture_output=True, text=True, timeout=600)
-            wanted = re.findall(r"# prints: (.*)$", text, re.M)
-            holds = done.returncode == 0 and done.stdout.splitlines() == [line for line in wanted if line]
-            tally.check(f"{kind}: {text.splitlines()[0]}", holds or not wanted and done.returncode == 0, done)
+            papers.check_block(tally, kind, words, text, room, environment)
     tally.check("./install of the page", (room / "usr/bin/pocsag").read_bytes() == PROGRAM.read_bytes(), os.listdir(room))
     due, due_cert = planned(folder, APART, "due ssh")
     holds = (room / "sent.bin").read_bytes() == due and (room / "c.bin").read_bytes() == due_cert

@@ -21,6 +21,7 @@ ELSEWHERE = {"OPERATION.md", "LIBRARY.md"}
 PAPERS = [TOP / "README.md"] + sorted(path for path in (TOP / "docs").glob("*.md") if path.name not in ELSEWHERE)
 EXAMPLE = TOP / "crates/pocsag_core_cases/src/readme.rt"  # README's example in Rattle, which is proved and run as a test
 HEADER = "address,kind,message\n"
+BASH = ["bash", "-euo", "pipefail", "-c"]
 
 
 def blocks(paper, kind):
@@ -46,17 +47,20 @@ def run(words, room, environment):
     return subprocess.run(words, cwd=room, env=environment, capture_output=True, text=True, timeout=600)
 
 
+def check_block(tally, name, words, text, room, environment):
+    """Whether a block of a paper prints what stands there, or, where the paper leaves that out, succeeds alone."""
+    done, wanted = run([*words, text], room, environment), re.findall(r"^ *# prints: (.*)$", text, re.M)
+    holds = done.returncode == 0 and (not wanted or done.stdout.splitlines() == [line for line in wanted if line])
+    tally.check(f"{name}: {text.splitlines()[0]}", holds, done)
+
+
 def try_commands(tally, folder):
-    """Each block of commands of each paper, those of a paper one after the other in one folder. Where the paper leaves out what a command
-    prints, it has to succeed alone."""
+    """Each block of commands of each paper, those of a paper one after the other in one folder."""
     count = 0
     for paper in PAPERS:
         room, environment = fresh(folder, paper.name)
         for text in blocks(paper, "bash"):
-            done = run(["bash", "-euo", "pipefail", "-c", text], room, environment)
-            wanted = re.findall(r"^ *# prints: (.*)$", text, re.M)
-            holds = done.returncode == 0 and (not wanted or done.stdout.splitlines() == wanted)
-            tally.check(f"{paper.name}: {text.splitlines()[0]}", holds, done)
+            check_block(tally, paper.name, BASH, text, room, environment)
             count += 1
     tally.check("the papers have commands", count >= 3, count)
 

@@ -78,18 +78,11 @@ def random_words(chance, batches):
 
 
 def check_text(tally, folder):
-    chance = random.Random(20261122)
-    for trial in range(60):
-        words = random_words(chance, 1 + trial // 2)
-        path = folder / "tx"
-        path.write_bytes(transmission(words))
-        done = run(["show", path])
-        tally.check(f"text {trial}", done.returncode == 0 and done.stdout == text_of(words), done)
-    for batches in (99, 100, 101, 300, 1_001, 10_001):
+    chance, path = random.Random(20261122), folder / "tx"
+    for batches in (*(1 + trial // 2 for trial in range(60)), 99, 100, 101, 300, 1_001, 10_001):
         words = random_words(chance, batches)
         path.write_bytes(transmission(words))
-        done = run(["show", path])
-        tally.check(f"text of {batches} batches", done.returncode == 0 and done.stdout == text_of(words), done.stdout[:300])
+        tally.check_done(f"text of {batches} batches", run(["show", path]), 0, text_of(words))
 
 
 def check_list(tally, folder):

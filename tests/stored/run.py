@@ -22,21 +22,16 @@ def stored(crate, name):
     return path.read_bytes() if path.is_file() else b""
 
 
-def try_program(tally, crate, folder):
-    program = crate.folder / "out" / crate.name
-    words = [str(program), *stored(crate, "args").decode().splitlines()]
-    ran = subprocess.run(words, input=stored(crate, "stdin"), capture_output=True, cwd=folder, timeout=120)
-    wanted = int(stored(crate, "status") or 0)
-    tally.check(f"{crate.name} ends with its status", ran.returncode == wanted, (ran.returncode, ran.stderr))
-    printed, wanted = ran.stdout.split(b"\n"), stored(crate, "stdout").split(b"\n")
-    differs = next((pair for pair in itertools.zip_longest(printed, wanted) if pair[0] != pair[1]), None)
-    tally.check(f"{crate.name} prints what is stored", differs is None, differs)
-
-
 def try_programs(tally, folder):
-    for crate in workspace.read_crates().values():
-        if crate.is_program:
-            try_program(tally, crate, room_in(folder, crate.name))
+    for crate in (it for it in workspace.read_crates().values() if it.is_program):
+        words = [str(crate.folder / "out" / crate.name), *stored(crate, "args").decode().splitlines()]
+        room, given = room_in(folder, crate.name), stored(crate, "stdin")
+        ran = subprocess.run(words, input=given, capture_output=True, cwd=room, timeout=120)
+        wanted = int(stored(crate, "status") or 0)
+        tally.check(f"{crate.name} ends with its status", ran.returncode == wanted, (ran.returncode, ran.stderr))
+        printed, wanted = ran.stdout.split(b"\n"), stored(crate, "stdout").split(b"\n")
+        differs = next((pair for pair in itertools.zip_longest(printed, wanted) if pair[0] != pair[1]), None)
+        tally.check(f"{crate.name} prints what is stored", differs is None, differs)
 
 
 if __name__ == "__main__":

@@ -19,7 +19,6 @@ REFUSED = {
 }  # fmt: skip
 WAYS = (("node", "es2022"), ("node16", "node16"), ("nodenext", "nodenext"))
 
-
 run = functools.partial(call, text=True)
 
 
