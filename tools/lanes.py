@@ -51,8 +51,7 @@ def free_memory():
 
 def width():
     """How many tasks may run side by side: as RT_JOBS says, or as processors and memory allow."""
-    given = int(os.environ.get("RT_JOBS") or 0)
-    return given or max(1, min(len(os.sched_getaffinity(0)), free_memory() // MEMORY))
+    return int(os.environ.get("RT_JOBS") or 0) or max(1, min(len(os.sched_getaffinity(0)), free_memory() // MEMORY))
 
 
 def width_of_gate():

@@ -192,8 +192,7 @@ def read_words(bits, start, polarity, batches, near, front):
     pages, page = [], None  # an open page counts as cut until a codeword ends it
     end = words_read(bits, start, polarity, batches)
     for place in range(-17 if front else 0, 17 * batches):
-        at = start + 32 * place
-        word = word_at(bits, at, polarity) if -front <= place < end else None
+        word = word_at(bits, start + 32 * place, polarity) if -front <= place < end else None
         if place % 17 == 0:
             wrong = 32 if word is None else (word ^ SYNC).bit_count()
             corrected, lost = (corrected + wrong, lost) if wrong <= 2 else (corrected, lost + 1)

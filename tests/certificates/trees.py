@@ -135,8 +135,7 @@ class Builder:
                 continue
             along, children = self.source.randrange(len(below)), []
             for place, change in enumerate(below):
-                rest = path[1:] if place == along else ()
-                child = self.node(rest, self.rules.changed(limits, change), limits, depth)
+                child = self.node(path[1:] if place == along else (), self.rules.changed(limits, change), limits, depth)
                 if child is None:
                     break
                 children.append(child)

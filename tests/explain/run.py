@@ -266,8 +266,7 @@ def try_planned(tally, folder):
         (folder / "pages.csv").write_bytes(text)
         end = ENDS[chance.choice([*ENDS])]
         names = [folder / name for name in ("pages.csv", "tx.bin", "cert.bin")]
-        planned = run(["plan", *names, *end, "--always"])
-        batches = int(planned.stdout.split()[3])
+        batches = int(run(["plan", *names, *end, "--always"]).stdout.split()[3])
         checked, done = run(["check", names[0], names[2]]), run(["explain", names[0], names[2]])
         sum_of_it = f"{len(pages)} page{'s' * (len(pages) > 1)}, {sum(n for _, n in pages)} codeword"
         holds = checked.returncode == done.returncode == 0 and sum_of_it.encode() in done.stdout and b"\nnode 1: " in done.stdout

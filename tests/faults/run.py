@@ -348,8 +348,7 @@ def try_open_pages(tally, library, folder):
 def try_late_growths(tally, library, folder):
     """What writes a file or a text takes all its memory before the first byte."""
     pages, sent, cert = folder / "late.csv", folder / "late.bin", folder / "late.cert"
-    records = b"".join(b"%d,alpha,%s\n" % (k, b"Ward %d" % k * (1 + k % 7)) for k in range(900))
-    pages.write_bytes(HEADER + records)
+    pages.write_bytes(HEADER + b"".join(b"%d,alpha,%s\n" % (k, b"Ward %d" % k * (1 + k % 7)) for k in range(900)))
     names = [str(path) for path in (pages, sent, cert)]
     plans = [["plan", *names, *end, *more] for end in ENDS.values() for more in ([], ["--always"])]
     others = [["check", names[0], names[2]], ["decode", names[1]], ["hear", "8", names[1]], ["wav", names[1]]]

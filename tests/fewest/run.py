@@ -212,8 +212,7 @@ def try_front(tally, folder, pages, end, batches, needs):
     case = (page_file_of(pages), end, batches)
     for name in WRITTEN:
         (folder / name).write_bytes(EARLIER)
-    words = ["plan", "pages.csv", "tx.bin", "cert.bin", "--at-most", str(batches), *FILES, *ENDS[end]]
-    done = run(words, folder)
+    done = run(["plan", "pages.csv", "tx.bin", "cert.bin", "--at-most", str(batches), *FILES, *ENDS[end]], folder)
     if count == 0:
         due = (1, b"", f"pocsag: page 1 needs {needs[0]} batches\n".encode())
         left = [(folder / name).read_bytes() for name in WRITTEN]

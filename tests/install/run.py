@@ -132,8 +132,7 @@ def try_again(tally, folder):
     status, _, err = install(prefix)
     tally.check("once more over the first", status == 0 and (prefix / "bin/pocsag").stat().st_ino != inode, err)
     tally.check("nothing half written is left", not [it for it in files_below(prefix) if "/." in it], files_below(prefix))
-    foreign = prefix / "bin/other"
-    foreign.write_text("other\n")
+    (prefix / "bin/other").write_text("other\n")
     status, out, err = install("--uninstall", prefix)
     tally.check("uninstall leaves what others brought", status == 0 and files_below(prefix) == ["bin", "bin/other"], files_below(prefix))
     tally.check("twice does no harm", install("--uninstall", prefix) == (0, "", ""))

@@ -261,8 +261,7 @@ def try_two_at_once(tally, clone):
     ends = [(call.communicate("", timeout=60), call.returncode) for call in calls]
     tally.check("three at once", all(status == 7 for _, status in ends), ends)
     tally.check("build once", clone.builds()[0] == 1, clone.builds())
-    waited = sum("waiting" in told[1] for told, _ in ends)
-    tally.check("and two wait", waited == 2, ends)
+    tally.check("and two wait", sum("waiting" in told[1] for told, _ in ends) == 2, ends)
 
 
 def try_side_by_side(tally, clone):

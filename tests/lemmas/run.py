@@ -207,8 +207,7 @@ def lemmas_of_std():
         text = file.read_text()
         given = [(name, form) for name, _, form in lemmas(file) if re.search(rf"^ *pub {re.escape(name)} :", text, re.MULTILINE)]
         for name, form in [*given, *passed_on(kit, text)]:
-            place = f"std: {file.relative_to(folder)}: {name}"
-            found.setdefault(words_of(form), []).append((pattern_of(form), place))
+            found.setdefault(words_of(form), []).append((pattern_of(form), f"std: {file.relative_to(folder)}: {name}"))
     return found
 
 

@@ -274,8 +274,7 @@ def damaged(source, sent):
 
 def captured(source, sent):
     """A transmission among other bits, at any of them, and in one polarity or the other."""
-    after = source.randrange(9)
-    bits = (source.getrandbits(64) << 8 * len(sent) | int.from_bytes(sent, "big")) << after
+    bits = (source.getrandbits(64) << 8 * len(sent) | int.from_bytes(sent, "big")) << source.randrange(9)
     whole = bits.to_bytes(len(sent) + 9, "big")
     return bytes(byte ^ 255 for byte in whole) if source.randrange(2) else whole
 

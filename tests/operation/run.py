@@ -214,8 +214,7 @@ def try_pipes(tally, folder):
         ("explain - c.bin", APART), ("explain apart.csv -", due_cert), ("check - c.bin", APART), ("check apart.csv -", due_cert),
     ):  # fmt: skip
         wanted = run([files[given] if it == "-" else it for it in words.split()], room)
-        done = run(words.split(), room, given)
-        tally.check_done(words, done, 0, wanted.stdout, b"", wanted.returncode == 0)
+        tally.check_done(words, run(words.split(), room, given), 0, wanted.stdout, b"", wanted.returncode == 0)
     ours, theirs = socket.socketpair()
     process = subprocess.Popen([str(PROGRAM), "plan", "-", "-", "s.bin"], cwd=room, stdin=theirs, stdout=theirs, stderr=subprocess.PIPE)
     theirs.close()

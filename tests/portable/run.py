@@ -126,8 +126,7 @@ def try_stack(tally, room, program):
     (folder / "deep").write_bytes(bytes.fromhex("504342310000000" + "1" + 299 * "01000001" + 300 * "03"))
     refused = 0
     for size in (48, 64, 96, 128, 192, 256, 512, 1024, 2048, 8192):
-        done = limited(f"-s {size}", program, "check", str(folder / "p.csv"), str(folder / "deep"))
-        told = said(done)
+        told = said(limited(f"-s {size}", program, "check", str(folder / "p.csv"), str(folder / "deep")))
         tally.check(f"{size} KiB of stack", told == (1, "not shown\n", "") or size < 2048 and told == END_OF_STACK, told)
         refused += told == END_OF_STACK
     tally.check("the stack ended", refused > 0)

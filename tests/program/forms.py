@@ -108,8 +108,7 @@ def try_forms(tally, folder):
 
 def try_long(tally, folder):
     """What is longer than is kept in memory: the same pages many times."""
-    source = random.Random(4)
-    tx = sent(random_pages(source) + [(0, 3, items_of(b'a "b" \\ \x1f', 7, 0))])
+    tx = sent(random_pages(random.Random(4)) + [(0, 3, items_of(b'a "b" \\ \x1f', 7, 0))])
     times = 4_200_000 // (len(tx) - 72) + 1
     (folder / "once.bin").write_bytes(tx)
     (folder / "long.bin").write_bytes(tx[:72] + times * tx[72:])

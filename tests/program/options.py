@@ -131,8 +131,7 @@ def try_open_options(tally, folder):
         counted = [b"ok %d" % (place + 1) for place in range(len(edits))]
         for end in (b"", b",open", b",closed", b",idle"):
             due = Due(pages, end[1:].decode() or "open")
-            lines = [*edits, b"plan,tx.bin,cert.bin" + end]
-            done = run(["open", *words], folder, b"\n".join(lines) + b"\n")
+            done = run(["open", *words], folder, b"\n".join([*edits, b"plan,tx.bin,cert.bin" + end]) + b"\n")
             told = b"\n".join([*counted, b"batches %d" % due.fewest]) + b"\n"
             name = f"open {' '.join(words)}: plan{end.decode()}"
             tally.check_done(name, done, 0, told)

@@ -223,8 +223,7 @@ def try_first_call(tally, copy):
             tally.check(f"{words[0]} with {commands}", (status, out[: len(printed)], err) == (0, printed, "") and took < 10, (status, out[:200], err, took))
         tally.check("nothing is built", not user.calls.exists() and not list(copy.top.glob("crates/*/out")), user.calls)
         shutil.rmtree(copy.top / "out")
-    user = User(copy)
-    tally.check_run("nothing that reads packages", user.run(*WORDS), 3, "", "xz is missing", "python3 is missing")
+    tally.check_run("nothing that reads packages", User(copy).run(*WORDS), 3, "", "xz is missing", "python3 is missing")
     tally.check("and nothing half unpacked", not list((copy.top / "out").glob("release/*")), list((copy.top / "out").glob("**/*")))
 
 

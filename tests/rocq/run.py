@@ -161,8 +161,7 @@ def try_plans(tally, copy, folder):
         (folder / "other.bin").write_bytes(other)
         found = copy.verify(folder, "pages.csv", "other.bin", "cert.bin")
         more = (1, f"{shown}batches {batches + 1}\n", "")
-        is_legal = what == "one batch more"
-        due = more if is_legal else (1, shown, ILLEGAL)
+        due = more if what == "one batch more" else (1, shown, ILLEGAL)
         tally.check(what, found == due, f"{end} {pages} {other.hex()}: {found}")
         refused[what] = refused.get(what, 0) + 1
     tally.check("each change was tried", min(refused.get(it, 0) for it in CHANGES) >= 10, refused)

@@ -43,8 +43,7 @@ def samples_of(sent, rate, a_second, inverted=False, preamble=None, tail=None):
         sent = b"\xaa" * (preamble // 8) + sent[sent.index(SYNC) :]
     bits = [int(bit) for byte in sent for bit in f"{byte:08b}"]
     levels = [(8_000 if bit == inverted else -8_000) for bit in bits] + (544 if tail is None else -(-tail * rate // 1_000)) * [0]
-    count = -(-len(levels) * a_second // rate)
-    return [levels[index * rate // a_second] for index in range(count)]
+    return [levels[index * rate // a_second] for index in range(-(-len(levels) * a_second // rate))]
 
 
 def is_sound(out, samples, a_second):

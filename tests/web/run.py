@@ -128,8 +128,7 @@ class Native:
             else:
                 data = bytes.fromhex(value) if kind == "bytes" else pathlib.Path(value).read_bytes()
                 given += [ctypes.c_char_p(data), ctypes.c_size_t(len(data))]
-        status = getattr(self.library, name)(*given) & 0xFFFFFFFF
-        return [status, *(out() for out in outs)]
+        return [getattr(self.library, name)(*given) & 0xFFFFFFFF, *(out() for out in outs)]
 
 
 class Made:
