@@ -154,14 +154,15 @@ def try_refused(tally, folder):
         ran = subprocess.run(["/bin/sh", str(TOP / script)], env={"PATH": str(folder / "none")}, capture_output=True, text=True)
         tally.check(f"./{script} where Python is missing", (ran.returncode, ran.stderr) == (1, f"{script}: python3 is missing; on Debian: apt-get install python3\n"), ran)
     (folder / "file").write_text("")
-    status, out, err = install(folder / "file/below")
-    told = [line for line in err.splitlines() if not line.startswith("pocsag: ")]
-    tally.check("a file in the place of a folder", status == 1 and len(told) == 1 and told[0].startswith("install: "), (status, out, err))
     (folder / "closed").mkdir()
     (folder / "closed/bin").symlink_to("/proc")
-    status, out, err = install("--program", folder / "closed")
-    told = [line for line in err.splitlines() if not line.startswith("pocsag: ")]
-    tally.check("a folder that takes no file", status == 1 and len(told) == 1 and told[0].startswith(f"install: {folder}/closed/bin/pocsag: "), (status, out, err))
+    for name, words, told in (
+        ("a file in the place of a folder", [folder / "file/below"], "install: "),
+        ("a folder that takes no file", ["--program", folder / "closed"], f"install: {folder}/closed/bin/pocsag: "),
+    ):
+        status, out, err = install(*words)
+        lines = [line for line in err.splitlines() if not line.startswith("pocsag: ")]
+        tally.check(name, status == 1 and len(lines) == 1 and lines[0].startswith(told), (status, out, err))
 
 
 if __name__ == "__main__":

@@ -35,7 +35,7 @@ def shell(line, room, **more):
     return subprocess.run(["bash", "-c", script], cwd=room, capture_output=True, timeout=60, **more)
 
 
-# What is refused since the lines would stand in a file that it names, and the files that stay empty or as they were.
+# What is refused since the lines or the fault would stand in a file that it names. All files stay as they are.
 BEHIND = [
     "plan pages.csv o.bin c > o.bin",
     "plan pages.csv /dev/stdout c > o.bin",
@@ -47,26 +47,24 @@ BEHIND = [
     "plan pages.csv o.bin c --keep > o.bin",
     "plan pages.csv o.bin c --always --expect 1 > o.bin",
     "plan pages.csv ./o.bin c > o.bin",
+    "plan pages.csv /dev/stdout c | cat",
+    "plan pages.csv o.bin c 2> o.bin",
+    "plan pages.csv t c >> pages.csv",
 ]
 
 
 def try_streams(tally, folder):
     """The file or the pipe behind a standard stream, by any name."""
     room = fresh(folder, "streams")
+    before = files_of(room)
     for line in BEHIND:
-        before = names(room)
-        done = shell(f"pocsag {line}", room)
-        told = (room / "o.bin").read_bytes() if "2>&1" in line else done.stderr
-        left = b"" if "2>&1" in line else (room / "o.bin").read_bytes()
-        holds = done.returncode == 1 and told == NAMED_TWICE and left == b"" and names(room) == before | {"o.bin"}
-        tally.check(f"refused: {line}", holds, (done, told, names(room)))
-    for line in ("plan pages.csv /dev/stdout c | cat", "plan pages.csv o.bin c 2> o.bin", "plan pages.csv t c >> pages.csv"):
-        (room / "o.bin").unlink()
+        (room / "o.bin").unlink(missing_ok=True)
         done = shell(f"set -o pipefail; pocsag {line}", room)
-        told = (room / "o.bin").read_bytes() if "2> o" in line else done.stderr
-        (room / "o.bin").touch()
-        holds = done.returncode == 1 and told == NAMED_TWICE and done.stdout == b"" and (room / "pages.csv").read_bytes() == TONE
-        tally.check(f"refused: {line}", holds and "c" not in names(room), (done, told))
+        left = files_of(room)
+        written = left.pop("o.bin", b"")
+        told = written if "2>" in line else done.stderr
+        holds = (done.returncode, done.stdout, told) == (1, b"", NAMED_TWICE) and left == before
+        tally.check(f"refused: {line}", holds and (written == b"" or "2>" in line), (done, written, names(room)))
     done = shell("pocsag plan pages.csv o.bin c --verbose > o.bin", room)
     tally.check("a hint at -", done.stderr.startswith(NAMED_TWICE) and b"'-' in place of TX" in done.stderr, done)
     done = shell("printf 'add,8,tone0,\\nplan,/dev/stdout,c\\nplan,o.bin,c\\n' | pocsag open > o.bin", room)

@@ -87,8 +87,11 @@ def check_items(tally, _):
             print(f"{name} of twice.txt is given once: its line may go")
 
 
-def check_faults(tally, _):
-    """Wants `thiserror` to derive each type whose name ends in `Fault`, and none of them to be told by hand."""
+def check_files(tally, _):
+    """Wants `thiserror` to derive each type whose name ends in `Fault`, and none of them to be told by hand; each fault and each of its
+    variants to have a row in a table of texts, a `fault_texts.rt` of the tests; and each line of a clause to end at the last column."""
+    tables = "".join(table.read_text() for table in TOP.glob("crates/*/src/fault_texts.rt"))
+    rows = re.sub(r"^use [^;]*;", "", tables, flags=re.MULTILINE)
     for crate, file in sources():
         text = file.read_text()
         for attributes, name in FAULT.findall(text):
@@ -96,17 +99,14 @@ def check_faults(tally, _):
             by_hand = re.search(rf"impl (?:[\w:]+::)?(?:Display|Debug|Error) for {name}\b", text)
             is_derived = {"Debug", "Error"} <= derived and "use thiserror::Error;" in text
             tally.check(f"derived text of {crate} {name}", is_derived and not by_hand, f"derives {sorted(derived)}")
-
-
-def check_texts(tally, _):
-    """Wants each fault and each of its variants to have a row in a table of texts, a `fault_texts.rt` of the tests."""
-    tables = "".join(table.read_text() for table in TOP.glob("crates/*/src/fault_texts.rt"))
-    rows = re.sub(r"^use [^;]*;", "", tables, flags=re.MULTILINE)
-    for crate, file in sources():
-        for kind, name, body in TOLD.findall(file.read_text()):
+        for kind, name, body in TOLD.findall(text):
             variants = re.findall(r"^    (\w+)", body, re.MULTILINE)
             for told in [f"{name}::{variant}" for variant in variants] if kind == "enum" else [name]:
                 tally.check(f"text of {crate} {told}", re.search(rf"(?<!::)\b{told}\b", rows), "no row of a fault_texts.rt has it")
+        lines = text.split("\n")
+        long = [place for place, line in enumerate(lines) if len(line) > LAST_COLUMN and not line.strip().startswith(("ghost use", "//"))]
+        there = [place + 1 for place in long if in_clause(lines, place)]
+        tally.check(f"clauses of {crate} {file.name}", not there, f"end behind column {LAST_COLUMN} at the lines {there}")
 
 
 def check_libraries(tally, _):
@@ -117,15 +117,6 @@ def check_libraries(tally, _):
             crate = crate.split()[0]
             used = any(re.search(rf"\b{library}::|ghost use Rattle\.{library}\.", file.read_text()) for file in (TOP / "crates" / crate / "src").rglob("*.rt"))
             tally.check(f"{library} in {crate}", used, "stands in crates.txt alone")
-
-
-def check_lengths(tally, _):
-    """Wants each line of a clause to end at the last column."""
-    for crate, file in sources():
-        lines = file.read_text().split("\n")
-        long = [place for place, line in enumerate(lines) if len(line) > LAST_COLUMN and not line.strip().startswith(("ghost use", "//"))]
-        there = [place + 1 for place in long if in_clause(lines, place)]
-        tally.check(f"clauses of {crate} {file.name}", not there, f"end behind column {LAST_COLUMN} at the lines {there}")
 
 
 def check_reader(tally, _):
@@ -173,4 +164,4 @@ def check_comments(tally, _):
 
 
 if __name__ == "__main__":
-    sys.exit(run_parts(check_meanings, check_items, check_lengths, check_faults, check_texts, check_libraries, check_reader, check_comments))
+    sys.exit(run_parts(check_meanings, check_items, check_files, check_libraries, check_reader, check_comments))
