@@ -1,4 +1,4 @@
-"""The commands of hosts.txt, which each host of the program carries out as the native program does, and the files that they name."""
+"""The commands of hosts.txt, which each host of the program carries out as the native program does, and their files."""
 
 import shlex
 

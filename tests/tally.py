@@ -158,8 +158,8 @@ def run_parts(*parts, apart=False):
 
 def run_all(*modules, apart=False):
     """The same of each function of the started script, and of these modules, whose name begins with `try_`, in their order."""
-    modules = sys.modules["__main__"], *modules
-    parts = [it for module in modules for name, it in vars(module).items() if name.startswith("try_") and it.__module__ == module.__name__]
+    named = [(module, name, it) for module in (sys.modules["__main__"], *modules) for name, it in vars(module).items()]
+    parts = [it for module, name, it in named if name.startswith("try_") and it.__module__ == module.__name__]
     return run_parts(*parts, apart=apart)
 
 

@@ -82,7 +82,8 @@ class Builder:
         self.classes = [c for c in range(136) if self.count[c]]
         self.root = ((0,) * 136, self.count, (self.b,) * 16)
         # Slots or boundaries that lie side by side, all of them at last.
-        sides = [sum(1 << (start + place) % 16 for place in range(length)) for length in range(1, 16) for start in range(16)] + [0xFFFF]
+        sides = [sum(1 << (start + place) % 16 for place in range(length)) for length in range(1, 16) for start in range(16)]
+        sides.append(0xFFFF)
         sets = [0xFFFF, *sides[:16], *source.sample(sides, 70)]
         sets += [source.choice(sides) ^ source.choice(sides) or 1 for _ in range(30)]
         self.sets = [self.loads_of(members) for members in dict.fromkeys(sets)]

@@ -410,7 +410,7 @@ def try_printings(tally, library, folder):
     tally.check("input: growths and writes", counts["ALLOC"] > 3 and counts["WRITE"] == 1, counts)
 
 
-# The edits of a journal, and what is said of the third, which is refused. A line that standard error refused does not keep it back.
+# The edits of a journal, and what is said of the third, which is refused. What standard error refused keeps it not back.
 EDITS = [b"add,8,alpha,Ward 3", b"add,16,tone0,", b"add,16,tone0,", b"cancel,8", b"add,24,numeric,55"]
 REFUSED = b"pocsag: add,16,tone0,"
 # The journal has more than a megabyte once the line of this number is kept, and is written anew.
@@ -437,8 +437,8 @@ def names_it(done, path):
 
 
 def try_kept(tally, library, folder):
-    """A journal without each growth, read, write, synchronisation and renaming in turn; then without those with which a long one is
-    written anew."""
+    """A journal without each growth, read, write, synchronisation and renaming in turn; then without those by which a long one
+    is written anew."""
     path = folder / "kept.journal"
     command = [str(PROGRAM), "open", "--journal", str(path), "--verbose"]
 
@@ -473,7 +473,8 @@ def try_kept(tally, library, folder):
 
 def noted_commands(folder):
     """Words, standard input, and the roles of what is read and of what is written, with the names of the files."""
-    names = {role: str(folder / file) for role, file in (("page file", "noted.csv"), ("transmission", "noted.bin"), ("certificate", "noted.cert"))}
+    files = (("page file", "noted.csv"), ("transmission", "noted.bin"), ("certificate", "noted.cert"))
+    names = {role: str(folder / file) for role, file in files}
     pages, sent, shown = names.values()
     output = {"standard output": None}
     tx, cert, file = ({role: names[role]} for role in ("transmission", "certificate", "page file"))
@@ -492,8 +493,8 @@ def noted_commands(folder):
 
 
 def try_noted(tally, library, folder):
-    """`--verbose` with each call refused in turn: the first line is that of a run without it, and the line behind it names the file that
-    the system refused, with its reason."""
+    """`--verbose` with each call refused in turn: the first line is that of a run without it, and the line behind it names the
+    file that the system refused, with its reason."""
     (folder / "noted.csv").write_bytes(HEADER + b"0,numeric,12345\n9,alpha,Hello\n8,tone1,\n")
     for words, stdin, read, written in noted_commands(folder):
         ample, _ = run([str(PROGRAM), *words], library, stdin=stdin)
@@ -521,8 +522,8 @@ def try_noted(tally, library, folder):
 
 def try_all(tally, folder):
     library = build(folder)
-    for part in (try_trial, try_large_trial, try_plans, try_open, try_open_pages, try_late_growths, try_devices,
-                 read_back.try_lost, read_back.try_read_back, read_back.try_fronts, try_printings, try_kept, try_noted):  # fmt: skip
+    for part in (try_trial, try_large_trial, try_plans, try_open, try_open_pages, try_late_growths, try_devices, read_back.try_lost,
+                 read_back.try_read_back, read_back.try_fronts, try_printings, try_kept, try_noted):  # fmt: skip
         part(tally, library, folder)
 
 

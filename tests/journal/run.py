@@ -353,7 +353,8 @@ def try_rights(tally, place):
     place.chmod(0o777)
     stood, number = rights(path), path.stat().st_ino
     for more, notes in with_notes(f"journal {NAME}: {os.strerror(1)} (os error 1)"):
-        tally.check_done(f"rights that are refused {more}", run(place, [b"list"], *more, before=user), 3, b"", NO_OWNER + b"".join(map(fault, notes)))
+        done = run(place, [b"list"], *more, before=user)
+        tally.check_done(f"rights that are refused {more}", done, 3, b"", NO_OWNER + b"".join(map(fault, notes)))
         holds = (rights(path), path.stat().st_ino) == (stood, number) and path.read_bytes() == FIRST_LINE + b"add,8,tone0,\n"
         tally.check(f"rights that are refused {more}: it stays", holds and os.listdir(place) == [NAME], os.listdir(place))
 

@@ -554,8 +554,9 @@ def try_library(tally, room):
     put_library(folder)
     library = Library(folder, room)
     try_symbols(tally, folder)
-    for part in (try_faults, in_python.try_python, in_c.try_c, try_reports, greatest.try_greatest, try_explanations, try_examples, try_page, try_calls,
-                 try_bytes, try_fronts, try_frames, try_readings, try_sounds, try_orders, try_records, try_airtimes, try_changed):  # fmt: skip
+    for part in (try_faults, in_python.try_python, in_c.try_c, try_reports, greatest.try_greatest, try_explanations, try_examples,
+                 try_page, try_calls, try_bytes, try_fronts, try_frames, try_readings, try_sounds, try_orders, try_records,
+                 try_airtimes, try_changed):  # fmt: skip
         part(tally, library)
     if not LIBRARY:
         try_other_compiler(tally, library)

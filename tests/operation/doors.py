@@ -7,7 +7,8 @@ import stat
 import subprocess
 
 from codewords import APART, HEADER
-from tally import CANNOT_OPEN, CANNOT_WRITE, NAMED_TWICE, NO_OWNER, PLAN, PROGRAM, as_nobody, fault, faulty, files_of, put, room_in, run
+from tally import CANNOT_OPEN, CANNOT_WRITE, NAMED_TWICE, NO_OWNER, PLAN, PROGRAM
+from tally import as_nobody, fault, faulty, files_of, put, room_in, run
 
 TONE, BAD = HEADER + b"8,tone0,\n", HEADER + b"8,tone9,\n"
 OLD = (b"an older transmission", b"an older certificate")

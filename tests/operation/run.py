@@ -23,7 +23,8 @@ import doors
 import turns
 from codewords import APART, HEADER
 from doors import OLD, TONE, fresh, names, stand
-from tally import CANNOT_OPEN, NAMED_TWICE, PLAN, PROGRAM, TOP, at_terminal, faulty, module_at, put, put_script, room_in, run, run_all
+from tally import CANNOT_OPEN, NAMED_TWICE, PLAN, PROGRAM, TOP
+from tally import at_terminal, faulty, module_at, put, put_script, room_in, run, run_all
 
 KILLS = 200
 papers = module_at("papers", "tests/papers/run.py")

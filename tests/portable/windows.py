@@ -24,7 +24,8 @@ import version
 import windows
 from codewords import APART, HEADER
 from hosts import ROUND, native
-from tally import CANNOT_OPEN, CANNOT_WRITE, ENDS, LIBRARY, NAMED_TWICE, NO_OWNER, fault, files_of, own_disk, put, run_parts, skipped
+from tally import CANNOT_OPEN, CANNOT_WRITE, ENDS, LIBRARY, NAMED_TWICE, NO_OWNER
+from tally import fault, files_of, own_disk, put, run_parts, skipped
 
 TOOLS = {"wine": "wine", "wineserver": "wine", "wasm2c": "wabt", "wat2wasm": "wabt", windows.COMPILER: "gcc-mingw-w64-x86-64"}  # with Debian's packages
 STREAMS = ("stdin", "stdout", "stderr")

@@ -222,8 +222,8 @@ def try_kernel(tally, copy, folder):
         tally.check(f"kernel {name}", planned[0] == status == 0 and done[0] == due and told, (planned, error, done))
 
 
-# Wrong rules of the checker, which no longer prove: for each a file, a part of its text, what stands there instead, and the file whose
-# proofs break.
+# Wrong rules of the checker, which no longer prove: for each a file, a part of its text, what stands there instead, and the
+# file whose proofs break.
 RULES = [
     ("overload: as much as there is room for", "Trees.v", "(loss r) (rows l)) <? weight", "(loss r) (rows l)) <=? weight", "Soundness.v"),
     ("split: one page fewer in the second case", "Trees.v", "[AtMost c (m - 1); AtLeast c m]", "[AtMost c (m - 1); AtLeast c (m + 1)]", "Soundness.v"),

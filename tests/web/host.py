@@ -12,7 +12,8 @@ import arm64
 import hosts
 from codewords import HEADER
 from hosts import native
-from tally import CANNOT_OPEN, CANNOT_WRITE, NO_OWNER, PLAN, PROGRAM, TOO_LARGE, TOP, as_nobody, at_terminal, fault, faulty, files_of, put, put_script, said
+from tally import CANNOT_OPEN, CANNOT_WRITE, NO_OWNER, PLAN, PROGRAM, TOO_LARGE, TOP
+from tally import as_nobody, at_terminal, fault, faulty, files_of, put, put_script, said
 
 TONE = HEADER + b"8,tone0,\n"
 OLD = {"pages.csv": TONE, "tx.bin": b"older", "cert.bin": b"older too"}

@@ -88,8 +88,9 @@ def check_items(tally, _):
 
 
 def check_files(tally, _):
-    """Wants `thiserror` to derive each type whose name ends in `Fault`, and none of them to be told by hand; each fault and each of its
-    variants to have a row in a table of texts, a `fault_texts.rt` of the tests; and each line of a clause to end at the last column."""
+    """Wants `thiserror` to derive each type whose name ends in `Fault`, and none of them to be told by hand; each fault and each
+    of its variants to have a row in a table of texts, a `fault_texts.rt` of the tests; and each line of a clause to end at the
+    last column."""
     tables = "".join(table.read_text() for table in TOP.glob("crates/*/src/fault_texts.rt"))
     rows = re.sub(r"^use [^;]*;", "", tables, flags=re.MULTILINE)
     for crate, file in sources():
