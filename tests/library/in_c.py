@@ -101,13 +101,13 @@ def try_memory(tally, library):
         other.write_bytes(sent)
         of_pages = byte * len(data) + (marks if len(lines) >= many else 0)
         suffices = dict(zip(("decode", "text", "list", "drawing", "sound"), map(int, run(room / "sized", len(sent), 2400, 2400, 0).stdout.split())))
-        for name, most in [(it, of_pages) for it in ("order", "strict")] + [(it, byte * len(sent)) for it in ("decode", "hear", "repaired")]:
-            suffices[name] = suffices.get(name, 0) or 1 << 62
-            wrong += held_too_much(room, (pages, other), name, fixed + most, suffices[name])
-        for name, most in (("text", picture * len(sent)), ("list", picture * len(sent)), ("drawing", large - fixed + drawing * len(sent)), ("sound", 3 * suffices["sound"])):
-            wrong += held_too_much(room, (pages, other), name, fixed + most, suffices[name])
-        for name in ("plan", "front", "report", "frames") if len(lines) < 100 else ():
-            wrong += held_too_much(room, (pages, other), name, fixed + byte * len(data) + 40 * call.plan(data).pages, 1 << 62)
+        most = dict.fromkeys(("order", "strict"), of_pages) | dict.fromkeys(("decode", "hear", "repaired"), byte * len(sent))
+        most |= dict.fromkeys(("text", "list"), picture * len(sent)) | {"sound": 3 * suffices["sound"]}
+        most["drawing"] = large - fixed + drawing * len(sent)
+        if len(lines) < 100:
+            most |= dict.fromkeys(("plan", "front", "report", "frames"), byte * len(data) + 40 * call.plan(data).pages)
+        for name, held in most.items():
+            wrong += held_too_much(room, (pages, other), name, fixed + held, suffices.get(name, 1 << 62))
         other.write_bytes(call.plan(data, limit=1).certificate)
         wrong += held_too_much(room, (pages, other), "check", fixed + of_pages, 1 << 62)
     tally.check(f"the memory and the texts of {number + 1} files are within the header's figures", not wrong, wrong[:9])
