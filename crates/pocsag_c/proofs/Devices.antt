@@ -1,9 +1,9 @@
 -- No call over bytes reports that a decoder or a pager has stopped, nor that bytes are too many to be counted.
-use Rattle.pocsag_c.proofs.Prelude.{◌≡◌, ◌≢◌, ◌⊎◌, ℕ, ◌==◌, ◌%◌, Bool, true, false, not, List, Option, Some, None, nat_lt, inl, inr, if◌then◌else◌, after_preamble, leading, is_reserved, last_address}
+use Rattle.pocsag_c.proofs.Prelude.{◌≡◌, ◌≢◌, ◌⊎◌, ℕ, ◌==◌, ◌%◌, Bool, not, List, Some, None, nat_lt, inl, inr, arith, if◌then◌else◌, after_preamble, leading, is_reserved, last_address}
 use Rattle.std.specs.Prelude.{length}
 use Rattle.std.specs.Option.{option_or}
 use Rattle.pocsag_decode.specs.Faults.{HasFault, HasFaultOfEnd, HasFaultThere}
-use Rattle.pocsag_decode.specs.Places.{IsBad, bad_word, no_sync, orphan}
+use Rattle.pocsag_decode.specs.Places.{IsBad}
 use Rattle.pocsag_decode.specs.declared.fault.DecodeFault.{DecodeFault}
 use Rattle.pocsag_decode.specs.declared.fault.DecodeFault.TheVariants as decoding
 use Rattle.pocsag_pager.specs.Faults.{address_fault, bytes_fault, hearing_fault}
@@ -11,31 +11,17 @@ use Rattle.pocsag_pager.specs.declared.fault.PagerFault.{PagerFault}
 use Rattle.pocsag_pager.specs.declared.fault.PagerFault.TheVariants as pager
 
 -- the fault of a pager's address or bytes is none of a pager that has stopped
-not_of_address : (large reserved : Bool) →
-    (if large then Some pager.BadAddress else if reserved then Some pager.ReservedAddress else None) ≡ Some pager.Failed → ⊥
-not_of_address true reserved e = cc
-not_of_address false true e = cc
-not_of_address false false e = cc
-
-not_of_bytes : (few none part : Bool) →
+of_no_pager : (large reserved few none part : Bool) →
+    option_or (if large then Some pager.BadAddress else if reserved then Some pager.ReservedAddress else None)
     (if few then Some pager.ShortPreamble else if none then Some pager.NoBatch else if part then Some pager.Truncated else None)
     ≡ Some pager.Failed → ⊥
-not_of_bytes true none part e = cc
-not_of_bytes false true part e = cc
-not_of_bytes false false true e = cc
-not_of_bytes false false false e = cc
-
-not_of_two : (a b : Option PagerFault) → (a ≡ Some pager.Failed → ⊥) → (b ≡ Some pager.Failed → ⊥) → option_or a b ≡ Some pager.Failed → ⊥
-not_of_two None b first second e = second e
-not_of_two (Some f) b first second e = first e
+of_no_pager large reserved few none part e = grind arith
 
 never_stopped : (address : ℕ) (bytes : List ℕ) → hearing_fault address bytes ≡ Some pager.Failed → ⊥
 unfolding address_fault bytes_fault
 never_stopped address bytes e =
-    not_of_two (address_fault address) (bytes_fault bytes)
-    (not_of_address (nat_lt last_address address) (is_reserved address))
-    (not_of_bytes (nat_lt (leading bytes) 72) (length (after_preamble bytes) == 0) (not (length (after_preamble bytes) % 68 == 0)))
-    e
+    of_no_pager (nat_lt last_address address) (is_reserved address) (nat_lt (leading bytes) 72) (length (after_preamble bytes) == 0)
+    (not (length (after_preamble bytes) % 68 == 0)) e
 
 pub never_failed : (address : ℕ) (bytes : List ℕ) (f : PagerFault) →
     (hearing_fault address bytes ≡ Some f) ⊎ ((hearing_fault address bytes ≡ None) × (f ≡ pager.OutOfMemory)) → f ≢ pager.Failed
@@ -44,9 +30,7 @@ never_failed address bytes f (inr memory) same = cc
 
 -- nor is the fault of a transmission one of a decoder that has stopped or was given too much
 bad_word_of_bytes : {ws : List ℕ} {j : ℕ} {f : DecodeFault} → IsBad ws j f → (f ≢ decoding.TooMuch) × (f ≢ decoding.Failed)
-bad_word_of_bytes (no_sync a b) = (λ e. cc, λ e. cc)
-bad_word_of_bytes (bad_word a b) = (λ e. cc, λ e. cc)
-bad_word_of_bytes (orphan a b c d) = (λ e. cc, λ e. cc)
+bad_word_of_bytes is = grind arith
 
 pub fault_of_bytes : (X : List ℕ) (f : DecodeFault) → HasFault X f → (f ≢ decoding.TooMuch) × (f ≢ decoding.Failed)
 fault_of_bytes X f (inl (HasFaultThere.short a b)) = (λ e. cc, λ e. cc)

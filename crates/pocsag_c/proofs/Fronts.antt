@@ -1,19 +1,13 @@
 -- What is reported of a front, and of the pages behind it.
-use Rattle.pocsag_c.proofs.Prelude.{◌≡◌, ◌≤◌, ◌⊎◌, ℕ, List, ◌++◌, All, drop, length, refl, sym, ap, ◌∙◌, subst, inl, inr, arith, All-drop, All-weaker, End, verdict, Page, AreGood, IsGoodPage, IsRound, page_limit, good_pages, IsSpellable, page_file, IsPlanFor, IsNoEnd, PrintsFault, StatusAt, number_of_end, IsFront, IsGivenIfWanted, IsPutIfWanted, IsWithoutFront}
+use Rattle.pocsag_c.proofs.Prelude.{◌≡◌, ◌≤◌, ◌⊎◌, ℕ, List, ◌++◌, All, drop, length, sym, ap, ◌∙◌, subst, arith, All-drop, All-weaker, verdict, Page, AreGood, IsGoodPage, IsRound, page_limit, good_pages, IsSpellable, page_file, IsPlanFor, PrintsFault, StatusAt, IsFront, IsWithoutFront}
 use Rattle.std.proofs.Common.{length-drop}
 use Rattle.std.proofs.Math.Seq.{drop-append_seam}
-use Rattle.pocsag_words.specs.declared.ending.End.TheVariants as ends
 use Rattle.pocsag_pages.specs.Listable.{IsListable}
 use Rattle.pocsag_pages.specs.PageList.{unless_empty}
 use Rattle.pocsag_pages.proofs.FirstPages.{good_last}
 use Rattle.pocsag_plan.specs.declared.bounded.BoundedPlan.{BoundedPlan}
 use Rattle.pocsag_plan.specs.declared.search.Search.{Search}
 use Rattle.pocsag_c.specs.declared.refusal.Place.{Place}
-
-pub is_an_end : (end : End) → IsNoEnd (number_of_end end) → ⊥
-is_an_end ends.Open none = none.0 refl
-is_an_end ends.Closed none = none.1 refl
-is_an_end ends.Idle none = none.2 refl
 
 -- a fault of which this is said is told with its place
 pub told : {F : Type 0} (refusal : F → StatusAt) (Explains : F → Type 0) (f : F) (r : StatusAt) (status : ℕ) (place : Place) → Explains f
@@ -27,22 +21,7 @@ told refusal Explains f r status place why value same_status same_place = record
 
 -- the status of a front is none of a fault
 pub front_is : (status : ℕ) → IsFront status → IsWithoutFront status ⊎ (status ≡ 2) → ⊥
-front_is status (inl done) (inl other) = other.0 done
-front_is status (inr (inl (inl seven))) (inl other) = other.2 seven
-front_is status (inr (inl (inr eight))) (inl other) = other.3 eight
-front_is status (inr (inr (inl thirteen))) (inl other) = other.4 thirteen
-front_is status (inr (inr (inr fourteen))) (inl other) = other.5 fourteen
-front_is status (inl done) (inr two) = omega arith
-front_is status (inr (inl (inl seven))) (inr two) = omega arith
-front_is status (inr (inl (inr eight))) (inr two) = omega arith
-front_is status (inr (inr (inl thirteen))) (inr two) = omega arith
-front_is status (inr (inr (inr fourteen))) (inr two) = omega arith
-
--- a text that was put is one of which this is said
-pub given : (IsText : List ℕ → Type 0) (before after : List ℕ) (told : ℕ) (text : List ℕ) → IsText text →
-    IsPutIfWanted before after told text → IsGivenIfWanted IsText before after told
-given IsText before after told text is (inl put) = inl (record { text = text; is = is; delivered = put })
-given IsText before after told text is (inr unwanted) = inr (unwanted.0, record { text = text; is = is; too_small = unwanted.1 })
+front_is status front other = grind arith
 
 -- The first pages of a round, with their plan, and the pages that are left.
 module _ (search : Search) (R F S : List Page) (bounded : BoundedPlan) (parts : F ++ S ≡ R) (planned : IsPlanFor search F bounded) where

@@ -2,5 +2,3 @@ pub mod Devices
 pub mod Fronts
 pub mod Prelude
 pub mod Records
-pub mod Sounds
-pub mod Verdicts

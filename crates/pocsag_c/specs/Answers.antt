@@ -1,11 +1,9 @@
 -- What each call promises, in the numbers and the bytes that cross to the caller.
-use Rattle.std.specs.Prelude.{◌≡◌, ◌≢◌, ◌⊎◌, ◌==◌, if◌then◌else◌, ℕ, ◌<◌, ◌≤◌, List, length, ◌++◌, drop, IsOk}
+use Rattle.std.specs.Prelude.{◌≡◌, ◌≢◌, ◌⊎◌, ℕ, ◌<◌, ◌≤◌, List, length, ◌++◌, drop, IsOk}
 use Rattle.pocsag_words.specs.declared.ending.End.{End}
 use Rattle.pocsag_words.specs.declared.ending.End.TheVariants as ends
 use Rattle.pocsag_pages.specs.PageFile.{verdict}
 use Rattle.pocsag_plan.specs.Verdicts.{Checked, ExplainsCertificate, ExplainsRound, IsNotShown}
-use Rattle.pocsag_plan.specs.declared.search.OnLimit.{OnLimit}
-use Rattle.pocsag_plan.specs.declared.search.OnLimit.TheVariants.{Fewest, Always}
 use Rattle.pocsag_c.specs.declared.check.CheckInfo.{CheckInfo}
 use Rattle.pocsag_c.specs.declared.refusal.Place.{Place}
 use Rattle.pocsag_c.specs.declared.refusal.StatusAt.{StatusAt}
@@ -21,10 +19,6 @@ number_of_end ends.Idle = 2
 abbrev pub IsNoEnd : ℕ → Type 0
 IsNoEnd number = (number ≢ 0) × (number ≢ 1) × (number ≢ 2)
 
--- What a number asks for: 0 the fewest batches alone, any other that no round is refused.
-abbrev pub on_limit_of : (always : ℕ) → OnLimit
-on_limit_of always = if always == 0 then Fewest else Always
-
 -- The status and the place are those of a fault of which this is said.
 pub record PrintsFault {F : Type 0} (refusal : F → StatusAt) (Explains : F → Type 0) (status : ℕ) (place : Place) : Type 0 where
   pub fault : F
@@ -36,17 +30,19 @@ pub record PrintsFault {F : Type 0} (refusal : F → StatusAt) (Explains : F →
 abbrev pub no_verdict : Place → CheckInfo
 no_verdict place = record { end = 0; batches = 0; place = place }
 
--- The certificate shows its number of batches for its end and the page file's round.
-pub record IsShown (file text : List ℕ) (info : CheckInfo) : Type 0 where
+-- This is so of the end of this number.
+pub record IsSoOfEnd (number : ℕ) (P : End → Type 0) : Type 0 where
   pub end : End
-  pub same_end : info.end ≡ number_of_end end
-  pub checked : Checked file text end info.batches
+  pub same_end : number ≡ number_of_end end
+  pub holds : P end
+
+-- The certificate shows its number of batches for its end and the page file's round.
+abbrev pub IsShown : (file text : List ℕ) → CheckInfo → Type 0
+IsShown file text info = IsSoOfEnd info.end (λ end. Checked file text end info.batches)
 
 -- Both can be read, and the checker does not accept the certificate's tree.
-pub record IsNotAccepted (file text : List ℕ) (info : CheckInfo) : Type 0 where
-  pub end : End
-  pub same_end : info.end ≡ number_of_end end
-  pub read : IsNotShown file text end info.batches
+abbrev pub IsNotAccepted : (file text : List ℕ) → CheckInfo → Type 0
+IsNotAccepted file text info = IsSoOfEnd info.end (λ end. IsNotShown file text end info.batches)
 
 -- The status and the place are those of the page file's fault; or it has none, and they are those of the certificate's.
 abbrev pub IsUnjudged : (file text : List ℕ) (status : ℕ) → Place → Type 0

@@ -1,15 +1,18 @@
 -- What `pocsag_explain` promises.
-use Rattle.std.specs.Prelude.{◌≡◌, ◌≢◌, ◌⊎◌, ℕ, Bool, true, false, List}
-use Rattle.pocsag_words.specs.declared.ending.End.{End}
+use Rattle.std.specs.Prelude.{◌≡◌, ◌≢◌, ℕ, Bool, List}
 use Rattle.pocsag_findings.specs.Beginnings.{GivesVerdict}
 use Rattle.pocsag_findings.specs.declared.format.Format.{Format}
 use Rattle.pocsag_findings.specs.declared.format.Format.TheVariants as formats
-use Rattle.pocsag_c.specs.Answers.{number_of_end}
+use Rattle.pocsag_c.specs.Answers.{IsSoOfEnd}
 use Rattle.pocsag_c.specs.declared.check.CheckInfo.{CheckInfo}
 
 -- The number of no form: 0 is an indented list in words, 1 is JSON.
 abbrev pub IsNoForm : ℕ → Type 0
 IsNoForm form = (form ≢ 0) × (form ≢ 1)
+
+-- There is no verdict, though the form is one.
+abbrev pub IsWithoutVerdict : (status : ℕ) → Type 0
+IsWithoutVerdict status = (status ≢ 0) × (status ≢ 1) × (status ≢ 10) × (status ≢ 11)
 
 -- The form of this number, for nodes no deeper than this.
 abbrev pub IsNumberOfForm : (form depth : ℕ) → Format → Type 0
@@ -18,13 +21,10 @@ IsNumberOfForm form depth (formats.Json deepest) = (form ≡ 1) × (deepest ≡ 
 IsNumberOfForm form depth formats.Drawing = ⊥
 
 -- A text of the form of this number, which begins with the verdict on the end and the batches that are reported.
-pub record IsVerdictText (form depth : ℕ) (info : CheckInfo) (is_shown : Bool) (text : List ℕ) : Type 0 where
-  pub format : Format
-  pub same_form : IsNumberOfForm form depth format
-  pub end : End
-  pub same_end : info.end ≡ number_of_end end
-  pub is_known : GivesVerdict format is_shown end info.batches text
+abbrev pub IsVerdictText : (form depth : ℕ) → CheckInfo → (is_shown : Bool) → (text : List ℕ) → Type 0
+IsVerdictText form depth info is_shown text = IsSoOfEnd info.end (λ end.
+    (format : Format) × IsNumberOfForm form depth format × GivesVerdict format is_shown end info.batches text)
 
 -- The same with one verdict or the other.
 abbrev pub IsTextOfVerdict : (form depth : ℕ) → CheckInfo → (text : List ℕ) → Type 0
-IsTextOfVerdict form depth info text = IsVerdictText form depth info true text ⊎ IsVerdictText form depth info false text
+IsTextOfVerdict form depth info text = (is_shown : Bool) × IsVerdictText form depth info is_shown text

@@ -1,13 +1,8 @@
 -- What `pocsag_plan_at_most` promises.
-use Rattle.std.specs.Prelude.{◌≡◌, ◌≢◌, ◌⊎◌, ℕ, ◌+◌, ◌*◌, List, [], Option, Some, None, Ok, IsOk, drop, length, sum_by, take}
-use Rattle.pocsag_words.specs.declared.codeword.Kind.{Kind}
-use Rattle.pocsag_words.specs.declared.ending.End.{End}
-use Rattle.pocsag_pages.specs.declared.page.Page.{Page}
+use Rattle.std.specs.Prelude.{◌≡◌, ◌≢◌, ◌⊎◌, ℕ, ◌+◌, List, [], Option, Some, None, IsOk, drop, length, take}
 use Rattle.pocsag_pages.specs.PageFile.{verdict}
 use Rattle.pocsag_pages.specs.PageList.{unless_empty}
-use Rattle.pocsag_pages.specs.Reading.{page_length}
 use Rattle.pocsag_tree.specs.BoundTrees.{BoundTree}
-use Rattle.pocsag_batch.specs.FileOrder.{IsFileOrder}
 use Rattle.pocsag_tree.specs.CertificateText.{written_text}
 use Rattle.pocsag_tree.specs.Views.{bound_tree_of}
 use Rattle.pocsag_tree.specs.declared.shape.Certificate.{Certificate}
@@ -24,10 +19,9 @@ use Rattle.pocsag_plan.specs.declared.fault.StreamFault.TheVariants as stream
 use Rattle.pocsag_plan.specs.declared.fault.UnsentFront.{UnsentFront}
 use Rattle.pocsag_plan.specs.declared.fault.UnsentFront.TheVariants as unsent
 use Rattle.pocsag_plan.specs.declared.search.Search.{Search}
-use Rattle.pocsag_c.specs.Answers.{IsDelivered, IsTooSmall, number_of_end}
-use Rattle.pocsag_c.specs.Listings.{HasNoRoom, IsListed}
-use Rattle.pocsag_c.specs.Plans.{IsWithoutRoom}
-use Rattle.pocsag_c.specs.Reports.{IsAsked, IsSoAsAsked}
+use Rattle.pocsag_c.specs.Answers.{IsDelivered, IsSoOfEnd, IsTooSmall}
+use Rattle.pocsag_c.specs.Plans.{AreCountsOf, IsWithoutRoom}
+use Rattle.pocsag_c.specs.Reports.{IsSoAsAsked}
 use Rattle.pocsag_c.specs.declared.front.FrontInfo.{FrontInfo}
 use Rattle.pocsag_c.specs.declared.refusal.Place.{Place}
 
@@ -42,10 +36,9 @@ IsWithoutFront status =
 
 -- The first pages that are reported are the longest front of the page file's round that so many batches carry, for the end of
 -- this number.
-pub record IsLongestTold (file : List ℕ) (number batches : ℕ) (info : FrontInfo) : Type 0 where
-  pub end : End
-  pub same_end : number ≡ number_of_end end
-  pub longest : IsOfRound file (λ round. IsLongestFront end round batches info.pages)
+abbrev pub IsLongestTold : (file : List ℕ) → (number batches : ℕ) → FrontInfo → Type 0
+IsLongestTold file number batches info =
+    IsSoOfEnd number (λ end. IsOfRound file (λ round. IsLongestFront end round batches info.pages))
 
 -- They are the front that a planner of this effort promises, with this limit.
 abbrev pub IsRequiredFront : (file : List ℕ) → (number limit always batches : ℕ) → FrontInfo → Type 0
@@ -53,50 +46,36 @@ IsRequiredFront file number limit always batches info =
     IsSoAsAsked number limit always (λ search. IsOfRound file (λ round. IsFrontFor search round batches info.pages))
 
 -- The counts are those of the first pages that are reported, and of the others.
-pub record IsCountedFirst (file : List ℕ) (info : FrontInfo) : Type 0 where
-  pub round : List Page
-  pub read : verdict file ≡ Ok round
-  pub pages : info.pages + info.left ≡ length round
-  pub codewords : info.codewords ≡ sum_by page_length (take info.pages round)
-  pub in_order : (T : List Kind) → IsFileOrder (take info.pages round) T → length T ≡ 16 * info.in_order
+abbrev pub IsCountedFirst : (file : List ℕ) → FrontInfo → Type 0
+IsCountedFirst file info = IsOfRound file (λ round.
+    (info.pages + info.left ≡ length round) × AreCountsOf (take info.pages round) info.codewords info.in_order)
 
 -- The headline of the first pages that are reported, with the bound and the batches that are reported.
-pub record IsFrontHeadline (file : List ℕ) (number : ℕ) (info : FrontInfo) (sent certificate : List ℕ) : Type 0 where
-  pub end : End
-  pub same_end : number ≡ number_of_end end
-  pub tree : BoundTree
-  pub headline : IsOfRound file (λ round.
-      RoundHeadline (take info.pages round) end info.batches info.bound tree sent certificate)
+abbrev pub IsFrontHeadline : (file : List ℕ) → (number : ℕ) → FrontInfo → (sent certificate : List ℕ) → Type 0
+IsFrontHeadline file number info sent certificate = IsSoOfEnd number (λ end. (tree : BoundTree)
+    × IsOfRound file (λ round. RoundHeadline (take info.pages round) end info.batches info.bound tree sent certificate))
 
 -- Where their bound is below their batches, the search for the fewest stops at the same limit, and this is what it knows of
 -- them then.
-pub record IsNoWorseFront (file : List ℕ) (number limit always : ℕ) (info : FrontInfo) : Type 0 where
-  pub search : Search
-  pub asked : IsAsked number limit always search
-  pub bounded : BoundedPlan
-  pub batches : info.batches ≡ bounded.plan.batches
-  pub bound : info.bound ≡ bounded.bound
-  pub no_worse : IsOfRound file (λ round. IsNoWorse search.end (take info.pages round) search.limit bounded)
+abbrev pub IsNoWorseFront : (file : List ℕ) → (number limit always : ℕ) → FrontInfo → Type 0
+IsNoWorseFront file number limit always info = IsSoAsAsked number limit always (λ search.
+    (bounded : BoundedPlan) × (info.batches ≡ bounded.plan.batches) × (info.bound ≡ bounded.bound)
+    × IsOfRound file (λ round. IsNoWorse search.end (take info.pages round) search.limit bounded))
 
 -- The text is a page file of the pages behind them: it reads as their round, or, where there are none, as no pages.
 abbrev pub IsRestOf : (file : List ℕ) → FrontInfo → (text : List ℕ) → Type 0
 IsRestOf file info text = IsOfRound file (λ round. verdict text ≡ unless_empty (drop info.pages round))
 
--- The bytes of a certificate of one page more, and its bound; where there is none, no byte and 0.
-abbrev pub beyond_bytes : Option Certificate → List ℕ
-beyond_bytes None = []
-beyond_bytes (Some certificate) = written_text certificate.end certificate.batches (bound_tree_of certificate.tree)
-
-abbrev pub beyond_bound : Option Certificate → ℕ
-beyond_bound None = 0
-beyond_bound (Some certificate) = certificate.batches
+-- The bytes and the bound of a certificate of one page more; where there is none, no byte and 0.
+abbrev pub IsWrittenWhy : Option Certificate → (text : List ℕ) → (bound : ℕ) → Type 0
+IsWrittenWhy None text bound = (text ≡ []) × (bound ≡ 0)
+IsWrittenWhy (Some c) text bound = (text ≡ written_text c.end c.batches (bound_tree_of c.tree)) × (bound ≡ c.batches)
 
 -- The text is the certificate of one page more than so many, with this bound; or no byte, where no page is left.
 pub record IsTextOfWhy (search : Search) (file : List ℕ) (batches count : ℕ) (text : List ℕ) (bound : ℕ) : Type 0 where
   pub why : Option Certificate
   pub shows : IsOfRound file (λ round. IsWhyNoMore search round batches count why)
-  pub bytes : text ≡ beyond_bytes why
-  pub same_bound : bound ≡ beyond_bound why
+  pub written : IsWrittenWhy why text bound
 
 -- The same behind the pages that are reported, with the bound that is reported.
 abbrev pub IsBeyond : (file : List ℕ) → (number limit always batches : ℕ) → FrontInfo → (text : List ℕ) → Type 0
@@ -109,9 +88,10 @@ IsPutIfWanted before after told bytes =
     IsDelivered before after told bytes ⊎ ((length before ≡ 0) × IsTooSmall before after told bytes)
 
 -- The same of a text of which this is said.
-abbrev pub IsGivenIfWanted : (IsText : List ℕ → Type 0) → (before after : List ℕ) → (told : ℕ) → Type 0
-IsGivenIfWanted IsText before after told =
-    IsListed IsText before after told ⊎ ((length before ≡ 0) × HasNoRoom IsText before after told)
+pub record IsGivenIfWanted (IsText : List ℕ → Type 0) (before after : List ℕ) (told : ℕ) : Type 0 where
+  pub text : List ℕ
+  pub is : IsText text
+  pub put : IsPutIfWanted before after told text
 
 -- The length that is reported is that of a text of which this is said.
 pub record HasLengthOf (IsText : List ℕ → Type 0) (told : ℕ) : Type 0 where

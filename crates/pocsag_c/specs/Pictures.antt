@@ -1,9 +1,8 @@
 -- What `pocsag_show` promises.
-use Rattle.std.specs.Prelude.{◌≡◌, ◌≢◌, ◌⊎◌, ◌/◌, ◌<◌, ◌≤◌, ℕ, List, Some, IfSome, length}
+use Rattle.std.specs.Prelude.{◌≡◌, ◌≢◌, ◌⊎◌, ◌/◌, ◌<◌, ◌≤◌, ℕ, List, IfSome, IsSomeAnd, length}
 use Rattle.pocsag_pages.specs.Bytes.{after_preamble}
 use Rattle.pocsag_show.specs.Shows.{IsTextOf}
 use Rattle.pocsag_show.specs.Views.{rows_wanted, view_text}
-use Rattle.pocsag_show.specs.declared.rows.Rows.{Rows}
 use Rattle.pocsag_show.specs.declared.view.View.{View}
 use Rattle.pocsag_show.specs.declared.view.View.TheVariants.{Grid, Places, Drawing}
 use Rattle.pocsag_wav.specs.Sounds.{ReadsAsPages}
@@ -32,28 +31,16 @@ abbrev pub AreThere : View → (tx : List ℕ) → Type 0
 AreThere view tx = IfSome (rows_wanted view) (λ rows. rows.first ≤ batches_of_bytes tx)
 
 -- Batches are asked for, and the first of them is behind the last.
-pub record AreBehindLast (view : View) (tx : List ℕ) : Type 0 where
-  pub rows : Rows
-  pub wanted : rows_wanted view ≡ Some rows
-  pub behind : batches_of_bytes tx < rows.first
+abbrev pub AreBehindLast : View → (tx : List ℕ) → Type 0
+AreBehindLast view tx = IsSomeAnd (rows_wanted view) (λ rows. batches_of_bytes tx < rows.first)
 
--- The text is that picture of the pages that bytes read as, and the first of its batches is there.
-pub record IsPictureOf (form first last : ℕ) (bytes text : List ℕ) : Type 0 where
-  pub view : View
-  pub same_form : IsNumberOfView form first last view
-  pub there : AreThere view bytes
-  pub shown : IsTextOf (view_text view) bytes text
-
--- The bytes read as pages, and the first of the picture's batches is behind their last.
-pub record IsBehindLastOf (form first last : ℕ) (bytes : List ℕ) : Type 0 where
-  pub view : View
-  pub same_form : IsNumberOfView form first last view
-  pub reads : ReadsAsPages bytes
-  pub behind : AreBehindLast view bytes
-
--- The same two of the bytes that are read by the reading of a number.
+-- The text is the picture of these numbers, of the pages that the bytes, which are read by the reading of a number, read as; and
+-- the first of its batches is there.
 abbrev pub IsPictureAs : (reading form first last : ℕ) → (tx text : List ℕ) → Type 0
-IsPictureAs reading form first last tx text = IsSoAsRead reading tx (λ bytes. IsPictureOf form first last bytes text)
+IsPictureAs reading form first last tx text = IsSoAsRead reading tx (λ bytes.
+    (view : View) × IsNumberOfView form first last view × AreThere view bytes × IsTextOf (view_text view) bytes text)
 
+-- These bytes read as pages, and the first of the picture's batches is behind their last.
 abbrev pub IsBehindLastAs : (reading form first last : ℕ) → (tx : List ℕ) → Type 0
-IsBehindLastAs reading form first last tx = IsSoAsRead reading tx (IsBehindLastOf form first last)
+IsBehindLastAs reading form first last tx = IsSoAsRead reading tx (λ bytes.
+    (view : View) × IsNumberOfView form first last view × AreBehindLast view bytes × ReadsAsPages bytes)

@@ -1,9 +1,7 @@
 -- What `pocsag_plan` promises.
-use Rattle.std.specs.Prelude.{◌≡◌, ◌≢◌, ◌⊎◌, ℕ, ◌*◌, List, Ok, length, sum_by}
+use Rattle.std.specs.Prelude.{◌≡◌, ◌≢◌, ◌⊎◌, ℕ, ◌*◌, List, length, sum_by}
 use Rattle.pocsag_words.specs.declared.codeword.Kind.{Kind}
-use Rattle.pocsag_words.specs.declared.ending.End.{End}
 use Rattle.pocsag_pages.specs.declared.page.Page.{Page}
-use Rattle.pocsag_pages.specs.PageFile.{verdict}
 use Rattle.pocsag_pages.specs.Reading.{page_length}
 use Rattle.pocsag_tree.specs.BoundTrees.{BoundTree}
 use Rattle.pocsag_batch.specs.FileOrder.{IsFileOrder}
@@ -13,25 +11,20 @@ use Rattle.pocsag_plan.specs.Plans.{IsNoWorse}
 use Rattle.pocsag_plan.specs.Streams.{ExplainsStream, IsOfRound}
 use Rattle.pocsag_plan.specs.declared.bounded.BoundedPlan.{BoundedPlan}
 use Rattle.pocsag_plan.specs.declared.fault.StreamFault.{StreamFault}
-use Rattle.pocsag_plan.specs.declared.search.Search.{Search}
-use Rattle.pocsag_c.specs.Answers.{IsDelivered, number_of_end}
-use Rattle.pocsag_c.specs.Reports.{IsAsked, IsSoAsAsked}
+use Rattle.pocsag_c.specs.Answers.{IsDelivered, IsSoOfEnd}
+use Rattle.pocsag_c.specs.Reports.{IsSoAsAsked}
 use Rattle.pocsag_c.specs.declared.plan.PlanInfo.{PlanInfo}
 use Rattle.pocsag_c.specs.declared.refusal.Place.{Place}
 
 -- The headline of the page file, the end of this number, and the batches that are reported.
-pub record IsHeadline (file : List ℕ) (number : ℕ) (info : PlanInfo) (sent certificate : List ℕ) : Type 0 where
-  pub end : End
-  pub same_end : number ≡ number_of_end end
-  pub tree : BoundTree
-  pub headline : Headline file end info.batches tree sent certificate
+abbrev pub IsHeadline : (file : List ℕ) → (number : ℕ) → PlanInfo → (sent certificate : List ℕ) → Type 0
+IsHeadline file number info sent certificate =
+    IsSoOfEnd number (λ end. (tree : BoundTree) × Headline file end info.batches tree sent certificate)
 
 -- The same with the bound that is reported.
-pub record IsHeadlineWithBound (file : List ℕ) (number : ℕ) (info : PlanInfo) (sent certificate : List ℕ) : Type 0 where
-  pub end : End
-  pub same_end : number ≡ number_of_end end
-  pub tree : BoundTree
-  pub headline : BoundedHeadline file end info.batches info.bound tree sent certificate
+abbrev pub IsHeadlineWithBound : (file : List ℕ) → (number : ℕ) → PlanInfo → (sent certificate : List ℕ) → Type 0
+IsHeadlineWithBound file number info sent certificate =
+    IsSoOfEnd number (λ end. (tree : BoundTree) × BoundedHeadline file end info.batches info.bound tree sent certificate)
 
 -- A transmission and a certificate of which this is said stand in both buffers, with their lengths reported.
 pub record IsPlannedInto (Says : (sent certificate : List ℕ) → Type 0) (tx tx_after : List ℕ) (tx_told : ℕ)
@@ -58,13 +51,14 @@ IsWithoutRoom status = (status ≡ 7) ⊎ (status ≡ 8)
 abbrev pub IsWithoutPlan : (status : ℕ) → Type 0
 IsWithoutPlan status = (status ≢ 0) × (status ≢ 2) × (status ≢ 7) × (status ≢ 8)
 
+-- These pages have so many codewords, and take so many batches in file order.
+abbrev pub AreCountsOf : List Page → (codewords in_order : ℕ) → Type 0
+AreCountsOf pages codewords in_order =
+    (codewords ≡ sum_by page_length pages) × ((T : List Kind) → IsFileOrder pages T → length T ≡ 16 * in_order)
+
 -- The counts are those of the page file's round.
-pub record IsCounted (file : List ℕ) (info : PlanInfo) : Type 0 where
-  pub round : List Page
-  pub read : verdict file ≡ Ok round
-  pub pages : info.pages ≡ length round
-  pub codewords : info.codewords ≡ sum_by page_length round
-  pub in_order : (T : List Kind) → IsFileOrder round T → length T ≡ 16 * info.in_order
+abbrev pub IsCounted : (file : List ℕ) → PlanInfo → Type 0
+IsCounted file info = IsOfRound file (λ round. (info.pages ≡ length round) × AreCountsOf round info.codewords info.in_order)
 
 -- What is reported beside the place where there is no plan.
 abbrev pub no_plan : Place → PlanInfo
@@ -72,13 +66,10 @@ no_plan place = record { pages = 0; codewords = 0; in_order = 0; batches = 0; bo
 
 -- Where the bound that is reported is below the batches, the search for the fewest stops at the same limit, and this is what it
 -- knows of the page file's round then.
-pub record IsNoWorseTold (file : List ℕ) (number limit always : ℕ) (info : PlanInfo) : Type 0 where
-  pub search : Search
-  pub asked : IsAsked number limit always search
-  pub bounded : BoundedPlan
-  pub batches : info.batches ≡ bounded.plan.batches
-  pub bound : info.bound ≡ bounded.bound
-  pub no_worse : IsOfRound file (λ round. IsNoWorse search.end round search.limit bounded)
+abbrev pub IsNoWorseTold : (file : List ℕ) → (number limit always : ℕ) → PlanInfo → Type 0
+IsNoWorseTold file number limit always info = IsSoAsAsked number limit always (λ search.
+    (bounded : BoundedPlan) × (info.batches ≡ bounded.plan.batches) × (info.bound ≡ bounded.bound)
+    × IsOfRound file (λ round. IsNoWorse search.end round search.limit bounded))
 
 -- Why there is no plan.
 abbrev pub ExplainsPlanning : (file : List ℕ) → (number limit always : ℕ) → StreamFault → Type 0

@@ -1,5 +1,5 @@
 -- What `pocsag_report` promises.
-use Rattle.std.specs.Prelude.{◌≡◌, ℕ, List}
+use Rattle.std.specs.Prelude.{◌≡◌, ◌==◌, if◌then◌else◌, ℕ, List}
 use Rattle.pocsag_plan.specs.Plans.{ExplainsPlan}
 use Rattle.pocsag_plan.specs.Reports.{IsPlannable, IsRate, IsReportOf}
 use Rattle.pocsag_plan.specs.Streams.{IsOfRound}
@@ -7,16 +7,18 @@ use Rattle.pocsag_plan.specs.Verdicts.{ExplainsRound}
 use Rattle.pocsag_plan.specs.declared.airtime.BoundedReport.{BoundedReport}
 use Rattle.pocsag_plan.specs.declared.fault.StreamFault.{StreamFault}
 use Rattle.pocsag_plan.specs.declared.fault.StreamFault.TheVariants as stream
+use Rattle.pocsag_plan.specs.declared.search.OnLimit.TheVariants.{Fewest, Always}
 use Rattle.pocsag_plan.specs.declared.search.Search.{Search}
-use Rattle.pocsag_c.specs.Answers.{on_limit_of, number_of_end}
+use Rattle.pocsag_c.specs.Answers.{number_of_end}
 use Rattle.pocsag_c.specs.declared.refusal.Place.{Place}
 use Rattle.pocsag_c.specs.declared.report.ReportInfo.{ReportInfo}
 
--- What is asked of a planner is for the end of this number, with this limit and this effort.
+-- What is asked of a planner is for the end of this number, with this limit, and for the fewest batches alone where `always` is 0;
+-- else no round is refused.
 pub record IsAsked (number limit always : ℕ) (search : Search) : Type 0 where
   pub same_end : number ≡ number_of_end search.end
   pub same_limit : search.limit ≡ limit
-  pub same_on_limit : search.on_limit ≡ on_limit_of always
+  pub same_on_limit : search.on_limit ≡ (if always == 0 then Fewest else Always)
 
 -- This is so of what the numbers of a call ask of a planner.
 pub record IsSoAsAsked (number limit always : ℕ) (P : Search → Type 0) : Type 0 where

@@ -37,32 +37,30 @@ interface_version = 5
 abbrev pub nowhere : Place
 nowhere = record { record_number = 0; least = 0; found = 0; at = 0 }
 
--- A refusal that has no place; one for a record of the page file; and one for a batch or a codeword.
+-- A refusal that has no place; and one for a record of the page file, and a line, a byte, a batch or a codeword, where 0 says
+-- nothing.
 abbrev pub plain_refusal : (status : ℕ) → StatusAt
 plain_refusal status = record { status = status; place = nowhere }
 
-abbrev pub record_refusal : (status number : ℕ) → StatusAt
-record_refusal status number = record { status = status; place = record { record_number = number; least = 0; found = 0; at = 0 } }
-
-abbrev pub index_refusal : (status index : ℕ) → StatusAt
-index_refusal status index = record { status = status; place = record { record_number = 0; least = 0; found = 0; at = index } }
+abbrev pub refusal_at : (status number index : ℕ) → StatusAt
+refusal_at status number index = record { status = status; place = record { record_number = number; least = 0; found = 0; at = index } }
 
 -- From 19 on: the faults of a record of this number. Want of memory has no place.
 abbrev pub refusal_of_record : (number : ℕ) → RecordFault → StatusAt
-refusal_of_record n wrong.FieldCount = record_refusal 19 n
-refusal_of_record n (wrong.Field field.BadAddress) = record_refusal 20 n
-refusal_of_record n (wrong.Field field.ReservedAddress) = record_refusal 21 n
-refusal_of_record n (wrong.Field field.BadKind) = record_refusal 22 n
-refusal_of_record n (wrong.Field field.MessageForTone) = record_refusal 23 n
-refusal_of_record n (wrong.Field field.EmptyMessage) = record_refusal 24 n
-refusal_of_record n (wrong.Field (field.BadCharacter place)) = record { status = 25; place = record { record_number = n; least = 0; found = 0; at = place } }
-refusal_of_record n (wrong.Field field.TooLong) = record_refusal 26 n
+refusal_of_record n wrong.FieldCount = refusal_at 19 n 0
+refusal_of_record n (wrong.Field field.BadAddress) = refusal_at 20 n 0
+refusal_of_record n (wrong.Field field.ReservedAddress) = refusal_at 21 n 0
+refusal_of_record n (wrong.Field field.BadKind) = refusal_at 22 n 0
+refusal_of_record n (wrong.Field field.MessageForTone) = refusal_at 23 n 0
+refusal_of_record n (wrong.Field field.EmptyMessage) = refusal_at 24 n 0
+refusal_of_record n (wrong.Field (field.BadCharacter place)) = refusal_at 25 n place
+refusal_of_record n (wrong.Field field.TooLong) = refusal_at 26 n 0
 refusal_of_record n (wrong.Field field.OutOfMemory) = plain_refusal 3
-refusal_of_record n (wrong.Page page.BadAddress) = record_refusal 20 n
-refusal_of_record n (wrong.Page page.ReservedAddress) = record_refusal 21 n
-refusal_of_record n (wrong.Page page.BadPayload) = record_refusal 29 n
-refusal_of_record n wrong.DuplicateAddress = record_refusal 27 n
-refusal_of_record n wrong.TooManyPages = record_refusal 28 n
+refusal_of_record n (wrong.Page page.BadAddress) = refusal_at 20 n 0
+refusal_of_record n (wrong.Page page.ReservedAddress) = refusal_at 21 n 0
+refusal_of_record n (wrong.Page page.BadPayload) = refusal_at 29 n 0
+refusal_of_record n wrong.DuplicateAddress = refusal_at 27 n 0
+refusal_of_record n wrong.TooManyPages = refusal_at 28 n 0
 
 -- The same of a page that stands in no file yet, and so has no number.
 abbrev pub page_refusal : FieldFault → StatusAt
@@ -90,23 +88,19 @@ certificate_refusal certificate.TooMany = plain_refusal 39
 certificate_refusal certificate.ReadFault = plain_refusal 40
 certificate_refusal certificate.OutOfMemory = plain_refusal 3
 
--- A refusal for a record and a line of the page file. A record number of more than 32 bits is reported as the greatest.
-abbrev pub at_record_and_line : (status number line : ℕ) → StatusAt
-at_record_and_line status number line =
-    record { status = status; place = record { record_number = min number 4294967295; least = 0; found = 0; at = line } }
-
--- From 41 on: the quotes of a page file that do not stand as CSV has them.
+-- From 41 on: the quotes of a page file that do not stand as CSV has them. A record number of more than 32 bits is reported as the
+-- greatest.
 abbrev pub quote_refusal : QuoteFault → StatusAt
-quote_refusal (quote.Unclosed n line) = at_record_and_line 41 n line
-quote_refusal (quote.Inside n line) = at_record_and_line 42 n line
-quote_refusal (quote.Followed n line) = at_record_and_line 43 n line
+quote_refusal (quote.Unclosed n line) = refusal_at 41 (min n 4294967295) line
+quote_refusal (quote.Inside n line) = refusal_at 42 (min n 4294967295) line
+quote_refusal (quote.Followed n line) = refusal_at 43 (min n 4294967295) line
 
 -- From 48 on: the faults of a transmission.
 abbrev pub transmission_refusal : DecodeFault → StatusAt
 transmission_refusal decoding.ShortPreamble = plain_refusal 48
-transmission_refusal (decoding.NoSync batch) = index_refusal 49 batch
-transmission_refusal (decoding.BadWord index) = index_refusal 50 index
-transmission_refusal (decoding.Orphan index) = index_refusal 51 index
+transmission_refusal (decoding.NoSync batch) = refusal_at 49 0 batch
+transmission_refusal (decoding.BadWord index) = refusal_at 50 0 index
+transmission_refusal (decoding.Orphan index) = refusal_at 51 0 index
 transmission_refusal decoding.Truncated = plain_refusal 52
 transmission_refusal decoding.NoBatch = plain_refusal 53
 transmission_refusal decoding.TooMuch = plain_refusal 54

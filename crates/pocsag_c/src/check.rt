@@ -6,7 +6,7 @@ use crate::refusal::{NOWHERE, Place, StatusAt, refused_certificate, refused_roun
 use pocsag_pages::{Round, read_round};
 use pocsag_plan::verdict_on;
 use pocsag_tree::{Certificate, read_certificate};
-use pocsag_words::{End, SliceSource};
+use pocsag_words::SliceSource;
 use std::alloc::Global;
 
 /// What a check reports; all but the place is 0 where nothing was judged.
@@ -48,28 +48,20 @@ pub(crate) fn verdict_of(alloc: Global, pages: &[u8], cert: &[u8]) -> Result<Ver
     ensures refusing { IfErr result (λ r. IsRefusing r.status) }
     ensures of_bytes { IfErr result (λ r. IsOfBytes r.status) }
 {
-    let round = match read_round(alloc, &mut SliceSource::new(pages)) {
-        Ok(round) => round,
-        Err(fault) => return Err(refused_round(fault)),
+    let round = read_round(alloc, &mut SliceSource::new(pages)).map_err(refused_round)?;
+    let mut source = SliceSource::new(cert);
+    let certificate = read_certificate(alloc, &mut source).map_err(refused_certificate)?;
+    let is_shown = verdict_on(&round, &certificate).is_shown;
+    let info = CheckInfo {
+        end: certificate.end as u32,
+        batches: certificate.batches,
+        place: NOWHERE,
     };
-    let certificate = match read_certificate(alloc, &mut SliceSource::new(cert)) {
-        Ok(certificate) => certificate,
-        Err(fault) => return Err(refused_certificate(fault)),
-    };
-    let judged = verdict_on(&round, &certificate);
     Ok(Verdict {
         round,
         certificate,
-        is_shown: judged.is_shown,
-        info: CheckInfo {
-            end: match judged.end {
-                End::Open => 0,
-                End::Closed => 1,
-                End::Idle => 2,
-            },
-            batches: judged.batches,
-            place: NOWHERE,
-        },
+        is_shown,
+        info,
     })
 }
 

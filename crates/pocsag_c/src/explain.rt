@@ -1,6 +1,6 @@
 ghost use Rattle.std.specs.Prelude.{◌≡◌, ◌≢◌, ◌↔◌, ◌⊎◌, false, true, IfSome, None};
 ghost use Rattle.pocsag_c.specs.Answers.{IsNotAccepted, IsShown, IsUnjudged, no_verdict};
-ghost use Rattle.pocsag_c.specs.Explain.{IsNumberOfForm, IsNoForm, IsTextOfVerdict, IsVerdictText};
+ghost use Rattle.pocsag_c.specs.Explain.{IsNumberOfForm, IsNoForm, IsTextOfVerdict, IsVerdictText, IsWithoutVerdict};
 ghost use Rattle.pocsag_c.specs.Listings.{HasNoRoom, IsListed};
 ghost use Rattle.pocsag_c.specs.Statuses.{IsOfBytes, nowhere};
 
@@ -50,8 +50,7 @@ pub extern "C" fn pocsag_explain(
     // Any other status says why nothing is reported, and never that a device failed. Want of memory for the text is that for the
     // certificate.
     ensures bad_form { result ≡ 11 ↔ IsNoForm form }
-    ensures fault { result ≢ 0 → result ≢ 1 → result ≢ 10 → result ≢ 11 →
-        IsUnjudged pages.now cert.now result info.new.place }
+    ensures fault { IsWithoutVerdict result → IsUnjudged pages.now cert.now result info.new.place }
     ensures placeless { (result ≡ 0) ⊎ (result ≡ 1) ⊎ (result ≡ 10) ⊎ (result ≡ 11) → info.new.place ≡ nowhere }
     ensures nothing { result ≢ 0 → result ≢ 1 → result ≢ 10 →
         (text_len.new ≡ 0) × (info.new ≡ no_verdict info.new.place) }

@@ -25,15 +25,13 @@ pub struct FramesInfo {
     pub place: Place,
 }
 
-const EMPTY_FRAME: FrameRoom = FrameRoom {
-    frame: 0,
-    pages: 0,
-    codewords: 0,
-    room: 0,
-};
-
 const NO_FRAMES: FramesInfo = FramesInfo {
-    frames: [EMPTY_FRAME; FRAMES],
+    frames: [FrameRoom {
+        frame: 0,
+        pages: 0,
+        codewords: 0,
+        room: 0,
+    }; FRAMES],
     batches: 0,
     bound: 0,
     place: NOWHERE,

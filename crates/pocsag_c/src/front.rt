@@ -14,7 +14,7 @@ ghost use Rattle.pocsag_plan.specs.Plans.{IsBounded, IsPlanFor};
 ghost use Rattle.pocsag_plan.specs.Streams.{HeadlineOf, IsOfRound};
 ghost use Rattle.pocsag_plan.specs.declared.fault.StreamFault.TheVariants as stream_fault;
 ghost use Rattle.pocsag_c.specs.Answers.{IsDelivered, IsNoEnd, PrintsFault};
-ghost use Rattle.pocsag_c.specs.Fronts.{ExplainsFrontPlanning, ExplainsUnfronted, HasLengthOf, IsBeyond, IsCountedFirst, IsFront, IsFrontHeadline, IsGivenIfWanted, IsLongestTold, IsNoWorseFront, IsRequiredFront, IsPutIfWanted, IsRestOf, IsTextOfWhy, IsWithoutFront, beyond_bytes, beyond_bound, no_front};
+ghost use Rattle.pocsag_c.specs.Fronts.{ExplainsFrontPlanning, ExplainsUnfronted, HasLengthOf, IsBeyond, IsCountedFirst, IsFront, IsFrontHeadline, IsGivenIfWanted, IsLongestTold, IsNoWorseFront, IsRequiredFront, IsPutIfWanted, IsRestOf, IsTextOfWhy, IsWithoutFront, IsWrittenWhy, no_front};
 ghost use Rattle.pocsag_c.specs.Plans.{HasNoRoomForBoth, IsPlannedInto};
 ghost use Rattle.pocsag_c.specs.Statuses.{IsOfBytes, front_refusal, nowhere};
 
@@ -35,7 +35,7 @@ use std::alloc::Global;
 
 /// What the plan of a front reports; all but the place is 0 where there is none.
 #[repr(C)]
-#[derive(Clone, Copy)]
+#[derive(Clone, Copy, Default)]
 pub struct FrontInfo {
     /// How many first pages are planned.
     pub pages: u32,
@@ -54,17 +54,6 @@ pub struct FrontInfo {
     /// Where the fault stands, and what the search knew at its limit.
     pub place: Place,
 }
-
-const NO_FRONT: FrontInfo = FrontInfo {
-    pages: 0,
-    left: 0,
-    codewords: 0,
-    in_order: 0,
-    batches: 0,
-    bound: 0,
-    beyond: 0,
-    place: NOWHERE,
-};
 
 // A front with the bytes of all that is written of it.
 #[derive(Drop)]
@@ -90,8 +79,7 @@ fn texts_of(alloc: Global, front: FrontPlan) -> Result<FrontTexts, OutOfMemory>
     ensures bounded { IfOk result (λ t. t.first.bounded ≡ front.bounded) }
     ensures rest { IfOk result (λ t. t.rest.items ≡ page_file front.rest.items) }
     ensures left { IfOk result (λ t. t.left ≡ length front.rest.items) }
-    ensures why { IfOk result (λ t. t.why.items ≡ beyond_bytes front.why) }
-    ensures beyond { IfOk result (λ t. t.beyond ≡ beyond_bound front.why) }
+    ensures why { IfOk result (λ t. IsWrittenWhy front.why t.why.items t.beyond) }
 {
     let mut tx = GrowingSink::new(alloc);
     let mut cert = GrowingSink::new(alloc);
@@ -100,14 +88,10 @@ fn texts_of(alloc: Global, front: FrontPlan) -> Result<FrontTexts, OutOfMemory>
     let Ok(()) = send(&front.round, &front.bounded, &mut tx, &mut cert) else {
         return Err(OutOfMemory);
     };
-    let Ok(()) = write_page_file(alloc, front.rest.as_slice(), &mut rest) else {
-        return Err(OutOfMemory);
-    };
+    write_page_file(alloc, front.rest.as_slice(), &mut rest).map_err(|_| OutOfMemory)?;
     let mut beyond = 0;
     if let Some(Certificate { end, batches, tree }) = &front.why {
-        let Ok(()) = write_text(*end, *batches, tree, &mut why) else {
-            return Err(OutOfMemory);
-        };
+        write_text(*end, *batches, tree, &mut why).map_err(|_| OutOfMemory)?;
         beyond = *batches;
     }
     Ok(FrontTexts {
@@ -184,6 +168,7 @@ fn hand_out_front(
     why_len: &mut usize,
 ) -> u32
     ensures status { IsFront result }
+    ensures not_end { result ≢ 2 }
     ensures transmission { result ≡ 0 → IsDelivered tx.old tx.new tx_len.new front.now.first.sent.items }
     ensures text { result ≡ 0 → IsDelivered cert.old cert.new cert_len.new front.now.first.certificate.items }
     ensures rest { result ≡ 0 → IsPutIfWanted rest.old rest.new rest_len.new front.now.rest.items }
@@ -286,7 +271,7 @@ pub extern "C" fn pocsag_plan_at_most(
     *cert_len = 0;
     *rest_len = 0;
     *why_len = 0;
-    *info = NO_FRONT;
+    *info = FrontInfo::default();
     let Some(search) = search_of(limit, end, always) else {
         return 2;
     };

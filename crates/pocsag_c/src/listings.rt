@@ -1,21 +1,20 @@
-ghost use Rattle.std.specs.Prelude.{◌≡◌, ◌≢◌, ◌≤◌, ◌⊎◌, ◌↔◌, IfErr, IfOk};
+ghost use Rattle.std.specs.Prelude.{◌≡◌, ◌≢◌, ◌⊎◌, ◌↔◌, IfErr, IfOk};
 ghost use Rattle.pocsag_c.specs.Answers.{PrintsFault};
 ghost use Rattle.pocsag_c.specs.Listings.{ExplainsUnheard, ExplainsUnlisted, HasNoRoom, IsListed, IsListingAs, IsListingOf, IsListingShown, IsListingShownAs};
-ghost use Rattle.pocsag_c.specs.Readings.{IsNoReading, IsUnreadOr};
+ghost use Rattle.pocsag_c.specs.Readings.{IsNoReading, IsUnreadOr, number_of_reading};
 ghost use Rattle.pocsag_c.specs.Statuses.{IsOfBytes, IsRefusing, nowhere, pager_refusal, transmission_refusal};
 
 use crate::buffer::hand_out_text;
-use crate::reading::read_as;
+use crate::reading::{Reading, read_as, reading_of};
 use crate::refusal::{NOWHERE, Place, StatusAt, plain, refused_hearing, refused_transmission};
 use pocsag_decode::{judge_bytes, list_owned, list_sent};
 use pocsag_pager::hear_all;
 use pocsag_words::GrowingSink;
 use std::alloc::Global;
 
-fn text_decoded(alloc: Global, reading: u32, tx: &[u8]) -> Result<Vec<u8>, StatusAt>
-    requires { reading ≤ 2 }
-    ensures listed { IfOk result (λ text. IsListingAs reading tx.now text.items) }
-    ensures fault { IfErr result (λ r. IsUnreadOr reading tx.now r.status r.place
+fn text_decoded(alloc: Global, reading: Reading, tx: &[u8]) -> Result<Vec<u8>, StatusAt>
+    ensures listed { IfOk result (λ text. IsListingAs (number_of_reading reading) tx.now text.items) }
+    ensures fault { IfErr result (λ r. IsUnreadOr (number_of_reading reading) tx.now r.status r.place
         (λ bytes. PrintsFault transmission_refusal (ExplainsUnlisted bytes) r.status r.place)) }
     ensures refusing { IfErr result (λ r. IsRefusing r.status) }
     ensures of_bytes { IfErr result (λ r. IsOfBytes r.status) }
@@ -32,10 +31,9 @@ fn text_decoded(alloc: Global, reading: u32, tx: &[u8]) -> Result<Vec<u8>, Statu
     }
 }
 
-fn text_heard(alloc: Global, reading: u32, address: u32, tx: &[u8]) -> Result<Vec<u8>, StatusAt>
-    requires { reading ≤ 2 }
-    ensures listed { IfOk result (λ text. IsListingShownAs reading address tx.now text.items) }
-    ensures fault { IfErr result (λ r. IsUnreadOr reading tx.now r.status r.place
+fn text_heard(alloc: Global, reading: Reading, address: u32, tx: &[u8]) -> Result<Vec<u8>, StatusAt>
+    ensures listed { IfOk result (λ text. IsListingShownAs (number_of_reading reading) address tx.now text.items) }
+    ensures fault { IfErr result (λ r. IsUnreadOr (number_of_reading reading) tx.now r.status r.place
         (λ bytes. PrintsFault pager_refusal (ExplainsUnheard address bytes) r.status r.place)) }
     ensures refusing { IfErr result (λ r. IsRefusing r.status) }
     ensures of_bytes { IfErr result (λ r. IsOfBytes r.status) }
@@ -120,11 +118,11 @@ pub extern "C" fn pocsag_decode_as(
     ensures of_bytes { IsOfBytes result }
     ensures untouched { result ≢ 0 → listing.new ≡ listing.old }
 {
-    if reading > 2 {
+    let Some(reading) = reading_of(reading) else {
         *listing_len = 0;
         *place = NOWHERE;
         return 58;
-    }
+    };
     let text = text_decoded(alloc, reading, tx);
     hand_out_text(text, 9, listing, listing_len, place)
 }
@@ -153,11 +151,11 @@ pub extern "C" fn pocsag_hear_as(
     ensures of_bytes { IsOfBytes result }
     ensures untouched { result ≢ 0 → listing.new ≡ listing.old }
 {
-    if reading > 2 {
+    let Some(reading) = reading_of(reading) else {
         *listing_len = 0;
         *place = NOWHERE;
         return 58;
-    }
+    };
     let text = text_heard(alloc, reading, address, tx);
     hand_out_text(text, 9, listing, listing_len, place)
 }

@@ -20,9 +20,7 @@ fn text_in_order(alloc: Global, pages: &[u8]) -> Result<Vec<u8>, StatusAt>
     ensures of_bytes { IfErr result (λ r. IsOfBytes r.status) }
 {
     let round = read_round(alloc, &mut SliceSource::new(pages)).map_err(refused_round)?;
-    let Ok(batches) = lay_in_order(alloc, &round) else {
-        return Err(refused_round(RoundFault::OutOfMemory));
-    };
+    let batches = lay_in_order(alloc, &round).map_err(|_| refused_round(RoundFault::OutOfMemory))?;
     let mut tx = GrowingSink::new(alloc);
     write(&batches, &mut tx).map_err(|_| refused_round(RoundFault::OutOfMemory))?;
     Ok(tx.into_bytes())

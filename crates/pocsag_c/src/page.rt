@@ -5,10 +5,10 @@ ghost use Rattle.pocsag_decode.specs.PageFiles.{page_record};
 ghost use Rattle.pocsag_c.specs.Answers.{PrintsFault};
 ghost use Rattle.pocsag_c.specs.Listings.{HasNoRoom, IsListed};
 ghost use Rattle.pocsag_c.specs.Records.{ExplainsNoRecord, IsRecordOf, word_of_kind};
-ghost use Rattle.pocsag_c.specs.Statuses.{IsOfBytes, IsRefusing, nowhere, page_refusal};
+ghost use Rattle.pocsag_c.specs.Statuses.{IsOfBytes, nowhere, page_refusal};
 
 use crate::buffer::hand_out_text;
-use crate::refusal::{Place, StatusAt, refused_record};
+use crate::refusal::{Place, refused_record};
 use csv::Writer;
 use itoa::Buffer;
 use pocsag_decode::{

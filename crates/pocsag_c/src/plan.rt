@@ -10,7 +10,6 @@ ghost use Rattle.pocsag_c.specs.Plans.{ExplainsPlanning, HasNoRoomForBoth, IsCou
 ghost use Rattle.pocsag_c.specs.Reports.{IsAsked};
 ghost use Rattle.pocsag_c.specs.Statuses.{IsOfBytes, nowhere, stream_refusal};
 
-use crate::buffer::hand_out;
 use crate::refusal::{NOWHERE, Place, refused_stream};
 use pocsag_plan::{BoundedPlan, OnLimit, Search, StreamFault, plan_stream, plan_stream_always};
 use pocsag_words::{End, GrowingSink, SliceSource};
@@ -18,7 +17,7 @@ use std::alloc::Global;
 
 /// What a plan reports; all but the place is 0 where there is none.
 #[repr(C)]
-#[derive(Clone, Copy)]
+#[derive(Clone, Copy, Default)]
 pub struct PlanInfo {
     /// How many pages the round has.
     pub pages: u32,
@@ -33,15 +32,6 @@ pub struct PlanInfo {
     /// Where the fault stands, and what the search knew at its limit.
     pub place: Place,
 }
-
-const NO_PLAN: PlanInfo = PlanInfo {
-    pages: 0,
-    codewords: 0,
-    in_order: 0,
-    batches: 0,
-    bound: 0,
-    place: NOWHERE,
-};
 
 // What the numbers of a call ask of the planner: the end of its number, and the fewest batches alone where `always` is 0.
 pub(crate) fn search_of(limit: u32, end: u32, always: u32) -> Option<Search>
@@ -89,15 +79,11 @@ fn plan_texts(alloc: Global, pages: &[u8], search: Search) -> Result<PlanTexts, 
     ensures explained { IfErr result (ExplainsStream search.on_limit pages.now search.end search.limit) }
     ensures unread { IfErr result (λ e. e ≢ StreamFault.Round round_fault.ReadFault) }
 {
-    let Search {
-        limit,
-        end,
-        on_limit,
-    } = search;
+    let Search { limit, end, .. } = search;
     let mut source = SliceSource::new(pages);
     let mut tx = GrowingSink::new(alloc);
     let mut cert = GrowingSink::new(alloc);
-    let bounded = match on_limit {
+    let bounded = match search.on_limit {
         OnLimit::Fewest => {
             let plan = plan_stream(alloc, &mut source, &mut tx, &mut cert, limit, end)?;
             BoundedPlan {
@@ -126,6 +112,7 @@ pub(crate) fn hand_out_both(
     cert_len: &mut usize,
 ) -> u32
     ensures status { (result ≡ 0) ⊎ IsWithoutRoom result }
+    ensures not_end { result ≢ 2 }
     ensures transmission { result ≡ 0 → IsDelivered tx.old tx.new tx_len.new texts.now.sent.items }
     ensures text { result ≡ 0 → IsDelivered cert.old cert.new cert_len.new texts.now.certificate.items }
     ensures length { tx_len.new ≡ length texts.now.sent.items }
@@ -144,8 +131,9 @@ pub(crate) fn hand_out_both(
     if cert.len() < certificate.len() {
         return 8;
     }
-    hand_out(sent, 7, tx, tx_len);
-    hand_out(certificate, 8, cert, cert_len)
+    tx[..sent.len()].copy_from_slice(sent);
+    cert[..certificate.len()].copy_from_slice(certificate);
+    0
 }
 
 /// Plans a page file, and puts the transmission and the certificate into two buffers: 0, or 7 or 8 where
@@ -197,7 +185,7 @@ pub extern "C" fn pocsag_plan(
 {
     *tx_len = 0;
     *cert_len = 0;
-    *info = NO_PLAN;
+    *info = PlanInfo::default();
     let Some(search) = search_of(limit, end, always) else {
         return 2;
     };

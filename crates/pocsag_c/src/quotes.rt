@@ -1,23 +1,16 @@
 ghost use Rattle.std.specs.Prelude.{◌≡◌, ◌≢◌, ◌↔◌, min};
 ghost use Rattle.pocsag_pages.specs.Quotes.{HasQuoteFault, IsWellQuoted, text_of_file};
 ghost use Rattle.pocsag_c.specs.Answers.{PrintsFault};
-ghost use Rattle.pocsag_c.specs.Statuses.{IsOfBytes, nowhere, quote_refusal, at_record_and_line};
+ghost use Rattle.pocsag_c.specs.Statuses.{IsOfBytes, nowhere, quote_refusal, refusal_at};
 
-use crate::refusal::{NOWHERE, Place, StatusAt};
+use crate::refusal::{NOWHERE, Place, StatusAt, refused_at};
 use pocsag_pages::{QuoteFault, quote_fault};
 
 // A refusal for a record and a line. A number that is greater than those that are reported is reported as the greatest of them.
 fn of_line(status: u32, number: usize, line: usize) -> StatusAt
-    ensures { result ≡ at_record_and_line status number line }
+    ensures { result ≡ refusal_at status (min number 4294967295) line }
 {
-    StatusAt {
-        status,
-        place: Place {
-            record_number: number.min(u32::MAX as usize) as u32,
-            at: line as u64,
-            ..NOWHERE
-        },
-    }
+    refused_at(status, number.min(u32::MAX as usize) as u32, line as u64)
 }
 
 fn refused_quote(fault: QuoteFault) -> StatusAt

@@ -2,7 +2,7 @@ ghost use Rattle.std.specs.Prelude.{◌≡◌, ◌≢◌};
 ghost use Rattle.pocsag_pages.specs.declared.fault.RoundFault.TheVariants as round_fault;
 ghost use Rattle.pocsag_plan.specs.declared.fault.StreamFault.TheVariants as stream_fault;
 ghost use Rattle.pocsag_decode.specs.declared.fault.DecodeFault.TheVariants as decode_fault;
-ghost use Rattle.pocsag_c.specs.Statuses.{IsOfBytes, IsRefusing, capture_refusal, certificate_refusal, front_refusal, index_refusal, pager_refusal, plain_refusal, record_refusal, refusal_of_record, round_refusal, show_refusal, stream_refusal, transmission_refusal, wav_refusal};
+ghost use Rattle.pocsag_c.specs.Statuses.{IsOfBytes, IsRefusing, capture_refusal, certificate_refusal, front_refusal, pager_refusal, plain_refusal, refusal_at, refusal_of_record, round_refusal, show_refusal, stream_refusal, transmission_refusal, wav_refusal};
 
 use pocsag_capture::CaptureFault;
 use pocsag_decode::DecodeFault;
@@ -15,7 +15,7 @@ use pocsag_wav::NoSound;
 
 /// Where a fault is, and what a search knew. A number that says nothing is 0.
 #[repr(C)]
-#[derive(Clone, Copy)]
+#[derive(Clone, Copy, Default)]
 pub struct Place {
     /// The record of the page file, counted from 1, the header not counted.
     pub record_number: u32,
@@ -62,26 +62,17 @@ pub(crate) fn plain(status: u32) -> StatusAt
     }
 }
 
-// A refusal for a record of the page file.
-fn of_record(status: u32, record_number: u32) -> StatusAt
-    ensures { result ≡ record_refusal status record_number }
+// A refusal for a record of the page file, and a line, a byte, a batch or a codeword. A number that says nothing is 0.
+pub(crate) fn refused_at(status: u32, record_number: u32, at: u64) -> StatusAt
+    ensures { result ≡ refusal_at status record_number at }
 {
     StatusAt {
         status,
         place: Place {
             record_number,
+            at,
             ..NOWHERE
         },
-    }
-}
-
-// A refusal for a batch or a codeword.
-fn of_index(status: u32, at: u64) -> StatusAt
-    ensures { result ≡ index_refusal status at }
-{
-    StatusAt {
-        status,
-        place: Place { at, ..NOWHERE },
     }
 }
 
@@ -92,27 +83,20 @@ pub(crate) fn refused_record(number: u32, fault: RecordFault) -> StatusAt
     ensures of_bytes { IsOfBytes result.status }
 {
     match fault {
-        RecordFault::FieldCount => of_record(19, number),
-        RecordFault::Field(FieldFault::BadAddress) => of_record(20, number),
-        RecordFault::Field(FieldFault::ReservedAddress) => of_record(21, number),
-        RecordFault::Field(FieldFault::BadKind) => of_record(22, number),
-        RecordFault::Field(FieldFault::MessageForTone) => of_record(23, number),
-        RecordFault::Field(FieldFault::EmptyMessage) => of_record(24, number),
-        RecordFault::Field(FieldFault::BadCharacter(at)) => StatusAt {
-            status: 25,
-            place: Place {
-                record_number: number,
-                at: at as u64,
-                ..NOWHERE
-            },
-        },
-        RecordFault::Field(FieldFault::TooLong) => of_record(26, number),
+        RecordFault::FieldCount => refused_at(19, number, 0),
+        RecordFault::Field(FieldFault::BadAddress) => refused_at(20, number, 0),
+        RecordFault::Field(FieldFault::ReservedAddress) => refused_at(21, number, 0),
+        RecordFault::Field(FieldFault::BadKind) => refused_at(22, number, 0),
+        RecordFault::Field(FieldFault::MessageForTone) => refused_at(23, number, 0),
+        RecordFault::Field(FieldFault::EmptyMessage) => refused_at(24, number, 0),
+        RecordFault::Field(FieldFault::BadCharacter(at)) => refused_at(25, number, at as u64),
+        RecordFault::Field(FieldFault::TooLong) => refused_at(26, number, 0),
         RecordFault::Field(FieldFault::OutOfMemory) => plain(3),
-        RecordFault::Page(PageFault::BadAddress) => of_record(20, number),
-        RecordFault::Page(PageFault::ReservedAddress) => of_record(21, number),
-        RecordFault::Page(PageFault::BadPayload) => of_record(29, number),
-        RecordFault::DuplicateAddress => of_record(27, number),
-        RecordFault::TooManyPages => of_record(28, number),
+        RecordFault::Page(PageFault::BadAddress) => refused_at(20, number, 0),
+        RecordFault::Page(PageFault::ReservedAddress) => refused_at(21, number, 0),
+        RecordFault::Page(PageFault::BadPayload) => refused_at(29, number, 0),
+        RecordFault::DuplicateAddress => refused_at(27, number, 0),
+        RecordFault::TooManyPages => refused_at(28, number, 0),
     }
 }
 
@@ -157,9 +141,9 @@ pub(crate) fn refused_transmission(fault: DecodeFault) -> StatusAt
 {
     match fault {
         DecodeFault::ShortPreamble => plain(48),
-        DecodeFault::NoSync(batch) => of_index(49, batch),
-        DecodeFault::BadWord(index) => of_index(50, index),
-        DecodeFault::Orphan(index) => of_index(51, index),
+        DecodeFault::NoSync(batch) => refused_at(49, 0, batch),
+        DecodeFault::BadWord(index) => refused_at(50, 0, index),
+        DecodeFault::Orphan(index) => refused_at(51, 0, index),
         DecodeFault::Truncated => plain(52),
         DecodeFault::NoBatch => plain(53),
         DecodeFault::TooMuch => plain(54),

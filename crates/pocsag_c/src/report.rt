@@ -15,7 +15,7 @@ use std::alloc::Global;
 
 /// What a plan takes on the air; all but the place is 0 where there is none.
 #[repr(C)]
-#[derive(Clone, Copy)]
+#[derive(Clone, Copy, Default)]
 pub struct ReportInfo {
     /// How many pages the round has.
     pub pages: u32,
@@ -36,18 +36,6 @@ pub struct ReportInfo {
     /// Where the fault stands, and what the search knew at its limit.
     pub place: Place,
 }
-
-const NO_REPORT: ReportInfo = ReportInfo {
-    pages: 0,
-    codewords: 0,
-    in_order: 0,
-    batches: 0,
-    bound: 0,
-    idles: 0,
-    bits: 0,
-    airtime_ms: 0,
-    place: NOWHERE,
-};
 
 // A round and its plan.
 #[derive(Drop)]
@@ -97,7 +85,7 @@ pub extern "C" fn pocsag_report(
     ensures nothing { result ≢ 0 → info.new ≡ no_report info.new.place }
     ensures of_bytes { IsOfBytes result }
 {
-    *info = NO_REPORT;
+    *info = ReportInfo::default();
     let Some(search) = search_of(limit, end, always) else {
         return 2;
     };

@@ -1,15 +1,15 @@
-ghost use Rattle.std.specs.Prelude.{◌≡◌, ◌≢◌, ◌≤◌, ◌⊎◌, ◌↔◌, Err, IfErr, IfOk, OnOk};
+ghost use Rattle.std.specs.Prelude.{◌≡◌, ◌≢◌, ◌⊎◌, ◌↔◌, Err, IfErr, IfOk, OnOk};
 ghost use Rattle.pocsag_show.specs.Shows.{Explains, IsTextOf};
 ghost use Rattle.pocsag_show.specs.Views.{view_text};
 ghost use Rattle.pocsag_wav.specs.Sounds.{ReadsAsPages};
 ghost use Rattle.pocsag_c.specs.Answers.{PrintsFault};
 ghost use Rattle.pocsag_c.specs.Listings.{HasNoRoom, IsListed};
 ghost use Rattle.pocsag_c.specs.Pictures.{AreBehindLast, AreNoRows, AreThere, IsBehindLastAs, IsNoPicture, IsNumberOfView, IsPictureAs};
-ghost use Rattle.pocsag_c.specs.Readings.{IsNoReading, IsSoAsRead, IsUnreadOr};
+ghost use Rattle.pocsag_c.specs.Readings.{IsNoReading, IsSoAsRead, IsUnreadOr, number_of_reading};
 ghost use Rattle.pocsag_c.specs.Statuses.{IsOfBytes, IsRefusing, nowhere, show_refusal};
 
 use crate::buffer::hand_out_text;
-use crate::reading::read_as;
+use crate::reading::{Reading, read_as, reading_of};
 use crate::refusal::{NOWHERE, Place, StatusAt, plain, refused_show};
 use pocsag_pages::preamble_len;
 use pocsag_show::{Rows, View, show};
@@ -52,13 +52,12 @@ fn refuse_batches(view: View, tx: &[u8]) -> Result<(), StatusAt>
     Err(plain(57))
 }
 
-fn text_shown(alloc: Global, reading: u32, view: View, tx: &[u8]) -> Result<Vec<u8>, StatusAt>
-    requires { reading ≤ 2 }
-    ensures shown { IfOk result (λ text. IsSoAsRead reading tx.now
+fn text_shown(alloc: Global, reading: Reading, view: View, tx: &[u8]) -> Result<Vec<u8>, StatusAt>
+    ensures shown { IfOk result (λ text. IsSoAsRead (number_of_reading reading) tx.now
         (λ bytes. IsTextOf (view_text view) bytes text.items × AreThere view bytes)) }
-    ensures behind { IfErr result (λ r. r.status ≡ 57 → IsSoAsRead reading tx.now
+    ensures behind { IfErr result (λ r. r.status ≡ 57 → IsSoAsRead (number_of_reading reading) tx.now
         (λ bytes. AreBehindLast view bytes × ReadsAsPages bytes) × (r.place ≡ nowhere)) }
-    ensures fault { IfErr result (λ r. r.status ≢ 57 → IsUnreadOr reading tx.now r.status r.place
+    ensures fault { IfErr result (λ r. r.status ≢ 57 → IsUnreadOr (number_of_reading reading) tx.now r.status r.place
         (λ bytes. PrintsFault show_refusal (Explains bytes) r.status r.place)) }
     ensures refusing { IfErr result (λ r. IsRefusing r.status) }
     ensures of_bytes { IfErr result (λ r. IsOfBytes r.status) }
@@ -109,9 +108,9 @@ pub extern "C" fn pocsag_show(
 {
     *text_len = 0;
     *place = NOWHERE;
-    if reading > 2 {
+    let Some(reading) = reading_of(reading) else {
         return 58;
-    }
+    };
     let view = match view_of(form, first, last) {
         Ok(view) => view,
         Err(status) => return status,

@@ -1,13 +1,11 @@
-ghost use Rattle.std.specs.Prelude.{◌≡◌, ◌≢◌, ◌⊎◌, IfErr, IfOk};
+ghost use Rattle.std.specs.Prelude.{◌≡◌, ◌≢◌, ◌⊎◌};
 ghost use Rattle.pocsag_c.specs.Answers.{PrintsFault};
 ghost use Rattle.pocsag_c.specs.Listings.{HasNoRoom, IsListed};
 ghost use Rattle.pocsag_c.specs.Sounds.{ExplainsNoSound, IsSoundOf, preamble_asked};
-ghost use Rattle.pocsag_c.specs.Statuses.{IsOfBytes, IsRefusing, nowhere, wav_refusal};
-ghost use Rattle.pocsag_wav.specs.Sounds.{ExplainsWav, ReadsAsPages};
-ghost use Rattle.pocsag_wav.specs.Wav.{IsWav};
+ghost use Rattle.pocsag_c.specs.Statuses.{IsOfBytes, nowhere, wav_refusal};
 
-use crate::buffer::hand_out_text;
-use crate::refusal::{NOWHERE, Place, StatusAt, refused_wav};
+use crate::buffer::hand_out;
+use crate::refusal::{NOWHERE, Place, refused_wav};
 use pocsag_wav::{Keying, write_wav};
 use pocsag_words::GrowingSink;
 use std::alloc::Global;
@@ -17,18 +15,6 @@ fn preamble_asked(bits: u32) -> Option<u32>
     ensures { result ≡ preamble_asked bits }
 {
     if bits == 0 { None } else { Some(bits) }
-}
-
-fn text_sounded(alloc: Global, keying: Keying, tx: &[u8]) -> Result<Vec<u8>, StatusAt>
-    ensures reads { IfOk result (λ file. ReadsAsPages tx.now) }
-    ensures wav { IfOk result (λ file. IsWav keying tx.now file.items) }
-    ensures fault { IfErr result (λ r. PrintsFault wav_refusal (ExplainsWav keying tx.now) r.status r.place) }
-    ensures refusing { IfErr result (λ r. IsRefusing r.status) }
-    ensures of_bytes { IfErr result (λ r. IsOfBytes r.status) }
-{
-    let mut file = GrowingSink::new(alloc);
-    write_wav(keying, tx, &mut file).map_err(refused_wav)?;
-    Ok(file.into_bytes())
 }
 
 /// Puts the sound that a transmitter is keyed with into a buffer, as a WAV file: 0, or 10 where the buffer is too small. In both
@@ -63,6 +49,9 @@ pub extern "C" fn pocsag_wav(
         Ok(keying) => keying,
         Err(fault) => return refused_wav(fault).status,
     };
-    let sounded = text_sounded(alloc, keying, tx);
-    hand_out_text(sounded, 10, wav, wav_len, place)
+    let mut file = GrowingSink::new(alloc);
+    if let Err(fault) = write_wav(keying, tx, &mut file) {
+        return refused_wav(fault).put(place);
+    }
+    hand_out(file.into_bytes().as_slice(), 10, wav, wav_len)
 }

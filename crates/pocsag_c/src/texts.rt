@@ -1,15 +1,12 @@
 ghost use Rattle.std.specs.Prelude.{◌≡◌, ◌⊎◌};
 ghost use Rattle.pocsag_c.specs.Answers.{IsDelivered, IsTooSmall};
-ghost use Rattle.pocsag_c.specs.Texts.{call_text, file_text, release_text, sent_text, status_text};
+ghost use Rattle.pocsag_c.specs.Texts.{file_text, release_text, sent_text, status_text};
 
 use crate::buffer::hand_out;
 
-// What a status of no fault says that this library has.
-const UNKNOWN: &[u8] = b"unknown status";
-
-// The texts of what was done, asked for or had no room.
-fn call_text(status: u32) -> &'static [u8]
-    ensures { result.now ≡ call_text status }
+// What a status says: the texts of what was done, asked for or had no room; or else those of faults.
+fn status_text(status: u32) -> &'static [u8]
+    ensures { result.now ≡ status_text status }
 {
     match status {
         0 => b"done",
@@ -27,11 +24,11 @@ fn call_text(status: u32) -> &'static [u8]
         12 => b"page 1 needs more batches",
         13 => b"the buffer of the pages that are left is too small",
         14 => b"the buffer of the certificate of one page more is too small",
-        _ => UNKNOWN,
+        _ => file_text(status),
     }
 }
 
-// The texts of page files, certificates and quotes.
+// The texts of page files, certificates and quotes; or else those of transmissions, captures and pagers.
 fn file_text(status: u32) -> &'static [u8]
     ensures { result.now ≡ file_text status }
 {
@@ -60,7 +57,7 @@ fn file_text(status: u32) -> &'static [u8]
         41 => b"the quote is not closed",
         42 => b"the quote stands inside a field that begins without one",
         43 => b"text follows the closing quote",
-        _ => UNKNOWN,
+        _ => sent_text(status),
     }
 }
 
@@ -83,7 +80,7 @@ fn sent_text(status: u32) -> &'static [u8]
         62 => b"the sound is too long for a WAV file",
         64 => b"bad address",
         65 => b"reserved address",
-        _ => UNKNOWN,
+        _ => b"unknown status",
     }
 }
 
@@ -94,12 +91,7 @@ pub extern "C" fn pocsag_text_of_status(status: u32, text: &mut [u8], text_len: 
     ensures no_room { result ≡ 10 → IsTooSmall text.old text.new text_len.new (status_text status) }
     ensures only { (result ≡ 0) ⊎ (result ≡ 10) }
 {
-    let said = match status {
-        0..16 => call_text(status),
-        16..45 => file_text(status),
-        _ => sent_text(status),
-    };
-    hand_out(said, 10, text, text_len)
+    hand_out(status_text(status), 10, text, text_len)
 }
 
 /// Puts the version of the package into a buffer, as `pocsag_text_of_status` does.
@@ -109,5 +101,5 @@ pub extern "C" fn pocsag_text_of_version(text: &mut [u8], text_len: &mut usize) 
     ensures no_room { result ≡ 10 → IsTooSmall text.old text.new text_len.new release_text }
     ensures only { (result ≡ 0) ⊎ (result ≡ 10) }
 {
-    hand_out(b"1.2.0-rc.7", 10, text, text_len)
+    hand_out(b"1.2.0", 10, text, text_len)
 }

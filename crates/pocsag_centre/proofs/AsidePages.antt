@@ -1,5 +1,5 @@
 -- The pages of a queue that are set aside, and the others.
-use Rattle.pocsag_centre.proofs.Prelude.{◌≡◌, ℕ, ◌<◌, ◌≤◌, Bool, true, false, not, ◌&&◌, inl, inr, List, [], ◌∷◌, ◌++◌, All, length, nat_eq, filter, refl, sym, ap, subst, ◌∙◌, arith, None, AllByRecursion, list_any, cases_Bool, All-filter, All-weaker, Page, IsListable, AreGood, addresses_of, page_fault_of, page_limit, IsQueue, good_page, IsSpellable, page_file, IsPageFileOf, FrontAsked, aside_of, fits_alone, is_aside, is_parted, planned_of}
+use Rattle.pocsag_centre.proofs.Prelude.{◌≡◌, ℕ, ◌<◌, ◌≤◌, Bool, true, false, not, ◌&&◌, inl, inr, List, [], ◌∷◌, All, length, nat_eq, filter, refl, sym, ap, subst, ◌∙◌, arith, None, AllByRecursion, list_any, cases_Bool, All-filter, Page, AreGood, addresses_of, page_fault_of, page_limit, IsQueue, IsSpellable, page_file, IsPageFileOf, FrontAsked, aside_of, fits_alone, is_aside, is_parted, planned_of}
 use Rattle.std.specs.List.{IsDistinct}
 use Rattle.std.proofs.lemmas.List.Sums.{count_by-le-length, length-filter}
 use Rattle.pocsag_centre.proofs.QueueRounds.{AreReadBack, held_back}
@@ -31,22 +31,6 @@ module _ (f : Page → Bool) where
       elim (cases_Bool (f p)) [
         | inl e ↦ rw e ((taken_apart (λ y. nat_eq p.address y ≡ false) ps apart.0, later.0), omega (arith, later.1))
         | inr n ↦ rw n (later.0, omega (arith, later.1))
-      ]
-
-  pub taken_push : (ps : List Page) (p : Page) → f p ≡ true → filter f (ps ++ p ∷ []) ≡ filter f ps ++ p ∷ []
-  taken_push [] p h = rw h refl
-  taken_push (q ∷ ps) p h =
-      elim (cases_Bool (f q)) [
-        | inl e ↦ rw e (ap (λ (v : List Page). q ∷ v) (taken_push ps p h))
-        | inr n ↦ rw n (taken_push ps p h)
-      ]
-
-  pub taken_same : (ps : List Page) (p : Page) → f p ≡ false → filter f (ps ++ p ∷ []) ≡ filter f ps
-  taken_same [] p h = rw h refl
-  taken_same (q ∷ ps) p h =
-      elim (cases_Bool (f q)) [
-        | inl e ↦ rw e (ap (λ (v : List Page). q ∷ v) (taken_same ps p h))
-        | inr n ↦ rw n (taken_same ps p h)
       ]
 
 -- nothing is set aside of pages of which none is to be
@@ -113,10 +97,6 @@ module _ (asked : FrontAsked) (Q : List Page) where
   planned_good good =
       let f : Page → Bool = λ p. not (is_aside asked Q p) in
       record { each = All-filter f (λ p. page_fault_of p ≡ None) Q good.each; apart = (taken_distinct f Q good.apart).0 }
-
-pub queue_listable : (Q : List Page) → IsQueue Q → All IsListable Q
-queue_listable Q queue =
-    All-weaker (λ p. page_fault_of p ≡ None) IsListable (λ p fine. let g = good_page p fine in record { function = g.function; items = g.small }) Q queue.each
 
 -- what is written of a part of a queue holds it
 pub part_back : AreReadBack → (f : Page → Bool) (may_wait : Bool) (Q : List Page) → IsQueue Q → (may_wait ≡ false → AreGood Q) → All IsSpellable Q

@@ -6,6 +6,12 @@ use Rattle.pocsag_plan.specs.declared.fault.PlanFault.TheVariants as planning
 use Rattle.pocsag_plan.specs.declared.fault.StreamFault.TheVariants as stream
 use Rattle.pocsag_centre.specs.declared.fault.CentreFault.TheVariants as fault
 
+-- a fault of bytes that were read
+pub unless_read : {A : Type 0} (e : RoundFault) → e ≢ round.ReadFault → (e ≡ round.OutOfMemory) ⊎ (e ≡ round.ReadFault) ⊎ A → (e ≡ round.OutOfMemory) ⊎ A
+unless_read e other (inl same) = inl same
+unless_read e other (inr (inl same)) = absurd (other same)
+unless_read e other (inr (inr held)) = inr held
+
 module _ {P : Type 0} (Pages : Reader P) (pages : P) where
   is_uncut : {E : Type 0} {e not_read too_large : E} → e ≢ not_read → e ≢ too_large →
       (Pages.is_known → IsOfCut not_read too_large (Pages.is_cut pages) e) → IsUncut Pages pages

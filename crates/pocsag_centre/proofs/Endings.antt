@@ -151,12 +151,3 @@ module _ (X T : List ℕ) (s : Sent X T) where
 
   pub idle_end : (last_four X ≡ idle_bytes) ↔ EndsIdle (map kind_of T)
   idle_end = rw last_of (ends_idle T s.codewords some_words)
-
-  -- four bytes are there
-  pub four_bytes : 4 ≤ length X
-  four_bytes =
-      let front : List ℕ = replicate s.preamble 0xaa in
-      let some = s.whole.0 in
-      let size : length (body_bytes T) ≡ 68 * s.batches = body_of_batches in
-      let all : length X ≡ length front + length (body_bytes T) = ap length s.bytes ∙ length-append front (body_bytes T) in
-      omega (arith, all, size, some)

@@ -1,17 +1,11 @@
 -- Why `plan` prints nothing, by the fault of its stream.
-use Rattle.pocsag_centre.proofs.Prelude.{◌≡◌, ◌≢◌, ◌⊎◌, ℕ, List, Some, inl, inr, refl, verdict, RoundFault, bound_tree_of, ExplainsStream, IsCertificate, IsTransmission, WritesCertificatePart, WritesInTurn, WritesPart, StreamFault, Search, FailedCut, fault_of_stream, ExplainsPlanFiles, PlanFiles}
-use Rattle.std.proofs.Common.{Err}
+use Rattle.pocsag_centre.proofs.Prelude.{◌≡◌, Some, inl, inr, refl, bound_tree_of, ExplainsStream, IsCertificate, IsTransmission, WritesCertificatePart, WritesInTurn, WritesPart, StreamFault, Search, FailedCut, fault_of_stream, ExplainsPlanFiles, PlanFiles}
 use Rattle.pocsag_words.specs.declared.device.Sink.{Ghosts as Writer}
 use Rattle.pocsag_words.specs.declared.device.Source.{Ghosts as Reader}
 use Rattle.pocsag_pages.specs.declared.fault.RoundFault.TheVariants as round
-use Rattle.pocsag_plan.specs.Verdicts.{ExplainsRound}
 use Rattle.pocsag_plan.specs.declared.fault.PlanFault.TheVariants as planning
 use Rattle.pocsag_plan.specs.declared.fault.StreamFault.TheVariants as stream
-
-of_file : (file : List ℕ) (f : RoundFault) → f ≢ round.ReadFault → (f ≡ round.OutOfMemory) ⊎ (f ≡ round.ReadFault) ⊎ (verdict file ≡ Err f) → ExplainsRound file f
-of_file file f other (inl e) = inl e
-of_file file f other (inr (inl e)) = absurd (other e)
-of_file file f other (inr (inr e)) = inr e
+use Rattle.pocsag_centre.proofs.CutFiles.{unless_read}
 
 module _ {P T C : Type 0} (Pages : Reader P) (Tx : Writer T) (Cert : Writer C) (search : Search) (files files' : PlanFiles P T C) where
   pub why_unplanned : (f : StreamFault) →
@@ -35,13 +29,13 @@ module _ {P T C : Type 0} (Pages : Reader P) (Tx : Writer T) (Cert : Writer C) (
   why_unplanned (stream.Round round.OutOfMemory) why turns part whole read =
       ((turns.untouched tt).0, (turns.untouched tt).1, λ k. ((why k).0, inl refl))
   why_unplanned (stream.Round round.TooLarge) why turns part whole read =
-      ((turns.untouched tt).0, (turns.untouched tt).1, λ k. ((why k).0, of_file _ round.TooLarge (λ e. cc (e)) (why k).1))
+      ((turns.untouched tt).0, (turns.untouched tt).1, λ k. ((why k).0, unless_read round.TooLarge (λ e. cc (e)) (why k).1))
   why_unplanned (stream.Round round.BadHeader) why turns part whole read =
-      ((turns.untouched tt).0, (turns.untouched tt).1, λ k. ((why k).0, of_file _ round.BadHeader (λ e. cc (e)) (why k).1))
+      ((turns.untouched tt).0, (turns.untouched tt).1, λ k. ((why k).0, unless_read round.BadHeader (λ e. cc (e)) (why k).1))
   why_unplanned (stream.Round (round.Record n e)) why turns part whole read =
-      ((turns.untouched tt).0, (turns.untouched tt).1, λ k. ((why k).0, of_file _ (round.Record n e) (λ e. cc (e)) (why k).1))
+      ((turns.untouched tt).0, (turns.untouched tt).1, λ k. ((why k).0, unless_read (round.Record n e) (λ e. cc (e)) (why k).1))
   why_unplanned (stream.Round round.NoPages) why turns part whole read =
-      ((turns.untouched tt).0, (turns.untouched tt).1, λ k. ((why k).0, of_file _ round.NoPages (λ e. cc (e)) (why k).1))
+      ((turns.untouched tt).0, (turns.untouched tt).1, λ k. ((why k).0, unless_read round.NoPages (λ e. cc (e)) (why k).1))
   why_unplanned (stream.Transmission f) why turns part whole read =
       inl (turns.write_failed tt, turns.not_begun tt, λ k t. part k t tt)
   why_unplanned (stream.Certificate f) why turns part whole read =

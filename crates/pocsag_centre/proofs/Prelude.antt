@@ -1,13 +1,13 @@
 -- What several proofs of the crate import, passed on to all of them.
-pub use Rattle.pocsag_centre.specs.Checks.{ExplainsHeld, IsExpected}
+pub use Rattle.pocsag_centre.specs.Checks.{IsExpected}
 pub use Rattle.pocsag_centre.specs.Faults.{fault_of_explanation, fault_of_front, fault_of_plan, fault_of_stream}
-unfoldable pub use Rattle.pocsag_centre.specs.Frames.{frame_text}
-pub use Rattle.pocsag_centre.specs.FrontFiles.{IsFrontDue, IsFrontOf, IsFrontOfPages, IsFrontRead, IsFrontWritten, IsPageFileOf, IsWhyWritten, beyond_of, certificate_text, front_text, sent_of, sent_pages, why_text}
+pub use Rattle.pocsag_centre.specs.FrontFiles.{IsFrontOfPages, IsFrontRead, IsPageFileOf, aside_file, certificate_text, front_text, sent_of, sent_pages}
 pub use Rattle.pocsag_centre.specs.FrontWorks.ExplainsFrontFiles.{cert_failed, others_failed, tx_failed, unwritten}
 pub use Rattle.pocsag_centre.specs.Judgements.{ExplainsJudging, IsVerdictLine, PrintsVerdict, verdict_status}
-unfoldable pub use Rattle.pocsag_centre.specs.Lines.{aside_text, below_text, bound_text, left_text, plan_text}
+unfoldable pub use Rattle.pocsag_centre.specs.Lines.{below_text, bound_text, plan_text}
 pub use Rattle.pocsag_centre.specs.Lines.{verdict_text}
 pub use Rattle.pocsag_centre.specs.Oversized.{aside_of, fits_alone, is_aside, is_parted, planned_of}
+unfoldable pub use Rattle.pocsag_centre.specs.Reports.{frame_text}
 pub use Rattle.pocsag_centre.specs.Works.{ExplainsPlanFiles, MayBeToldOfCut, judges, streaming}
 pub use Rattle.pocsag_centre.specs.declared.fault.CentreFault.{CentreFault}
 pub use Rattle.pocsag_centre.specs.declared.front.FrontAsked.{FrontAsked}
@@ -26,7 +26,7 @@ pub use Rattle.pocsag_pages.specs.Queues.{IsQueue, firsts, is_sent, left_of, que
 pub use Rattle.pocsag_pages.specs.Reading.{AreApart, BeginsNoMessage, EndsAs, EndsIdle, EndsWhole, IsBatchList}
 pub use Rattle.pocsag_pages.specs.declared.fault.RoundFault.{RoundFault}
 pub use Rattle.pocsag_pages.specs.declared.page.Page.{Page}
-pub use Rattle.pocsag_plan.proofs.Due.{asked_headline, tight_plan, tight_stream}
+pub use Rattle.pocsag_plan.proofs.Due.{tight_plan, tight_stream}
 pub use Rattle.pocsag_plan.specs.Fronts.{ExplainsFront, IsFrontFor, IsLongestFront, IsWhyNoMore}
 pub use Rattle.pocsag_plan.specs.Plans.{IsPlanFor, NoneHasFewer}
 unfoldable pub use Rattle.pocsag_plan.specs.Reports.{first_lines, last_lines, line_of, report_text}
@@ -39,7 +39,7 @@ pub use Rattle.pocsag_shell.proofs.Runs.{ran_as, ran_streamed}
 pub use Rattle.pocsag_shell.specs.Readers.{FailedCut, IsUncut}
 pub use Rattle.pocsag_shell.specs.Runs.{IsStreamOf, Work}
 pub use Rattle.pocsag_tree.specs.BoundTrees.{BoundTree}
-pub use Rattle.pocsag_tree.specs.CertificateText.{IsText, written_text}
+pub use Rattle.pocsag_tree.specs.CertificateText.{IsText}
 pub use Rattle.pocsag_tree.specs.Views.{bound_tree_of}
 pub use Rattle.pocsag_words.specs.Devices.{HasFailed, IsOfCut}
 pub use Rattle.pocsag_words.specs.Kinds.{idle_word, kind_of}
@@ -54,4 +54,4 @@ pub use Rattle.std.proofs.lemmas.Slice.Eq.{bytes_eq-Decides}
 pub use Rattle.std.specs.List.{AllByRecursion, flat_map, list_any}
 pub use Rattle.std.specs.List.Sorted.{IsNonDecreasingBy, IsSortedByKey}
 pub use Rattle.std.specs.Ordering.{MatchOrdering, nat_cmp, ordering_index}
-pub use Rattle.std.specs.Prelude.{Contains, Err, IfErr, IfOk, IsFalse, IsOk, IsPermutation, IsTrue, None, Ok, OnOk, Option, Result, codes, ◌↔◌}
+pub use Rattle.std.specs.Prelude.{Contains, Err, IfErr, IfOk, IsOk, IsPermutation, None, Ok, OnOk, Result, codes, ◌↔◌}

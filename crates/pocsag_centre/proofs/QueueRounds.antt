@@ -93,12 +93,14 @@ pub held_spellable : (may_wait : Bool) (file : List ℕ) (Q : List Page) → hel
 held_spellable true file Q read rounds queues = queues file Q read
 held_spellable false file Q read rounds queues = rounds file Q read
 
+pub queue_listable : (Q : List Page) → IsQueue Q → All IsListable Q
+queue_listable Q queue =
+    All-weaker (λ p. page_fault_of p ≡ None) IsListable (λ p fine. let g = good_page p fine in record { function = g.function; items = g.small }) Q queue.each
+
 -- the pages that are left of a queue
 module _ (Q sent : List Page) (queue : IsQueue Q) where
   pub left_listable : All IsListable (left_of sent Q)
-  left_listable =
-      left_all IsListable sent [] Q
-      (All-weaker (λ p. page_fault_of p ≡ None) IsListable (λ p fine. let g = good_page p fine in record { function = g.function; items = g.small }) Q queue.each)
+  left_listable = left_all IsListable sent [] Q (queue_listable Q queue)
 
   pub left_back : AreReadBack → (may_wait : Bool) → (may_wait ≡ false → AreGood Q) → All IsSpellable Q → (S : List Page) → S ≡ left_of sent Q →
       IsPageFileOf may_wait S (page_file S)

@@ -16,7 +16,7 @@ use Rattle.pocsag_slots.proofs.Rearranged.{rearranged}
 use Rattle.pocsag_centre.specs.Verification.{AreAmong, HasRival, IsTransmissionOf, ShowsExpected, Verified, WasNoCertificate, WasNoRound, verifies, verifies_round}
 use Rattle.pocsag_centre.specs.Verification.ExplainsVerifying.{no_round, unverified}
 use Rattle.pocsag_centre.specs.declared.fault.CentreFault.TheVariants as fault
-use Rattle.pocsag_centre.proofs.CutFiles.{failed_cut, told_of_round, told_of_whole}
+use Rattle.pocsag_centre.proofs.CutFiles.{failed_cut, told_of_round, told_of_whole, unless_read}
 
 moved_pages : (ps qs : List Page) → IsPermutation ps qs → (R : List Page) → AreAmong qs R → AreAmong ps R
 moved_pages ps qs moved R among = record {
@@ -145,19 +145,14 @@ module _ {P : Type 0} (Pages : Reader P) (judge : List ℕ → Result (List Page
   abbrev WhyNone : RoundFault → Type 0
   WhyNone e = (e ≡ round_fault.OutOfMemory) ⊎ (e ≡ round_fault.ReadFault) ⊎ (judge (Pages.held pages) ≡ Err e)
 
-  of_file : (e : RoundFault) → e ≢ round_fault.ReadFault → WhyNone e → (e ≡ round_fault.OutOfMemory) ⊎ (judge (Pages.held pages) ≡ Err e)
-  of_file e other (inl same) = inl same
-  of_file e other (inr (inl same)) = absurd (other same)
-  of_file e other (inr (inr read)) = inr read
-
   pub not_round : (e : RoundFault) → (Pages.is_known → WhyNone e) →
       (e ≡ round_fault.ReadFault → FailedCut Pages pages pages') → WasNoRound Pages judge pages pages' e
   not_round round_fault.ReadFault why failed = failed refl
   not_round round_fault.OutOfMemory why failed = λ k. inl refl
-  not_round round_fault.TooLarge why failed = λ k. of_file round_fault.TooLarge (λ e. cc (e)) (why k)
-  not_round round_fault.BadHeader why failed = λ k. of_file round_fault.BadHeader (λ e. cc (e)) (why k)
-  not_round (round_fault.Record n e) why failed = λ k. of_file (round_fault.Record n e) (λ e. cc (e)) (why k)
-  not_round round_fault.NoPages why failed = λ k. of_file round_fault.NoPages (λ e. cc (e)) (why k)
+  not_round round_fault.TooLarge why failed = λ k. unless_read round_fault.TooLarge (λ e. cc (e)) (why k)
+  not_round round_fault.BadHeader why failed = λ k. unless_read round_fault.BadHeader (λ e. cc (e)) (why k)
+  not_round (round_fault.Record n e) why failed = λ k. unless_read (round_fault.Record n e) (λ e. cc (e)) (why k)
+  not_round round_fault.NoPages why failed = λ k. unless_read round_fault.NoPages (λ e. cc (e)) (why k)
 
 -- and no certificate
 module _ {C : Type 0} (Cert : Reader C) (cert cert' : C) where

@@ -17,16 +17,11 @@ pub record PrintedPlan (file text : List ℕ) : Type 0 where
 
 -- `plan`: what both files took more is what the headline with a bound says of the plan that is required for what is asked of the
 -- page file's round; and what the headline says where the bound is the batches, as it is where only the fewest batches are an
--- answer.
-pub record Planned (file : List ℕ) (search : Search) (tx_before tx_after cert_before cert_after : List ℕ) : Type 0 where
+-- answer. The text is the counts of that plan, with the bound where it is below the batches.
+pub record PlannedAndPrinted (file : List ℕ) (search : Search) (tx_before tx_after cert_before cert_after text : List ℕ) : Type 0 where
   pub bounded : BoundedPlan
   pub plan_of : IsOfRound file (λ round. IsPlanFor search round bounded)
   pub writes : WritesBounded file search.end bounded.plan.batches bounded.bound (bound_tree_of bounded.plan.tree) tx_before tx_after cert_before cert_after
   pub headline : bounded.bound ≡ bounded.plan.batches
       → Writes file search.end bounded.plan.batches (bound_tree_of bounded.plan.tree) tx_before tx_after cert_before cert_after
-
--- The same, and the text is the counts of that plan, with the bound where it is below the batches.
-pub record PlannedAndPrinted (file : List ℕ) (search : Search) (tx_before tx_after cert_before cert_after text : List ℕ) : Type 0 where
-  pub planned : Planned file search tx_before tx_after cert_before cert_after
-  pub printed : text ≡ plan_text planned.bounded.plan.pages planned.bounded.plan.batches
-      ++ below_text planned.bounded.plan.batches planned.bounded.bound
+  pub printed : text ≡ plan_text bounded.plan.pages bounded.plan.batches ++ below_text bounded.plan.batches bounded.bound

@@ -1,7 +1,6 @@
 pub mod Checks
 pub mod Commands
 pub mod Faults
-pub mod Frames
 pub mod FrontFiles
 pub mod FrontWorks
 pub mod Judgements

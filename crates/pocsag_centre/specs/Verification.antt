@@ -16,7 +16,7 @@ use Rattle.pocsag_tree.specs.Parts.{HasFirst}
 use Rattle.pocsag_tree.specs.declared.refusals.CertificateFault.{CertificateFault}
 use Rattle.pocsag_tree.specs.declared.refusals.CertificateFault.TheVariants as certificate_fault
 use Rattle.pocsag_check.specs.Acceptance.{IsAcceptedFor}
-use Rattle.pocsag_decode.specs.Faults.{HasFault, ReadsAs, WantsMemory}
+use Rattle.pocsag_decode.specs.Faults.{HasFault, ReadsAs}
 use Rattle.pocsag_decode.specs.declared.fault.DecodeFault.TheVariants as decoding
 use Rattle.pocsag_plan.specs.Plans.{NoneHasFewer}
 use Rattle.pocsag_plan.specs.declared.search.OnLimit.{OnLimit}
@@ -66,6 +66,12 @@ pub record Verified (round : List Page) (search : Search) (sent certificate : Li
   pub transmission : IsTransmissionOf search.end round batches sent
   pub due : IsExpectedBound search.on_limit bound batches
 
+-- The bytes read as pages, of which there is at least one.
+pub record HoldsSome (bytes : List ℕ) : Type 0 where
+  pub pages : List Page
+  pub reads : ReadsAs bytes pages
+  pub some : pages ≢ []
+
 -- The bytes read as pages that are not those of the round.
 pub record HoldsOthers (round : List Page) (bytes : List ℕ) : Type 0 where
   pub pages : List Page
@@ -94,9 +100,10 @@ pub record IsNotDue (search : Search) (round : List Page) (bytes certificate : L
   pub text : IsText end bound tree certificate
   pub undue : ¬ ShowsExpected search round batches end bound tree
 
--- Why bytes are not taken for a transmission of the round and the end.
+-- Why bytes are not taken for a transmission of the round and the end. Memory is wanted only for pages, behind every fault of the
+-- transmission.
 abbrev pub ExplainsReadback : (end : End) (round : List Page) (bytes : List ℕ) → CentreFault → Type 0
-ExplainsReadback end round bytes (fault.Transmission f) = ((f ≡ decoding.OutOfMemory) × WantsMemory bytes) ⊎ HasFault bytes f
+ExplainsReadback end round bytes (fault.Transmission f) = ((f ≡ decoding.OutOfMemory) × HoldsSome bytes) ⊎ HasFault bytes f
 ExplainsReadback end round bytes fault.NotThePages = HoldsOthers round bytes
 ExplainsReadback end round bytes fault.NotTheEnd = EndsOtherwise end bytes
 ExplainsReadback end round bytes _ = ⊥

@@ -58,14 +58,11 @@ pub(crate) struct PlanArgs<'a> {
 /// What `report` is asked for.
 #[derive(Clone, Copy)]
 pub(crate) struct ReportArgs<'a> {
-    /// The path of the page file.
-    pub(crate) pages: Option<&'a str>,
     pub(crate) rate: u32,
-    pub(crate) search: SearchArgs,
     /// Whether the frames are reported too.
     pub(crate) frames: bool,
-    /// The plan of a front that is reported, where not the whole round is. It writes no file.
-    pub(crate) slot: Option<PlanArgs<'a>>,
+    /// The plan that is reported, which writes no file. It is one of a front where one is bounded, or where pages are set aside.
+    pub(crate) plan: PlanArgs<'a>,
 }
 
 fn search_in(found: &ArgMatches<'_>) -> Option<SearchArgs> {
@@ -105,12 +102,12 @@ fn front_in(found: &ArgMatches<'_>) -> Option<FrontLimit> {
     Some(FrontLimit::Airtime { ms, rate })
 }
 
-/// What the words of `plan` ask for. `None` if a word is missing, which clap has refused before.
+/// What the words of `plan` or of `report` ask of a plan. `None` if a word is missing, which clap has refused before.
 pub(crate) fn plan_args<'a>(found: &ArgMatches<'a>) -> Option<PlanArgs<'a>> {
     Some(PlanArgs {
         pages: path_of(found.get_str(PAGES)?),
-        tx: found.get_str(TX)?,
-        cert: found.get_str(CERT)?,
+        tx: found.get_str(TX).unwrap_or(STANDARD),
+        cert: found.get_str(CERT).unwrap_or(STANDARD),
         search: search_in(found)?,
         verify: found.get_flag(VERIFY),
         keep: found.get_flag(KEEP),
@@ -121,32 +118,19 @@ pub(crate) fn plan_args<'a>(found: &ArgMatches<'a>) -> Option<PlanArgs<'a>> {
     })
 }
 
-/// The same of `report`.
+/// What the words of `report` ask for.
 pub(crate) fn report_args<'a>(found: &ArgMatches<'a>) -> Option<ReportArgs<'a>> {
-    let (pages, search) = (path_of(found.get_str(PAGES)?), search_in(found)?);
-    let (front, oversized) = (front_in(found), found.get_flag(OVERSIZED));
-    let slot = PlanArgs {
-        pages,
-        tx: STANDARD,
-        cert: STANDARD,
-        search,
-        verify: false,
-        keep: false,
-        front,
-        rest: None,
-        oversized: oversized.then_some(STANDARD),
-        why: None,
-    };
+    let mut plan = plan_args(found)?;
+    // It is a flag here.
+    plan.oversized = found.get_flag(OVERSIZED).then_some(STANDARD);
     Some(ReportArgs {
-        pages,
         rate: found.get_one::<u32>(RATE)?,
-        search,
         frames: found.get_flag(EACH_FRAME),
-        slot: (front.is_some() || oversized).then_some(slot),
+        plan,
     })
 }
 
-/// How a certificate is reported, by the words of `explain`.
+/// How a certificate is explained, by the words of `explain`. `check` has none of them.
 pub(crate) fn wanted_format(found: &ArgMatches<'_>) -> Option<Format> {
     let depth = found.get_one::<u32>(DEPTH)?;
     Some(if found.get_flag(SVG) {

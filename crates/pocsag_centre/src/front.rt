@@ -1,4 +1,4 @@
-ghost use Rattle.std.specs.Prelude.{◌≡◌, ◌++◌, [], length, All, IfErr, IfOk, IsFalse, IsTrue, OnErr, OnOk};
+ghost use Rattle.std.specs.Prelude.{◌≡◌, ◌++◌, All, IfErr, IfOk, IsFalse, OnErr, OnOk};
 ghost use Rattle.pocsag_words.specs.Devices.{CountsFailures, Delivers};
 ghost use Rattle.pocsag_pages.specs.Listable.{IsListable};
 ghost use Rattle.pocsag_pages.specs.Pages.{AreGood};
@@ -7,9 +7,8 @@ ghost use Rattle.pocsag_decode.specs.PageFiles.{page_file};
 ghost use Rattle.pocsag_branch.specs.Found.{IsNodeLimit};
 ghost use Rattle.pocsag_plan.specs.Fronts.{ExplainsFront};
 ghost use Rattle.pocsag_plan.specs.Plans.{IsBounded};
-ghost use Rattle.pocsag_centre.specs.FrontFiles.{beyond_of, certificate_text, HasCertificateText, IsFrontOfPages, IsFrontRead, why_text};
+ghost use Rattle.pocsag_centre.specs.FrontFiles.{aside_file, certificate_text, front_text, HasCertificateText, IsFrontOfPages, IsFrontRead, others_text, why_text};
 ghost use Rattle.pocsag_centre.specs.FrontWorks.{ExplainsOthers, ExplainsUnplanned, fronts, TookAll};
-ghost use Rattle.pocsag_centre.specs.Lines.{aside_text, below_text, left_text, plan_text};
 ghost use Rattle.pocsag_centre.specs.Works.{MayBeToldOfCut};
 ghost use Rattle.pocsag_shell.specs.Readers.{IsUncut};
 ghost use Rattle.pocsag_shell.specs.Runs.{IsAnswerOf, Ran};
@@ -172,22 +171,12 @@ fn queue_front(alloc: Global, asked: FrontAsked, queue: Vec<Page>) -> Result<Fro
     let Ok(firsts) = first_pages(alloc, queue.as_slice()) else {
         return Err(NoFront::Plan(PlanFault::OutOfMemory));
     };
-    let front = longest_front(alloc, firsts, asked.batches, asked.search)?;
-    let FrontPlan {
-        round,
-        bounded,
-        rest: _,
-        why,
-    } = front;
-    let Ok(rest) = left_pages(alloc, queue, round.pages()) else {
+    let mut front = longest_front(alloc, firsts, asked.batches, asked.search)?;
+    let Ok(rest) = left_pages(alloc, queue, front.round.pages()) else {
         return Err(NoFront::Plan(PlanFault::OutOfMemory));
     };
-    Ok(FrontPlan {
-        round,
-        bounded,
-        rest,
-        why,
-    })
+    front.rest = rest;
+    Ok(front)
 }
 
 // The texts of a front.
@@ -198,15 +187,10 @@ fn texts_of_front(
 ) -> Result<FrontOutput, CentreFault>
     requires listable { All IsListable read.now.front.rest.items }
     requires listable_aside { All IsListable read.now.aside.items }
-    ensures lines { IfOk result (λ texts. texts.lines.items
-        ≡ plan_text read.now.front.bounded.plan.pages read.now.front.bounded.plan.batches
-        ++ below_text read.now.front.bounded.plan.batches read.now.front.bounded.bound
-        ++ left_text (length read.now.front.rest.items) ++ why_text asked.batches (beyond_of read.now.front.why)
-        ++ aside_text asked.sets_aside (length read.now.aside.items)) }
+    ensures lines { IfOk result
+        (λ texts. texts.lines.items ≡ front_text asked read.now.front read.now.aside.items) }
     ensures rest { IfOk result (λ texts. texts.rest.items ≡ page_file read.now.front.rest.items) }
-    ensures aside { IfOk result
-        (λ texts. IsTrue asked.sets_aside → texts.aside.items ≡ page_file read.now.aside.items) }
-    ensures no_aside { IfOk result (λ texts. IsFalse asked.sets_aside → texts.aside.items ≡ []) }
+    ensures aside { IfOk result (λ texts. texts.aside.items ≡ aside_file asked.sets_aside read.now.aside.items) }
     ensures memory { IfErr result (λ e. e ≡ CentreFault.File file_fault.OutOfMemory) }
 {
     let mut lines = GrowingSink::new(alloc);
@@ -273,32 +257,40 @@ fn put_why<S: Sink>(why: &Option<Certificate>, sink: &mut S) -> Result<(), FileF
     write_text(*end, *batches, tree, sink).map_err(|_| FileFault::Write)
 }
 
-// Prints the counts of a front, with its bound where that is below its batches; how many pages are left; what is shown of one
-// page more, where that is no more than the batches that were asked for; and how many pages are set aside.
-#[tactic(auto, unfolding(crate::specs::Lines::left_text))]
+// Prints the counts of a front, with its bound where that is below its batches, and the lines on the other pages.
 fn print_front<O: Sink>(asked: FrontAsked, read: &FrontRead, out: &mut O) -> Result<(), FileFault>
-    ensures printed { O.is_known → OnOk result (O.taken out.new ≡ O.taken out.old
-        ++ plan_text read.now.front.bounded.plan.pages read.now.front.bounded.plan.batches
-        ++ below_text read.now.front.bounded.plan.batches read.now.front.bounded.bound
-        ++ left_text (length read.now.front.rest.items) ++ why_text asked.batches (beyond_of read.now.front.why)
-        ++ aside_text asked.sets_aside (length read.now.aside.items)) }
+    ensures printed { O.is_known → OnOk result
+        (O.taken out.new ≡ O.taken out.old ++ front_text asked read.now.front read.now.aside.items) }
 {
-    let front = &read.front;
-    print_bounded(&front.bounded, out)?;
-    print_numbers(out, &[("left ", front.rest.len() as u64)], "\n")?;
-    print_why(&front.why, asked.batches, out)?;
-    print_aside(asked, read.aside.len(), out)
+    print_bounded(&read.front.bounded, out)?;
+    print_others(asked, read, out)
 }
 
-/// Prints what is shown of one page more, where there is one and it is no more than the batches that were asked for.
-#[tactic(auto, unfolding(crate::specs::Lines::undecided_text))]
-pub(crate) fn print_why<O: Sink>(
-    why: &Option<Certificate>,
-    batches: u32,
+/// Prints how many pages are left; what is shown of one page more, where that is no more than the batches that were asked for; and,
+/// where it is asked for, how many pages are set aside.
+#[tactic(auto, unfolding(crate::specs::Lines::left_text, crate::specs::Lines::aside_text))]
+pub(crate) fn print_others<O: Sink>(
+    asked: FrontAsked,
+    read: &FrontRead,
     out: &mut O,
 ) -> Result<(), FileFault>
+    ensures printed { O.is_known → OnOk result
+        (O.taken out.new ≡ O.taken out.old ++ others_text asked read.now.front read.now.aside.items) }
+{
+    let front = &read.front;
+    print_numbers(out, &[("left ", front.rest.len() as u64)], "\n")?;
+    print_why(&front.why, asked.batches, out)?;
+    if !asked.sets_aside {
+        return Ok(());
+    }
+    print_numbers(out, &[("oversized ", read.aside.len() as u64)], "\n")
+}
+
+// Prints what is shown of one page more, where there is one and it is no more than the batches that were asked for.
+#[tactic(auto, unfolding(crate::specs::Lines::undecided_text))]
+fn print_why<O: Sink>(why: &Option<Certificate>, batches: u32, out: &mut O) -> Result<(), FileFault>
     ensures delivers { O.is_known →
-        Delivers result (O.taken out.old) (O.taken out.new) (why_text batches (beyond_of why.now)) }
+        Delivers result (O.taken out.old) (O.taken out.new) (why_text batches why.now) }
     ensures lost { IfErr result (λ e. e ≡ FileFault.Write) }
     ensures failures { CountsFailures result (O.failures out.old) (O.failures out.new) }
 {
@@ -310,20 +302,4 @@ pub(crate) fn print_why<O: Sink>(
     }
     let number = [("at least ", why.batches as u64)];
     print_numbers(out, &number, " batches with one page more\n")
-}
-
-/// Prints how many pages are set aside, where that is asked for.
-#[tactic(auto, unfolding(crate::specs::Lines::aside_text))]
-pub(crate) fn print_aside<O: Sink>(
-    asked: FrontAsked,
-    count: usize,
-    out: &mut O,
-) -> Result<(), FileFault>
-    ensures printed { O.is_known →
-        OnOk result (O.taken out.new ≡ O.taken out.old ++ aside_text asked.sets_aside count) }
-{
-    if !asked.sets_aside {
-        return Ok(());
-    }
-    print_numbers(out, &[("oversized ", count as u64)], "\n")
 }

@@ -6,7 +6,7 @@ use crate::explain::{ExplainFiles, run_explain};
 use crate::fault::CentreFault;
 use crate::note::{note_file, note_first, quote_asked};
 use crate::plan::{DEFAULT_SEARCH, run_input};
-use crate::plan_files::{Streams, front_asked, plan_command, refuse_before, refuse_unmet, written};
+use crate::plan_files::{Streams, front_asked, plan_command, refuse_unmet, written};
 use crate::report::{ReportAsked, run_report};
 use crate::slot::{SlotAsked, run_slot_report};
 use crate::words::{
@@ -16,7 +16,7 @@ use crate::words::{
 use clap::{ArgMatches, Error};
 use pocsag_findings::Format;
 use pocsag_shell::{
-    CERT, Call, Context, Group, Names, PAGES, PAGES_READ, Role, STANDARD, STRICT, TX, Tables,
+    CERT, Call, Context, Group, NamedFile, PAGES, PAGES_READ, Role, STANDARD, STRICT, TX, Tables,
     first_asked, is_kept, load_both, load_file, path_of, put_whole,
 };
 use pocsag_words::Source;
@@ -54,51 +54,41 @@ impl Group for Centre {
         let done = match call.name {
             None => plan_input(context, found.get_flag(STRICT), &mut streams),
             Some(PLAN) => plan_command(context, plan_args(found)?, &mut streams),
-            Some(CHECK) => {
+            Some(CHECK | EXPLAIN) => {
                 let (pages, cert) = (found.get_str(PAGES)?, found.get_str(CERT)?);
-                check_paths(context, pages, cert, &mut streams)
+                judge_paths(context, wanted_format(found), pages, cert, &mut streams)
             }
             Some(REPORT) => report_path(context, report_args(found)?, &mut streams),
-            Some(EXPLAIN) => {
-                let (pages, cert) = (found.get_str(PAGES)?, found.get_str(CERT)?);
-                explain_paths(context, wanted_format(found)?, pages, cert, &mut streams)
-            }
             _ => return None,
         };
-        let fault = match &done {
-            Ok(_) => streams.err.fault(),
-            Err(fault) => Some(*fault),
-        };
-        if let Some(Some(role)) = fault.map(|fault| fault.refused()) {
+        let fault = done.err().or(streams.err.fault());
+        if let Some(role) = fault.and_then(|fault| fault.refused()) {
             context.diagnostics.note_refusal(role);
         }
-        Some(Ok(streams.end(context, names_of(call), done)))
+        Some(Ok(streams.end(context, &files_of(call), done)))
     }
 }
 
-// The words for the files of a call. A command that has not all of these words has none for the others.
-fn names_of<'a>(call: Call<'a, '_>) -> Names<'a> {
+// The files of a call, with the words for them. A command that has not all of these words has none for the others.
+fn files_of<'a>(call: Call<'a, '_>) -> [NamedFile<'a>; 6] {
     let found = call.found;
     let pages = match call.name {
         None => Some(STANDARD),
         Some(_) => found.get_str(PAGES),
     };
     // A flag of `report` has the name of a file of `plan`.
-    if matches!(call.name, None | Some(REPORT)) {
-        return Names {
-            pages,
-            ..Names::NONE
-        };
-    }
-    Names {
-        pages,
-        tx: found.get_str(TX),
-        cert: found.get_str(CERT),
-        rest: found.get_str(REST),
-        oversized: found.get_str(OVERSIZED),
-        why: found.get_str(WHY),
-        ..Names::NONE
-    }
+    let word = |id| match call.name {
+        None | Some(REPORT) => None,
+        Some(_) => found.get_str(id),
+    };
+    [
+        NamedFile(Role::PageFile, pages),
+        NamedFile(Role::Transmission, word(TX)),
+        NamedFile(Role::Certificate, word(CERT)),
+        NamedFile(Role::Rest, word(REST)),
+        NamedFile(Role::Oversized, word(OVERSIZED)),
+        NamedFile(Role::Why, word(WHY)),
+    ]
 }
 
 // Plans the page file of standard input.
@@ -117,42 +107,17 @@ fn plan_input(
         search: DEFAULT_SEARCH,
     };
     let mut pages = load_file(context, Role::PageFile, None, PAGES_READ)?;
-    let quote = refuse_unmet(context, None, &pages, asked)?;
-    let status = run_input(
-        context.alloc,
-        &mut pages,
-        &mut streams.out,
-        &mut streams.err,
-    );
+    let quote = refuse_unmet(context, None, &pages, asked, false)?;
+    let (out, err) = (&mut streams.out, &mut streams.err);
+    let status = run_input(context.alloc, &mut pages, out, err);
     note_file(context, None, &pages, quote, streams.err.fault());
     Ok(status)
 }
 
-// Judges a certificate; the status is 1 where it does not show its batches.
-fn check_paths(
+// Judges a certificate, and explains it in the format where there is one; the status is 1 where it does not show its batches.
+fn judge_paths(
     context: Context<'_>,
-    pages: &str,
-    cert: &str,
-    streams: &mut Streams,
-) -> Result<u8, CentreFault> {
-    let path = path_of(pages);
-    let (mut pages, mut cert) = load_both(context, pages, cert)?;
-    let quote = quote_asked(context, &pages);
-    let status = run_check(
-        context.alloc,
-        &mut pages,
-        &mut cert,
-        &mut streams.out,
-        &mut streams.err,
-    );
-    note_file(context, path, &pages, quote, streams.err.fault());
-    Ok(status)
-}
-
-// Explains a certificate; the status is 1 where it does not show its batches.
-fn explain_paths(
-    context: Context<'_>,
-    format: Format,
+    format: Option<Format>,
     pages: &str,
     cert: &str,
     streams: &mut Streams,
@@ -160,16 +125,16 @@ fn explain_paths(
     let path = path_of(pages);
     let (pages, cert) = load_both(context, pages, cert)?;
     let quote = quote_asked(context, &pages);
-    let (alloc, err) = (context.alloc, &mut streams.err);
-    let is_short = is_kept(&cert, KEPT_CERTIFICATE);
+    let (alloc, out, err) = (context.alloc, &mut streams.out, &mut streams.err);
+    let in_memory = format.is_none() || is_kept(&cert, KEPT_CERTIFICATE);
     let mut files = ExplainFiles { pages, cert };
-    let status = if is_short {
-        run_explain(alloc, format, &mut files, &mut streams.out, err)
-    } else {
-        run_explain(alloc, format, &mut files, &mut context.out(), err)
+    let status = match format {
+        None => run_check(alloc, &mut files.pages, &mut files.cert, out, err),
+        Some(format) if in_memory => run_explain(alloc, format, &mut files, out, err),
+        Some(format) => run_explain(alloc, format, &mut files, &mut context.out(), err),
     };
     note_file(context, path, &files.pages, quote, streams.err.fault());
-    if is_short {
+    if in_memory {
         return Ok(status);
     }
     written(streams, status)
@@ -181,24 +146,20 @@ fn report_path(
     args: ReportArgs<'_>,
     streams: &mut Streams,
 ) -> Result<u8, CentreFault> {
-    if let Some(slot) = args.slot {
-        return report_slot(context, args.rate, slot, streams);
+    let ReportArgs { rate, frames, plan } = args;
+    if plan.front.is_some() || plan.oversized.is_some() {
+        return report_slot(context, rate, plan, streams);
     }
-    let mut pages = load_file(context, Role::PageFile, args.pages, PAGES_READ)?;
-    let quote = refuse_unmet(context, args.pages, &pages, args.search)?;
+    let mut pages = load_file(context, Role::PageFile, plan.pages, PAGES_READ)?;
+    let quote = refuse_unmet(context, plan.pages, &pages, plan.search, false)?;
     let asked = ReportAsked {
-        rate: args.rate,
-        search: args.search.search,
-        frames: args.frames,
+        rate,
+        search: plan.search.search,
+        frames,
     };
-    let status = run_report(
-        context.alloc,
-        asked,
-        &mut pages,
-        &mut streams.out,
-        &mut streams.err,
-    );
-    note_file(context, args.pages, &pages, quote, streams.err.fault());
+    let (out, err) = (&mut streams.out, &mut streams.err);
+    let status = run_report(context.alloc, asked, &mut pages, out, err);
+    note_file(context, plan.pages, &pages, quote, streams.err.fault());
     Ok(status)
 }
 
@@ -216,16 +177,11 @@ fn report_slot(
     }
     let front = front_asked(slot, limit)?;
     let mut pages = load_file(context, Role::PageFile, slot.pages, PAGES_READ)?;
-    let quote = refuse_before(context, slot.pages, &pages, slot.search)?;
+    let quote = refuse_unmet(context, slot.pages, &pages, slot.search, true)?;
     let begins = first_asked(context, pages.lent().unwrap_or(&[]));
     let asked = SlotAsked { rate, front };
-    let status = run_slot_report(
-        context.alloc,
-        asked,
-        &mut pages,
-        &mut streams.out,
-        &mut streams.err,
-    );
+    let (out, err) = (&mut streams.out, &mut streams.err);
+    let status = run_slot_report(context.alloc, asked, &mut pages, out, err);
     let fault = streams.err.fault();
     note_file(context, slot.pages, &pages, quote, fault);
     note_first(context, slot, front, begins, fault);

@@ -22,10 +22,7 @@ pub(crate) fn note_file(
     quote: Option<QuoteFault>,
     fault: Option<CentreFault>,
 ) {
-    let place = NamedFile {
-        role: Role::PageFile,
-        name: Some(path.unwrap_or(STANDARD)),
-    };
+    let place = NamedFile(Role::PageFile, Some(path.unwrap_or(STANDARD)));
     match (fault, quote) {
         (Some(CentreFault::Round(fault)), _) => {
             if let Some(file) = pages.lent() {
@@ -51,10 +48,7 @@ pub(crate) fn note_first(
     let (Some(first), Some(CentreFault::FirstPage(needed))) = (begins, fault) else {
         return;
     };
-    let place = NamedFile {
-        role: Role::PageFile,
-        name: Some(args.pages.unwrap_or(STANDARD)),
-    };
+    let place = NamedFile(Role::PageFile, Some(args.pages.unwrap_or(STANDARD)));
     let batches = asked.batches;
     let noun = if needed == 1 { "batch" } else { "batches" };
     match args.front {

@@ -12,13 +12,12 @@ use crate::readback::{WrittenFront, run_verify, run_verify_front};
 use pocsag_pages::{FILE_LIMIT, QuoteFault};
 use pocsag_plan::{is_node_limit, most_batches};
 use pocsag_shell::{
-    CERT_READ, Context, FileFault, KEPT_BYTES, LoadedFile, MemoryStreams, Output, Outputs,
-    PAGES_READ, Role, STANDARD, StagedFile, first_asked, is_kept, is_regular, is_regular_or_none,
+    CERT_READ, Context, FileFault, KEPT_BYTES, LoadedFile, MemoryStreams, NamedFile, Output,
+    Outputs, PAGES_READ, Role, STANDARD, StagedFile, first_asked, is_kept, is_regular, is_unkept,
     load, load_file, open_output, open_outputs, open_source, path_of, put_staged, put_whole,
     refuse_equal, refuse_input, refuse_one_file, refuse_shared, write_over,
 };
 use pocsag_words::{GrowingSink, MemorySink, Sink, Source};
-use std::fs::File;
 
 /// Standard output and standard error of a command of the centre.
 pub(crate) type Streams = MemoryStreams<CentreFault>;
@@ -48,6 +47,7 @@ pub(crate) fn refuse_unmet(
     path: Option<&str>,
     pages: &LoadedFile,
     asked: SearchArgs,
+    is_front: bool,
 ) -> Result<Option<QuoteFault>, CentreFault> {
     let Some(file) = pages.lent() else {
         return Ok(None);
@@ -61,31 +61,17 @@ pub(crate) fn refuse_unmet(
     } else {
         quote = quote_asked(context, pages);
     }
-    let Some(expected) = asked.expect else {
+    // If the limit of the search is in range, the plan of a front counts the pages itself.
+    if is_front && is_node_limit(asked.search.limit) {
         return Ok(quote);
-    };
-    match expected_file(context.alloc, asked.may_wait, file, expected) {
-        Ok(()) => Ok(quote),
-        Err(fault) => {
+    }
+    if let Some(expected) = asked.expect {
+        if let Err(fault) = expected_file(context.alloc, asked.may_wait, file, expected) {
             note_file(context, path, pages, None, Some(fault));
-            Err(fault)
+            return Err(fault);
         }
     }
-}
-
-/// The same before a front is planned. If the limit of the search is in range, the plan of the front counts the pages
-/// itself.
-pub(crate) fn refuse_before(
-    context: Context<'_>,
-    path: Option<&str>,
-    pages: &LoadedFile,
-    asked: SearchArgs,
-) -> Result<Option<QuoteFault>, CentreFault> {
-    let mut asked = asked;
-    if is_node_limit(asked.search.limit) {
-        asked.expect = None;
-    }
-    refuse_unmet(context, path, pages, asked)
+    Ok(quote)
 }
 
 /// `plan`: plans from file to files, or from and to the standard streams. Where standard output takes one of
@@ -117,26 +103,14 @@ pub(crate) fn plan_command(
 // The files that a plan writes, in the order in which `--keep` puts them at their places. The page file of the rest goes
 // first, so that no page is both in it and in a transmission that is not there; and no transmission ever stands without
 // its certificate.
-fn places<'a>(args: PlanArgs<'a>) -> [(Role, Option<&'a str>); 5] {
+fn places<'a>(args: PlanArgs<'a>) -> [NamedFile<'a>; 5] {
     [
-        (Role::Rest, args.rest),
-        (Role::Oversized, args.oversized),
-        (Role::Why, args.why),
-        (Role::Certificate, Some(args.cert)),
-        (Role::Transmission, Some(args.tx)),
+        NamedFile(Role::Rest, args.rest),
+        NamedFile(Role::Oversized, args.oversized),
+        NamedFile(Role::Why, args.why),
+        NamedFile(Role::Certificate, Some(args.cert)),
+        NamedFile(Role::Transmission, Some(args.tx)),
     ]
-}
-
-// Whether `--keep` cannot keep what stands at a place. A note names it.
-fn is_unkept(context: Context<'_>, role: Role, place: Option<&str>) -> bool {
-    let Some(place) = place else {
-        return false;
-    };
-    if place != STANDARD && is_regular_or_none(context.rt, place) {
-        return false;
-    }
-    context.note(format_args!("{role} {place}: no regular file"));
-    true
 }
 
 // The first option of the order that its files do not serve, as the text that refuses it. It reads nothing of them.
@@ -159,8 +133,8 @@ fn misuse(context: Context<'_>, args: PlanArgs<'_>) -> Option<&'static str> {
     if !args.keep {
         return None;
     }
-    for (role, place) in places(args) {
-        if is_unkept(context, role, place) {
+    for file in places(args) {
+        if is_unkept(context, file) {
             return Some(BAD_KEEP);
         }
     }
@@ -226,16 +200,11 @@ fn plan_loaded<T: Sink + Drop, C: Sink + Drop, O: Sink>(
     streams: &mut Streams,
     out: &mut O,
 ) -> Result<u8, CentreFault> {
-    let quote = refuse_unmet(context, args.pages, &files.pages, args.search)?;
+    let quote = refuse_unmet(context, args.pages, &files.pages, args.search, false)?;
     let search = args.search.search;
     let status = run_plan(context.alloc, search, files, out, &mut streams.err);
-    note_file(
-        context,
-        args.pages,
-        &files.pages,
-        quote,
-        streams.err.fault(),
-    );
+    let fault = streams.err.fault();
+    note_file(context, args.pages, &files.pages, quote, fault);
     Ok(status)
 }
 
@@ -263,7 +232,7 @@ fn write_front<O: Sink>(
     let others = open_others(context, args)?;
     let outputs = opened.emptied(context)?;
     let pages = load(context, &mut source, PAGES_READ)?;
-    let quote = refuse_before(context, args.pages, &pages, args.search)?;
+    let quote = refuse_unmet(context, args.pages, &pages, args.search, true)?;
     let begins = first_asked(context, pages.lent().unwrap_or(&[]));
     let mut files = FrontFiles {
         pages,
@@ -275,13 +244,8 @@ fn write_front<O: Sink>(
         count: 0,
     };
     let mut lines: MemorySink<LINES> = MemorySink::new(LINES, LINES as u64);
-    let status = run_front(
-        context.alloc,
-        asked,
-        &mut files,
-        &mut lines,
-        &mut streams.err,
-    );
+    let (alloc, err) = (context.alloc, &mut streams.err);
+    let status = run_front(alloc, asked, &mut files, &mut lines, err);
     let fault = streams.err.fault();
     note_file(context, args.pages, &files.pages, quote, fault);
     note_first(context, args, asked, begins, fault);
@@ -315,12 +279,9 @@ pub(crate) fn front_asked(
 }
 
 // Opens the files of a front beside its transmission and certificate, behind these and before any file is emptied.
-fn open_others(
-    context: Context<'_>,
-    args: PlanArgs<'_>,
-) -> Result<Vec<(Role, Output<File>)>, FileFault> {
+fn open_others(context: Context<'_>, args: PlanArgs<'_>) -> Result<Vec<(Role, Output)>, FileFault> {
     let mut others = Vec::new(context.alloc);
-    for (role, word) in &places(args)[..3] {
+    for NamedFile(role, word) in &places(args)[..3] {
         if let Some(word) = *word {
             others.push((*role, open_output(context, *role, word)?))?;
         }
@@ -333,7 +294,7 @@ fn open_others(
 // Writes the files of a front, the rest first.
 fn put_front_files<S: Sink + Drop>(
     context: Context<'_>,
-    others: Vec<(Role, Output<File>)>,
+    others: Vec<(Role, Output)>,
     mut outputs: Outputs<S>,
     files: FrontFiles<LoadedFile, GrowingSink>,
 ) -> Result<(), FileFault> {
@@ -425,14 +386,12 @@ fn plan_among<O: Sink>(
     streams: &mut Streams,
     lines: &mut O,
 ) -> Result<u8, CentreFault> {
-    for (role, place) in places(args) {
+    for NamedFile(role, place) in places(args) {
         let Some(place) = place else {
             continue;
         };
         let made = StagedFile::make(context, role, place, files.as_slice())?;
-        files
-            .push(made)
-            .map_err(|_| CentreFault::File(FileFault::OutOfMemory))?;
+        files.push(made).map_err(FileFault::from)?;
     }
     let status = plan_files(context, staged(args, files.as_slice()), streams, lines)?;
     if status == 0 {

@@ -1,4 +1,4 @@
-ghost use Rattle.std.specs.Prelude.{◌≡◌, ◌⊎◌, ◌↔◌, List, ℕ, false, Contains, map, Err, IfErr, IfOk, IsFalse, IsTrue, Ok, OnOk};
+ghost use Rattle.std.specs.Prelude.{◌≡◌, ◌⊎◌, ◌↔◌, List, ℕ, false, Contains, map, Err, IfErr, IfOk, IsFalse, IsTrue, MatchResult, Ok, OnOk};
 ghost use Rattle.std.specs.List.Sorted.{IsNonDecreasingBy};
 ghost use Rattle.pocsag_words.specs.Devices.{HasFailed, IsOfCut};
 ghost use Rattle.pocsag_words.specs.Kinds.{kind_of};
@@ -6,19 +6,20 @@ ghost use Rattle.pocsag_pages.specs.Bytes.{Sent};
 ghost use Rattle.pocsag_pages.specs.PageFile.{verdict};
 ghost use Rattle.pocsag_pages.specs.Pages.{IsRound};
 ghost use Rattle.pocsag_pages.specs.Reading.{EndsAs};
+ghost use Rattle.pocsag_decode.specs.Faults.{HasFault, ReadsAs};
 ghost use Rattle.pocsag_tree.specs.Views.{bound_tree_of};
 ghost use Rattle.pocsag_shell.specs.Readers.{IsSoOfHeld};
 ghost use Rattle.pocsag_shell.specs.Runs.{IsStreamOf, Ran};
 ghost use Rattle.pocsag_plan.specs.Plans.{NoneHasFewer};
 ghost use Rattle.pocsag_centre.specs.FrontFiles.{sent_pages};
-ghost use Rattle.pocsag_centre.specs.Verification.{AreAmong, ExplainsReadback, ExplainsUntaken, HasRival, IsExpectedBound, IsTransmissionOf, ShowsExpected, verifies, verifies_round};
+ghost use Rattle.pocsag_centre.specs.Verification.{AreAmong, ExplainsReadback, ExplainsUntaken, HasRival, HoldsSome, IsExpectedBound, IsTransmissionOf, ShowsExpected, verifies, verifies_round};
 
 use crate::fault::CentreFault;
 use crate::front::FrontAsked;
 use crate::oversized::{PageParts, part_pages};
 use crate::plan::PlanFiles;
 use pocsag_check::check;
-use pocsag_decode::decode;
+use pocsag_decode::{DecodeFault, PageReader, PageSource, judge_bytes};
 use pocsag_pages::{
     Page, Round, RoundFault, first_pages, preamble_len, read_pages, read_round, read_whole,
 };
@@ -132,10 +133,8 @@ fn verify<P: Source + Drop, T: Source + Drop, C: Source + Drop, O: Sink>(
     if !shows_due(&round, &certificate, batches, search) {
         return Err(CentreFault::NotTheBound);
     }
-    match put_whole(out, b"verified\n") {
-        Ok(()) => Ok(0),
-        Err(fault) => Err(CentreFault::File(fault)),
-    }
+    put_whole(out, b"verified\n")?;
+    Ok(0)
 }
 
 // The batches of a transmission of the round's pages that ends as is asked for. What the reader lends is judged where it stands.
@@ -175,12 +174,28 @@ fn shows_due(round: &Round, certificate: &Certificate, batches: usize, search: S
     check(round, certificate.batches, &certificate.tree, search.end)
 }
 
+// The pages that a transmission reads as, in order of transmission.
+fn pages_of(alloc: Global, bytes: &[u8]) -> Result<Vec<Page>, DecodeFault>
+    ensures pages { MatchResult result (λ pages. ReadsAs bytes.now pages.items)
+        (λ f. ((f ≡ DecodeFault.OutOfMemory) × HoldsSome bytes.now) ⊎ HasFault bytes.now f) }
+{
+    judge_bytes(bytes)?;
+    let mut reader = PageReader::new(alloc, bytes);
+    let mut pages = Vec::new(alloc);
+    while let Some(page) = reader.next_page()? {
+        let Ok(()) = pages.push(page) else {
+            return Err(DecodeFault::OutOfMemory);
+        };
+    }
+    Ok(pages)
+}
+
 // The batches of a transmission of the round's pages that ends as is asked for.
 fn read_back(alloc: Global, bytes: &[u8], round: &Round, end: End) -> Result<usize, CentreFault>
     ensures taken { IfOk result (λ batches. IsTransmissionOf end round.now batches bytes.now) }
     ensures explained { IfErr result (ExplainsReadback end round.now bytes.now) }
 {
-    let mut sent = match decode(alloc, bytes) {
+    let mut sent = match pages_of(alloc, bytes) {
         Ok(sent) => sent,
         Err(fault) => return Err(CentreFault::Transmission(fault)),
     };

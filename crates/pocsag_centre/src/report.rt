@@ -4,8 +4,8 @@ ghost use Rattle.pocsag_words.specs.Devices.{CountsFailures};
 ghost use Rattle.pocsag_plan.specs.Frames.{HasClasses};
 ghost use Rattle.pocsag_plan.specs.Reports.{report_text};
 ghost use Rattle.pocsag_shell.specs.Runs.{IsAnswerOf, Ran};
-ghost use Rattle.pocsag_centre.specs.Frames.{frame_text, AreByRoom};
 ghost use Rattle.pocsag_centre.specs.Lines.{below_text};
+ghost use Rattle.pocsag_centre.specs.Reports.{AreByRoom, frame_text};
 ghost use Rattle.pocsag_centre.specs.Works.{reports};
 
 use crate::fault::CentreFault;
@@ -132,7 +132,7 @@ fn print_frames<O: Sink>(
     Ok(())
 }
 
-#[tactic(auto, unfolding(crate::specs::Frames::frame_text))]
+#[tactic(auto, unfolding(crate::specs::Reports::frame_text))]
 fn print_frame<O: Sink>(room: &FrameRoom, out: &mut O) -> Result<(), FileFault>
     ensures printed { O.is_known → OnOk result (O.taken out.new ≡ O.taken out.old ++ frame_text room.now) }
     ensures lost { IfErr result (λ e. e ≡ FileFault.Write) }

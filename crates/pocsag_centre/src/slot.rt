@@ -1,15 +1,15 @@
-ghost use Rattle.std.specs.Prelude.{◌≡◌, ◌++◌, length, OnOk};
+ghost use Rattle.std.specs.Prelude.{◌≡◌, ◌++◌, OnOk};
 ghost use Rattle.pocsag_plan.specs.Reports.{report_text};
 ghost use Rattle.pocsag_shell.specs.Runs.{IsAnswerOf, Ran};
-ghost use Rattle.pocsag_centre.specs.FrontFiles.{beyond_of, why_text};
-ghost use Rattle.pocsag_centre.specs.Lines.{aside_text, below_text, left_text};
+ghost use Rattle.pocsag_centre.specs.FrontFiles.{others_text};
+ghost use Rattle.pocsag_centre.specs.Lines.{below_text};
 ghost use Rattle.pocsag_centre.specs.Slots.{reports_slot};
 
 use crate::fault::CentreFault;
-use crate::front::{FrontAsked, FrontRead, print_aside, print_why, read_front};
+use crate::front::{FrontAsked, FrontRead, print_others, read_front};
 use crate::report::print_report;
 use pocsag_plan::{Report, report};
-use pocsag_shell::{CommandAnswer, ErrorStream, FileFault, print_answer, print_numbers};
+use pocsag_shell::{CommandAnswer, ErrorStream, FileFault, print_answer};
 use pocsag_words::{GrowingSink, Sink, Source};
 use std::alloc::Global;
 
@@ -61,8 +61,7 @@ fn answer_slot<P: Source>(
     }
 }
 
-// Prints the report of a front, and behind it what `plan` prints of one.
-#[tactic(auto, unfolding(crate::specs::Lines::left_text))]
+// Prints the report of a front, and behind it the lines on the other pages.
 fn print_slot<O: Sink>(
     asked: FrontAsked,
     read: &FrontRead,
@@ -70,13 +69,9 @@ fn print_slot<O: Sink>(
     out: &mut O,
 ) -> Result<(), FileFault>
     ensures printed { O.is_known → OnOk result (O.taken out.new ≡ O.taken out.old ++ report_text report
-        ++ below_text report.batches read.now.front.bounded.bound ++ left_text (length read.now.front.rest.items)
-        ++ why_text asked.batches (beyond_of read.now.front.why)
-        ++ aside_text asked.sets_aside (length read.now.aside.items)) }
+        ++ below_text report.batches read.now.front.bounded.bound
+        ++ others_text asked read.now.front read.now.aside.items) }
 {
-    let front = &read.front;
-    print_report(report, front.bounded.bound, out)?;
-    print_numbers(out, &[("left ", front.rest.len() as u64)], "\n")?;
-    print_why(&front.why, asked.batches, out)?;
-    print_aside(asked, read.aside.len(), out)
+    print_report(report, read.front.bounded.bound, out)?;
+    print_others(asked, read, out)
 }

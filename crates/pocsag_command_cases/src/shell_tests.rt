@@ -1,7 +1,7 @@
 //! What the commands share, over memory: what names a file, and how a line is reported.
 
 use crate::same;
-use pocsag_shell::{FileFault, NamedFile, Names, Role, equal_paths, print_fault};
+use pocsag_shell::{FileFault, NamedFile, Role, equal_paths, print_fault};
 use pocsag_words::MemorySink;
 use std::test::Fail;
 
@@ -17,14 +17,13 @@ const NAMED: [(Role, &str); 6] = [
 
 #[test]
 fn files_are_named(rt: HostRuntime) -> Result<(), Fail> {
-    let names = Names {
-        pages: Some("p\n.csv"),
-        cert: Some("c"),
-        journal: Some("j"),
-        ..Names::NONE
-    };
+    let files = [
+        NamedFile(Role::PageFile, Some("p\n.csv")),
+        NamedFile(Role::Certificate, Some("c")),
+        NamedFile(Role::Journal, Some("j")),
+    ];
     for (role, due) in NAMED {
-        let place: NamedFile<'_> = names.place(role);
+        let place: NamedFile<'_> = role.among(&files);
         let told = format!(in rt.alloc(); "{place}").expect(&rt, "memory");
         same!(rt; told.as_str(), due);
     }

@@ -1,5 +1,5 @@
 //! Pages that are handed out one after the other.
-ghost use Rattle.std.specs.Prelude.{◌≡◌, ◌∷◌, [], List, All, IfOk, MatchOption};
+ghost use Rattle.std.specs.Prelude.{◌≡◌, ◌≢◌, ◌∷◌, [], List, All, IfOk, OnErr, MatchOption};
 ghost use Rattle.std.specs.Vec.Iter.{into_iter_items};
 ghost use Rattle.pocsag_pages.specs.declared.page.Page.{Page};
 ghost use Rattle.pocsag_pages.specs.Listable.{IsListable};
@@ -22,8 +22,11 @@ pub trait PageSource {
 
     /// The next page, or none where none is left.
     fn next_page(&mut self) -> Result<Option<Page>, AllocError>
-        ensures { IfOk result (λ found.
-            MatchOption found (left self.old ≡ []) (λ p. left self.old ≡ p ∷ left self.new)) };
+        ensures next { IfOk result (λ found.
+            MatchOption found (left self.old ≡ []) (λ p. left self.old ≡ p ∷ left self.new)) }
+
+        // Memory is wanted only where a page is left.
+        ensures memory { OnErr result (left self.old ≢ []) };
 }
 
 /// A reader of the pages of a transmission, which holds one page.

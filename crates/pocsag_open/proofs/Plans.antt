@@ -1,12 +1,11 @@
 -- What the outputs of a plan hold, and why it is refused.
-use Rattle.pocsag_open.proofs.Prelude.{◌≡◌, inr, ℕ, List, [], ◌++◌, append-nil, refl, sym, ap, ◌∙◌, subst, arith, Some, End, Page, OnLimit, ArePlacesOfRefused, ExplainsFrontUndone, ExplainsUndone, HasFailedOutput, IsUnplaced, PlacementResult, plan_search, undone_of}
+use Rattle.pocsag_open.proofs.Prelude.{◌≡◌, inr, ℕ, List, [], ◌++◌, append-nil, refl, sym, ap, ◌∙◌, subst, arith, None, Some, End, Page, OnLimit, ArePlacesOfRefused, ExplainsPlanUndone, HasFailedOutput, IsUnplaced, PlacementResult, plan_search, undone_of}
 use Rattle.pocsag_tree.specs.Views.{bound_tree_of}
 use Rattle.pocsag_plan.specs.declared.fault.PlanFault.TheVariants as planning
 use Rattle.pocsag_plan.specs.declared.fault.StreamFault.{StreamFault}
 use Rattle.pocsag_plan.specs.declared.fault.StreamFault.TheVariants as streaming
 use Rattle.pocsag_plan.specs.declared.fault.UnsentFront.TheVariants as front
 use Rattle.pocsag_plan.specs.BookPlans.{ExplainsBookFront, ExplainsBookStream}
-use Rattle.pocsag_plan.specs.Plans.{IsStopped}
 use Rattle.pocsag_plan.specs.Searches.{default_limit}
 use Rattle.pocsag_plan.specs.Streams.{WritesAllOf, WritesInTurn}
 
@@ -19,23 +18,22 @@ all_held Holds tx tx_after cert cert_after none no_text w =
     subst (λ (l : List ℕ). Holds l cert_after) (sym sent) (subst (λ (l : List ℕ). Holds w.sent l) (sym text) w.headline)
 
 -- the fault of a stream of the pages explains why their plan is refused
-pub explains : (on_limit : OnLimit) (end : End) (pages : List Page) (limit : ℕ) (f : StreamFault) → limit ≡ default_limit →
-    ExplainsBookStream on_limit end pages limit f → ExplainsUndone on_limit end pages (undone_of f)
-explains on_limit end pages limit (streaming.Plan planning.BadLimit) e h = absurd (h (record { some = omega (arith, e); few = omega (arith, e) }))
-explains on_limit end pages limit (streaming.Plan (planning.SearchLimit stop)) e h = (
-  h.0,
-  h.2,
-  (bound_tree_of stop.tree, subst (λ (l : ℕ). IsStopped end pages l stop.least stop.found (bound_tree_of stop.tree)) e h.3),
-)
-explains on_limit end pages limit (streaming.Plan planning.OutOfMemory) e h = h.1
-explains on_limit end pages limit (streaming.Round f) e h = h.1
-explains on_limit end pages limit f e h = tt
+pub explains : (on_limit : OnLimit) (end : End) (pages : List Page) (f : StreamFault) → ExplainsBookStream on_limit end pages default_limit f →
+    ExplainsPlanUndone on_limit end None pages (undone_of f)
+explains on_limit end pages (streaming.Plan planning.BadLimit) h = absurd (h (record { some = omega arith; few = omega arith }))
+explains on_limit end pages (streaming.Plan (planning.SearchLimit stop)) h = (h.0, h.2, (bound_tree_of stop.tree, h.3))
+explains on_limit end pages (streaming.Plan planning.OutOfMemory) h = h.1
+explains on_limit end pages (streaming.Round f) h = h.1
+explains on_limit end pages f h = tt
 
 -- and so does that of a stream of a front
 pub explains_front : (on_limit : OnLimit) (end : End) (most : ℕ) (pages : List Page) (f : StreamFault) →
-    ExplainsBookFront (plan_search on_limit end) pages most (front.Stream f) → ExplainsFrontUndone on_limit end most pages (undone_of f)
+    ExplainsBookFront (plan_search on_limit end) pages most (front.Stream f) → ExplainsPlanUndone on_limit end (Some most) pages (undone_of f)
 explains_front on_limit end most pages (streaming.Plan (planning.SearchLimit stop)) h = (h.0, h.2, (bound_tree_of stop.tree, h.3))
-explains_front on_limit end most pages f h = explains on_limit end pages default_limit f refl h
+explains_front on_limit end most pages (streaming.Plan planning.BadLimit) h = explains on_limit end pages (streaming.Plan planning.BadLimit) h
+explains_front on_limit end most pages (streaming.Plan planning.OutOfMemory) h = h.1
+explains_front on_limit end most pages (streaming.Round f) h = h.1
+explains_front on_limit end most pages f h = tt
 
 -- a store whose outputs failed, or one of whose outputs could not be written, did not place them
 pub unsent : {Output : Type 0} (failures : Output → ℕ) (IsKnown : Type 0) (tx_name cert_name : List ℕ) (before after : List PlacementResult)

@@ -5,30 +5,18 @@ pub on_ok : {X E : Type 0} (r : Result X E) (P Q : Type 0) → (P → Q) → OnO
 on_ok (Ok x) P Q f h = f h
 on_ok (Err e) P Q f h = tt
 
--- what is reported is of another kind too, and this became of the places
-pub told_as : {X E : Type 0} (r : Result X E) (IsKnown : Type 0) (before after : List ℕ) (placed later more : List PlacementResult) (P : List ℕ → Type 0)
-    (Q : List ℕ → List PlacementResult → Type 0) → (IsKnown → later ≡ placed ++ more) → ((printed : List ℕ) → P printed → Q printed more) →
-    OnOk r (TookMore before after P) → OnOk r (PrintsAndPlaces IsKnown before after placed later Q)
-told_as r IsKnown before after placed later more P Q on f h =
-    on_ok r _ _
-    (λ (t : TookMore before after P). record { printed = t.0; placed = more; answers = t.1; outputs = on; holds = f t.0 t.2 })
-    h
-
--- it is of another kind too
-pub told_like : {X E : Type 0} (r : Result X E) (IsKnown : Type 0) (before after : List ℕ) (placed later : List PlacementResult)
-    (P Q : List ℕ → List PlacementResult → Type 0) → ((printed : List ℕ) (sent : List PlacementResult) → P printed sent → Q printed sent) →
-    OnOk r (PrintsAndPlaces IsKnown before after placed later P) → OnOk r (PrintsAndPlaces IsKnown before after placed later Q)
-told_like r IsKnown before after placed later P Q f h =
-    on_ok r _ _
-    (λ (t : PrintsAndPlaces IsKnown before after placed later P).
-    record { printed = t.printed; placed = t.placed; answers = t.answers; outputs = t.outputs; holds = f t.printed t.placed t.holds })
-    h
-
 -- this is reported, and nothing is placed
 pub told_once : (IsKnown : Type 0) (before after printed : List ℕ) (placed : List PlacementResult) (Q : List ℕ → List PlacementResult → Type 0) → Q printed [] →
     after ≡ before ++ printed → PrintsAndPlaces IsKnown before after placed placed Q
 told_once IsKnown before after printed placed Q q e =
     record { printed = printed; placed = []; answers = e; outputs = λ is_known. sym (append-nil placed); holds = q }
+
+-- what is reported is of another kind too, and nothing is placed
+pub told_as : {X E : Type 0} (r : Result X E) (IsKnown : Type 0) (before after : List ℕ) (placed : List PlacementResult) (P : List ℕ → Type 0)
+    (Q : List ℕ → List PlacementResult → Type 0) → ((printed : List ℕ) → P printed → Q printed []) →
+    OnOk r (TookMore before after P) → OnOk r (PrintsAndPlaces IsKnown before after placed placed Q)
+told_as r IsKnown before after placed P Q f h =
+    on_ok r _ _ (λ (t : TookMore before after P). told_once IsKnown before after t.0 placed Q (f t.0 t.2) t.1) h
 
 -- this is reported, and this became of the places
 pub told_this : {X E : Type 0} (r : Result X E) (IsKnown : Type 0) (before after printed : List ℕ) (placed later more : List PlacementResult)

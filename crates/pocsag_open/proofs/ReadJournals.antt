@@ -1,5 +1,5 @@
 -- What is printed of a journal that was read.
-use Rattle.pocsag_open.proofs.Prelude.{◌≡◌, ◌⊎◌, ℕ, Bool, false, List, ◌++◌, append_assoc, refl, inl, inr, ◌==◌, codes, OnOk, Result, CountsFailures, HasFailed, for_count, read_text, torn_end, torn_text}
+use Rattle.pocsag_open.proofs.Prelude.{◌≡◌, ◌⊎◌, ℕ, false, List, ◌++◌, append_assoc, refl, inl, inr, ◌==◌, codes, OnOk, Result, CountsFailures, HasFailed, for_count, read_text, torn_end, torn_text}
 use Rattle.std.proofs.Common.{Ok, Err}
 use Rattle.std.specs.Fmt.{decimal}
 use Rattle.std.specs.Prelude.{◌∷◌, []}

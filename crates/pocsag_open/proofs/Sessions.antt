@@ -1,5 +1,5 @@
 -- The replies to lines, one after another.
-use Rattle.pocsag_open.proofs.Prelude.{◌≡◌, inl, inr, ℕ, List, [], refl, subst, Bor, Option, Some, None, End, Row, Page, OnLimit, Asked, IsDone, IsEdit, asked_of, first_record, UndoneFault, ArePlacesOfRefused, ExplainsPlanUndone, PlacementResult, IsEditReply, IsFrontReply, IsPlanRefused, IsRefusalDue, IsReply, edited, front_refused, front_sent, refused, sent_first}
+use Rattle.pocsag_open.proofs.Prelude.{◌≡◌, inl, inr, ℕ, List, [], refl, subst, Bor, Option, Some, None, End, Row, Page, OnLimit, Asked, IsDone, IsEdit, asked_of, first_record, UndoneFault, refusal_answer, ArePlacesOfRefused, ExplainsPlanUndone, PlacementResult, AsksForPlan, IsEditReply, IsLineReply, IsPlanRefused, IsRefusalDue, IsReply, edited, read, refused}
 use Rattle.pocsag_journal.specs.Asks.{AsksNone, AsksPlan, IsAskedBy, list_record}
 use Rattle.pocsag_journal.specs.declared.edits.Line.{Line}
 use Rattle.pocsag_journal.specs.declared.edits.Line.TheVariants as line
@@ -30,32 +30,6 @@ other_none (line.Plan tx cert end most) row l p j h = absurd (p tx cert end most
 other_none line.Journal row l p j h = absurd (j refl)
 other_none asking row l p j h = h
 
--- a reason that applies to the plan is due where it is refused
-pub plan_due : (OutputFails : Type 0) (on_limit : OnLimit) (end : End) (most : Option ℕ) (tx cert : List ℕ) (row : Row) (pages : List Page)
-    (fault : UndoneFault) (placed : List PlacementResult) → AsksPlan end most tx cert row → None ≡ asked_of row →
-    ExplainsPlanUndone on_limit end most pages fault → ArePlacesOfRefused tx cert OutputFails fault placed →
-    IsRefusalDue OutputFails on_limit row pages (refusal.Undone fault) placed
-plan_due OutputFails on_limit end most tx cert row pages fault placed asks e explained places =
-    let why : IsPlanRefused OutputFails on_limit row pages (refusal.Undone fault) placed =
-    record {
-      end = end;
-      at_most = most;
-      tx = tx;
-      cert = cert;
-      asks = asks;
-      fault = fault;
-      names = refl;
-      explained = explained;
-      places = places;
-    } in
-    record {
-      edit = inr (λ after d. no_edit row e pages after d);
-      reason = inr why;
-      list = λ h. absurd (plan_or_list end most tx cert row asks h);
-      plan = λ other its first second a t c. why;
-      heading = plan_or_heading end most tx cert row asks;
-    }
-
 -- want of memory is due where the list is refused
 pub list_due : (OutputFails : Type 0) (on_limit : OnLimit) (row : Row) (pages : List Page) → row ≡ list_record → None ≡ asked_of row →
     IsRefusalDue OutputFails on_limit row pages (refusal.Undone undone.OutOfMemory) []
@@ -83,11 +57,30 @@ edit_reply IsKnown OutputFails on_limit row before after printed none (inr h) =
     } in
     refused h.1.0 due h.0 h.1.3
 
--- the reply to a record that asks for a plan of a front
-pub front_reply : (IsKnown OutputFails : Type 0) (on_limit : OnLimit) (end : End) (most : ℕ) (tx cert : List ℕ) (row : Row) (before after : List Page)
-    (printed : List ℕ) (placed : List PlacementResult) → AsksPlan end (Some most) tx cert row → None ≡ asked_of row →
-    IsFrontReply IsKnown OutputFails on_limit end most tx cert before after printed placed → IsReply IsKnown OutputFails on_limit row before after printed placed
-front_reply IsKnown OutputFails on_limit end most tx cert row before after printed placed asks e (front_sent count batches bound sent is left t n) =
-    sent_first end most tx cert count batches bound sent asks is left t n
-front_reply IsKnown OutputFails on_limit end most tx cert row before after printed placed asks e (front_refused fault explained same t n) =
-    refused (refusal.Undone fault) (plan_due OutputFails on_limit end (Some most) tx cert row before fault placed asks e explained n) same t
+-- the reply to a line that asks for a plan which is refused: the reason applies to the plan
+pub plan_refused : (IsKnown OutputFails : Type 0) (on_limit : OnLimit) (end : End) (most : Option ℕ) (tx cert line : List ℕ) (pages : List Page)
+    (fault : UndoneFault) (placed : List PlacementResult) → AsksForPlan end most tx cert line → ExplainsPlanUndone on_limit end most pages fault →
+    ArePlacesOfRefused tx cert OutputFails fault placed →
+    IsLineReply IsKnown OutputFails on_limit line pages pages (refusal_answer (refusal.Undone fault)) placed
+plan_refused IsKnown OutputFails on_limit end most tx cert line pages fault placed a explained places =
+    let why : IsPlanRefused OutputFails on_limit a.row pages (refusal.Undone fault) placed =
+    record {
+      end = end;
+      at_most = most;
+      tx = tx;
+      cert = cert;
+      asks = a.asks;
+      fault = fault;
+      names = refl;
+      explained = explained;
+      places = places;
+    } in
+    let due : IsRefusalDue OutputFails on_limit a.row pages (refusal.Undone fault) placed =
+    record {
+      edit = inr (λ after d. no_edit a.row a.no_edit pages after d);
+      reason = inr why;
+      list = λ h. absurd (plan_or_list end most tx cert a.row a.asks h);
+      plan = λ other its first second asks t c. why;
+      heading = plan_or_heading end most tx cert a.row a.asks;
+    } in
+    read a.row a.short a.text (refused (refusal.Undone fault) due refl refl)

@@ -1,6 +1,7 @@
 -- How an open round goes on line by line, and what is so where it is cut short.
-use Rattle.pocsag_open.proofs.Prelude.{◌≡◌, inl, inr, ℕ, ◌+◌, ◌-◌, List, [], ◌∷◌, ◌++◌, length, take, drop, refl, sym, ap, ◌∙◌, subst, arith, append_assoc, append-nil, take-append-drop, OnErr, Result, Ok, Err, TookPrefix, Page, OnLimit, ReadsAsEither, AreLines, IsFirstLine, PlacementResult, AreReplies, IsLineReply, IsSession, PrintsAndPlaces, AreFirstLines, IsCutBehind, IsCutShort, ReadsAfterLines, ReadsOrReplied, RepliesAndPlaces, RepliesTo, Survives, begun, between, untold, within}
+use Rattle.pocsag_open.proofs.Prelude.{◌≡◌, inl, inr, ℕ, ◌+◌, ◌-◌, List, [], ◌∷◌, ◌++◌, length, take, drop, refl, sym, ap, ◌∙◌, subst, arith, append_assoc, append-nil, take-append-drop, OnErr, Result, Ok, Err, Delivers, TookPrefix, Page, LeavesOnly, started, OnLimit, ReadsAsEither, AreLines, IsFirstLine, PlacementResult, AreReplies, IsLineReply, IsSession, PrintsAndPlaces, AreFirstLines, IsCutBehind, IsCutShort, ReadsAfterLines, ReadsOrReplied, RepliesAndPlaces, RepliesTo, Survives, begun, between, untold, within}
 use Rattle.std.proofs.Math.Seq.{take-append-add}
+use Rattle.pocsag_journal.specs.declared.keeper.Keeper.{Ghosts as Keeping}
 
 pub on_err : {X E : Type 0} (r : Result X E) (P Q : Type 0) → (P → Q) → OnErr r P → OnErr r Q
 on_err (Ok x) P Q f h = tt
@@ -52,20 +53,32 @@ cut_last Replies before out_before mid out_after first last reads_as may_leave b
     (part_of mid out_after last took ∙ ap (λ (l : List ℕ). l ++ take n last) begins ∙ append_assoc out_before first (take n last)) kept
 
 -- and by other names
-pub read_as : (Replies More : (before after : List Page) → List ℕ → Type 0) (before : List Page) (reads_as : List ℕ → List Page → Type 0)
-    (left : List ℕ) → ((after : List Page) (printed : List ℕ) → Replies before after printed → More before after printed) →
-    ReadsOrReplied reads_as Replies before left → ReadsOrReplied reads_as More before left
-read_as Replies More before reads_as left h (inl is) = inl is
-read_as Replies More before reads_as left h (inr (after, (reply, so, is))) = inr (after, (reply, h after reply so, is))
+module _ (Replies More : (before after : List Page) → List ℕ → Type 0) (before : List Page) (reads_as : List ℕ → List Page → Type 0)
+    (also : (after : List Page) (printed : List ℕ) → Replies before after printed → More before after printed) where
+  pub read_as : (left : List ℕ) → ReadsOrReplied reads_as Replies before left → ReadsOrReplied reads_as More before left
+  read_as left (inl is) = inl is
+  read_as left (inr (after, (reply, so, is))) = inr (after, (reply, also after reply so, is))
 
-pub cut_as : (Replies More : (before after : List Page) → List ℕ → Type 0)
-    (before : List Page) (out_before out_after : List ℕ) (reads_as : List ℕ → List Page → Type 0) (may_leave : List ℕ → Type 0) →
-    ((after : List Page) (printed : List ℕ) → Replies before after printed → More before after printed) →
-    IsCutShort Replies before out_before out_after reads_as may_leave → IsCutShort More before out_before out_after reads_as may_leave
-cut_as Replies More before out_before out_after reads_as may_leave h (untold same either) =
-    untold same (λ left now. read_as Replies More before reads_as left h (either left now))
-cut_as Replies More before out_before out_after reads_as may_leave h (begun after reply part more so parts took kept) =
-    begun after reply part more (h after reply so) parts took kept
+  pub cut_as : {out_before out_after : List ℕ} {may_leave : List ℕ → Type 0} → IsCutShort Replies before out_before out_after reads_as may_leave →
+      IsCutShort More before out_before out_after reads_as may_leave
+  cut_as (untold same either) = untold same (λ left now. read_as left (either left now))
+  cut_as (begun after reply part more so parts took kept) = begun after reply part more (also after reply so) parts took kept
+
+-- where what keeps the edits stands for the pages
+module _ {S : Type 0} (K : Keeping S) {keeper : S} {pages : List Page} (keeps : K.is_known) (stands : K.represents keeper pages) where
+  -- what a crash leaves is read as these
+  pub restarted : (left : List ℕ) → K.may_leave keeper left → K.reads_as left pages
+  restarted left now = K.restarts keeper pages left keeps stands now
+
+  -- where nothing is kept, it leaves what it might have left before
+  pub unmoved : {Holds : List ℕ → Type 0} → ((left : List ℕ) → K.reads_as left pages → Holds left) → LeavesOnly K.moment K.left_since keeper keeper Holds
+  unmoved here = started K.moment K.left_since keeper _ (λ left since. here left (restarted left (K.only_now keeper left keeps since)))
+
+  -- and an answer that leaves them is told or cut short
+  pub cut_told : {X E : Type 0} (r : Result X E) (Replies : (before after : List Page) → List ℕ → Type 0) {before : List Page} (out_before out_after : List ℕ) {due : List ℕ} →
+      Replies before pages due → Delivers r out_before out_after due →
+      OnErr r (IsCutShort Replies before out_before out_after K.reads_as (K.may_leave keeper))
+  cut_told r Replies out_before out_after reply told = on_err r _ _ (cut_due _ _ _ _ _ _ _ _ reply restarted) told.1
 
 -- one line more
 lines_more : (lines : List (List ℕ)) (line bytes pending rest : List ℕ) → AreFirstLines lines bytes pending → IsFirstLine pending line rest →
@@ -115,10 +128,10 @@ pub record Answered (IsKnown OutputFails : Type 0) (on_limit : OnLimit) (input p
   pub answers : out_after ≡ out_before ++ printed
   pub outputs : IsKnown → placed_after ≡ placed_before ++ placed
 
-pub none_answered : (IsKnown OutputFails : Type 0) (on_limit : OnLimit) (input pending : List ℕ) (before : List Page) (out : List ℕ) (placed : List PlacementResult) →
+pub none_answered : {IsKnown OutputFails : Type 0} {on_limit : OnLimit} {input pending : List ℕ} {before : List Page} {out : List ℕ} {placed : List PlacementResult} →
     pending ≡ input → Answered IsKnown OutputFails on_limit input pending before before out out placed placed
 unfolding AreFirstLines AreReplies
-none_answered IsKnown OutputFails on_limit input pending before out placed e = record {
+none_answered {out = out} {placed = placed} e = record {
   lines = [];
   printed = [];
   placed = [];
@@ -128,110 +141,88 @@ none_answered IsKnown OutputFails on_limit input pending before out placed e = r
   outputs = λ is_known. sym (append-nil placed);
 }
 
-pub one_answered : (IsKnown OutputFails : Type 0) (on_limit : OnLimit) (input pending line rest : List ℕ) (before now after : List Page)
-    (start out next : List ℕ) (first_placed placed then_placed : List PlacementResult) →
-    Answered IsKnown OutputFails on_limit input pending before now start out first_placed placed → IsFirstLine pending line rest →
-    PrintsAndPlaces IsKnown out next placed then_placed (IsLineReply IsKnown OutputFails on_limit line now after) →
-    Answered IsKnown OutputFails on_limit input rest before after start next first_placed then_placed
-one_answered IsKnown OutputFails on_limit input pending line rest before now after start out next first_placed placed then_placed so_far first reply = record {
-  lines = so_far.lines ++ line ∷ [];
-  printed = so_far.printed ++ reply.printed;
-  placed = so_far.placed ++ reply.placed;
-  firsts = lines_more so_far.lines line input pending rest so_far.firsts first;
-  replies = replies_more IsKnown OutputFails on_limit so_far.lines line before now after so_far.printed reply.printed so_far.placed reply.placed so_far.replies reply.holds;
-  answers = reply.answers ∙ ap (λ (l : List ℕ). l ++ reply.printed) so_far.answers ∙ append_assoc start so_far.printed reply.printed;
-  outputs = λ is_known. reply.outputs is_known ∙ ap (λ (l : List PlacementResult). l ++ reply.placed) (so_far.outputs is_known)
-      ∙ append_assoc first_placed so_far.placed reply.placed;
-}
-
 all_lines : (lines : List (List ℕ)) (bytes rest : List ℕ) → rest ≡ [] → AreFirstLines lines bytes rest → AreLines lines bytes
 unfolding AreFirstLines AreLines
 all_lines [] bytes rest none firsts = sym firsts ∙ none
 all_lines (line ∷ lines) bytes rest none firsts = (firsts.0, firsts.1, all_lines lines firsts.0 rest none firsts.2)
 
--- no line is left
-pub all_answered : (IsKnown OutputFails : Type 0) (on_limit : OnLimit) (input pending : List ℕ) (before now : List Page) (start out : List ℕ)
-    (first_placed placed : List PlacementResult) → pending ≡ [] → Answered IsKnown OutputFails on_limit input pending before now start out first_placed placed →
-    PrintsAndPlaces IsKnown start out first_placed placed (IsSession IsKnown OutputFails on_limit input before now)
-all_answered IsKnown OutputFails on_limit input pending before now start out first_placed placed none so_far = record {
-  printed = so_far.printed;
-  placed = so_far.placed;
-  answers = so_far.answers;
-  outputs = so_far.outputs;
-  holds = record { lines = so_far.lines; cut = all_lines so_far.lines input pending none so_far.firsts; replies = so_far.replies };
-}
+module _ {IsKnown OutputFails : Type 0} {on_limit : OnLimit} {input pending : List ℕ} {before now : List Page} {start out : List ℕ} {first_placed placed : List PlacementResult}
+    (so_far : Answered IsKnown OutputFails on_limit input pending before now start out first_placed placed) where
+  pub one_answered : {line rest : List ℕ} {after : List Page} {next : List ℕ} {then_placed : List PlacementResult} → IsFirstLine pending line rest →
+      PrintsAndPlaces IsKnown out next placed then_placed (IsLineReply IsKnown OutputFails on_limit line now after) →
+      Answered IsKnown OutputFails on_limit input rest before after start next first_placed then_placed
+  one_answered {line} {rest} {after} first reply = record {
+    lines = so_far.lines ++ line ∷ [];
+    printed = so_far.printed ++ reply.printed;
+    placed = so_far.placed ++ reply.placed;
+    firsts = lines_more so_far.lines line input pending rest so_far.firsts first;
+    replies = replies_more IsKnown OutputFails on_limit so_far.lines line before now after so_far.printed reply.printed so_far.placed reply.placed so_far.replies reply.holds;
+    answers = reply.answers ∙ ap (λ (l : List ℕ). l ++ reply.printed) so_far.answers ∙ append_assoc start so_far.printed reply.printed;
+    outputs = λ is_known. reply.outputs is_known ∙ ap (λ (l : List PlacementResult). l ++ reply.placed) (so_far.outputs is_known)
+        ∙ append_assoc first_placed so_far.placed reply.placed;
+  }
 
--- what a crash leaves, by what stands behind the lines that are answered
-survives : (IsKnown OutputFails : Type 0) (on_limit : OnLimit) (input pending : List ℕ) (before now : List Page) (start out next : List ℕ)
-    (first_placed placed then_placed : List PlacementResult) (reads_as : List ℕ → List Page → Type 0) (may_leave : List ℕ → Type 0) →
-    (so_far : Answered IsKnown OutputFails on_limit input pending before now start out first_placed placed) →
-    IsCutBehind IsKnown OutputFails on_limit pending now (start ++ so_far.printed) next (first_placed ++ so_far.placed) then_placed reads_as may_leave →
-    Survives IsKnown OutputFails on_limit input before start next first_placed then_placed reads_as may_leave
-survives IsKnown OutputFails on_limit input pending before now start out next first_placed placed then_placed reads_as may_leave so_far cut = record {
-  lines = so_far.lines;
-  rest = pending;
-  now = now;
-  printed = so_far.printed;
-  placed = so_far.placed;
-  firsts = so_far.firsts;
-  replies = so_far.replies;
-  cut = cut;
-}
+  -- no line is left
+  pub all_answered : pending ≡ [] → PrintsAndPlaces IsKnown start out first_placed placed (IsSession IsKnown OutputFails on_limit input before now)
+  all_answered none = record {
+    printed = so_far.printed;
+    placed = so_far.placed;
+    answers = so_far.answers;
+    outputs = so_far.outputs;
+    holds = record { lines = so_far.lines; cut = all_lines so_far.lines input pending none so_far.firsts; replies = so_far.replies };
+  }
 
--- between two lines
-pub survives_between : (IsKnown OutputFails : Type 0) (on_limit : OnLimit) (input pending : List ℕ) (before now : List Page) (start out : List ℕ)
-    (first_placed placed : List PlacementResult) (reads_as : List ℕ → List Page → Type 0) (may_leave : List ℕ → Type 0) →
-    Answered IsKnown OutputFails on_limit input pending before now start out first_placed placed → ((left : List ℕ) → may_leave left → reads_as left now) →
-    Survives IsKnown OutputFails on_limit input before start out first_placed placed reads_as may_leave
-survives_between IsKnown OutputFails on_limit input pending before now start out first_placed placed reads_as may_leave so_far kept =
-    survives _ _ _ _ _ _ _ _ _ _ _ _ _ _ _ so_far (between so_far.answers kept)
+  module _ {reads_as : List ℕ → List Page → Type 0} where
+    -- what a crash leaves, by what stands behind the lines that are answered
+    survives : {next : List ℕ} {then_placed : List PlacementResult} {may_leave : List ℕ → Type 0} →
+        IsCutBehind IsKnown OutputFails on_limit pending now (start ++ so_far.printed) next (first_placed ++ so_far.placed) then_placed reads_as may_leave →
+        Survives IsKnown OutputFails on_limit input before start next first_placed then_placed reads_as may_leave
+    survives cut = record {
+      lines = so_far.lines;
+      rest = pending;
+      now = now;
+      printed = so_far.printed;
+      placed = so_far.placed;
+      firsts = so_far.firsts;
+      replies = so_far.replies;
+      cut = cut;
+    }
 
--- what was placed more, behind what was placed so far
-placed_on : (IsKnown OutputFails : Type 0) (on_limit : OnLimit) (line : List ℕ) (first mid more later : List PlacementResult) (before after : List Page) (printed : List ℕ) →
-    (IsKnown → mid ≡ first ++ more) → RepliesAndPlaces IsKnown OutputFails on_limit line mid later before after printed →
-    RepliesAndPlaces IsKnown OutputFails on_limit line (first ++ more) later before after printed
-placed_on IsKnown OutputFails on_limit line first mid more later before after printed so_far (its, is, placed) =
-    (its, is, λ is_known. placed is_known ∙ ap (λ (l : List PlacementResult). l ++ its) (so_far is_known))
+    -- between two lines
+    pub survives_between : {may_leave : List ℕ → Type 0} → ((left : List ℕ) → may_leave left → reads_as left now) →
+        Survives IsKnown OutputFails on_limit input before start out first_placed placed reads_as may_leave
+    survives_between kept = survives (between so_far.answers kept)
 
--- and within one
-pub survives_within : (IsKnown OutputFails : Type 0) (on_limit : OnLimit) (input pending line behind : List ℕ) (before now : List Page) (start out next : List ℕ)
-    (first_placed placed then_placed : List PlacementResult) (reads_as : List ℕ → List Page → Type 0) (may_leave : List ℕ → Type 0) →
-    Answered IsKnown OutputFails on_limit input pending before now start out first_placed placed → IsFirstLine pending line behind →
-    IsCutShort (RepliesAndPlaces IsKnown OutputFails on_limit line placed then_placed) now out next reads_as may_leave →
-    Survives IsKnown OutputFails on_limit input before start next first_placed then_placed reads_as may_leave
-survives_within IsKnown OutputFails on_limit input pending line behind before now start out next first_placed placed then_placed reads_as may_leave so_far first cut =
-    survives _ _ _ _ _ _ _ _ _ _ _ _ _ _ _ so_far (within line behind first
-    (subst (λ (l : List ℕ). IsCutShort (RepliesAndPlaces IsKnown OutputFails on_limit line (first_placed ++ so_far.placed) then_placed) now l next reads_as may_leave)
-    so_far.answers
-    (cut_as (RepliesAndPlaces IsKnown OutputFails on_limit line placed then_placed)
-    (RepliesAndPlaces IsKnown OutputFails on_limit line (first_placed ++ so_far.placed) then_placed) now out next reads_as may_leave
-    (λ after printed is. placed_on IsKnown OutputFails on_limit line first_placed placed so_far.placed then_placed now after printed so_far.outputs is) cut)))
+    -- and within one
+    pub survives_within : {line behind next : List ℕ} {then_placed : List PlacementResult} {may_leave : List ℕ → Type 0} → IsFirstLine pending line behind →
+        IsCutShort (RepliesAndPlaces IsKnown OutputFails on_limit line placed then_placed) now out next reads_as may_leave →
+        Survives IsKnown OutputFails on_limit input before start next first_placed then_placed reads_as may_leave
+    survives_within {line} {behind} {next} {then_placed} {may_leave} first cut =
+        survives (within line behind first
+        (subst (λ (l : List ℕ). IsCutShort (RepliesAndPlaces IsKnown OutputFails on_limit line (first_placed ++ so_far.placed) then_placed) now l next reads_as may_leave)
+        so_far.answers
+        (cut_as (RepliesAndPlaces IsKnown OutputFails on_limit line placed then_placed)
+        (RepliesAndPlaces IsKnown OutputFails on_limit line (first_placed ++ so_far.placed) then_placed) now reads_as
+        (λ after printed is. (is.0, is.1, λ is_known. is.2 is_known ∙ ap (λ (l : List PlacementResult). l ++ is.0) (so_far.outputs is_known))) cut)))
 
--- what is read as the pages now is read after the lines so far
-pub read_now : (IsKnown OutputFails : Type 0) (on_limit : OnLimit) (input pending : List ℕ) (before now : List Page) (start out : List ℕ)
-    (first_placed placed : List PlacementResult) (reads_as : List ℕ → List Page → Type 0) (left : List ℕ) →
-    Answered IsKnown OutputFails on_limit input pending before now start out first_placed placed → reads_as left now →
-    ReadsAfterLines IsKnown OutputFails on_limit input before reads_as left
-read_now IsKnown OutputFails on_limit input pending before now start out first_placed placed reads_as left so_far is = record {
-  lines = so_far.lines;
-  rest = pending;
-  pages = now;
-  printed = so_far.printed;
-  placed = so_far.placed;
-  firsts = so_far.firsts;
-  replies = so_far.replies;
-  read = is;
-}
+    -- what is read as the pages now is read after the lines so far
+    pub read_now : {left : List ℕ} → reads_as left now → ReadsAfterLines IsKnown OutputFails on_limit input before reads_as left
+    read_now is = record {
+      lines = so_far.lines;
+      rest = pending;
+      pages = now;
+      printed = so_far.printed;
+      placed = so_far.placed;
+      firsts = so_far.firsts;
+      replies = so_far.replies;
+      read = is;
+    }
 
--- and as those that the reply leaves, after one line more
-pub read_next : (IsKnown OutputFails : Type 0) (on_limit : OnLimit) (input pending line behind : List ℕ) (before now : List Page) (start out : List ℕ)
-    (first_placed placed : List PlacementResult) (reads_as : List ℕ → List Page → Type 0) (left : List ℕ) →
-    Answered IsKnown OutputFails on_limit input pending before now start out first_placed placed → IsFirstLine pending line behind →
-    ReadsOrReplied reads_as (RepliesTo IsKnown OutputFails on_limit line) now left → ReadsAfterLines IsKnown OutputFails on_limit input before reads_as left
-read_next IsKnown OutputFails on_limit input pending line behind before now start out first_placed placed reads_as left so_far first (inl is) =
-    read_now IsKnown OutputFails on_limit input pending before now start out first_placed placed reads_as left so_far is
-read_next IsKnown OutputFails on_limit input pending line behind before now start out first_placed placed reads_as left so_far first (inr (after, (printed, (its, reply), is))) =
-    record {
+    -- and as those that the reply leaves, after one line more
+    pub read_next : {line behind left : List ℕ} → IsFirstLine pending line behind →
+        ReadsOrReplied reads_as (RepliesTo IsKnown OutputFails on_limit line) now left → ReadsAfterLines IsKnown OutputFails on_limit input before reads_as left
+    read_next {line} {behind} first (inl is) = read_now is
+    read_next {line} {behind} first (inr (after, (printed, (its, reply), is))) = record {
       lines = so_far.lines ++ line ∷ [];
       rest = behind;
       pages = after;

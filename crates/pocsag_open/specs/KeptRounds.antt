@@ -11,7 +11,6 @@ use Rattle.pocsag_shell.specs.declared.fault.FileFault.{FileFault}
 use Rattle.pocsag_journal.specs.Crashes.{RestartsAs}
 use Rattle.pocsag_journal.specs.Faults.{HasNoLine, IsPrinted}
 use Rattle.pocsag_journal.specs.Journals.{IsRead, Replays, journal_limit}
-use Rattle.pocsag_journal.specs.declared.fault.JournalFault.{JournalFault}
 use Rattle.pocsag_journal.specs.declared.fault.JournalFault.TheVariants as journal
 use Rattle.pocsag_open.specs.Plans.{PlacementResult}
 use Rattle.pocsag_open.specs.Survival.{ReadsAfterLines, Survives}
@@ -78,42 +77,23 @@ pub record HasPrintedRead {E : Type 0} (Err : Writer E) (bytes : List ℕ) (file
   pub printed : (Err.is_known → Err.taken after ≡ Err.taken before ++ read_text CutOff torn edits (length pages))
       ⊎ HasFailed (Err.failures before) (Err.failures after)
 
--- The bytes are read as one edit at least.
-abbrev pub HoldsEdits : List ℕ → Type 0
-HoldsEdits bytes = (edits torn : ℕ) × (pages : List Page) × Replays bytes edits torn pages × (0 < edits)
-
--- What is reported of the journal: its bytes are none, or too many, or no line of it holds a page with which the round begins.
-abbrev pub IsPrintedOfJournal : (bytes : List ℕ) → (file : Option (List ℕ)) → JournalFault → Type 0
-IsPrintedOfJournal bytes file journal.TooLarge = journal_limit < length bytes
-IsPrintedOfJournal bytes file journal.NotJournal = IsPrinted bytes journal.NotJournal
-IsPrintedOfJournal bytes file journal.OtherVersion = IsPrinted bytes journal.OtherVersion
-IsPrintedOfJournal bytes file (journal.BadLine n) = IsPrinted bytes (journal.BadLine n)
-IsPrintedOfJournal bytes file (journal.NoLine n) = (before : List Page) × IsBeginning bytes file before × HasNoLine before n
-IsPrintedOfJournal bytes file _ = ⊥
-
 -- There is a page file, and it failed between these two counts of failures.
 abbrev pub HasFileFailed : (before after : Option ℕ) → Type 0
 HasFileFailed (Some before) (Some after) = HasFailed before after
 HasFileFailed _ _ = ⊥
 
--- Why a round does not begin with the pages of its page file: there is one, and it has this fault, or a read of it failed; or
--- memory was wanting.
-abbrev pub IsPrintedOfPages : (file : Option (List ℕ)) → (file_failed : Type 0) → OpenFault → Type 0
-IsPrintedOfPages None file_failed f = ⊥
-IsPrintedOfPages (Some file) file_failed (fault.Round round.OutOfMemory) = Unit {0}
-IsPrintedOfPages (Some file) file_failed (fault.Round round.ReadFault) = file_failed
-IsPrintedOfPages (Some file) file_failed (fault.Round f) = verdict file ≡ Err f
-IsPrintedOfPages (Some file) file_failed _ = ⊥
-
--- *Cause of a refused start or an end*: what is reported of the journal or of the page file; that there is a page file and the
--- journal holds edits; or why the round ends before its input.
+-- *Cause of a refused start or an end*: why the round ends before its input; that the bytes of the journal are none, or too many, or
+-- that no line of it holds a page with which the round begins; that the page file has this fault, or a read of it failed, or memory
+-- was wanting; or that there is a page file and the bytes are read as one edit at least.
 abbrev pub ExplainsKept : (bytes : List ℕ) → (file : Option (List ℕ)) → (file_failed : Type 0) → (Ends : FileFault → Type 0) → OpenFault → Type 0
 ExplainsKept bytes file file_failed Ends (fault.File f) = Ends f
-ExplainsKept bytes file file_failed Ends (fault.Round f) = IsPrintedOfPages file file_failed (fault.Round f)
-ExplainsKept bytes (Some file) file_failed Ends fault.HoldsEdits = HoldsEdits bytes
-ExplainsKept bytes None file_failed Ends fault.HoldsEdits = ⊥
-ExplainsKept bytes file file_failed Ends (fault.Journal f) = IsPrintedOfJournal bytes file f
-ExplainsKept bytes file file_failed Ends fault.NotHeld = ⊥
-ExplainsKept bytes file file_failed Ends (fault.Quotes f) = ⊥
-ExplainsKept bytes file file_failed Ends (fault.Unexpected found expected) = ⊥
-ExplainsKept bytes file file_failed Ends fault.HeldByAnother = ⊥
+ExplainsKept bytes file file_failed Ends (fault.Journal journal.TooLarge) = journal_limit < length bytes
+ExplainsKept bytes file file_failed Ends (fault.Journal (journal.NoLine n)) = (before : List Page) × IsBeginning bytes file before × HasNoLine before n
+ExplainsKept bytes file file_failed Ends (fault.Journal journal.OutOfMemory) = ⊥
+ExplainsKept bytes file file_failed Ends (fault.Journal f) = IsPrinted bytes f
+ExplainsKept bytes (Some file) file_failed Ends (fault.Round round.OutOfMemory) = Unit {0}
+ExplainsKept bytes (Some file) file_failed Ends (fault.Round round.ReadFault) = file_failed
+ExplainsKept bytes (Some file) file_failed Ends (fault.Round f) = verdict file ≡ Err f
+ExplainsKept bytes (Some file) file_failed Ends fault.HoldsEdits =
+    (edits torn : ℕ) × (pages : List Page) × Replays bytes edits torn pages × (0 < edits)
+ExplainsKept bytes file file_failed Ends _ = ⊥

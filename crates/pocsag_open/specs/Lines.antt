@@ -1,5 +1,5 @@
 -- The lines of bytes (this project's own).
-use Rattle.std.specs.Prelude.{◌≡◌, ◌≢◌, ◌⊎◌, ℕ, ◌<◌, ◌≤◌, List, [], ◌∷◌, ◌++◌, length, drop, take, Option, Some, None}
+use Rattle.std.specs.Prelude.{◌≡◌, ◌≢◌, ◌⊎◌, ℕ, ◌<◌, ◌≤◌, List, [], ◌∷◌, ◌++◌, length, Option, Some, None}
 use Rattle.csv.specs.Machine.{line_feed}
 use Rattle.pocsag_journal.specs.LineTexts.{HasNoLineFeed}
 use Rattle.pocsag_open.specs.declared.lines.LineRead.{LineRead}
@@ -19,10 +19,6 @@ pub record IsFirstLine (bytes line rest : List ℕ) : Type 0 where
 unfoldable pub AreLines : (lines : List (List ℕ)) (bytes : List ℕ) → Type 0
 AreLines [] bytes = bytes ≡ []
 AreLines (line ∷ lines) bytes = (rest : List ℕ) × IsFirstLine bytes line rest × AreLines lines rest
-
--- The bytes of a piece between two places.
-abbrev pub between_places : (piece : List ℕ) (start end : ℕ) → List ℕ
-between_places piece start end = drop start (take end piece)
 
 -- What came of the next line: it is kept, or it has too many bytes, and what is left begins behind it; or nothing is left.
 abbrev pub IsLineFound : LineRead → (pending kept rest : List ℕ) → Type 0

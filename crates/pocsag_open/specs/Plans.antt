@@ -15,7 +15,7 @@ use Rattle.pocsag_plan.specs.declared.bounded.BoundedPlan.{BoundedPlan}
 use Rattle.pocsag_plan.specs.declared.search.Search.{Search}
 use Rattle.pocsag_plan.specs.Fronts.{FirstNeeds, IsFrontFor, IsLongestFront, StopsAtFront}
 use Rattle.pocsag_plan.specs.Headline.{RoundHeadline}
-use Rattle.pocsag_plan.specs.Plans.{IsBounded, IsNoWorse, IsStopped, MayStop}
+use Rattle.pocsag_plan.specs.Plans.{IsPlanFor, IsStopped, MayStop}
 use Rattle.pocsag_plan.specs.Searches.{default_limit}
 use Rattle.pocsag_shell.specs.declared.fault.FileFault.{FileFault}
 use Rattle.pocsag_shell.specs.declared.fault.FileFault.TheVariants as file
@@ -26,56 +26,42 @@ use Rattle.pocsag_journal.specs.declared.refusal.UndoneFault.TheVariants as undo
 abbrev pub PlanBytes : Type 0
 PlanBytes = List ℕ × List ℕ
 
--- What was put in the two places of a plan: the names of both, and what their outputs hold.
-pub record PlacedPlan : Type 0 where
-  pub tx : List ℕ
-  pub cert : List ℕ
-  pub sent : PlanBytes
-
 -- The names of the places of a transmission and of its certificate.
 abbrev pub PlaceNames : Type 0
 PlaceNames = List ℕ × List ℕ
 
--- Why outputs for two places were not made or not put.
-abbrev pub PlaceFault : Type 0
-PlaceFault = PlaceNames × FileFault
-
--- What became of the places of a plan: its outputs were put there; or they could not be made or put, for this fault.
+-- What became of the places of a plan: its outputs, which hold these bytes, were put there; or they could not be made or put, for
+-- this fault.
 pub data PlacementResult : Type 0 where
-  put : PlacedPlan → PlacementResult
-  failed : PlaceFault → PlacementResult
+  put : PlaceNames → PlanBytes → PlacementResult
+  failed : PlaceNames → FileFault → PlacementResult
 
--- No names, no bytes, no plan, one that was put, and one that failed.
+-- No names, no plan, one that was put, and one that failed.
 abbrev pub no_names : Option PlaceNames
 no_names = None
-
-abbrev pub no_bytes : PlanBytes
-no_bytes = ([], [])
 
 abbrev pub no_plans : List PlacementResult
 no_plans = []
 
 abbrev pub placed_plan : (tx cert : List ℕ) → PlanBytes → PlacementResult
-placed_plan tx cert sent = put (record { tx = tx; cert = cert; sent = sent })
+placed_plan tx cert sent = put (tx, cert) sent
 
 abbrev pub failed_plan : (tx cert : List ℕ) → FileFault → PlacementResult
-failed_plan tx cert f = failed ((tx, cert), f)
-
--- A plan of the pages for the end has so many batches and this bound, which is its batches where only the fewest are an
--- answer, and is below them only where a search stopped at the limit of an open round; and its two outputs, where it is known what they hold, hold the transmission and the certificate of the headline of
--- these pages, this end, these batches and this bound.
-pub record IsPlanned (IsKnown : Type 0) (on_limit : OnLimit) (end : End) (pages : List Page) (batches bound : ℕ) (sent : PlanBytes) : Type 0 where
-  pub made : BoundedPlan
-  pub plan_of : IsBounded end pages made.plan bound
-  pub same : batches ≡ made.plan.batches
-  pub its_bound : bound ≡ made.bound
-  pub no_worse : IsNoWorse end pages default_limit made
-  pub fewest : on_limit ≡ Fewest → bound ≡ batches
-  pub headline : IsKnown → RoundHeadline pages end batches bound (bound_tree_of made.plan.tree) sent.0 sent.1
+failed_plan tx cert f = failed (tx, cert) f
 
 -- The search of a plan for the end.
 abbrev pub plan_search : OnLimit → End → Search
 plan_search on_limit end = record { limit = default_limit; end = end; on_limit = on_limit }
+
+-- The plan that is required for the pages and the end, with the limit of an open round, has so many batches and this bound, which is
+-- its batches where only the fewest are an answer; and its two outputs, where it is known what they hold, hold the transmission and
+-- the certificate of the headline of these pages, this end, these batches and this bound.
+pub record IsPlanned (IsKnown : Type 0) (on_limit : OnLimit) (end : End) (pages : List Page) (batches bound : ℕ) (sent : PlanBytes) : Type 0 where
+  pub made : BoundedPlan
+  pub plan : IsPlanFor (plan_search on_limit end) pages made
+  pub same : batches ≡ made.plan.batches
+  pub its_bound : bound ≡ made.bound
+  pub headline : IsKnown → RoundHeadline pages end batches bound (bound_tree_of made.plan.tree) sent.0 sent.1
 
 -- The first `count` pages are the front that is required for so many batches, the longest where only the fewest are an answer; and
 -- they are planned, in no more batches. The pages may stand in a round.
@@ -86,28 +72,35 @@ pub record IsFrontPlanned (IsKnown : Type 0) (on_limit : OnLimit) (end : End) (m
   pub planned : IsPlanned IsKnown on_limit end (take count pages) batches bound sent
   pub within : batches ≤ most
 
+-- What is asked for is planned: all pages; or the front that is required for so many batches, these first pages.
+abbrev pub IsAskedPlanned : (IsKnown : Type 0) → OnLimit → End → (at_most : Option ℕ) → List Page → (count : Option ℕ) → (batches bound : ℕ) → PlanBytes → Type 0
+IsAskedPlanned IsKnown on_limit end None pages None batches bound sent = IsPlanned IsKnown on_limit end pages batches bound sent
+IsAskedPlanned IsKnown on_limit end (Some most) pages (Some count) batches bound sent =
+    IsFrontPlanned IsKnown on_limit end most pages count batches bound sent
+IsAskedPlanned IsKnown on_limit end _ pages _ batches bound sent = ⊥
+
 -- There is such a plan, and its outputs were put in these two places, behind those of the plans before it.
-pub record IsPlanPlaced (IsKnown : Type 0) (on_limit : OnLimit) (end : End) (tx cert : List ℕ) (pages : List Page) (batches bound : ℕ) (before after : List PlacementResult) : Type 0 where
+pub record IsPlanPlaced (IsKnown : Type 0) (on_limit : OnLimit) (end : End) (at_most : Option ℕ) (tx cert : List ℕ) (pages : List Page)
+    (count : Option ℕ) (batches bound : ℕ) (before after : List PlacementResult) : Type 0 where
   pub sent : PlanBytes
-  pub planned : IsPlanned IsKnown on_limit end pages batches bound sent
+  pub planned : IsAskedPlanned IsKnown on_limit end at_most pages count batches bound sent
   pub placed : IsKnown → after ≡ before ++ placed_plan tx cert sent ∷ []
 
--- There is such a plan of a front, and its outputs were put in these two places.
-pub record IsFrontPlaced (IsKnown : Type 0) (on_limit : OnLimit) (end : End) (most : ℕ) (tx cert : List ℕ) (pages : List Page) (count batches bound : ℕ) (before after : List PlacementResult) : Type 0 where
-  pub sent : PlanBytes
-  pub planned : IsFrontPlanned IsKnown on_limit end most pages count batches bound sent
-  pub placed : IsKnown → after ≡ before ++ placed_plan tx cert sent ∷ []
-
--- Why a plan is refused, and what is so of the pages then: there are none; or the search stopped at its limit between these
--- two numbers of batches, which happens only where the fewest alone are an answer; or memory was wanting for a plan of a
--- round.
-abbrev pub ExplainsUndone : OnLimit → End → List Page → UndoneFault → Type 0
-ExplainsUndone on_limit end pages undone.NoPages = pages ≡ []
-ExplainsUndone on_limit end pages (undone.SearchLimit least found) =
+-- Why a plan is refused that a line asks for, of all pages or of the front for so many batches, and what is so of the pages
+-- then: there are none; or the search stopped at its limit between these two numbers of batches, for all pages or for some first
+-- ones, which happens only where the fewest alone are an answer; or the first page alone needs more; or memory was wanting for
+-- a plan of a round.
+abbrev pub ExplainsPlanUndone : OnLimit → End → (at_most : Option ℕ) → List Page → UndoneFault → Type 0
+ExplainsPlanUndone on_limit end at_most pages undone.NoPages = pages ≡ []
+ExplainsPlanUndone on_limit end at_most pages undone.OutOfMemory = IsRound pages
+ExplainsPlanUndone on_limit end at_most pages (undone.File f) = Unit {0}
+ExplainsPlanUndone on_limit end None pages (undone.SearchLimit least found) =
     MayStop on_limit × IsRound pages × ((tree : BoundTree) × IsStopped end pages default_limit least found tree)
-ExplainsUndone on_limit end pages (undone.FirstPage needed) = ⊥
-ExplainsUndone on_limit end pages undone.OutOfMemory = IsRound pages
-ExplainsUndone on_limit end pages (undone.File f) = Unit {0}
+ExplainsPlanUndone on_limit end (Some most) pages (undone.SearchLimit least found) =
+    MayStop on_limit × IsRound pages × ((tree : BoundTree) × StopsAtFront (plan_search on_limit end) pages most least found tree)
+ExplainsPlanUndone on_limit end None pages (undone.FirstPage needed) = ⊥
+ExplainsPlanUndone on_limit end (Some most) pages (undone.FirstPage needed) =
+    IsRound pages × FirstNeeds (plan_search on_limit end) pages most needed
 
 -- Some output failed.
 abbrev pub HasFailedOutput : {Output : Type 0} → (failures : Output → ℕ) → Type 0
@@ -125,20 +118,6 @@ pub record IsUnplaced (IsKnown OutputFails : Type 0) (tx cert : List ℕ) (befor
   pub placed : List PlacementResult
   pub refused : ArePlacesOfRefused tx cert OutputFails fault placed
   pub outputs : IsKnown → after ≡ before ++ placed
-
--- Why the plan of a front for so many batches is refused: the first page alone needs more; or the search stopped at some first
--- pages; or for the same reason as a plan of all pages.
-abbrev pub ExplainsFrontUndone : OnLimit → End → (most : ℕ) → List Page → UndoneFault → Type 0
-ExplainsFrontUndone on_limit end most pages (undone.FirstPage needed) =
-    IsRound pages × FirstNeeds (plan_search on_limit end) pages most needed
-ExplainsFrontUndone on_limit end most pages (undone.SearchLimit least found) =
-    MayStop on_limit × IsRound pages × ((tree : BoundTree) × StopsAtFront (plan_search on_limit end) pages most least found tree)
-ExplainsFrontUndone on_limit end most pages f = ExplainsUndone on_limit end pages f
-
--- Why a plan is refused that a line asks for, of all pages or of a front.
-abbrev pub ExplainsPlanUndone : OnLimit → End → (at_most : Option ℕ) → List Page → UndoneFault → Type 0
-ExplainsPlanUndone on_limit end None pages f = ExplainsUndone on_limit end pages f
-ExplainsPlanUndone on_limit end (Some most) pages f = ExplainsFrontUndone on_limit end most pages f
 
 -- Which reason the fault of a stream is. The limit of an open round is never a bad one.
 abbrev pub undone_of : StreamFault → UndoneFault

@@ -7,14 +7,14 @@ use Rattle.pocsag_pages.specs.declared.page.Page.{Page}
 use Rattle.pocsag_decode.specs.PageFiles.{page_file}
 use Rattle.pocsag_plan.specs.declared.search.OnLimit.{OnLimit}
 use Rattle.pocsag_journal.specs.Asks.{AsksPlan, list_record}
-use Rattle.pocsag_journal.specs.Runs.{IsEdit, IsReasonFor, IsRefusedFor, first_record}
+use Rattle.pocsag_journal.specs.Runs.{IsEdit, IsReasonFor, IsRefusedFor, asked_of, first_record}
 use Rattle.pocsag_pages.specs.RecordTexts.{IsRowText}
 use Rattle.pocsag_journal.specs.LineTexts.{IsUnread, record_text}
 use Rattle.pocsag_journal.specs.declared.refusal.Refusal.{Refusal}
 use Rattle.pocsag_journal.specs.declared.refusal.Refusal.TheVariants as refusal
 use Rattle.pocsag_journal.specs.declared.refusal.UndoneFault.{UndoneFault}
 use Rattle.pocsag_journal.specs.declared.refusal.UndoneFault.TheVariants as undone
-use Rattle.pocsag_open.specs.Answers.{front_answer, pages_answer, plan_answer, refusal_answer}
+use Rattle.pocsag_open.specs.Answers.{pages_answer, plan_answer, refusal_answer}
 use Rattle.pocsag_open.specs.Lines.{AreLines, line_limit}
 use Rattle.pocsag_open.specs.Plans.{ArePlacesOfRefused, ExplainsPlanUndone, IsFrontPlanned, IsPlanned, PlacementResult, PlanBytes, placed_plan}
 
@@ -72,31 +72,27 @@ pub data IsReply (IsKnown OutputFails : Type 0) (on_limit : OnLimit) (row : Row)
   planned :
       (end : End) (tx cert : List ℕ) (batches bound : ℕ) (sent : PlanBytes) → AsksPlan end None tx cert row →
       IsPlanned IsKnown on_limit end before batches bound sent →
-      after ≡ before → printed ≡ plan_answer batches bound → placed ≡ placed_plan tx cert sent ∷ [] →
+      after ≡ before → printed ≡ plan_answer batches None bound → placed ≡ placed_plan tx cert sent ∷ [] →
       IsReply IsKnown OutputFails on_limit row before after printed placed
   -- It asks for a plan of the longest front that so many batches carry: the pages of the front are taken out, and the reply is
   -- the batches of its plan, how many pages it sends, and the bound.
   sent_first :
       (end : End) (most : ℕ) (tx cert : List ℕ) (count batches bound : ℕ) (sent : PlanBytes) → AsksPlan end (Some most) tx cert row →
       IsFrontPlanned IsKnown on_limit end most before count batches bound sent →
-      after ≡ drop count before → printed ≡ front_answer batches count bound → placed ≡ placed_plan tx cert sent ∷ [] →
+      after ≡ drop count before → printed ≡ plan_answer batches (Some count) bound → placed ≡ placed_plan tx cert sent ∷ [] →
       IsReply IsKnown OutputFails on_limit row before after printed placed
   -- It is refused, for a reason that is due.
   refused :
       (why : Refusal) → IsRefusalDue OutputFails on_limit row before why placed → after ≡ before → IsRefusalPrinted why printed →
       IsReply IsKnown OutputFails on_limit row before after printed placed
 
--- The reply where a record asks for a plan of a front, for the end and so many batches: the first pages that are planned are
--- taken out; or nothing is changed, and the reply reports why the plan is refused.
-pub data IsFrontReply (IsKnown OutputFails : Type 0) (on_limit : OnLimit) (end : End) (most : ℕ) (tx cert : List ℕ) (before after : List Page) (printed : List ℕ) (placed : List PlacementResult) : Type 0 where
-  front_sent :
-      (count batches bound : ℕ) (sent : PlanBytes) → IsFrontPlanned IsKnown on_limit end most before count batches bound sent →
-      after ≡ drop count before → printed ≡ front_answer batches count bound → placed ≡ placed_plan tx cert sent ∷ [] →
-      IsFrontReply IsKnown OutputFails on_limit end most tx cert before after printed placed
-  front_refused :
-      (fault : UndoneFault) → ExplainsPlanUndone on_limit end (Some most) before fault → after ≡ before →
-      IsRefusalPrinted (refusal.Undone fault) printed → ArePlacesOfRefused tx cert OutputFails fault placed →
-      IsFrontReply IsKnown OutputFails on_limit end most tx cert before after printed placed
+-- The line is the text of a record that asks for such a plan and for no edit, quoting apart.
+pub record AsksForPlan (end : End) (at_most : Option ℕ) (tx cert line : List ℕ) : Type 0 where
+  pub row : Row
+  pub short : length line ≤ line_limit
+  pub text : IsRowText row (record_text line)
+  pub asks : AsksPlan end at_most tx cert row
+  pub no_edit : None ≡ asked_of row
 
 -- *Reply* to a line, its line feed not counted.
 pub data IsLineReply (IsKnown OutputFails : Type 0) (on_limit : OnLimit) (line : List ℕ) (before after : List Page) (printed : List ℕ) (placed : List PlacementResult) : Type 0 where

@@ -1,11 +1,10 @@
 -- *Survival*: what is so of an open round whose edits are kept, at whatever moment it ends (this project's own).
 use Rattle.std.specs.Prelude.{◌≡◌, ◌⊎◌, ℕ, List, [], ◌∷◌, ◌++◌}
-use Rattle.pocsag_words.specs.declared.ending.End.{End}
 use Rattle.pocsag_pages.specs.declared.page.Page.{Page}
 use Rattle.pocsag_plan.specs.declared.search.OnLimit.{OnLimit}
 use Rattle.pocsag_open.specs.Lines.{IsFirstLine}
 use Rattle.pocsag_open.specs.Plans.{PlacementResult}
-use Rattle.pocsag_open.specs.Replies.{AreReplies, IsFrontReply, IsLineReply}
+use Rattle.pocsag_open.specs.Replies.{AreReplies, IsLineReply}
 
 -- *First lines*: the bytes begin with these lines, one after another, and this stands behind them.
 unfoldable pub AreFirstLines : (lines : List (List ℕ)) (bytes rest : List ℕ) → Type 0
@@ -17,20 +16,10 @@ abbrev pub RepliesTo : (IsKnown OutputFails : Type 0) → OnLimit → (line : Li
 RepliesTo IsKnown OutputFails on_limit line before after printed =
     (placed : List PlacementResult) × IsLineReply IsKnown OutputFails on_limit line before after printed placed
 
--- A reply to what asks for a plan of a front, whatever plan it places.
-abbrev pub FrontRepliesTo : (IsKnown OutputFails : Type 0) → OnLimit → End → (most : ℕ) → (tx cert : List ℕ) → (before after : List Page) → (printed : List ℕ) → Type 0
-FrontRepliesTo IsKnown OutputFails on_limit end most tx cert before after printed =
-    (placed : List PlacementResult) × IsFrontReply IsKnown OutputFails on_limit end most tx cert before after printed placed
-
 -- A reply to a line, and what was put in its places more, where that is known, are the outputs of the plan that it reports.
 abbrev pub RepliesAndPlaces : (IsKnown OutputFails : Type 0) → OnLimit → (line : List ℕ) → (placed_before placed_after : List PlacementResult) → (before after : List Page) → (printed : List ℕ) → Type 0
 RepliesAndPlaces IsKnown OutputFails on_limit line placed_before placed_after before after printed =
     (placed : List PlacementResult) × IsLineReply IsKnown OutputFails on_limit line before after printed placed × (IsKnown → placed_after ≡ placed_before ++ placed)
-
--- The same of a reply to what asks for a plan of a front.
-abbrev pub FrontRepliesAndPlaces : (IsKnown OutputFails : Type 0) → OnLimit → End → (most : ℕ) → (tx cert : List ℕ) → (placed_before placed_after : List PlacementResult) → (before after : List Page) → (printed : List ℕ) → Type 0
-FrontRepliesAndPlaces IsKnown OutputFails on_limit end most tx cert placed_before placed_after before after printed =
-    (placed : List PlacementResult) × IsFrontReply IsKnown OutputFails on_limit end most tx cert before after printed placed × (IsKnown → placed_after ≡ placed_before ++ placed)
 
 -- The bytes are read as these pages, or as those that a reply leaves.
 abbrev pub ReadsOrReplied : (List ℕ → List Page → Type 0) → (Replies : (before after : List Page) → List ℕ → Type 0) → List Page → List ℕ → Type 0

@@ -3,7 +3,6 @@ use Rattle.std.specs.Prelude.{ℕ, List, ◌++◌, codes}
 use Rattle.std.specs.Fmt.{decimal}
 use Rattle.pocsag_pages.specs.declared.fault.FieldFault.{FieldFault}
 use Rattle.pocsag_pages.specs.declared.fault.FieldFault.TheVariants as field
-use Rattle.pocsag_pages.specs.declared.fault.PageFault.{PageFault}
 use Rattle.pocsag_pages.specs.declared.fault.PageFault.TheVariants as page
 use Rattle.pocsag_plan.specs.declared.refusal.AddFault.{AddFault}
 use Rattle.pocsag_plan.specs.declared.refusal.AddFault.TheVariants as adding
@@ -14,13 +13,7 @@ use Rattle.pocsag_journal.specs.declared.refusal.Refusal.TheVariants as refusal
 use Rattle.pocsag_journal.specs.declared.refusal.UndoneFault.{UndoneFault}
 use Rattle.pocsag_journal.specs.declared.refusal.UndoneFault.TheVariants as undone
 
--- The words for a page that may stand in no round.
-abbrev pub unfit_words : PageFault → List ℕ
-unfit_words page.BadAddress = codes "bad address"
-unfit_words page.ReservedAddress = codes "reserved address"
-unfit_words page.BadPayload = codes "bad payload"
-
--- Those for fields that spell no page.
+-- The words for fields that spell no page.
 abbrev pub field_words : FieldFault → List ℕ
 field_words field.BadAddress = codes "bad address"
 field_words field.ReservedAddress = codes "reserved address"
@@ -31,9 +24,11 @@ field_words (field.BadCharacter place) = codes "bad character at " ++ decimal pl
 field_words field.TooLong = codes "the message is too long"
 field_words field.OutOfMemory = codes "out of memory"
 
--- Those for a page that may not follow the others.
+-- Those for a page that may stand in no round, or may not follow the others.
 abbrev pub adding_words : AddFault → List ℕ
-adding_words (adding.Page f) = unfit_words f
+adding_words (adding.Page page.BadAddress) = codes "bad address"
+adding_words (adding.Page page.ReservedAddress) = codes "reserved address"
+adding_words (adding.Page page.BadPayload) = codes "bad payload"
 adding_words adding.DuplicateAddress = codes "the address is already there"
 adding_words adding.Full = codes "too many pages"
 adding_words adding.OutOfMemory = codes "out of memory"

@@ -6,12 +6,11 @@ ghost use Rattle.pocsag_shell.specs.Faults.{file_status};
 ghost use Rattle.pocsag_journal.specs.Keepers.{ExplainsKeeping};
 ghost use Rattle.pocsag_journal.specs.Moments.{LeavesOnly};
 ghost use Rattle.pocsag_journal.specs.Runs.{IsEdit};
-ghost use Rattle.pocsag_open.specs.Answers.{front_answer, pages_answer, plan_answer};
+ghost use Rattle.pocsag_open.specs.Answers.{pages_answer, plan_answer};
 ghost use Rattle.pocsag_open.specs.KeptAnswers.{ExplainsUnanswered, IsAnswered, IsLost};
 ghost use Rattle.pocsag_open.specs.Replies.{IsEditReply, TookMore};
 ghost use Rattle.pocsag_open.specs.Survival.{IsCutShort, ReadsOrReplied};
 
-use crate::front::SentFront;
 use crate::refused::refuse;
 use crate::round_plan::Planned;
 use csv::ByteRecord;
@@ -87,36 +86,30 @@ pub(crate) fn print_pages<O: Sink>(book: &Book, out: &mut O) -> Result<(), FileF
     print_numbers(out, &[("ok ", book.len() as u64)], "\n")
 }
 
-/// The batches of a plan, and the bound where it is below them.
+/// The batches of a plan, how many first pages it sends if it is that of a front, and the bound where it is below the batches.
 #[tactic(auto, unfolding(crate::specs::Answers::plan_answer))]
-pub(crate) fn print_planned<O: Sink>(planned: Planned, out: &mut O) -> Result<(), FileFault>
+pub(crate) fn print_planned<O: Sink>(
+    planned: Planned,
+    sent: Option<u32>,
+    out: &mut O,
+) -> Result<(), FileFault>
     ensures printed { O.is_known → Delivers result (O.taken out.old) (O.taken out.new)
-        (plan_answer planned.batches planned.bound) }
+        (plan_answer planned.batches sent planned.bound) }
     ensures lost { IfErr result (λ e. e ≡ FileFault.Write) }
     ensures failures { CountsFailures result (O.failures out.old) (O.failures out.new) }
 {
     let batches = ("batches ", planned.batches as u64);
-    if planned.bound < planned.batches {
-        print_numbers(out, &[batches, (", at least ", planned.bound as u64)], "\n")
-    } else {
-        print_numbers(out, &[batches], "\n")
+    let bound = (", at least ", planned.bound as u64);
+    let is_lower = planned.bound < planned.batches;
+    let Some(pages) = sent else {
+        if is_lower {
+            return print_numbers(out, &[batches, bound], "\n");
+        }
+        return print_numbers(out, &[batches], "\n");
+    };
+    let sent = (", sent ", pages as u64);
+    if is_lower {
+        return print_numbers(out, &[batches, sent, bound], "\n");
     }
-}
-
-/// The batches of the plan of a front, how many pages it sends, and the bound where it is below the batches.
-#[tactic(auto, unfolding(crate::specs::Answers::front_answer))]
-pub(crate) fn print_sent<O: Sink>(front: SentFront, out: &mut O) -> Result<(), FileFault>
-    ensures printed { O.is_known → Delivers result (O.taken out.old) (O.taken out.new)
-        (front_answer front.batches front.pages front.bound) }
-    ensures lost { IfErr result (λ e. e ≡ FileFault.Write) }
-    ensures failures { CountsFailures result (O.failures out.old) (O.failures out.new) }
-{
-    let batches = ("batches ", front.batches as u64);
-    let sent = (", sent ", front.pages as u64);
-    if front.bound < front.batches {
-        let bound = (", at least ", front.bound as u64);
-        print_numbers(out, &[batches, sent, bound], "\n")
-    } else {
-        print_numbers(out, &[batches, sent], "\n")
-    }
+    print_numbers(out, &[batches, sent], "\n")
 }

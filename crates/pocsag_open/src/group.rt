@@ -6,7 +6,8 @@ use crate::words::{JOURNAL, READ_ONLY, ROUND, ROUND_COMMANDS};
 use clap::{ArgMatches, Error};
 use pocsag_plan::OnLimit;
 use pocsag_shell::{
-    ALWAYS, Call, Context, EXPECT, Group, KEEP, Names, PAGES, ReaderSource, Role, STRICT, Tables,
+    ALWAYS, Call, Context, EXPECT, Group, KEEP, NamedFile, PAGES, Role, STRICT, SystemDevice,
+    Tables,
 };
 use std::alloc::AllocError;
 
@@ -16,10 +17,6 @@ pub struct RoundGroup;
 impl Group for RoundGroup {
     fn add_to(&self, tables: &mut Tables) -> Result<(), AllocError> {
         tables.commands.extend_from_slice(ROUND_COMMANDS)
-    }
-
-    fn misplaced(&self, _found: &ArgMatches<'_>) -> Option<&'static str> {
-        None
     }
 
     fn run(&self, context: Context<'_>, call: Call<'_, '_>) -> Option<Result<u8, Error>> {
@@ -39,11 +36,10 @@ impl Group for RoundGroup {
             },
             keep: call.found.get_flag(KEEP),
         };
-        let names = Names {
-            pages: args.pages,
-            journal: args.journal,
-            ..Names::NONE
-        };
+        let files = [
+            NamedFile(Role::PageFile, args.pages),
+            NamedFile(Role::Journal, args.journal),
+        ];
         let done = match args.journal {
             Some(path) => open_journal(context, args, path),
             None => open_round(context, args),
@@ -53,14 +49,14 @@ impl Group for RoundGroup {
                 context.diagnostics.note_refusal(role);
             }
         }
-        Some(Ok(context.end(names, done)))
+        Some(Ok(context.end(&files, done)))
     }
 }
 
 // Keeps an open round in memory alone. Returns the exit status.
 fn open_round(context: Context<'_>, args: OpenArgs<'_>) -> Result<u8, OpenFault> {
     let mut settings = RoundFiles::settings(context, args);
-    let mut input = ReaderSource::new(context.rt.stdin(), Role::Lines, context.diagnostics);
+    let mut input = SystemDevice::new(context.rt.stdin(), Role::Lines, context.diagnostics);
     let mut out = context.out();
     let Some(path) = args.pages else {
         run_open(context.alloc, &mut settings, &mut input, &mut out)?;

@@ -4,9 +4,7 @@ use crate::fault::OpenFault;
 use crate::round_files::{OpenArgs, load_pages};
 use pocsag_journal::Disk;
 use pocsag_pages::{WholeFault, read_whole};
-use pocsag_shell::{
-    Context, FileFault, LoadedFile, Named, ReaderSource, Role, StagedFile, WriterSink,
-};
+use pocsag_shell::{Context, FileFault, LoadedFile, Named, Role, StagedFile, SystemDevice};
 use pocsag_words::{DeviceFault, Source, write_all};
 use std::alloc::Global;
 use std::cell::Cell;
@@ -181,13 +179,13 @@ impl Disk for JournalFile<'_, '_> {
     ghost only_now = { λ file left is_known since. absurd is_known };
 
     fn read(&mut self, alloc: Global, most: usize) -> Result<Vec<u8>, WholeFault> {
-        let mut source = ReaderSource::new(&self.file, ROLE, self.place.context.diagnostics);
+        let mut source = SystemDevice::new(&self.file, ROLE, self.place.context.diagnostics);
         read_whole(alloc, &mut source, most)
     }
 
     fn append(&mut self, line: &[u8]) -> Result<(), DeviceFault> {
         self.place.by_disk(self.stands())?;
-        let mut sink = WriterSink::new(&self.file, ROLE, self.place.context.diagnostics);
+        let mut sink = SystemDevice::new(&self.file, ROLE, self.place.context.diagnostics);
         write_all(&mut sink, line)?;
         self.len = self.len.saturating_add(line.len() as u64);
         Ok(())

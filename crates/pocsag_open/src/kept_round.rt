@@ -7,7 +7,7 @@ use pocsag_journal::{Journal, Replayed, list_journal};
 use pocsag_pages::RoundFault;
 use pocsag_plan::Book;
 use pocsag_shell::{
-    Context, FileFault, ReaderSource, Role, STANDARD, is_regular_or_none, open_source, path_of,
+    Context, FileFault, NamedFile, Role, STANDARD, SystemDevice, is_unkept, open_source, path_of,
     print_numbers, refuse_equal, refuse_one_file,
 };
 use std::cell::Cell;
@@ -34,8 +34,7 @@ pub(crate) fn open_journal(
     };
     refuse_equal(pages, path, STANDARD)?;
     refuse_one_file(context.rt, pages, path, STANDARD)?;
-    if !is_regular_or_none(context.rt, path) {
-        context.note(format_args!("journal {path}: no regular file"));
+    if is_unkept(context, NamedFile(Role::Journal, Some(path))) {
         return Err(OpenFault::File(FileFault::Device));
     }
     let why = Cell::new(None);
@@ -110,7 +109,7 @@ fn keep_on(place: JournalPlace<'_, '_>, args: OpenArgs<'_>) -> Result<u8, OpenFa
             Some(path) => Some(FirstPages::new(place, args, path)),
             None => None,
         },
-        input: ReaderSource::new(context.rt.stdin(), Role::Lines, context.diagnostics),
+        input: SystemDevice::new(context.rt.stdin(), Role::Lines, context.diagnostics),
         out: context.out(),
         err: context.err(),
     };

@@ -106,10 +106,7 @@ pub fn open_kept<
         edits,
         round.book.len(),
     );
-    match run_open_kept(alloc, settings, round, &mut streams.input, &mut streams.out) {
-        Ok(()) => Ok(()),
-        Err(fault) => Err(OpenFault::File(fault)),
-    }
+    Ok(run_open_kept(alloc, settings, round, &mut streams.input, &mut streams.out)?)
 }
 
 // The pages with which a round begins: those of its journal, or of its page file.

@@ -5,7 +5,6 @@
 
 mod answer;
 mod fault;
-mod front;
 mod group;
 mod journal_file;
 mod kept_round;

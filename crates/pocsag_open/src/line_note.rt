@@ -2,15 +2,7 @@
 
 use csv::ByteRecord;
 use pocsag_journal::{Line, line_of, record_of};
-use pocsag_shell::{Context, Excerpt, Names};
-
-// What is wrong with a line that is neither an edit nor a `plan`.
-fn wrong_words(row: &ByteRecord) -> &'static str {
-    if row.get(0) == Some(b"add".as_slice()) {
-        return "ADDRESS, KIND and MESSAGE are wanted, and quotes around a message that holds a comma";
-    }
-    "the edits are add, cancel, sent and clear"
-}
+use pocsag_shell::{Context, Excerpt};
 
 // What is wrong with the fields of a line `plan` that is none.
 fn wrong_field(row: &ByteRecord) -> &'static str {
@@ -41,12 +33,16 @@ pub(crate) fn print_refused(context: Context<'_>, line: &[u8]) {
                 context.note(format_args!("plan: {wrong}"));
             }
             Line::Unknown => {
-                let wrong = wrong_words(&row);
+                let wrong = if row.get(0) == Some(b"add".as_slice()) {
+                    "ADDRESS, KIND and MESSAGE are wanted, and quotes around a message that holds a comma"
+                } else {
+                    "the edits are add, cancel, sent and clear"
+                };
                 context.note(format_args!("{text}: {wrong}"));
             }
             _ => context.note(text),
         },
         Err(_) => context.note(text),
     }
-    context.print_more(Names::NONE);
+    context.print_more(&[]);
 }

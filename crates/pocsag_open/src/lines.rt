@@ -2,7 +2,7 @@ ghost use Rattle.std.specs.Prelude.{◌≡◌, ◌≤◌, ◌⊎◌, [], ◌++�
 ghost use Rattle.pocsag_words.specs.Devices.{CountsFailures, HasFailed};
 ghost use Rattle.pocsag_shell.specs.Faults.{file_status};
 ghost use Rattle.pocsag_open.specs.Ends.{AreCountless, ExplainsEnd};
-ghost use Rattle.pocsag_open.specs.Lines.{IsByteKept, IsLineFound, IsNextByte, between_places, line_limit};
+ghost use Rattle.pocsag_open.specs.Lines.{IsByteKept, IsLineFound, IsNextByte, line_limit};
 
 use pocsag_shell::FileFault;
 use pocsag_words::{DeviceFault, Source};
@@ -37,8 +37,10 @@ pub struct Lines {
 }
 
 impl Lines {
+    ghost use Rattle.pocsag_open.specs.Ahead.{ahead_of};
+
     pub fn new(alloc: Global) -> Result<Lines, FileFault>
-        ensures ahead { IfOk result (λ lines. between_places lines.piece lines.start lines.end ≡ []) }
+        ensures ahead { IfOk result (λ lines. ahead_of lines ≡ []) }
         ensures lost { IfErr result (λ e. e ≡ FileFault.OutOfMemory) }
     {
         Ok(Lines {
@@ -53,8 +55,7 @@ impl Lines {
     fn next_byte<S: Source>(&mut self, source: &mut S) -> Result<Option<u8>, DeviceFault>
         ensures read { CountsFailures result (S.failures source.old) (S.failures source.new) }
         ensures next { S.is_known → IfOk result (λ next. IsNextByte next
-            (between_places self.old.piece self.old.start self.old.end ++ S.held source.old)
-            (between_places self.new.piece self.new.start self.new.end ++ S.held source.new)) }
+            (ahead_of self.old ++ S.held source.old) (ahead_of self.new ++ S.held source.new)) }
         ensures kept { self.new.line.items ≡ self.old.line.items }
     {
         if self.start >= self.end {
@@ -74,13 +75,12 @@ impl Lines {
     /// holds is taken for a fault of the source.
     pub fn read_line<S: Source>(&mut self, source: &mut S) -> Result<LineRead, FileFault>
         ensures found { S.is_known → IfOk result (λ found. IsLineFound found
-            (between_places self.old.piece self.old.start self.old.end ++ S.held source.old)
-            self.new.line.items (between_places self.new.piece self.new.start self.new.end ++ S.held source.new)) }
+            (ahead_of self.old ++ S.held source.old) self.new.line.items (ahead_of self.new ++ S.held source.new)) }
         ensures short { length self.new.line.items ≤ line_limit }
         ensures read { OnOk result (S.failures source.new ≡ S.failures source.old) }
         ensures explained { S.is_known →
             IfErr result (ExplainsEnd (HasFailed (S.failures source.old) (S.failures source.new)
-            ⊎ AreCountless (between_places self.old.piece self.old.start self.old.end ++ S.held source.old)) ⊥ ⊥) }
+            ⊎ AreCountless (ahead_of self.old ++ S.held source.old)) ⊥ ⊥) }
         ensures lost { IfErr result (λ e. file_status e ≡ 3) }
     {
         self.line.clear();
@@ -103,8 +103,7 @@ impl Lines {
     fn keep(&mut self, byte: u8) -> Result<LineRead, FileFault>
         ensures kept { IfOk result (λ found. IsByteKept found byte self.old.line.items self.new.line.items) }
         ensures short { length self.old.line.items ≤ line_limit → length self.new.line.items ≤ line_limit }
-        ensures ahead { between_places self.new.piece self.new.start self.new.end ≡
-            between_places self.old.piece self.old.start self.old.end }
+        ensures ahead { ahead_of self.new ≡ ahead_of self.old }
         ensures lost { IfErr result (λ e. e ≡ FileFault.OutOfMemory) }
     {
         if self.line.len() >= LINE_LIMIT {

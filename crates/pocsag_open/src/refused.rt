@@ -57,23 +57,16 @@ fn plain_line(refusal: Refusal) -> &'static str
         Refusal::Add(AddFault::DuplicateAddress) => "refused: the address is already there\n",
         Refusal::Add(AddFault::Full) => "refused: too many pages\n",
         Refusal::Undone(UndoneFault::NoPages) => "refused: there are no pages\n",
-        Refusal::Undone(UndoneFault::File(fault)) => file_line(fault),
+        Refusal::Undone(UndoneFault::File(fault)) => match fault {
+            FileFault::EqualPaths => "refused: the same file is named twice\n",
+            FileFault::Device => "refused: cannot read or open a file\n",
+            FileFault::Write => "refused: cannot write\n",
+            FileFault::Owner => {
+                "refused: the new file cannot be given the owner, group and mode of the old one\n"
+            }
+            FileFault::TooLarge => "refused: the file is too large\n",
+            FileFault::OutOfMemory => "refused: out of memory\n",
+        },
         _ => "refused: out of memory\n",
-    }
-}
-
-// That of a file of a plan.
-fn file_line(fault: FileFault) -> &'static str
-    ensures { result.now ≡ refusal_answer (Refusal.Undone (UndoneFault.File fault)) }
-{
-    match fault {
-        FileFault::EqualPaths => "refused: the same file is named twice\n",
-        FileFault::Device => "refused: cannot read or open a file\n",
-        FileFault::Write => "refused: cannot write\n",
-        FileFault::Owner => {
-            "refused: the new file cannot be given the owner, group and mode of the old one\n"
-        }
-        FileFault::TooLarge => "refused: the file is too large\n",
-        FileFault::OutOfMemory => "refused: out of memory\n",
     }
 }

@@ -2,7 +2,7 @@ ghost use Rattle.std.specs.Prelude.{◌≡◌, ◌≤◌, [], ◌∷◌, ◌++�
 ghost use Rattle.pocsag_words.specs.Frame.{input_limit};
 ghost use Rattle.pocsag_pages.specs.Quotes.{IsWellQuoted, text_of_file};
 ghost use Rattle.pocsag_open.specs.FirstFiles.{ExplainsRefused, HoldsRoundOf};
-ghost use Rattle.pocsag_open.specs.Plans.{failed_plan, no_bytes, no_names, no_plans, placed_plan};
+ghost use Rattle.pocsag_open.specs.Plans.{failed_plan, no_names, no_plans, placed_plan};
 
 use crate::fault::OpenFault;
 use crate::line_note::print_refused;
@@ -11,12 +11,11 @@ use crate::session::PlanSettings;
 use pocsag_pages::{FILE_LIMIT, held_pages, quote_fault};
 use pocsag_plan::OnLimit;
 use pocsag_shell::{
-    Context, FileFault, LoadedFile, NamedFile, Names, Output, Outputs, PAGES_READ, Role, STANDARD,
-    StagedFile, WriterSink, is_regular_or_none, load, note_record, open_outputs, open_source,
-    put_staged, refuse_equal, refuse_one_file, refuse_shared,
+    Context, FileFault, LoadedFile, NamedFile, Output, Outputs, PAGES_READ, Role, STANDARD,
+    StagedFile, SystemDevice, is_unkept, load, note_record, open_outputs, open_source, put_staged,
+    refuse_equal, refuse_one_file, refuse_shared,
 };
 use pocsag_words::Source;
-use std::fs::File;
 
 /// What `open` is asked for.
 #[derive(Clone, Copy)]
@@ -82,10 +81,7 @@ fn refuse_pages(
     let found = match held_pages(context.alloc, false, file) {
         Ok(queue) => queue.len() as u32,
         Err(fault) => {
-            let place = NamedFile {
-                role: Role::PageFile,
-                name: Some(path),
-            };
+            let place = NamedFile(Role::PageFile, Some(path));
             note_record(context, place, file, fault);
             return Err(OpenFault::Round(fault));
         }
@@ -148,7 +144,7 @@ impl<'a> RoundFiles<'a> {
 }
 
 impl<'a> OutputStore for RoundFiles<'a> {
-    type Output = WriterSink<'a, Output<File>>;
+    type Output = SystemDevice<'a, Output>;
 
     ghost is_known = { ⊥ };
 
@@ -160,7 +156,7 @@ impl<'a> OutputStore for RoundFiles<'a> {
         &mut self,
         tx: &str,
         cert: &str,
-    ) -> Result<Outputs<WriterSink<'a, Output<File>>>, FileFault> {
+    ) -> Result<Outputs<SystemDevice<'a, Output>>, FileFault> {
         let OpenArgs { pages, keep, .. } = self.args;
         let context = self.context;
         let role = match refuse_one_file(context.rt, pages, cert, STANDARD) {
@@ -170,9 +166,8 @@ impl<'a> OutputStore for RoundFiles<'a> {
         context.diagnostics.note_refusal(role);
         self.refuse_taken(tx, cert)?;
         let opened = if keep {
-            for (what, path) in [("transmission", tx), ("certificate", cert)] {
-                if !is_regular_or_none(context.rt, path) {
-                    context.note(format_args!("{what} {path}: no regular file"));
+            for (role, path) in [(Role::Transmission, tx), (Role::Certificate, cert)] {
+                if is_unkept(context, NamedFile(role, Some(path))) {
                     return Err(FileFault::Device);
                 }
             }
@@ -198,11 +193,11 @@ impl<'a> OutputStore for RoundFiles<'a> {
         &mut self,
         tx: &str,
         cert: &str,
-        outputs: Outputs<WriterSink<'a, Output<File>>>,
+        outputs: Outputs<SystemDevice<'a, Output>>,
     ) -> Result<(), FileFault>
         // Nothing is known of what files hold.
         ensures placed { ⊥ → no_names ≡ Some (tx.now, cert.now) → OnOk result
-            (no_plans ≡ no_plans ++ placed_plan tx.now cert.now no_bytes ∷ []) }
+            (no_plans ≡ no_plans ++ placed_plan tx.now cert.now ([], []) ∷ []) }
         ensures failed { ⊥ → IfErr result (λ fault. no_plans ≡
             no_plans ++ failed_plan tx.now cert.now fault ∷ []) }
         ensures none_left { ⊥ → no_names ≡ Some (tx.now, cert.now) → no_names ≡ None }
@@ -224,10 +219,9 @@ impl<'a> OutputStore for RoundFiles<'a> {
             file.remove(self.context);
         }
         self.made.clear();
-        self.context.print_more(Names {
-            tx: Some(tx),
-            cert: Some(cert),
-            ..Names::NONE
-        });
+        self.context.print_more(&[
+            NamedFile(Role::Transmission, Some(tx)),
+            NamedFile(Role::Certificate, Some(cert)),
+        ]);
     }
 }

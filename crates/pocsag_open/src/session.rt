@@ -12,13 +12,12 @@ ghost use Rattle.pocsag_open.specs.Plans.{HasFailedOutput};
 ghost use Rattle.pocsag_open.specs.Replies.{IsLineReply, IsSession, PrintsAndPlaces};
 ghost use Rattle.pocsag_open.specs.Survival.{IsCutShort, ReadsAfterLines, ReadsOrReplied, RepliesAndPlaces, RepliesTo, Survives};
 
-use crate::answer::{KeptRound, answer_edit, print_pages, print_planned};
+use crate::answer::{KeptRound, answer_edit, print_pages};
 use crate::fault::OpenFault;
-use crate::front::{FrontRequest, answer_front};
 use crate::lines::{LineRead, Lines};
 use crate::outputs::OutputStore;
 use crate::refused::refuse;
-use crate::round_plan::put_plan;
+use crate::round_plan::{PlanRequest, answer_plan};
 use pocsag_decode::{ListFault, write_page_file};
 use pocsag_journal::{Keeper, Line, NoKeeper, Refusal, UndoneFault, line_of, record_of};
 use pocsag_pages::read_round;
@@ -105,10 +104,7 @@ pub fn run_open_pages<P: OutputStore + Drop, F: Source, I: Source, O: Sink>(
         book: book_of(alloc, pages)?,
         keeper: NoKeeper,
     };
-    match run_open_kept(alloc, settings, &mut round, input, out) {
-        Ok(()) => Ok(()),
-        Err(fault) => Err(OpenFault::File(fault)),
-    }
+    Ok(run_open_kept(alloc, settings, &mut round, input, out)?)
 }
 
 /// A book of the pages of a page file.
@@ -228,21 +224,15 @@ fn answer_line<P: OutputStore + Drop, K: Keeper + Drop, O: Sink>(
             cert,
             end,
             at_most,
-        } => match at_most {
-            None => match put_plan(settings, &round.book, tx, cert, end) {
-                Ok(planned) => print_planned(planned, out),
-                Err(fault) => refuse(Refusal::Undone(fault), out),
-            },
-            Some(batches) => {
-                let args = FrontRequest {
-                    tx,
-                    cert,
-                    end,
-                    batches,
-                };
-                answer_front(alloc, settings, round, args, out)
-            }
-        },
+        } => {
+            let asked = PlanRequest {
+                tx,
+                cert,
+                end,
+                at_most,
+            };
+            answer_plan(alloc, settings, round, asked, out)
+        }
         Line::List => match write_page_file(alloc, round.book.pages(), out) {
             Ok(()) => print_pages(&round.book, out),
             Err(ListFault::OutOfMemory) => refuse(Refusal::Undone(UndoneFault::OutOfMemory), out),

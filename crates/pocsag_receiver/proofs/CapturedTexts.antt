@@ -1,6 +1,5 @@
 -- What is listed of a capture, and why a command does not answer for one.
-use Rattle.pocsag_receiver.proofs.Prelude.{◌≡◌, ℕ, ◌*◌, ◌≤◌, List, [], ◌∷◌, ◌++◌, length, map, Option, None, Result, refl, sym, ap, ap₂, subst, ◌∙◌, IfNone, IfSome, codes, fields_text, is_blank, default_writer, row_text, header, flat_map, All-weaker, input_limit, Page, unsynced, capture_bits, CapturedTransmission, IsCapturedTransmission, UncutStandWhole, pages_captured, ReceptionStats, Reception, IsFaultless, address_fault, printed_so, streams_as, printed_by, over_bytes, over_reader, IsStreamOf, Ran, ErrorStream, View, lists_capture, writing, AreRowsOf, ListsRows, names_in, row_in, ExplainsShowing, Row, ReceiverFault}
-use Rattle.std.specs.Prelude.{Some}
+use Rattle.pocsag_receiver.proofs.Prelude.{◌≡◌, ℕ, ◌*◌, ◌≤◌, List, [], ◌∷◌, ◌++◌, length, map, None, Result, refl, sym, ap, ap₂, subst, ◌∙◌, IfNone, IfSome, codes, fields_text, is_blank, default_writer, row_text, header, flat_map, All-weaker, input_limit, Page, unsynced, capture_bits, CapturedTransmission, IsCapturedTransmission, UncutStandWhole, pages_captured, ReceptionStats, Reception, IsFaultless, address_fault, printed_so, printed_by, over_bytes, over_reader, IsStreamOf, Ran, ErrorStream, View, lists_capture, AreRowsOf, ListsRows, names_in, row_in, ExplainsShowing, Row, ReceiverFault}
 use Rattle.pocsag_words.specs.declared.device.Sink.{Ghosts as Writer}
 use Rattle.pocsag_words.specs.declared.device.Source.{Ghosts as Reader}
 use Rattle.pocsag_capture.proofs.SentBits.{shows_what_was_sent}
@@ -9,18 +8,17 @@ use Rattle.pocsag_capture.specs.Receptions.{AreReceptions, received}
 use Rattle.pocsag_capture.specs.Sent.{HoldsSent}
 use Rattle.pocsag_capture.specs.Slips.{AreInStep}
 use Rattle.pocsag_capture.proofs.PageEnds.{transmissions_are_captured_lem, uncut_pages_stand}
-use Rattle.pocsag_shell.specs.declared.fault.FileFault.TheVariants as file
-use Rattle.pocsag_receiver.specs.Captures.{ExplainsOne, IsCaptureListed, ListsAmong, ListsWhole}
+use Rattle.pocsag_receiver.specs.Captures.{ExplainsCaptured, ExplainsOne, IsCaptureListed, ListsAmong, ListsWhole}
 use Rattle.pocsag_receiver.specs.declared.captured.CaptureOptions.{CaptureOptions}
 use Rattle.pocsag_receiver.specs.declared.fault.ReceiverFault.TheVariants as fault
+use Rattle.pocsag_receiver.proofs.Works.{written}
 
-pub show_explained : (view : View) (capture bytes : List ℕ) (nth : ℕ) (heard : List ReceptionStats) (e : ReceiverFault) → length capture ≤ input_limit
+pub show_explained : (view : View) (capture bytes : List ℕ) (nth : ℕ) (heard : List ReceptionStats) (e : ReceiverFault)
     → ExtractsOne capture nth heard bytes → IsFaultless bytes → ExplainsShowing view bytes e → ExplainsOne view nth capture e
-show_explained view capture bytes nth heard (fault.Transmission f) few extracts none said = absurd (none f said)
-show_explained view capture bytes nth heard (fault.NoSuchRows rows batches) few extracts none said =
+show_explained view capture bytes nth heard (fault.Transmission f) extracts none said = absurd (none f said)
+show_explained view capture bytes nth heard (fault.NoSuchRows rows batches) extracts none said =
     (heard, record { bytes = bytes; extracts = extracts; holds = said })
-show_explained view capture bytes nth heard (fault.File file.OutOfMemory) few extracts none said = few
-show_explained view capture bytes nth heard _ few extracts none said = absurd said
+show_explained view capture bytes nth heard _ extracts none said = absurd said
 
 -- ---- the text of its rows
 
@@ -50,10 +48,9 @@ captured_streamed Out capture k found items heard before after out out' result f
     let f = lists left heard ends in
     let rows = f.0 in
     let of = subst (λ (rs : List Reception). AreRowsOf (capture_bits capture) k.only 1 rs rows heard) same (all rows heard f.1) in
-    streams_as (writing (names_in k.form (codes "address,kind,message,state" ++ 10 ∷ []) ++ flat_map (row_in k.form) rows))
-    (over_bytes (lists_capture k heard) Out capture) Out out out' result (λ known. tt)
-    (λ s text p. (p.0, subst (IsCaptureListed k heard capture) (sym p.1) (captured_listed capture k items rows heard address are of)))
-    (λ f why. rw why few) (λ f why. why) (λ f why. why) f.2
+    written Out out out' result (IsCaptureListed k heard) (ExplainsCaptured k.only) capture
+    (names_in k.form (codes "address,kind,message,state" ++ 10 ∷ []) ++ flat_map (row_in k.form) rows)
+    (captured_listed capture k items rows heard address are of) few f.2
 
 -- ---- a capture that was listed
 

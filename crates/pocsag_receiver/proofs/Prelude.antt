@@ -1,7 +1,7 @@
 -- What several proofs of the crate import, passed on to all of them.
 unfoldable pub use Rattle.csv.specs.Writing.{fields_text, is_blank}
 pub use Rattle.csv.specs.Writing.{default_writer, row_text}
-pub use Rattle.pocsag_capture.specs.Bits.{capture_bits, inverts}
+pub use Rattle.pocsag_capture.specs.Bits.{capture_bits}
 pub use Rattle.pocsag_capture.specs.PageEnds.{CapturedTransmission, IsCapturedTransmission, UncutStandWhole, pages_captured}
 pub use Rattle.pocsag_capture.specs.declared.reception.Reception.{Reception}
 pub use Rattle.pocsag_capture.specs.declared.reception.ReceptionStats.{ReceptionStats}
@@ -15,19 +15,20 @@ pub use Rattle.pocsag_pager.specs.Faults.{hearing_fault}
 pub use Rattle.pocsag_pages.specs.Bytes.{Sent, after_preamble, body_bytes, leading, synced, unsynced, words_of}
 pub use Rattle.pocsag_pages.specs.Listable.{IsListable}
 pub use Rattle.pocsag_pages.specs.declared.page.Page.{Page}
-pub use Rattle.pocsag_receiver.specs.CapturedForms.{is_picked, marked, members_of, names_in, picked_rows, row_in, row_line, row_record}
+pub use Rattle.pocsag_receiver.specs.CapturedForms.{is_picked, mark_of, marked, picked_rows}
 pub use Rattle.pocsag_receiver.specs.Faults.{fault_of_list, fault_of_show, receiver_status}
 unfoldable pub use Rattle.pocsag_receiver.specs.Forms.{kind_read, message_read}
-pub use Rattle.pocsag_receiver.specs.Forms.{is_text, listed_in, record_read, text_listing}
-pub use Rattle.pocsag_receiver.specs.Rows.{AreRowsBehind, AreRowsFrom, AreRowsLeft, AreRowsOf, CanHandOut, ListsRows, as_streamed, most_behind, most_rows, unmarked}
+pub use Rattle.pocsag_receiver.specs.Forms.{is_text, listed_in, members_of, names_in, record_read, row_in, row_record, unmarked}
+pub use Rattle.pocsag_receiver.specs.Rows.{AreRowsBehind, AreRowsFrom, AreRowsLeft, AreRowsOf, CanHandOut, ListsRows, as_streamed, most_behind, most_rows}
 pub use Rattle.pocsag_receiver.specs.Views.{ExplainsShowing, HasRows, IsViewed}
-pub use Rattle.pocsag_receiver.specs.Works.{decodes, hears, lists, lists_capture, shows, shows_capture, views, writing}
+pub use Rattle.pocsag_receiver.specs.Works.{decodes, hears, lists, lists_capture, repairs, shows, shows_capture, streamed, views, writing}
 pub use Rattle.pocsag_receiver.specs.declared.captured.Begun.{Begun}
 pub use Rattle.pocsag_receiver.specs.declared.captured.PageOrigin.{PageOrigin}
 pub use Rattle.pocsag_receiver.specs.declared.fault.ReceiverFault.{ReceiverFault}
 pub use Rattle.pocsag_receiver.specs.declared.form.ListForm.{ListForm}
 pub use Rattle.pocsag_receiver.specs.declared.form.Row.{Row}
-pub use Rattle.pocsag_shell.proofs.Readers.{printed_so, ran_read, ran_unread, streams_as, told_so}
+pub use Rattle.pocsag_shell.proofs.Readers.{printed_so, streams_as, told_so}
+pub use Rattle.pocsag_shell.proofs.Runs.{ran_streamed}
 pub use Rattle.pocsag_shell.specs.ErrorStreams.{printed_by}
 pub use Rattle.pocsag_shell.specs.Readers.{WasNotRead, over_bytes, over_reader}
 pub use Rattle.pocsag_shell.specs.Runs.{IsStreamOf, Ran}

@@ -26,7 +26,7 @@ pub why_unheard : (a : ℕ) (X : List ℕ) (f : PagerFault) →
     (hearing_fault a X ≡ Some f) ⊎ ((hearing_fault a X ≡ None) × (f ≡ hearing.OutOfMemory)) →
     (hearing_fault a X ≡ None → ShowsSome (words_of (after_preamble X)) a) → ExplainsHearing a X (fault.Pager f)
 why_unheard a X f (inl is) some = inl is
-why_unheard a X f (inr none) some = inr (none.1, record { taken = none.0; some = some none.0 })
+why_unheard a X f (inr none) some = inr (none.1, none.0, some none.0)
 
 -- how long the batches are
 pub batches_long : (X T : List ℕ) (s : Sent X T) → length (after_preamble X) ≡ 68 * s.batches

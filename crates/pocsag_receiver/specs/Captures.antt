@@ -43,16 +43,13 @@ pub record ListsAmong (k : CaptureOptions) (ps : List Page) (out_before out_afte
   pub among : StandAmong ps (pages_captured transmissions)
   pub listed : out_after ≡ out_before ++ captured_listing k transmissions
 
--- Memory was refused, or the capture is too large: it is never refused for what it holds.
-abbrev pub ExplainsCapture : (capture : List ℕ) → ReceiverFault → Type 0
-ExplainsCapture capture (fault.Capture f) = ExplainsUnextracted capture f
-ExplainsCapture capture (fault.File file.OutOfMemory) = length capture ≤ input_limit
-ExplainsCapture capture _ = ⊥
-
--- The same; or pages of one address are asked for, and the address has this fault.
+-- Pages of one address are asked for, and the address has this fault; or memory was refused, or the capture is too large: it is
+-- never refused for what it holds.
 abbrev pub ExplainsCaptured : (only : Option ℕ) → (capture : List ℕ) → ReceiverFault → Type 0
 ExplainsCaptured only capture (fault.Pager f) = (address : ℕ) × (only ≡ Some address) × (address_fault address ≡ Some f)
-ExplainsCaptured only capture e = ExplainsCapture capture e
+ExplainsCaptured only capture (fault.Capture f) = ExplainsUnextracted capture f
+ExplainsCaptured only capture (fault.File file.OutOfMemory) = length capture ≤ input_limit
+ExplainsCaptured only capture _ = ⊥
 
 -- These are the bytes of the transmission of this number, as it is extracted, and how it was received is reported.
 pub record IsSoOfOne (capture : List ℕ) (nth : ℕ) (heard : List ReceptionStats) (P : List ℕ → Type 0) : Type 0 where
@@ -60,9 +57,10 @@ pub record IsSoOfOne (capture : List ℕ) (nth : ℕ) (heard : List ReceptionSta
   pub extracts : ExtractsOne capture nth heard bytes
   pub holds : P bytes
 
--- There is no such transmission, the rows that are asked for are behind its last batch, or memory was refused.
+-- There is no such transmission, or it was not extracted for want of memory, or the rows that are asked for are behind its last
+-- batch.
 abbrev pub ExplainsOne : View → (nth : ℕ) → (capture : List ℕ) → ReceiverFault → Type 0
 ExplainsOne view nth capture (fault.Capture f) = ExplainsNone capture nth f
 ExplainsOne view nth capture (fault.NoSuchRows rows batches) =
     (heard : List ReceptionStats) × IsSoOfOne capture nth heard (λ bytes. IsBehindLast view bytes rows batches)
-ExplainsOne view nth capture e = ExplainsCapture capture e
+ExplainsOne view nth capture _ = ⊥

@@ -32,13 +32,10 @@ pub record IsHeard (hearing : Hearing) (bytes text : List ℕ) : Type 0 where
   pub shown : AreShown (words_of (after_preamble bytes)) hearing.address pages
   pub listed : text ≡ listed_in hearing.form pages
 
--- Memory refused a page that the pager shows.
-pub record IsUnheard (address : ℕ) (bytes : List ℕ) : Type 0 where
-  pub taken : hearing_fault address bytes ≡ None
-  pub some : ShowsSome (words_of (after_preamble bytes)) address
-
--- The address or the bytes have this fault; or they have none, and memory was refused.
+-- The address or the bytes have this fault; or they have none, and memory was refused, to the pager only where it shows a page.
 abbrev pub ExplainsHearing : (address : ℕ) → (bytes : List ℕ) → ReceiverFault → Type 0
-ExplainsHearing address bytes (fault.Pager f) = (hearing_fault address bytes ≡ Some f) ⊎ ((f ≡ hearing.OutOfMemory) × IsUnheard address bytes)
+ExplainsHearing address bytes (fault.Pager f) =
+    (hearing_fault address bytes ≡ Some f)
+    ⊎ ((f ≡ hearing.OutOfMemory) × (hearing_fault address bytes ≡ None) × ShowsSome (words_of (after_preamble bytes)) address)
 ExplainsHearing address bytes (fault.File file.OutOfMemory) = hearing_fault address bytes ≡ None
 ExplainsHearing address bytes _ = ⊥

@@ -39,10 +39,6 @@ ListsRows Out out out_after begun text_of before after result =
     (rs : List Row) (told : _) → after rs told
     → (all : List Row) × before all told × IsStreamOf (writing (begun ++ flat_map text_of all)) Out out out_after result
 
--- The rows of pages that have no mark.
-abbrev pub unmarked : List Page → List Row
-unmarked ps = map (λ p. record { page = p; mark = None }) ps
-
 -- *Rows of receptions*: these are the rows of receptions, of which the first has this number, and each was received so.
 pub record AreRowsOf (bits : List ℕ) (only : Option ℕ) (number : ℕ) (receptions : List Reception) (rows : List Row) (heard : List ReceptionStats) : Type 0 where
   pub transmissions : List CapturedTransmission

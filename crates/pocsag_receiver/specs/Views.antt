@@ -1,12 +1,11 @@
 -- What `show` prints of bytes, and why it prints nothing.
-use Rattle.std.specs.Prelude.{◌≡◌, ◌⊎◌, ℕ, ◌<◌, ◌≤◌, List, Some, IfSome}
+use Rattle.std.specs.Prelude.{◌≡◌, ℕ, ◌<◌, ◌≤◌, List, Some, IfSome}
 use Rattle.pocsag_pages.specs.declared.page.Page.{Page}
-use Rattle.pocsag_decode.specs.Faults.{HasFault, ReadsAs, WantsMemory}
+use Rattle.pocsag_decode.specs.Faults.{HasFault, ReadsAs}
 use Rattle.pocsag_show.specs.Shows.{IsTextOf}
 use Rattle.pocsag_show.specs.Views.{rows_wanted, view_text}
 use Rattle.pocsag_show.specs.declared.rows.Rows.{Rows}
 use Rattle.pocsag_show.specs.declared.view.View.{View}
-use Rattle.pocsag_shell.specs.declared.fault.FileFault.TheVariants as file
 use Rattle.pocsag_receiver.specs.declared.fault.ReceiverFault.{ReceiverFault}
 use Rattle.pocsag_receiver.specs.declared.fault.ReceiverFault.TheVariants as fault
 
@@ -31,9 +30,9 @@ pub record IsBehindLast (view : View) (bytes : List ℕ) (rows : Rows) (batches 
   pub reads : ReadsInBatches bytes batches
   pub behind : batches < rows.first
 
--- The bytes have this fault, the rows that are asked for are behind their last batch, or memory was refused.
+-- The bytes have this fault, or the rows that are asked for are behind their last batch. Memory is refused only behind a part of
+-- the text, which may be none of it.
 abbrev pub ExplainsShowing : View → (bytes : List ℕ) → ReceiverFault → Type 0
 ExplainsShowing view bytes (fault.Transmission f) = HasFault bytes f
 ExplainsShowing view bytes (fault.NoSuchRows rows batches) = IsBehindLast view bytes rows batches
-ExplainsShowing view bytes (fault.File file.OutOfMemory) = WantsMemory bytes ⊎ ((pages : List Page) × ReadsAs bytes pages)
 ExplainsShowing view bytes _ = ⊥

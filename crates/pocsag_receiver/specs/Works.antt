@@ -44,13 +44,12 @@ streamed Prints Explains = record {
   ends = receiver_status;
 }
 
--- What is printed of the bytes that are read of a file, and why nothing is: with repair, so much was corrected.
-abbrev pub PrintsRead : (before after : Repairing) → (Prints : (bytes text : List ℕ) → Type 0) → (bytes text : List ℕ) → Type 0
-PrintsRead before after Prints held text =
-    IsSoOfRead held before.is_asked (λ bytes. Counts after.corrected held bytes × Prints bytes text)
-
-abbrev pub ExplainsRead : Repairing → (Explains : (bytes : List ℕ) → ReceiverFault → Type 0) → (bytes : List ℕ) → ReceiverFault → Type 0
-ExplainsRead repairing Explains held f = IsSoOfRead held repairing.is_asked (λ bytes. Explains bytes f)
+-- This command over the bytes that are read of a file: with repair, so much was corrected.
+abbrev pub repairs : (before after : Repairing) → Task ReceiverFault → Task ReceiverFault
+repairs before after task = record task {
+  prints = λ held text. IsSoOfRead held before.is_asked (λ bytes. Counts after.corrected held bytes × task.prints bytes text);
+  explains = λ held f. IsSoOfRead held before.is_asked (λ bytes. task.explains bytes f);
+}
 
 -- Lists the pages that the bytes read as, in a form,
 abbrev pub lists : ListForm → Task ReceiverFault
@@ -58,7 +57,7 @@ lists form = streamed (IsDecoded form) ExplainsDecoding
 
 -- and `decode`: with repair those that its words read as once each is repaired.
 abbrev pub decodes : ListForm → (before after : Repairing) → Task ReceiverFault
-decodes form before after = streamed (PrintsRead before after (IsDecoded form)) (ExplainsRead before ExplainsDecoding)
+decodes form before after = repairs before after (lists form)
 
 -- `hear`: lists what the pager of an address shows.
 abbrev pub hears : Hearing → Task ReceiverFault
@@ -74,7 +73,7 @@ views view = streamed (IsViewed view) (ExplainsShowing view)
 
 -- `show`: with repair as it is once each of its words is repaired,
 abbrev pub shows : View → (before after : Repairing) → Task ReceiverFault
-shows view before after = streamed (PrintsRead before after (IsViewed view)) (ExplainsRead before (ExplainsShowing view))
+shows view before after = repairs before after (views view)
 
 -- and `show --capture`: one of those of a capture.
 abbrev pub shows_capture : View → (nth : ℕ) → (heard : List ReceptionStats) → Task ReceiverFault

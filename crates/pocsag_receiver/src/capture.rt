@@ -5,7 +5,7 @@ ghost use Rattle.pocsag_capture.specs.Bits.{capture_bits};
 ghost use Rattle.pocsag_capture.specs.Sent.{HoldsSent};
 ghost use Rattle.pocsag_pager.specs.Faults.{address_fault};
 ghost use Rattle.pocsag_shell.specs.ErrorStreams.{printed_by};
-ghost use Rattle.pocsag_shell.specs.Readers.{over_bytes, over_reader};
+ghost use Rattle.pocsag_shell.specs.Readers.{over_reader};
 ghost use Rattle.pocsag_shell.specs.Runs.{IsStreamOf, Ran};
 ghost use Rattle.pocsag_receiver.specs.Captures.{ExplainsCaptured, ListsAmong, ListsWhole};
 ghost use Rattle.pocsag_receiver.specs.Works.{lists_capture, shows_capture};
@@ -48,17 +48,20 @@ fn judge_address(alloc: Global, only: Option<u32>) -> Result<(), ReceiverFault>
     Ok(())
 }
 
-// Lists the pages of all transmissions of the bytes of a capture, one behind the other, or those of one address.
-fn list_captured<O: Sink>(
+// Lists the pages of all transmissions of a capture, one behind the other, or those of one address.
+fn list_captured<T: Source, O: Sink>(
     alloc: Global,
     capture_listing: &mut CaptureListing,
-    capture: &[u8],
+    tx: &mut T,
     out: &mut O,
 ) -> Result<u8, ReceiverFault>
     ensures streams { IsStreamOf
-        (over_bytes (lists_capture capture_listing.old.picking capture_listing.new.heard.items) O.Sink capture.now)
+        (over_reader (lists_capture capture_listing.old.picking capture_listing.new.heard.items)
+        T.Source O.Sink tx.old tx.new)
         O.Sink out.old out.new result }
 {
+    let read = read_transmission(alloc, tx)?;
+    let capture = read.as_slice();
     let found = receptions_in(alloc, capture).map_err(ReceiverFault::Capture)?;
     let picking = capture_listing.picking;
     judge_address(alloc, picking.only)?;
@@ -95,24 +98,23 @@ pub fn run_list_capture<T: Source, O: Sink, E: Sink + Drop>(
     ensures sent { T.is_known → O.is_known → (pages : List Page) → HoldsSent (capture_bits (T.held tx.old)) pages →
         IfNone (printed_by err.new) (ListsAmong capture_listing.old.picking pages (O.taken out.old) (O.taken out.new)) }
 {
-    let capture = match read_transmission(alloc, tx) {
-        Ok(capture) => capture,
-        Err(fault) => return err.end(Err(ReceiverFault::File(fault))),
-    };
-    err.end(list_captured(alloc, capture_listing, capture.as_slice(), out))
+    err.end(list_captured(alloc, capture_listing, tx, out))
 }
 
-// Shows one of the transmissions of the bytes of a capture.
-fn show_captured<O: Sink>(
+// Shows one of the transmissions of a capture.
+fn show_captured<T: Source, O: Sink>(
     alloc: Global,
     viewing: &mut CaptureView,
-    capture: &[u8],
+    tx: &mut T,
     out: &mut O,
 ) -> Result<u8, ReceiverFault>
     ensures streams { IsStreamOf
-        (over_bytes (shows_capture viewing.old.view viewing.old.nth viewing.new.heard.items) O.Sink capture.now)
+        (over_reader (shows_capture viewing.old.view viewing.old.nth viewing.new.heard.items)
+        T.Source O.Sink tx.old tx.new)
         O.Sink out.old out.new result }
 {
+    let read = read_transmission(alloc, tx)?;
+    let capture = read.as_slice();
     readings_have_no_fault();
     let Extracted { bytes, heard } = extract_one(alloc, capture, viewing.nth).map_err(
         ReceiverFault::Capture,
@@ -134,9 +136,5 @@ pub fn run_show_capture<T: Source, O: Sink, E: Sink + Drop>(
         T.Source O.Sink tx.old tx.new)
         O.Sink E.Sink result out.old out.new err.old err.new }
 {
-    let capture = match read_transmission(alloc, tx) {
-        Ok(capture) => capture,
-        Err(fault) => return err.end(Err(ReceiverFault::File(fault))),
-    };
-    err.end(show_captured(alloc, viewing, capture.as_slice(), out))
+    err.end(show_captured(alloc, viewing, tx, out))
 }

@@ -71,6 +71,7 @@ fn is_picked(only: Option<u32>, address: u32) -> bool
 
 impl<'a> CaptureRows<'a> {
     /// The rows of these receptions. After this call memory is taken only for the pages.
+    #[tactic(auto, using(crate::proofs::CaptureRows::all_from))]
     pub(crate) fn new(
         alloc: Global,
         capture: &'a [u8],
@@ -108,6 +109,7 @@ impl<'a> CaptureRows<'a> {
     }
 
     // Begins the reception at the place, if one is there.
+    #[tactic(auto, using(crate::proofs::CaptureRows::none_from))]
     fn begin(&mut self)
         requires can { CanHandOut self.old None }
         ensures can { CanHandOut self.new self.new.current }
@@ -133,6 +135,7 @@ impl<'a> CaptureRows<'a> {
     }
 
     // Ends this reception, and begins the next.
+    #[tactic(auto, using(crate::proofs::CaptureRows::ended))]
     fn end(&mut self, begun: Begun<'a>)
         requires can { CanHandOut self.old (Some begun) }
         ensures can { CanHandOut self.new self.new.current }

@@ -42,17 +42,20 @@ fn list_decoded_in<O: Sink>(
     list_from(alloc, form, &mut PageReader::new(alloc, bytes), out)
 }
 
-// Lists the pages of the bytes of a transmission, with repair those that its words read as once each is repaired.
-fn decode_bytes<O: Sink>(
+// Lists the pages of a transmission, with repair those that its words read as once each is repaired.
+fn decode_read<T: Source, O: Sink>(
     alloc: Global,
     decoding: &mut Decoding,
-    bytes: &mut [u8],
+    tx: &mut T,
     out: &mut O,
 ) -> Result<u8, ReceiverFault>
     ensures streams { IsStreamOf
-        (over_bytes (decodes decoding.old.form decoding.old.repairing decoding.new.repairing) O.Sink bytes.old)
+        (over_reader (decodes decoding.old.form decoding.old.repairing decoding.new.repairing)
+        T.Source O.Sink tx.old tx.new)
         O.Sink out.old out.new result }
 {
+    let mut read = read_transmission(alloc, tx)?;
+    let bytes = read.as_mut_slice();
     decoding.repairing.corrected = repair_asked(decoding.repairing.is_asked, bytes);
     list_decoded_in(alloc, decoding.form, bytes, out)
 }
@@ -82,9 +85,5 @@ pub fn run_decode<T: Source, O: Sink, E: Sink + Drop>(
         IsDamaged X (T.held tx.old) →
         IfSome (printed_by err.new) (λ e. receiver_status e ≡ 1 → input_limit < length (T.held tx.old)) }
 {
-    let mut bytes = match read_transmission(alloc, tx) {
-        Ok(bytes) => bytes,
-        Err(fault) => return err.end(Err(ReceiverFault::File(fault))),
-    };
-    err.end(decode_bytes(alloc, decoding, bytes.as_mut_slice(), out))
+    err.end(decode_read(alloc, decoding, tx, out))
 }

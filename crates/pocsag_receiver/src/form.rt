@@ -11,17 +11,14 @@ ghost use Rattle.pocsag_pages.specs.declared.page.Page.{Page};
 ghost use Rattle.pocsag_decode.specs.Faults.{NamesFailures};
 ghost use Rattle.pocsag_decode.specs.Lines.{IsReady, text_in};
 ghost use Rattle.pocsag_shell.specs.Runs.{IsStreamOf};
-ghost use Rattle.pocsag_receiver.specs.CapturedForms.{members_of, names_in, row_in, row_line, row_record, state_field};
-ghost use Rattle.pocsag_receiver.specs.Forms.{is_text, kind_read, listed_in, message_read, page_members};
-ghost use Rattle.pocsag_receiver.specs.Rows.{HandsOn, ListsRows, as_streamed, unmarked};
+ghost use Rattle.pocsag_receiver.specs.Forms.{is_text, kind_read, listed_in, members_of, message_read, names_in, page_members, row_in, row_line, row_record, state_field, unmarked};
+ghost use Rattle.pocsag_receiver.specs.Rows.{HandsOn, ListsRows, as_streamed};
 ghost use Rattle.pocsag_receiver.specs.Works.{writing};
 ghost use Rattle.pocsag_receiver.specs.declared.form.Row.{Row};
 
 use crate::captured::PageOrigin;
 use crate::fault::ReceiverFault;
-use pocsag_decode::{
-    ListFault, PageSource, list_owned, message_of, write_many_records, write_records,
-};
+use pocsag_decode::{ListFault, PageSource, message_of, write_many_records, write_records};
 use pocsag_pages::Page;
 use pocsag_text::{unpack_alpha, unpack_numeric};
 use pocsag_words::{OutOfMemory, Sink, write_all};
@@ -72,7 +69,7 @@ fn kind_read(texts: [bool; 3], function: u8, items: &[u32]) -> &'static str
 }
 
 // The message of a page with this function and these items.
-#[tactic(auto, unfolding(crate::specs::Forms::message_read, pocsag_decode::specs::Listing::message_field))]
+#[tactic(auto, unfolding(crate::specs::Forms::message_read, pocsag_decode::specs::Listing::message_field), using(crate::proofs::Read::numeric_is_ascii, crate::proofs::Read::data_is_ascii))]
 fn message_read(
     alloc: Global,
     texts: [bool; 3],
@@ -393,21 +390,4 @@ pub(crate) fn list_from<P: PageSource, S: Sink>(
 {
     list_rows(alloc, form, b"address,kind,message\n", pages, sink)?;
     Ok(0)
-}
-
-/// Writes pages in a form. Returns exit status 0.
-pub(crate) fn list_in<S: Sink>(
-    alloc: Global,
-    form: ListForm,
-    pages: Vec<Page>,
-    sink: &mut S,
-) -> Result<u8, ReceiverFault>
-    requires { All IsListable pages.items }
-    ensures streams { IsStreamOf (writing (listed_in form pages.items)) S.Sink sink.old sink.new result }
-{
-    if let ListForm::Listing = form {
-        list_owned(alloc, pages, sink)?;
-        return Ok(0);
-    }
-    list_from(alloc, form, &mut pages.into_iter(), sink)
 }

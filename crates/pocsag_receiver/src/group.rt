@@ -11,12 +11,12 @@ use crate::words::{
 };
 use clap::error::ErrorKind;
 use clap::{ArgMatches, Error};
-use pocsag_capture::{CaptureFault, Polarity, Reception, ReceptionStats};
+use pocsag_capture::{CaptureFault, Polarity, ReceptionStats};
 use pocsag_decode::{DecodeFault, Repaired};
 use pocsag_pager::PagerFault;
 use pocsag_shell::{
     Call, CommandSpec, Context, ErrorStream, FileFault, Group, KEPT_BYTES, LoadedFile,
-    MemoryStreams, Names, PAGES_READ, Role, TX, Tables, command, is_kept, load_file, path_of,
+    MemoryStreams, NamedFile, PAGES_READ, Role, TX, Tables, command, is_kept, load_file, path_of,
     print_numbers,
 };
 use pocsag_words::{Sink, Source};
@@ -41,24 +41,17 @@ impl Group for Receiver {
         tables.commands.extend_from_slice(RECEIVER_COMMANDS)
     }
 
-    fn misplaced(&self, _found: &ArgMatches<'_>) -> Option<&'static str> {
-        None
-    }
-
     fn run(&self, context: Context<'_>, call: Call<'_, '_>) -> Option<Result<u8, Error>> {
         let (name, found) = (call.name?, call.found);
         let Some(asked) = asked_of(context.alloc, name, found) else {
             return refused_words(context.alloc, name);
         };
         let tx = found.get_str(TX)?;
-        let names = Names {
-            tx: Some(tx),
-            ..Names::NONE
-        };
+        let file = NamedFile(Role::Transmission, Some(tx));
         let loaded = load_file(context, Role::Transmission, path_of(tx), PAGES_READ);
         Some(Ok(match loaded {
-            Ok(loaded) => receive(context, asked, loaded, names),
-            Err(fault) => context.end(names, Err(fault)),
+            Ok(loaded) => receive(context, asked, loaded, file),
+            Err(fault) => context.end(&[file], Err(fault)),
         }))
     }
 }
@@ -72,20 +65,14 @@ fn asked_of(alloc: Global, name: &str, found: &ArgMatches<'_>) -> Option<Request
             form: wanted_form(found)?,
             repairing,
         })),
-        (DECODE, true) => Some(Request::ListCapture(CaptureListing {
-            picking: CaptureOptions {
-                only: None,
-                form: wanted_form(found)?,
-            },
-            heard,
-        })),
         (HEAR, false) => Some(Request::Hear(Hearing {
             form: wanted_form(found)?,
             address: found.get_one::<u32>(ADDRESS)?,
         })),
-        (HEAR, true) => Some(Request::ListCapture(CaptureListing {
+        (DECODE | HEAR, true) => Some(Request::ListCapture(CaptureListing {
             picking: CaptureOptions {
-                only: Some(found.get_one::<u32>(ADDRESS)?),
+                // `decode` has no address.
+                only: found.get_one::<u32>(ADDRESS),
                 form: wanted_form(found)?,
             },
             heard,
@@ -125,7 +112,12 @@ fn words_error(
 }
 
 // Does what is asked of a transmission. Returns the exit status.
-fn receive(context: Context<'_>, mut asked: Request, mut tx: LoadedFile, names: Names<'_>) -> u8 {
+fn receive(
+    context: Context<'_>,
+    mut asked: Request,
+    mut tx: LoadedFile,
+    file: NamedFile<'_>,
+) -> u8 {
     let likely = if context.diagnostics.is_asked() {
         likely_bytes(tx.lent().unwrap_or(&[]))
     } else {
@@ -135,8 +127,8 @@ fn receive(context: Context<'_>, mut asked: Request, mut tx: LoadedFile, names: 
         let mut streams = MemoryStreams::new(context.alloc);
         let out = &mut streams.out;
         let status = carry_out(context.alloc, &mut asked, &mut tx, out, &mut streams.err);
-        note_capture(context, names, &asked, streams.err.fault());
-        streams.end(context, names, Ok(status))
+        note_capture(context, file, &asked, streams.err.fault());
+        streams.end(context, &[file], Ok(status))
     } else {
         let mut err = ErrorStream::new(context.err());
         let status = carry_out(
@@ -149,12 +141,12 @@ fn receive(context: Context<'_>, mut asked: Request, mut tx: LoadedFile, names: 
         if err.fault().is_none() {
             context.forget_refused_call();
         }
-        note_capture(context, names, &asked, err.fault());
-        context.print_more(names);
+        note_capture(context, file, &asked, err.fault());
+        context.print_more(&[file]);
         status
     };
     if status == 0 {
-        print_received(context, &asked, names, likely);
+        print_received(context, &asked, file, likely);
     }
     status
 }
@@ -199,17 +191,26 @@ fn likely_bytes(bytes: &[u8]) -> &'static str {
 }
 
 // With `--verbose` reports how a transmission was received; of a capture without one, what its bytes likely are.
-fn print_received(context: Context<'_>, asked: &Request, names: Names<'_>, likely: &'static str) {
+fn print_received(
+    context: Context<'_>,
+    asked: &Request,
+    file: NamedFile<'_>,
+    likely: &'static str,
+) {
     match asked {
         Request::Hear(_) => {}
-        Request::Decode(decoding) => note_repair(context, names, decoding.repairing),
-        Request::Show(showing) => note_repair(context, names, showing.repairing),
+        Request::Decode(Decoding { repairing, .. }) | Request::Show(Showing { repairing, .. }) => {
+            if repairing.is_asked {
+                let Repaired { words, bits } = repairing.corrected;
+                context.note(format_args!("{file}: corrected bits {bits}, words {words}"));
+                context.print_more(&[file]);
+            }
+        }
         Request::ListCapture(capture_listing) => {
             let heard = capture_listing.heard.as_slice();
             if heard.is_empty() {
-                let place = names.place(Role::Transmission);
-                context.note(format_args!("{place}: no transmission is in the capture{likely}"));
-                context.print_more(names);
+                context.note(format_args!("{file}: no transmission is in the capture{likely}"));
+                context.print_more(&[file]);
             }
             print_heard(context, 1, heard);
         }
@@ -223,7 +224,7 @@ fn print_received(context: Context<'_>, asked: &Request, names: Names<'_>, likel
 // that names `--capture`.
 fn note_capture(
     context: Context<'_>,
-    names: Names<'_>,
+    file: NamedFile<'_>,
     asked: &Request,
     fault: Option<ReceiverFault>,
 ) {
@@ -236,31 +237,22 @@ fn note_capture(
         ) => context.diagnostics.refuse_large(Role::Transmission),
         Some(_) => context.diagnostics.note_refusal(Role::Transmission),
     }
-    let is_short = match fault {
-        Some(ReceiverFault::Transmission(DecodeFault::ShortPreamble)) => true,
-        Some(ReceiverFault::Pager(PagerFault::ShortPreamble)) => true,
-        _ => false,
-    };
+    let is_short = matches!(
+        fault,
+        Some(
+            ReceiverFault::Transmission(DecodeFault::ShortPreamble)
+                | ReceiverFault::Pager(PagerFault::ShortPreamble),
+        )
+    );
     let reads_damage = match asked {
         Request::Decode(decoding) => decoding.repairing.is_asked,
         Request::Hear(_) => true,
         _ => false,
     };
     if is_short && reads_damage {
-        let place = names.place(Role::Transmission);
         context.note(format_args!(
-            "{place}: for bits off the air that begin anywhere, give --capture"
+            "{file}: for bits off the air that begin anywhere, give --capture"
         ));
-    }
-}
-
-// With `--repair` reports how much was corrected.
-fn note_repair(context: Context<'_>, names: Names<'_>, repairing: Repairing) {
-    if repairing.is_asked {
-        let Repaired { words, bits } = repairing.corrected;
-        let place = names.place(Role::Transmission);
-        context.note(format_args!("{place}: corrected bits {bits}, words {words}"));
-        context.print_more(names);
     }
 }
 
@@ -271,32 +263,21 @@ fn print_heard(context: Context<'_>, first: u64, heard: &[ReceptionStats]) {
     }
     let mut number = first;
     for printed in heard {
-        let ReceptionStats {
-            reception,
-            steady: _,
-            corrected,
-            lost,
-            cut,
-        } = *printed;
-        let Reception {
-            bit,
-            polarity,
-            batches,
-            words: _,
-            words_in_front,
-        } = reception;
-        let batches = batches.saturating_add(u64::from(words_in_front > 0));
-        let batches_of = match polarity {
+        let reception = printed.reception;
+        let batches = reception
+            .batches
+            .saturating_add(u64::from(reception.words_in_front > 0));
+        let batches_of = match reception.polarity {
             Polarity::Upright => ", upright, batches ",
             Polarity::Inverted => ", inverted, batches ",
         };
         let numbers = [
             ("pocsag: transmission ", number),
-            (": bit ", bit),
+            (": bit ", reception.bit),
             (batches_of, batches),
-            (", corrected bits ", corrected),
-            (", lost words ", lost),
-            (", cut pages ", cut),
+            (", corrected bits ", printed.corrected),
+            (", lost words ", printed.lost),
+            (", cut pages ", printed.cut),
         ];
         let _ = print_numbers(&mut context.err(), &numbers, "\n");
         number = number.saturating_add(1);

@@ -1,9 +1,10 @@
-ghost use Rattle.pocsag_shell.specs.Readers.{over_bytes, over_reader};
+ghost use Rattle.pocsag_shell.specs.Readers.{over_reader};
 ghost use Rattle.pocsag_shell.specs.Runs.{IsStreamOf, Ran};
 ghost use Rattle.pocsag_receiver.specs.Works.{hears};
 
 use crate::fault::ReceiverFault;
-use crate::form::{ListForm, list_in};
+use crate::form::{ListForm, list_from};
+use pocsag_decode::list_owned;
 use pocsag_pager::hear_all;
 use pocsag_shell::{ErrorStream, read_transmission};
 use pocsag_words::{Sink, Source};
@@ -16,17 +17,24 @@ pub struct Hearing {
     pub address: u32,
 }
 
-// Lists what the pager of the address shows of the bytes of a transmission, in a form.
-fn list_heard<O: Sink>(
+// Lists what the pager of the address shows of a transmission, in a form.
+fn list_heard<T: Source, O: Sink>(
     alloc: Global,
     hearing: Hearing,
-    bytes: &[u8],
+    tx: &mut T,
     out: &mut O,
 ) -> Result<u8, ReceiverFault>
-    ensures streams { IsStreamOf (over_bytes (hears hearing) O.Sink bytes.now) O.Sink out.old out.new result }
+    ensures streams { IsStreamOf (over_reader (hears hearing) T.Source O.Sink tx.old tx.new) O.Sink
+        out.old out.new result }
 {
+    let read = read_transmission(alloc, tx)?;
+    let bytes = read.as_slice();
     let pages = hear_all(alloc, bytes, hearing.address)?;
-    list_in(alloc, hearing.form, pages, out)
+    if let ListForm::Listing = hearing.form {
+        list_owned(alloc, pages, out)?;
+        return Ok(0);
+    }
+    list_from(alloc, hearing.form, &mut pages.into_iter(), out)
 }
 
 /// `hear ADDRESS TX`: lists what the pager of the address shows of a transmission. Returns the exit status.
@@ -40,9 +48,5 @@ pub fn run_hear<T: Source, O: Sink, E: Sink + Drop>(
     ensures ran { Ran (over_reader (hears hearing) T.Source O.Sink tx.old tx.new) O.Sink E.Sink
         result out.old out.new err.old err.new }
 {
-    let bytes = match read_transmission(alloc, tx) {
-        Ok(bytes) => bytes,
-        Err(fault) => return err.end(Err(ReceiverFault::File(fault))),
-    };
-    err.end(list_heard(alloc, hearing, bytes.as_slice(), out))
+    err.end(list_heard(alloc, hearing, tx, out))
 }

@@ -1,4 +1,4 @@
-ghost use Rattle.std.specs.Prelude.{◌≡◌, ◌≢◌, ℕ, List, true, IfErr, IfNone, OnOk};
+ghost use Rattle.std.specs.Prelude.{◌≡◌, ℕ, List, true, IfErr, IfNone, OnOk};
 ghost use Rattle.pocsag_pages.specs.Bytes.{Sent};
 ghost use Rattle.pocsag_pager.specs.Damage.{IsDamaged};
 ghost use Rattle.pocsag_show.specs.Shows.{Shows};
@@ -6,10 +6,8 @@ ghost use Rattle.pocsag_show.specs.Views.{view_text};
 ghost use Rattle.pocsag_shell.specs.ErrorStreams.{printed_by};
 ghost use Rattle.pocsag_shell.specs.Readers.{over_bytes, over_reader};
 ghost use Rattle.pocsag_shell.specs.Runs.{IsStreamOf, Ran};
-ghost use Rattle.pocsag_shell.specs.declared.fault.FileFault.TheVariants as file;
 ghost use Rattle.pocsag_receiver.specs.Views.{ExplainsShowing, HasRows};
 ghost use Rattle.pocsag_receiver.specs.Works.{shows, views};
-ghost use Rattle.pocsag_receiver.specs.declared.fault.ReceiverFault.TheVariants as fault;
 
 use crate::fault::ReceiverFault;
 use crate::repair::{Repairing, repair_asked};
@@ -31,7 +29,6 @@ pub struct Showing {
 fn refuse_rows(view: View, bytes: &[u8]) -> Result<(), ReceiverFault>
     ensures rows { OnOk result (HasRows view bytes.now) }
     ensures explained { IfErr result (ExplainsShowing view bytes.now) }
-    ensures no_write { IfErr result (λ e. e ≢ fault.File file.Write) }
 {
     let Some(rows) = view.rows() else {
         return Ok(());
@@ -59,17 +56,19 @@ pub(crate) fn show_bytes<O: Sink>(
     Ok(0)
 }
 
-// Shows the bytes of a transmission, with repair as it is once each of its words is repaired.
-fn show_read<O: Sink>(
+// Shows a transmission, with repair as it is once each of its words is repaired.
+fn show_read<T: Source, O: Sink>(
     alloc: Global,
     showing: &mut Showing,
-    bytes: &mut [u8],
+    tx: &mut T,
     out: &mut O,
 ) -> Result<u8, ReceiverFault>
     ensures streams { IsStreamOf
-        (over_bytes (shows showing.old.view showing.old.repairing showing.new.repairing) O.Sink bytes.old)
+        (over_reader (shows showing.old.view showing.old.repairing showing.new.repairing) T.Source O.Sink tx.old tx.new)
         O.Sink out.old out.new result }
 {
+    let mut read = read_transmission(alloc, tx)?;
+    let bytes = read.as_mut_slice();
     showing.repairing.corrected = repair_asked(showing.repairing.is_asked, bytes);
     show_bytes(alloc, showing.view, bytes, out)
 }
@@ -93,9 +92,5 @@ pub fn run_show<T: Source, O: Sink, E: Sink + Drop>(
         Sent X codewords → IsDamaged X (T.held tx.old) →
         IfNone (printed_by err.new) (Shows (view_text showing.old.view) X (O.taken out.old) (O.taken out.new)) }
 {
-    let mut bytes = match read_transmission(alloc, tx) {
-        Ok(bytes) => bytes,
-        Err(fault) => return err.end(Err(ReceiverFault::File(fault))),
-    };
-    err.end(show_read(alloc, showing, bytes.as_mut_slice(), out))
+    err.end(show_read(alloc, showing, tx, out))
 }

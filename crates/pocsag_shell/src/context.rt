@@ -1,13 +1,13 @@
 ghost use Rattle.std.specs.IoError.{error_kind};
 ghost use Rattle.std.specs.Prelude.{◌≡◌, ◌≢◌, IfErr, IfOk, IsErrOf, Ok, OnErr};
 
-use crate::devices::WriterSink;
+use crate::devices::SystemDevice;
 use crate::diagnostics::{Diagnostics, RefusalCause};
 use crate::fault::{Failure, FileFault};
 use crate::files::one_file;
 use crate::lines::print_fault;
 use crate::note::print_note;
-use crate::role::{Names, Role};
+use crate::role::{NamedFile, Role};
 use crate::streams::TextOutput;
 use pocsag_pages::FILE_LIMIT;
 use std::alloc::{AllocError, Global};
@@ -54,13 +54,13 @@ impl<'a> Context<'a> {
     }
 
     /// Standard output, for text.
-    pub fn out(&self) -> WriterSink<'a, TextOutput> {
-        WriterSink::new(TextOutput::new(self.rt), Role::Output, self.diagnostics)
+    pub fn out(&self) -> SystemDevice<'a, TextOutput> {
+        SystemDevice::new(TextOutput::new(self.rt), Role::Output, self.diagnostics)
     }
 
     /// Standard error.
-    pub fn err(&self) -> WriterSink<'a, Stderr> {
-        WriterSink::new(self.rt.stderr(), Role::Output, self.diagnostics)
+    pub fn err(&self) -> SystemDevice<'a, Stderr> {
+        SystemDevice::new(self.rt.stderr(), Role::Output, self.diagnostics)
     }
 
     /// Keeps a note for `print_more`, in place of an earlier one, if the user gave `--verbose`. It keeps none if
@@ -76,13 +76,13 @@ impl<'a> Context<'a> {
 
     /// Adds the line of `--verbose` on standard error: the note that was kept, or else which file the system refused last
     /// and why, or which file the command refused. All are then forgotten. If standard error fails the line is lost.
-    pub fn print_more(&self, names: Names<'_>) {
+    pub fn print_more(&self, files: &[NamedFile<'_>]) {
         if !self.diagnostics.is_asked() {
             return;
         }
         let kept = self.diagnostics.note.try_replace(None).ok().flatten();
         let printed = match (kept, self.diagnostics.take_refused_call()) {
-            (None, Some(refused_call)) => self.refused_call_text(names, refused_call).ok(),
+            (None, Some(refused_call)) => self.refused_call_text(files, refused_call).ok(),
             (kept, _) => kept,
         };
         if let Some(printed) = printed {
@@ -93,12 +93,12 @@ impl<'a> Context<'a> {
     // The file of a refused call, and the system's reason; or, where the command refused it, the two files that are one, if two are.
     fn refused_call_text(
         &self,
-        names: Names<'_>,
-        (role, cause): (Role, RefusalCause),
+        files: &[NamedFile<'_>],
+        (role, refusal): (Role, RefusalCause),
     ) -> Result<String, AllocError> {
-        let place = names.place(role);
-        match cause {
-            RefusalCause::Own => match one_file(self.rt, names) {
+        let place = role.among(files);
+        match refusal {
+            RefusalCause::Own => match one_file(self.rt, files) {
                 Some((one, other)) => { format!(in self.alloc; "{one} and {other} are one file") }
                 None => format!(in self.alloc; "{place}"),
             },
@@ -121,7 +121,7 @@ impl<'a> Context<'a> {
     }
 
     /// Ends a command: writes its fault to standard error, and the line of `--verbose` behind it. Returns the exit status.
-    pub fn end<F: Failure>(&self, names: Names<'_>, done: Result<u8, F>) -> u8
+    pub fn end<F: Failure>(&self, files: &[NamedFile<'_>], done: Result<u8, F>) -> u8
         ensures done { IfOk done (λ status. result ≡ status) }
         ensures fault { IfErr done (λ fault. result ≡ F.status_is fault) }
     {
@@ -132,7 +132,7 @@ impl<'a> Context<'a> {
             }
             Err(fault) => print_fault(&mut self.err(), fault),
         };
-        self.print_more(names);
+        self.print_more(files);
         status
     }
 }

@@ -9,21 +9,16 @@ use std::io::{Read, Write};
 /// Every error counts as a failure, an interruption too, and so does a write that takes nothing of a non-empty piece. Contracts
 /// know nothing of its bytes.
 #[derive(Drop)]
-pub struct SystemDevice<'a, T> {
+pub struct SystemDevice<'a, T: Drop> {
     stream: T,
+    /// What the file is to the command.
     pub(crate) role: Role,
     diagnostics: &'a Diagnostics,
     calls: u64,
     failures: u64,
 }
 
-/// A device that is read.
-pub type ReaderSource<'a, R> = SystemDevice<'a, R>;
-
-/// A device that is written to.
-pub type WriterSink<'a, W> = SystemDevice<'a, W>;
-
-impl<'a, T> SystemDevice<'a, T> {
+impl<'a, T: Drop> SystemDevice<'a, T> {
     /// A device over the reader or the writer of a file with this role.
     pub fn new(stream: T, role: Role, diagnostics: &'a Diagnostics) -> SystemDevice<'a, T> {
         SystemDevice {
@@ -36,7 +31,7 @@ impl<'a, T> SystemDevice<'a, T> {
     }
 }
 
-impl<'a, R: Read> Source for SystemDevice<'a, R> {
+impl<'a, R: Read + Drop> Source for SystemDevice<'a, R> {
     ghost is_known = { ⊥ };
 
     ghost held = { λ _. [] };
@@ -61,7 +56,7 @@ impl<'a, R: Read> Source for SystemDevice<'a, R> {
     }
 }
 
-impl<'a, W: Write> Sink for SystemDevice<'a, W> {
+impl<'a, W: Write + Drop> Sink for SystemDevice<'a, W> {
     ghost is_known = { ⊥ };
 
     ghost taken = { λ _. [] };

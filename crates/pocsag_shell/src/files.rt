@@ -1,11 +1,11 @@
 use crate::context::Context;
-use crate::devices::{ReaderSource, WriterSink};
+use crate::devices::SystemDevice;
 use crate::fault::FileFault;
 use crate::lines::put_whole;
 use crate::loaded::LoadedFile;
 use crate::paths::{Named, are_one, name_one_file};
-use crate::role::{NAMED_ROLES, NamedFile, Names, Role};
-use crate::streams::{Input, Output};
+use crate::role::{NamedFile, Role};
+use crate::streams::{FileOr, Input, Output};
 use crate::words::{STANDARD, path_of};
 use pocsag_pages::FILE_LIMIT;
 use pocsag_words::{Sink, Source};
@@ -56,7 +56,7 @@ pub fn open_source<'a>(
     context: Context<'a>,
     role: Role,
     path: Option<&str>,
-) -> Result<ReaderSource<'a, Input<File>>, FileFault> {
+) -> Result<SystemDevice<'a, Input>, FileFault> {
     let input = match path {
         Some(path) => {
             let file = context.opened(role, fs::open(context.rt, path))?;
@@ -65,17 +65,17 @@ pub fn open_source<'a>(
                 context.diagnostics.note_system_error(role, Some(IS_FOLDER));
                 return Err(FileFault::Device);
             }
-            Input::File(file)
+            FileOr::File(file)
         }
-        None => Input::Standard(context.rt.stdin()),
+        None => FileOr::Standard(context.rt.stdin()),
     };
-    Ok(ReaderSource::new(input, role, context.diagnostics))
+    Ok(SystemDevice::new(input, role, context.diagnostics))
 }
 
 /// Reads what a source holds up to its end, or up to where the system refuses to read on, and at most `limit` bytes.
-pub fn load<R: Read>(
+pub fn load<R: Read + Drop>(
     context: Context<'_>,
-    source: &mut ReaderSource<'_, R>,
+    source: &mut SystemDevice<'_, R>,
     limit: usize,
 ) -> Result<LoadedFile, FileFault> {
     let mut bytes = Vec::new(context.alloc);
@@ -131,42 +131,38 @@ pub fn load_both(
 }
 
 /// The two files of a plan, opened with the bytes that they have.
-pub type OpenedFiles = Outputs<Output<File>>;
+pub type OpenedFiles = Outputs<Output>;
 
-impl Outputs<Output<File>> {
+impl Outputs<Output> {
     /// Empties both.
     pub fn emptied<'a>(
         self,
         context: Context<'a>,
-    ) -> Result<Outputs<WriterSink<'a, Output<File>>>, FileFault> {
+    ) -> Result<Outputs<SystemDevice<'a, Output>>, FileFault> {
         let Outputs { tx, cert } = self;
         empty(context, Role::Transmission, &tx)?;
         empty(context, Role::Certificate, &cert)?;
         Ok(Outputs {
-            tx: WriterSink::new(tx, Role::Transmission, context.diagnostics),
-            cert: WriterSink::new(cert, Role::Certificate, context.diagnostics),
+            tx: SystemDevice::new(tx, Role::Transmission, context.diagnostics),
+            cert: SystemDevice::new(cert, Role::Certificate, context.diagnostics),
         })
     }
 }
 
 /// Opens or makes a file for writing and keeps its bytes, or opens standard output.
-pub fn open_output(
-    context: Context<'_>,
-    role: Role,
-    word: &str,
-) -> Result<Output<File>, FileFault> {
+pub fn open_output(context: Context<'_>, role: Role, word: &str) -> Result<Output, FileFault> {
     let Some(path) = path_of(word) else {
-        return Ok(Output::Standard(context.rt.stdout()));
+        return Ok(FileOr::Standard(context.rt.stdout()));
     };
     let mut options = OpenOptions::new();
     options.write(true).create(true);
     let file = context.opened(role, options.open(context.rt, path))?;
-    Ok(Output::File(file))
+    Ok(FileOr::File(file))
 }
 
 // Empties a regular file. Other files keep no bytes.
-fn empty(context: Context<'_>, role: Role, output: &Output<File>) -> Result<(), FileFault> {
-    let Output::File(file) = output else {
+fn empty(context: Context<'_>, role: Role, output: &Output) -> Result<(), FileFault> {
+    let FileOr::File(file) = output else {
         return Ok(());
     };
     let metadata = context.opened(role, file.metadata())?;
@@ -200,12 +196,12 @@ pub fn open_outputs(
 pub fn write_over(
     context: Context<'_>,
     role: Role,
-    output: Output<File>,
+    output: Output,
     bytes: &[u8],
 ) -> Result<(), FileFault> {
     empty(context, role, &output)?;
     put_whole(
-        &mut WriterSink::new(output, role, context.diagnostics),
+        &mut SystemDevice::new(output, role, context.diagnostics),
         bytes,
     )
 }
@@ -313,24 +309,23 @@ pub fn refuse_one_file<R: Files>(
     Ok(())
 }
 
-/// Two of the named files that are one, if two are: by the same word, or as the system knows them.
+/// Two of the files that are one, if two are: by the same word, or as the system knows them.
 pub(crate) fn one_file<'n>(
     rt: &HostRuntime,
-    names: Names<'n>,
+    files: &[NamedFile<'n>],
 ) -> Option<(NamedFile<'n>, NamedFile<'n>)> {
-    for later in 1..NAMED_ROLES.len() {
-        for earlier in 0..later {
-            let one = names.place(NAMED_ROLES[earlier]);
-            let other = names.place(NAMED_ROLES[later]);
-            let (Some(first), Some(second)) = (one.name, other.name) else {
+    let is_written = Role::Transmission.among(files).1.is_some();
+    for (place, other) in files.iter().enumerate() {
+        for one in &files[..place] {
+            let (Some(first), Some(second)) = (one.1, other.1) else {
                 continue;
             };
             // Standard input and standard output: beside a transmission a certificate is written too.
-            if earlier == 0 && first == STANDARD && names.tx.is_some() {
+            if one.0 == Role::PageFile && first == STANDARD && is_written {
                 continue;
             }
             if first == second || refuse_one_file(rt, path_of(first), second, STANDARD).is_err() {
-                return Some((one, other));
+                return Some((*one, *other));
             }
         }
     }
@@ -348,8 +343,20 @@ pub fn is_regular(rt: &HostRuntime, path: Option<&str>) -> bool {
 
 /// Whether a rename may replace what stands at the path: a regular file that is no link, or nothing. A folder counts too:
 /// replacing it reports the fault.
-pub fn is_regular_or_none(rt: &HostRuntime, path: &str) -> bool {
+pub(crate) fn is_regular_or_none(rt: &HostRuntime, path: &str) -> bool {
     !is_other(fs::symlink_metadata(rt, path))
+}
+
+/// Whether a rename must not replace what stands at the place of a file, which is no regular file. A note names it.
+pub fn is_unkept(context: Context<'_>, file: NamedFile<'_>) -> bool {
+    let NamedFile(_, Some(place)) = file else {
+        return false;
+    };
+    if place != STANDARD && is_regular_or_none(context.rt, place) {
+        return false;
+    }
+    context.note(format_args!("{file}: no regular file"));
+    true
 }
 
 // Whether there is something other than a regular file or a folder.

@@ -30,14 +30,14 @@ mod words;
 
 pub use answer::{CommandAnswer, print_answer};
 pub use context::Context;
-pub use devices::{ReaderSource, WriterSink};
+pub use devices::SystemDevice;
 pub use diagnostics::Diagnostics;
 pub use error_stream::ErrorStream;
 pub use fault::{Failure, FileFault};
 pub use files::{
-    CERT_READ, KEPT_BYTES, OpenedFiles, Outputs, PAGES_READ, is_kept, is_regular,
-    is_regular_or_none, load, load_both, load_file, open_output, open_outputs, open_source,
-    refuse_input, refuse_one_file, refuse_shared, write_over,
+    CERT_READ, KEPT_BYTES, OpenedFiles, Outputs, PAGES_READ, is_kept, is_regular, is_unkept, load,
+    load_both, load_file, open_output, open_outputs, open_source, refuse_input, refuse_one_file,
+    refuse_shared, write_over,
 };
 pub use folder::Folder;
 pub use group::{Call, Group, GroupPair, Tables};
@@ -48,9 +48,9 @@ pub use page_note::{Excerpt, first_asked, note_record};
 pub use paths::{Named, equal_paths, refuse_equal};
 pub use placement::put_files;
 pub use program::run;
-pub use role::{NamedFile, Names, Role};
+pub use role::{NamedFile, Role};
 pub use staged_file::StagedFile;
-pub use streams::{Input, Output, TextOutput};
+pub use streams::{FileOr, Input, Output, TextOutput};
 pub use system_folder::{SystemFolder, put_staged};
 pub use tables::command;
 pub use transmission::read_transmission;

@@ -2,7 +2,7 @@ use crate::context::Context;
 use crate::error_stream::ErrorStream;
 use crate::fault::{Failure, FileFault};
 use crate::lines::{LONGEST, print_fault, put_whole};
-use crate::role::Names;
+use crate::role::NamedFile;
 use pocsag_words::{GrowingSink, MemorySink};
 use std::alloc::Global;
 
@@ -25,7 +25,7 @@ impl<F: Failure + From<FileFault> + PartialEq + Drop> MemoryStreams<F> {
     /// Prints what the streams took, and behind it the line of `--verbose`. `done` is the exit status of the command, or a fault
     /// of the files that it was to run over or has to write. A writer over memory fails where memory is refused, and nowhere
     /// else, so its fault is reported as refused memory. Returns the exit status.
-    pub fn end(self, context: Context<'_>, names: Names<'_>, done: Result<u8, F>) -> u8 {
+    pub fn end(self, context: Context<'_>, files: &[NamedFile<'_>], done: Result<u8, F>) -> u8 {
         let MemoryStreams { out, err } = self;
         let errors = &mut context.err();
         let status = match (done, err.fault()) {
@@ -45,7 +45,7 @@ impl<F: Failure + From<FileFault> + PartialEq + Drop> MemoryStreams<F> {
                 Err(fault) => print_fault(errors, fault),
             },
         };
-        context.print_more(names);
+        context.print_more(files);
         status
     }
 }

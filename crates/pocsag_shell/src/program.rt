@@ -1,5 +1,5 @@
 use crate::context::Context;
-use crate::devices::WriterSink;
+use crate::devices::SystemDevice;
 use crate::diagnostics::Diagnostics;
 use crate::fault::FileFault;
 use crate::group::{Call, Group};
@@ -77,7 +77,7 @@ fn answer<G: Group>(
 // Prints an error of clap, which stands for help too, and returns the exit status.
 fn print_clap_error(rt: &HostRuntime, error: &Error) -> u8 {
     let diagnostics = Diagnostics::new(false);
-    let err = &mut WriterSink::new(rt.stderr(), Role::Output, &diagnostics);
+    let err = &mut SystemDevice::new(rt.stderr(), Role::Output, &diagnostics);
     if error.kind() == ErrorKind::OutOfMemory {
         return print_fault(err, FileFault::OutOfMemory);
     }

@@ -13,41 +13,40 @@ pub(crate) fn hold_closed(rt: &HostRuntime, stream: &str, is_read: bool) -> Opti
     options.open(rt, "/dev/null").ok()
 }
 
-/// The input of a command: a file or standard input.
+/// The input or the output of a command: a file, or a standard stream.
 #[derive(Drop)]
-pub enum Input<F: Read> {
-    File(F),
-    Standard(Stdin),
+pub enum FileOr<S: Drop> {
+    File(File),
+    Standard(S),
 }
 
-impl<F: Read> Read for Input<F> {
+/// The input of a command.
+pub type Input = FileOr<Stdin>;
+
+/// The output of a command.
+pub type Output = FileOr<Stdout>;
+
+impl Read for FileOr<Stdin> {
     fn read(&mut self, buf: &mut [u8]) -> io::Result<usize> {
         match self {
-            Input::File(file) => file.read(buf),
-            Input::Standard(stdin) => stdin.read(buf),
+            FileOr::File(file) => file.read(buf),
+            FileOr::Standard(stdin) => stdin.read(buf),
         }
     }
 }
 
-/// The output of a command: a file or standard output.
-#[derive(Drop)]
-pub enum Output<F: Write> {
-    File(F),
-    Standard(Stdout),
-}
-
-impl<F: Write> Write for Output<F> {
+impl Write for FileOr<Stdout> {
     fn write(&mut self, buf: &[u8]) -> io::Result<usize> {
         match self {
-            Output::File(file) => file.write(buf),
-            Output::Standard(stdout) => stdout.write(buf),
+            FileOr::File(file) => file.write(buf),
+            FileOr::Standard(stdout) => stdout.write(buf),
         }
     }
 
     fn flush(&mut self) -> io::Result<()> {
         match self {
-            Output::File(file) => file.flush(),
-            Output::Standard(stdout) => stdout.flush(),
+            FileOr::File(file) => file.flush(),
+            FileOr::Standard(stdout) => stdout.flush(),
         }
     }
 }

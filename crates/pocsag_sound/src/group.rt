@@ -3,7 +3,7 @@ use crate::wav::run_wav;
 use crate::words::{BIT_RATE, INVERT, LEAD, SAMPLES, SOUND_COMMANDS, TAIL, WAV};
 use clap::{ArgMatches, Error};
 use pocsag_shell::{
-    Call, Context, ErrorStream, Group, LoadedFile, MemoryStreams, Names, PAGES_READ, Role, TX,
+    Call, Context, ErrorStream, Group, LoadedFile, MemoryStreams, NamedFile, PAGES_READ, Role, TX,
     Tables, load_file, path_of,
 };
 use pocsag_wav::{Keying, NoSound};
@@ -22,28 +22,21 @@ impl Group for Sound {
         tables.commands.extend_from_slice(SOUND_COMMANDS)
     }
 
-    fn misplaced(&self, _found: &ArgMatches<'_>) -> Option<&'static str> {
-        None
-    }
-
     fn run(&self, context: Context<'_>, call: Call<'_, '_>) -> Option<Result<u8, Error>> {
         if call.name? != WAV {
             return None;
         }
         let found = call.found;
         let tx = found.get_str(TX)?;
-        let names = Names {
-            tx: Some(tx),
-            ..Names::NONE
-        };
+        let file = NamedFile(Role::Transmission, Some(tx));
         let rate = found.get_one::<u32>(BIT_RATE)?;
         let samples = found.get_one::<u32>(SAMPLES)?;
         let preamble = found.get_one::<u32>(LEAD);
         let tail = found.get_one::<u32>(TAIL);
         let keying = Keying::new(rate, samples, preamble, tail, found.get_flag(INVERT));
         Some(Ok(match load_keyed(context, keying, tx) {
-            Ok((keying, loaded)) => key(context, keying, loaded, names),
-            Err(fault) => context.end(names, Err(fault)),
+            Ok((keying, loaded)) => key(context, keying, loaded, file),
+            Err(fault) => context.end(&[file], Err(fault)),
         }))
     }
 }
@@ -60,7 +53,7 @@ fn load_keyed(
 }
 
 // Writes the sound of a transmission to standard output.
-fn key(context: Context<'_>, keying: Keying, mut tx: LoadedFile, names: Names<'_>) -> u8 {
+fn key(context: Context<'_>, keying: Keying, mut tx: LoadedFile, file: NamedFile<'_>) -> u8 {
     // A fault from here on is one of the transmission, or of standard output.
     context.diagnostics.note_refusal(Role::Transmission);
     if is_short(keying, &tx) {
@@ -72,14 +65,14 @@ fn key(context: Context<'_>, keying: Keying, mut tx: LoadedFile, names: Names<'_
             &mut streams.out,
             &mut streams.err,
         );
-        return streams.end(context, names, Ok(status));
+        return streams.end(context, &[file], Ok(status));
     }
     let mut err = ErrorStream::new(context.err());
     let status = run_wav(context.alloc, keying, &mut tx, &mut context.out(), &mut err);
     if err.fault().is_none() {
         context.forget_refused_call();
     }
-    context.print_more(names);
+    context.print_more(&[file]);
     status
 }
 

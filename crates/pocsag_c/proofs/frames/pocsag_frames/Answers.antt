@@ -16,11 +16,15 @@ pub returns-clause-frames : goal.returns-clause-frames
 returns-clause-frames c = λ _. record {
   search = c.in-Some.search;
   asked = c.in-Some.ensures.asked;
-  round = c.in-Ok.found.round;
-  read = c.in-Ok.ensures.read;
-  bounded = c.in-Ok.found.bounded;
-  plan_of = c.in-Ok.ensures.plan;
-  frames = c.frames_of.ensures ∙ ap (frames_of c.in-Ok.found.round) c.as_slice.ensures.value;
-  batches = refl;
-  bound = refl;
+  holds = record {
+    round = c.in-Ok.found.round;
+    read = c.in-Ok.ensures.read;
+    holds = (
+      c.in-Ok.found.bounded,
+      c.in-Ok.ensures.plan,
+      c.frames_of.ensures ∙ ap (frames_of c.in-Ok.found.round) c.as_slice.ensures.value,
+      refl,
+      refl,
+    );
+  };
 }

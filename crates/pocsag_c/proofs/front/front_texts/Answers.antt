@@ -73,6 +73,5 @@ returns-in-Ok-texts_of-clause-why c =
         read = ap verdict (sym c.new.ensures.rest) ∙ c.in-Ok.ensures.ok tt;
         holds = planned.why;
       };
-      bytes = c.in-Ok-texts_of.ensures.why;
-      same_bound = c.in-Ok-texts_of.ensures.beyond;
+      written = c.in-Ok-texts_of.ensures.why;
     })

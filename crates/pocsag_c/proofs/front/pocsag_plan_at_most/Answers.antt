@@ -1,6 +1,6 @@
-use Rattle.pocsag_c.proofs.Prelude.{◌≡◌, ◌≤◌, List, arith, drop, inl, inr, length, refl, subst, Page, IsNoEnd}
+use Rattle.pocsag_c.proofs.Prelude.{◌≡◌, ◌≤◌, List, arith, drop, inl, length, refl, subst, Page}
 use Rattle.std.proofs.Math.ListN.{length-drop}
-use Rattle.pocsag_c.proofs.Fronts.{front_is, given, is_an_end, told}
+use Rattle.pocsag_c.proofs.Fronts.{front_is, told}
 use Rattle.pocsag_c.proofs.front.pocsag_plan_at_most.Goals as goal
 
 pub returns-in-Ok-clause-no_worse : goal.returns-in-Ok-clause-no_worse
@@ -9,31 +9,24 @@ returns-in-Ok-clause-no_worse c = λ _.
     record {
       search = c.in-Some.search;
       asked = c.in-Some.ensures.asked;
-      bounded = c.in-Ok.front.first.bounded;
-      batches = refl;
-      bound = refl;
-      no_worse = record {
-        round = planned.round;
-        read = planned.read;
-        holds = planned.holds.no_worse;
-      };
+      holds = (
+        c.in-Ok.front.first.bounded,
+        refl,
+        refl,
+        record {
+          round = planned.round;
+          read = planned.read;
+          holds = planned.holds.no_worse;
+        },
+      );
     }
 
-pub returns-in-Ok-clause-rest : goal.returns-in-Ok-clause-rest
-returns-in-Ok-clause-rest c = λ done.
-    given _ _ _ _ c.in-Ok.front.rest.items c.in-Ok.ensures.rest (c.hand_out_front.ensures.rest done)
-
 pub returns-in-Ok-clause-why : goal.returns-in-Ok-clause-why
-returns-in-Ok-clause-why c = λ done.
-    given _ _ _ _ _
-    (record { search = c.in-Some.search; asked = c.in-Some.ensures.asked; holds = c.in-Ok.ensures.why })
-    (c.hand_out_front.ensures.why done)
-
-pub returns-in-Ok-clause-bad_end : goal.returns-in-Ok-clause-bad_end
-returns-in-Ok-clause-bad_end c = (
-  λ two. absurd (front_is c.hand_out_front.result c.hand_out_front.ensures.status (inr two)),
-  λ none. absurd (is_an_end c.in-Some.search.end (subst IsNoEnd c.in-Some.ensures.asked.same_end none)),
-)
+returns-in-Ok-clause-why c = λ done. record {
+  text = c.in-Ok.front.why.items;
+  is = record { search = c.in-Some.search; asked = c.in-Some.ensures.asked; holds = c.in-Ok.ensures.why };
+  put = c.hand_out_front.ensures.why done;
+}
 
 pub returns-in-Ok-clause-fault : goal.returns-in-Ok-clause-fault
 returns-in-Ok-clause-fault c = λ other. absurd (front_is c.hand_out_front.result c.hand_out_front.ensures.status (inl other))
@@ -62,9 +55,10 @@ returns-in-Ok-clause-counted c = λ _.
     record {
       round = planned.round;
       read = planned.read;
-      pages = omega (arith, length-drop count planned.round, behind, among);
-      codewords = planned.holds.plan_of.codewords;
-      in_order = planned.holds.plan_of.in_order;
+      holds = (
+        omega (arith, length-drop count planned.round, behind, among),
+        (planned.holds.plan_of.codewords, planned.holds.plan_of.in_order),
+      );
     }
 
 pub returns-in-Ok-clause-why_length : goal.returns-in-Ok-clause-why_length

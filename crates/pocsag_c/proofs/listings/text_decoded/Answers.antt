@@ -11,6 +11,8 @@ returns-in-Err-clause-of_bytes c =
 
 pub returns-clause-fault : goal.returns-clause-fault
 returns-clause-fault c = inr (record {
+  reading = c.args.reading;
+  same_number = refl;
   bytes = c.bytes-bytes.result.now;
   read = subst (AreReadAs c.args.reading c.args.tx.now) (sym c.bytes-bytes.ensures) c.in_ok-read.ensures.read;
   holds = told _ _ decoding.OutOfMemory c.plain.result _ _ (inr (refl, c.in_default.ensures.ok)) c.plain.ensures refl refl;

@@ -5,4 +5,4 @@ pub returns-clause-behind : goal.returns-clause-behind
 returns-clause-behind c =
     let after : c.split_at.result.1.now ≡ after_preamble c.args.tx.now =
     c.split_at.ensures.back ∙ ap (λ (k : ℕ). drop k c.args.tx.now) c.preamble_len.ensures.value in
-    record { rows = c.in-Some.rows; wanted = sym c.in-Some.ensures; behind = omega (arith, ap length after) }
+    rw (sym c.in-Some.ensures) (omega (arith, ap length after))

@@ -1,5 +1,5 @@
-use Rattle.pocsag_centre.proofs.Prelude.{refl, err_from_is_err_and, unwritten}
-use Rattle.pocsag_centre.proofs.FrontRuns.{front_done, others_told, unsent_told}
+use Rattle.pocsag_centre.proofs.Prelude.{refl, err_from_is_err_and, others_failed, unwritten}
+use Rattle.pocsag_centre.proofs.FrontRuns.{front_done, unsent_told}
 use Rattle.pocsag_centre.proofs.front.answer_of_front.Goals as goal
 
 pub returns-in_err-read : goal.returns-in_err-read
@@ -24,8 +24,8 @@ returns-in_err-put_others g c =
         λ _. tt,
         (
           c.in_ok-read.ensures.whole,
-          others_told g.P.Source g.S.Sink c.args.asked c.args.files.now _ c.in_ok-read.read.front c.in_ok-read.read.aside.items (λ k. c.in_ok-read.ensures.front k)
-              c.in_ok-texts.texts.aside.items c.in_ok-texts.texts.lines.items texts.aside texts.no_aside texts.lines refl (rw texts.rest at failed.explained) refl refl,
+          others_failed refl (refl, refl)
+              (c.in_ok-read.read.front, c.in_ok-read.read.aside.items, rw (texts.rest, texts.aside) at failed.explained, refl, λ k. c.in_ok-read.ensures.front k),
         ),
       );
     }
@@ -41,8 +41,7 @@ returns g c =
         (
           c.in_ok-read.ensures.whole,
           unsent_told g.P.Source g.S.Sink c.args.asked c.args.files.now _ c.in_ok-read.read.front c.in_ok-read.read.aside.items (λ k. c.in_ok-read.ensures.front k)
-              c.in_ok-texts.texts.aside.items c.in_ok-texts.texts.lines.items texts.aside texts.no_aside texts.lines refl
-              (λ u. rw texts.rest at taken.rest u) (λ u. taken.aside u) (λ u. taken.why u)
+              refl (λ u. rw texts.rest at taken.rest u) (λ u. rw texts.aside at taken.aside u) (λ u. taken.why u)
               c.in-Err.field-0 done.unsent done.writers (λ u. done.part u) (λ u. done.certificate_part u u),
         ),
       );
@@ -59,8 +58,8 @@ returns-in-Ok g c =
           (
             refl,
             front_done g.P.Source g.S.Sink c.args.asked c.args.files.now _ c.in_ok-read.read.front c.in_ok-read.read.aside.items (λ k. c.in_ok-read.ensures.front k)
-                c.in_ok-texts.texts.aside.items c.in_ok-texts.texts.lines.items texts.aside texts.no_aside texts.lines refl
-                (λ u. rw texts.rest at taken.rest u) (λ u. taken.aside u) (λ u. taken.why u) (λ u. c.in-Ok.ensures.whole u u),
+                refl (λ u. rw texts.rest at taken.rest u) (λ u. rw texts.aside at taken.aside u) (λ u. taken.why u)
+                c.in_ok-texts.texts.lines.items texts.lines (λ u. c.in-Ok.ensures.whole u u),
           ),
         ),
         tt,

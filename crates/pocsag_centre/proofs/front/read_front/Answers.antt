@@ -1,9 +1,9 @@
 use Rattle.pocsag_centre.proofs.Prelude.{◌≡◌, List, All, length, not, sym, ap, subst, rules, All-filter, err_from_is_err_and, Page, IsListable, AreGood, IsQueue, firsts, left_of, IsSpellable, ExplainsFront, IsExpected, fault_of_front, IsFrontOfPages, is_aside, planned_of}
 use Rattle.std.proofs.Common.{Err}
-use Rattle.pocsag_centre.proofs.AsidePages.{part_back, planned_good, planned_queue, queue_listable}
+use Rattle.pocsag_centre.proofs.AsidePages.{part_back, planned_good, planned_queue}
 use Rattle.pocsag_centre.proofs.CutFiles.{failed_cut, told_of_round, told_of_whole}
 use Rattle.pocsag_centre.proofs.FrontRuns.{front_unread, front_unwritten}
-use Rattle.pocsag_centre.proofs.QueueRounds.{AreReadBack, held_spellable, left_back, left_listable}
+use Rattle.pocsag_centre.proofs.QueueRounds.{AreReadBack, held_spellable, left_back, left_listable, queue_listable}
 use Rattle.pocsag_centre.proofs.front.read_front.Goals as goal
 
 pub queue_front-requires-clause-queue : goal.queue_front-requires-clause-queue

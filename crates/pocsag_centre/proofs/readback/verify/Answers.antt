@@ -42,8 +42,8 @@ returns-then-not-shows_due-clause-streams g c =
       ),
     )
 
-pub returns-in-Ok-put_whole-clause-streams : goal.returns-in-Ok-put_whole-clause-streams
-returns-in-Ok-put_whole-clause-streams g c =
+pub returns-clause-streams : goal.returns-clause-streams
+returns-clause-streams g c =
     let certificate = c.in-Ok.certificate in
     let sent = c.in_ok-batches.ensures.taken in
     rw c.in_ok-round.was (
@@ -56,17 +56,18 @@ returns-in-Ok-put_whole-clause-streams g c =
               (rw (sent.held u) at sent.holds) (c.in-Ok.ensures.found v)
               (c.shows_due.ensures.due.0 c.if-not-shows_due.false) (c.shows_due.ensures.bound c.if-not-shows_due.false),
         ),
-        λ known. (c.in-Ok-put_whole.ensures.delivers known).0,
+        λ known. (c.in_ok-put_whole.ensures.delivers known).0,
       ),
       tt,
     )
 
-pub returns-clause-streams : goal.returns-clause-streams
-returns-clause-streams g c =
+pub returns-in_err-put_whole-clause-streams : goal.returns-in_err-put_whole-clause-streams
+returns-in_err-put_whole-clause-streams g c =
+    let p = err_from_is_err_and c.from_residual-in_err-put_whole.result c.from_residual-in_err-put_whole.ensures.1 in
     let certificate = c.in-Ok.certificate in
     let sent = c.in_ok-batches.ensures.taken in
-    let done = c.in-Err-put_whole.ensures in
-    rw (c.in_ok-round.was, done.lost) (
+    let done = c.in_err-put_whole.ensures in
+    rw (c.in_ok-round.was, p.1, p.2, done.lost) (
       λ _. tt,
       inr (inl (
         refl,

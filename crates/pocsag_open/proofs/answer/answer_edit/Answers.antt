@@ -1,25 +1,20 @@
 use Rattle.pocsag_open.proofs.Prelude.{inl, inr, length, refl, fields_of, named, pages_answer, IsEditReply, ReadsOrReplied, untold, LeavesOnly}
 use Rattle.pocsag_open.proofs.Fronts.{if_err}
-use Rattle.pocsag_open.proofs.Survival.{cut_due, either_read, on_err}
+use Rattle.pocsag_open.proofs.Survival.{cut_told, either_read}
 use Rattle.pocsag_open.proofs.Printed.{told_more}
 use Rattle.pocsag_open.proofs.answer.answer_edit.Goals.{After-keep}
 use Rattle.pocsag_open.proofs.answer.answer_edit.Goals as goal
 
 pub returns-in-Err-clause-cut : goal.returns-in-Err-clause-cut
 returns-in-Err-clause-cut g c = λ keeps is_known stands.
-    on_err c.refuse.result _ _
-    (cut_due _ _ _ _ _ _ _ _ (inr (refl, (c.in-Err.refusal, c.in-Err.ensures.refused, c.in-Err.ensures.reason, refl)))
-    (λ left now. g.K.Keeper.restarts c.args.round.now.keeper c.args.round.now.book left keeps stands now))
-    ((c.refuse.ensures.printed is_known).1)
+    cut_told g.K.Keeper keeps stands c.refuse.result _ _ _ (inr (refl, (c.in-Err.refusal, c.in-Err.ensures.refused, c.in-Err.ensures.reason, refl)))
+    (c.refuse.ensures.printed is_known)
 
 pub returns-clause-cut : goal.returns-clause-cut
 returns-clause-cut g c = λ keeps is_known stands.
-    let book = c.edit_row.new.book in
     let edit = c.in-Ok.ensures.made in
-    on_err c.print_pages.result _ _
-    (cut_due _ _ book _ _ (pages_answer (length book)) _ _ (inl (edit, refl))
-    (λ left now. g.K.Keeper.restarts c.keep.new.self book left keeps (c.in_ok-keep.ensures.stands c.args.round.now.book book stands edit) now))
-    ((c.print_pages.ensures.printed is_known).1)
+    cut_told g.K.Keeper keeps (c.in_ok-keep.ensures.stands c.args.round.now.book c.edit_row.new.book stands edit) c.print_pages.result _ _ _ (inl (edit, refl))
+    (c.print_pages.ensures.printed is_known)
 
 -- once what keeps the edit was given it, a crash leaves what is read as the pages before it, or as those after it
 kept : (g : _) (c : After-keep g) → g.K.Keeper.is_known → g.K.Keeper.represents c.args.round.now.keeper c.args.round.now.book →

@@ -1,33 +1,26 @@
 use Rattle.pocsag_open.proofs.Prelude.{◌≡◌, ◌⊎◌, ◌∙◌, ◌++◌, inl, inr, ℕ, refl, rules, subst, option_map, HasFailed, journal_limit, IsHeld, disk_of, AreCountless, HasGivenUp, HasFileFailed, HasPrintedRead, ReadsKept, not_begun, read_text, HasFailedOutput, FileFault, LeavesOnly}
+use Rattle.std.proofs.lemmas.Result.{err_from_is_err_and}
 use Rattle.pocsag_open.specs.KeptRounds.{begun}
 use Rattle.pocsag_open.specs.declared.kept_streams.TornLine.TheVariants.{CutOff}
 use Rattle.pocsag_open.proofs.Ends.{wider}
+use Rattle.pocsag_open.proofs.Fronts.{if_err}
 use Rattle.pocsag_open.proofs.ReadJournals.{printed_or_failed}
 use Rattle.pocsag_open.proofs.KeptRounds.{anew_explains, left_anew, left_read, of_disk, only_anew, only_kept}
 use Rattle.pocsag_open.proofs.kept_streams.open_kept.Goals.{After-run_open_kept, In_ok-compact}
 use Rattle.pocsag_open.proofs.kept_streams.open_kept.Goals as goal
 
 pub returns-in_err-round-clause-survives : goal.returns-in_err-round-clause-survives
-returns-in_err-round-clause-survives g c = λ d f i o.
-    not_begun refl (λ left now. inl (left_read g.D.Disk.moment g.D.Disk.left_since g.D.Disk.may_leave (λ disk t left le now. g.D.Disk.counts_now disk t left d le now)
-    g.P.OutputStore.is_known (HasFailedOutput g.P.Output.Sink.failures) c.args.settings.now.on_limit (g.I.Source.held c.args.streams.now.input) (g.D.Disk.held (disk_of c.args.round.now.keeper))
-    (option_map g.F.Source.held c.args.streams.now.pages) (disk_of c.args.round.now.keeper) (disk_of c.read.new.self) (c.read.ensures.any_moment d) left now))
+returns-in_err-round-clause-survives g c = λ d f i o. not_begun refl (λ left now. inl (left_read g.D.Disk d (c.read.ensures.any_moment d) left now))
 
 pub returns-in_err-compact-clause-survives : goal.returns-in_err-compact-clause-survives
 returns-in_err-compact-clause-survives g c = λ d f i o.
     let begins = c.in_ok-round.ensures.begins f (g.D.Disk.held (disk_of c.args.round.now.keeper)) (c.in_ok-replayed.ensures.read d) (c.in_ok-replayed.ensures.few d) in
-    not_begun refl (left_anew g.D.Disk.moment g.D.Disk.left_since g.D.Disk.may_leave (λ disk t left le now. g.D.Disk.counts_now disk t left d le now)
-    g.P.OutputStore.is_known (HasFailedOutput g.P.Output.Sink.failures) c.args.settings.now.on_limit (g.I.Source.held c.args.streams.now.input) (g.D.Disk.held (disk_of c.args.round.now.keeper))
-    (option_map g.F.Source.held c.args.streams.now.pages) (disk_of c.args.round.now.keeper) (disk_of c.read.new.self) (c.read.ensures.any_moment d)
-    (disk_of c.compact.new.self) c.in_ok-round.field-0 begins (c.compact.ensures.any_moment d))
+    not_begun refl (left_anew g.D.Disk d (c.read.ensures.any_moment d) _ _ begins (c.compact.ensures.any_moment d))
 
 pub returns-in_err-compact-clause-any_moment : goal.returns-in_err-compact-clause-any_moment
 returns-in_err-compact-clause-any_moment g c = λ d f i o.
     let begins = c.in_ok-round.ensures.begins f (g.D.Disk.held (disk_of c.args.round.now.keeper)) (c.in_ok-replayed.ensures.read d) (c.in_ok-replayed.ensures.few d) in
-    only_anew g.D.Disk.moment g.D.Disk.left_since g.D.Disk.may_leave (λ disk t left le now. g.D.Disk.counts_now disk t left d le now)
-    g.P.OutputStore.is_known (HasFailedOutput g.P.Output.Sink.failures) c.args.settings.now.on_limit (g.I.Source.held c.args.streams.now.input) (g.D.Disk.held (disk_of c.args.round.now.keeper))
-    (option_map g.F.Source.held c.args.streams.now.pages) (disk_of c.args.round.now.keeper) (disk_of c.read.new.self) (c.read.ensures.any_moment d)
-    (disk_of c.compact.new.self) c.in_ok-round.field-0 begins (c.compact.ensures.any_moment d)
+    only_anew g.D.Disk d (c.read.ensures.any_moment d) _ _ begins (c.compact.ensures.any_moment d)
 
 pub returns-in_err-compact-clause-explained : goal.returns-in_err-compact-clause-explained
 returns-in_err-compact-clause-explained g c = λ d f i.
@@ -53,10 +46,10 @@ stands g c known = (
   c.in_ok-compact.ensures.sound known,
 )
 
-pub returns-in-Ok-clause-survives : goal.returns-in-Ok-clause-survives
-returns-in-Ok-clause-survives g c = λ d f i o.
+pub returns-clause-survives : goal.returns-clause-survives
+returns-clause-survives g c = λ d f i o.
     let begins = c.in_ok-round.ensures.begins f (g.D.Disk.held (disk_of c.args.round.now.keeper)) (c.in_ok-replayed.ensures.read d) (c.in_ok-replayed.ensures.few d) in
-    let held = stands g (goal.at.returns-in-Ok-clause-survives g c).In_ok-compact in
+    let held = stands g (goal.at.returns-clause-survives g c).In_ok-compact in
     begun c.in_ok-round.field-0 begins (c.run_open_kept.ensures.survives d i o held)
 
 moments : (g : _) (c : After-run_open_kept g) → g.D.Disk.is_known → g.F.Source.is_known → g.I.Source.is_known → g.O.Sink.is_known →
@@ -67,33 +60,31 @@ moments : (g : _) (c : After-run_open_kept g) → g.D.Disk.is_known → g.F.Sour
     (g.D.Disk.held (disk_of c.args.round.now.keeper)) (option_map g.F.Source.held c.args.streams.now.pages) (g.D.Disk.may_leave (disk_of c.args.round.now.keeper)))
 moments g c d f i o held =
     let begins = c.in_ok-round.ensures.begins f (g.D.Disk.held (disk_of c.args.round.now.keeper)) (c.in_ok-replayed.ensures.read d) (c.in_ok-replayed.ensures.few d) in
-    only_kept g.D.Disk.moment g.D.Disk.left_since g.D.Disk.may_leave (λ disk t left le now. g.D.Disk.counts_now disk t left d le now)
-    g.P.OutputStore.is_known (HasFailedOutput g.P.Output.Sink.failures) c.args.settings.now.on_limit (g.I.Source.held c.args.streams.now.input) (g.D.Disk.held (disk_of c.args.round.now.keeper))
-    (option_map g.F.Source.held c.args.streams.now.pages) (disk_of c.args.round.now.keeper) (disk_of c.read.new.self) (c.read.ensures.any_moment d)
-    (disk_of c.compact.new.self) c.in_ok-round.field-0 begins (c.compact.ensures.any_moment d) (disk_of c.run_open_kept.new.round.keeper)
+    only_kept g.D.Disk d (c.read.ensures.any_moment d) _ _ begins (c.compact.ensures.any_moment d)
     (of_disk g.D.Disk.moment g.D.Disk.left_since _ _ _ (c.run_open_kept.ensures.any_moment d i o held))
 
-pub returns-in-Ok-clause-any_moment : goal.returns-in-Ok-clause-any_moment
-returns-in-Ok-clause-any_moment g c = λ d f i o. moments g (goal.at.returns-in-Ok-clause-any_moment g c).After-run_open_kept d f i o (stands g (goal.at.returns-in-Ok-clause-any_moment g c).In_ok-compact)
+pub returns-clause-any_moment : goal.returns-clause-any_moment
+returns-clause-any_moment g c = λ d f i o. moments g (goal.at.returns-clause-any_moment g c).After-run_open_kept d f i o (stands g (goal.at.returns-clause-any_moment g c).In_ok-compact)
 
-pub returns-in-Err-clause-survives : goal.returns-in-Err-clause-survives
-returns-in-Err-clause-survives g c = λ d f i o.
+pub returns-in_err-run_open_kept-clause-survives : goal.returns-in_err-run_open_kept-clause-survives
+returns-in_err-run_open_kept-clause-survives g c = λ d f i o.
     let begins = c.in_ok-round.ensures.begins f (g.D.Disk.held (disk_of c.args.round.now.keeper)) (c.in_ok-replayed.ensures.read d) (c.in_ok-replayed.ensures.few d) in
-    let held = stands g (goal.at.returns-in-Err-clause-survives g c).In_ok-compact in
+    let held = stands g (goal.at.returns-in_err-run_open_kept-clause-survives g c).In_ok-compact in
     begun c.in_ok-round.field-0 begins (c.run_open_kept.ensures.survives d i o held)
 
-pub returns-in-Err-clause-any_moment : goal.returns-in-Err-clause-any_moment
-returns-in-Err-clause-any_moment g c = λ d f i o. moments g (goal.at.returns-in-Err-clause-any_moment g c).After-run_open_kept d f i o (stands g (goal.at.returns-in-Err-clause-any_moment g c).In_ok-compact)
+pub returns-in_err-run_open_kept-clause-any_moment : goal.returns-in_err-run_open_kept-clause-any_moment
+returns-in_err-run_open_kept-clause-any_moment g c = λ d f i o. moments g (goal.at.returns-in_err-run_open_kept-clause-any_moment g c).After-run_open_kept d f i o (stands g (goal.at.returns-in_err-run_open_kept-clause-any_moment g c).In_ok-compact)
 
-pub returns-in-Err-clause-explained : goal.returns-in-Err-clause-explained
-returns-in-Err-clause-explained g c = λ d f i.
-    let held = stands g (goal.at.returns-in-Err-clause-explained g c).In_ok-compact in
+pub returns-in_err-run_open_kept-clause-explained : goal.returns-in_err-run_open_kept-clause-explained
+returns-in_err-run_open_kept-clause-explained g c = λ d f i.
+    let held = stands g (goal.at.returns-in_err-run_open_kept-clause-explained g c).In_ok-compact in
     let same : g.D.Disk.failures (disk_of c.compact.new.self) ≡ g.D.Disk.failures (disk_of c.args.round.now.keeper) =
     c.in_ok-compact.ensures.succeeded d ∙ c.in_ok-replayed.ensures.succeeded d in
-    wider _ _ _ _ _ _ c.in-Err.fault (λ cause. inr cause) (λ cause. cause)
+    let p = err_from_is_err_and c.from_residual-in_err-run_open_kept.result c.from_residual-in_err-run_open_kept.ensures.1 in
+    rw (p.1, p.2) (wider _ _ _ _ _ _ c.in_err-run_open_kept.field-0.0 (λ cause. inr cause) (λ cause. cause)
     (λ cause. subst (λ (n : ℕ). HasGivenUp journal_limit (g.D.Disk.held (disk_of c.run_open_kept.new.round.keeper)) n
     (g.D.Disk.failures (disk_of c.run_open_kept.new.round.keeper))) same cause)
-    (c.in-Err.ensures.explained i d held)
+    (c.in_err-run_open_kept.ensures.explained i d held))
 
 -- what was read of the journal was printed
 told : (g : _) (c : After-run_open_kept g) → g.D.Disk.is_known → g.F.Source.is_known →
@@ -116,8 +107,9 @@ told g c d f =
       printed = rw c.len.ensures at said;
     }
 
-pub returns-in-Ok-clause-told : goal.returns-in-Ok-clause-told
-returns-in-Ok-clause-told g c = λ d f. told g (goal.at.returns-in-Ok-clause-told g c).After-run_open_kept d f
+pub returns-clause-told : goal.returns-clause-told
+returns-clause-told g c = λ d f. told g (goal.at.returns-clause-told g c).After-run_open_kept d f
 
-pub returns-in-Err-clause-untold : goal.returns-in-Err-clause-untold
-returns-in-Err-clause-untold g c = λ d f. inr (told g (goal.at.returns-in-Err-clause-untold g c).After-run_open_kept d f)
+pub returns-in_err-run_open_kept-clause-untold : goal.returns-in_err-run_open_kept-clause-untold
+returns-in_err-run_open_kept-clause-untold g c = λ d f.
+    if_err c.from_residual-in_err-run_open_kept.result _ (inr (told g (goal.at.returns-in_err-run_open_kept-clause-untold g c).After-run_open_kept d f))

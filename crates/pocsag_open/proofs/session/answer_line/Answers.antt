@@ -1,34 +1,50 @@
-use Rattle.pocsag_open.proofs.Prelude.{inl, ◌≡◌, List, ℕ, [], ◌∷◌, ◌++◌, length, refl, ap, ◌∙◌, append_assoc, append-nil, sym, None, fields_of, named, started, LeavesOnly, pages_answer, HasFailedOutput, placed_plan, IsEditReply, listed, noted, planned, read, refused, unread, FrontRepliesAndPlaces, FrontRepliesTo, ReadsOrReplied, RepliesAndPlaces, RepliesTo, IsLine, read_line}
+use Rattle.pocsag_open.proofs.Prelude.{inl, ◌≡◌, List, ℕ, [], ◌++◌, length, refl, ap, ◌∙◌, append_assoc, append-nil, sym, fields_of, named, Page, pages_answer, HasFailedOutput, AsksForPlan, IsEditReply, IsLineReply, listed, noted, read, refused, unread, RepliesAndPlaces, RepliesTo, IsLine, read_line}
 use Rattle.std.proofs.Common.{Err}
 use Rattle.pocsag_decode.specs.PageFiles.{page_file}
-use Rattle.pocsag_open.proofs.Sessions.{edit_reply, front_reply, list_due, other_none, plan_due}
-use Rattle.pocsag_open.proofs.Survival.{cut_as, cut_due, cut_front, cut_last, on_err, read_as}
-use Rattle.pocsag_open.proofs.Printed.{on_ok, told_as, told_like, told_once, told_this}
+use Rattle.pocsag_open.proofs.Sessions.{edit_reply, list_due, other_none}
+use Rattle.pocsag_open.proofs.Survival.{cut_as, cut_front, cut_last, cut_told, on_err, read_as, restarted, unmoved}
+use Rattle.pocsag_open.proofs.Printed.{on_ok, told_as, told_once}
 use Rattle.pocsag_open.proofs.Ends.{for_fault, not_answered, text_feedless}
-use Rattle.pocsag_open.proofs.session.answer_line.Goals.{Start}
+use Rattle.pocsag_open.proofs.session.answer_line.Goals.{After-answer_edit-done, In-Plan}
 use Rattle.pocsag_open.proofs.session.answer_line.Goals as goal
 
+-- a line that is no record
 pub returns-in-Err-clause-replied : goal.returns-in-Err-clause-replied
 returns-in-Err-clause-replied g c = λ is_known.
-    told_this c.refuse.result _ _ _ _ _ _ [] _ (unread c.in-Err.refusal c.requires c.in-Err.ensures.refused refl refl refl) (λ known. sym (append-nil _))
+    on_ok c.refuse.result _ _ (told_once _ _ _ _ _ _ (unread c.in-Err.refusal c.requires c.in-Err.ensures.refused refl refl refl))
     ((c.refuse.ensures.printed is_known).0)
 
-pub returns-in-Ok-put_plan-clause-replied : goal.returns-in-Ok-put_plan-clause-replied
-returns-in-Ok-put_plan-clause-replied g c = λ is_known.
-    let asks = rw c.in-None.is at c.in-Plan.ensures.asks in
-    let done = c.in-Ok-put_plan.ensures.planned in
-    told_this c.print_planned.result _ _ _ _ _ _ (placed_plan c.in-Plan.tx.now c.in-Plan.cert.now done.sent ∷ []) _
-    (read _ c.requires c.in-Ok.ensures.spelled (planned _ _ _ _ _ _ asks done.planned refl refl refl)) done.placed
-    ((c.print_planned.ensures.printed is_known).0)
+pub returns-in-Err-clause-cut : goal.returns-in-Err-clause-cut
+returns-in-Err-clause-cut g c = λ keeps is_known stands.
+    cut_told g.K.Keeper keeps stands c.refuse.result _ _ _
+    ([], unread c.in-Err.refusal c.requires c.in-Err.ensures.refused refl refl refl, λ known. sym (append-nil _)) (c.refuse.ensures.printed is_known)
 
-pub returns-in-None-clause-replied : goal.returns-in-None-clause-replied
-returns-in-None-clause-replied g c = λ is_known.
-    let asks = rw c.in-None.is at c.in-Plan.ensures.asks in
-    let un = c.in-Err-put_plan.ensures.unplaced in
-    told_this c.refuse-in-Err-put_plan.result _ _ _ _ _ _ un.placed _ (read _ c.requires c.in-Ok.ensures.spelled
-    (refused _ (plan_due _ _ _ None _ _ _ _ _ _ asks c.in-Plan.ensures.edit c.in-Err-put_plan.ensures.explained un.refused) refl refl))
-    un.outputs ((c.refuse-in-Err-put_plan.ensures.printed is_known).0)
+pub returns-in-Err-clause-any_moment : goal.returns-in-Err-clause-any_moment
+returns-in-Err-clause-any_moment g c = λ keeps stands. unmoved g.K.Keeper keeps stands (λ left is. inl is)
 
+-- one that asks for a plan
+asks : (g : _) (c : In-Plan g) → AsksForPlan c.in-Plan.end c.in-Plan.at_most c.in-Plan.tx.now c.in-Plan.cert.now c.args.line.now
+asks g c = record {
+  row = fields_of c.in-Ok.row;
+  short = c.requires;
+  text = c.in-Ok.ensures.spelled;
+  asks = c.in-Plan.ensures.asks;
+  no_edit = c.in-Plan.ensures.edit;
+}
+
+pub returns-in-Plan-clause-replied : goal.returns-in-Plan-clause-replied
+returns-in-Plan-clause-replied g c = λ is_known.
+    c.answer_plan.ensures.replied is_known c.args.line.now (asks g (goal.at.returns-in-Plan-clause-replied g c).In-Plan)
+
+pub returns-in-Plan-clause-cut : goal.returns-in-Plan-clause-cut
+returns-in-Plan-clause-cut g c = λ keeps is_known stands.
+    c.answer_plan.ensures.cut keeps is_known stands c.args.line.now (asks g (goal.at.returns-in-Plan-clause-cut g c).In-Plan)
+
+pub returns-in-Plan-clause-any_moment : goal.returns-in-Plan-clause-any_moment
+returns-in-Plan-clause-any_moment g c = λ keeps stands.
+    c.answer_plan.ensures.any_moment keeps stands c.args.line.now (asks g (goal.at.returns-in-Plan-clause-any_moment g c).In-Plan)
+
+-- one that asks for the list
 pub returns-in-Ok-write_page_file-clause-replied : goal.returns-in-Ok-write_page_file-clause-replied
 returns-in-Ok-write_page_file-clause-replied g c = λ is_known.
     let pages = c.args.round.now.book in
@@ -40,62 +56,6 @@ returns-in-Ok-write_page_file-clause-replied g c = λ is_known.
     ∙ append_assoc (g.O.Sink.taken c.args.out.now) (page_file pages) (pages_answer (length pages))))
     ((c.print_pages.ensures.printed is_known).0)
 
-pub returns-in-Err-OutOfMemory-clause-replied : goal.returns-in-Err-OutOfMemory-clause-replied
-returns-in-Err-OutOfMemory-clause-replied g c = λ is_known.
-    let same : g.O.Sink.taken c.write_page_file.new.sink ≡ g.O.Sink.taken c.args.out.now =
-    ap g.O.Sink.taken (c.write_page_file.ensures.untouched (c.in-Err-OutOfMemory.is ∙ ap Err c.in-Err-OutOfMemory.field-0-is)) in
-    told_this c.refuse-in-Err-OutOfMemory.result _ _ _ _ _ _ [] _
-    (read _ c.requires c.in-Ok.ensures.spelled (refused _ (list_due _ _ _ _ c.in-List.ensures.asks c.in-List.ensures.edit) refl refl))
-    (λ known. sym (append-nil _)) (rw same at ((c.refuse-in-Err-OutOfMemory.ensures.printed is_known).0))
-
-pub returns-in-Journal-clause-replied : goal.returns-in-Journal-clause-replied
-returns-in-Journal-clause-replied g c = λ is_known.
-    told_this c.print_pages-in-Journal.result _ _ _ _ _ _ [] _
-    (read _ c.requires c.in-Ok.ensures.spelled (noted c.in-Journal.ensures.asks refl refl refl)) (λ known. sym (append-nil _))
-    ((c.print_pages-in-Journal.ensures.printed is_known).0)
-
-pub returns-clause-replied : goal.returns-clause-replied
-returns-clause-replied g c = λ is_known.
-    let neither =
-    other_none c.line_of.result _ c.in_default.not-List c.in_default.not-Plan c.in_default.not-Journal c.line_of.ensures.asks in
-    told_as c.answer_edit-done.result _ _ _ _ _ [] _ _ (λ known. sym (append-nil _))
-    (λ printed is. read _ c.requires c.in-Ok.ensures.spelled (edit_reply _ _ _ _ _ _ _ neither is))
-    (c.answer_edit-done.ensures.replied is_known)
-
-pub returns-in-Err-clause-cut : goal.returns-in-Err-clause-cut
-returns-in-Err-clause-cut g c = λ keeps is_known stands.
-    on_err c.refuse.result _ _
-    (cut_due _ _ _ _ _ _ _ _ ([], unread c.in-Err.refusal c.requires c.in-Err.ensures.refused refl refl refl, λ known. sym (append-nil _))
-    (λ left now. g.K.Keeper.restarts c.args.round.now.keeper c.args.round.now.book left keeps stands now))
-    ((c.refuse.ensures.printed is_known).1)
-
-pub returns-in-Ok-put_plan-clause-cut : goal.returns-in-Ok-put_plan-clause-cut
-returns-in-Ok-put_plan-clause-cut g c = λ keeps is_known stands.
-    let asks = rw c.in-None.is at c.in-Plan.ensures.asks in
-    let done = c.in-Ok-put_plan.ensures.planned in
-    on_err c.print_planned.result _ _
-    (cut_due _ _ _ _ _ _ _ _ (
-      placed_plan c.in-Plan.tx.now c.in-Plan.cert.now done.sent ∷ [],
-      read _ c.requires c.in-Ok.ensures.spelled (planned _ _ _ _ _ _ asks done.planned refl refl refl),
-      done.placed,
-    )
-    (λ left now. g.K.Keeper.restarts c.args.round.now.keeper c.args.round.now.book left keeps stands now))
-    ((c.print_planned.ensures.printed is_known).1)
-
-pub returns-in-None-clause-cut : goal.returns-in-None-clause-cut
-returns-in-None-clause-cut g c = λ keeps is_known stands.
-    let asks = rw c.in-None.is at c.in-Plan.ensures.asks in
-    let un = c.in-Err-put_plan.ensures.unplaced in
-    on_err c.refuse-in-Err-put_plan.result _ _
-    (cut_due _ _ _ _ _ _ _ _ (
-      un.placed,
-      read _ c.requires c.in-Ok.ensures.spelled
-          (refused _ (plan_due _ _ _ None _ _ _ _ _ _ asks c.in-Plan.ensures.edit c.in-Err-put_plan.ensures.explained un.refused) refl refl),
-      un.outputs,
-    )
-    (λ left now. g.K.Keeper.restarts c.args.round.now.keeper c.args.round.now.book left keeps stands now))
-    ((c.refuse-in-Err-put_plan.ensures.printed is_known).1)
-
 pub returns-in-Ok-write_page_file-clause-cut : goal.returns-in-Ok-write_page_file-clause-cut
 returns-in-Ok-write_page_file-clause-cut g c = λ keeps is_known stands.
     let pages = c.args.round.now.book in
@@ -103,126 +63,92 @@ returns-in-Ok-write_page_file-clause-cut g c = λ keeps is_known stands.
     on_err c.print_pages.result _ _
     (cut_last _ _ _ _ _ (page_file pages) (pages_answer (length pages)) _ _ whole
     ([], read _ c.requires c.in-Ok.ensures.spelled (listed c.in-List.ensures.asks refl refl refl), λ known. sym (append-nil _))
-    (λ left now. g.K.Keeper.restarts c.args.round.now.keeper c.args.round.now.book left keeps stands now))
+    (restarted g.K.Keeper keeps stands))
     ((c.print_pages.ensures.printed is_known).1)
+
+pub returns-in-Ok-write_page_file-clause-any_moment : goal.returns-in-Ok-write_page_file-clause-any_moment
+returns-in-Ok-write_page_file-clause-any_moment g c = λ keeps stands. unmoved g.K.Keeper keeps stands (λ left is. inl is)
+
+pub returns-in-Err-OutOfMemory-clause-replied : goal.returns-in-Err-OutOfMemory-clause-replied
+returns-in-Err-OutOfMemory-clause-replied g c = λ is_known.
+    let same : g.O.Sink.taken c.write_page_file.new.sink ≡ g.O.Sink.taken c.args.out.now =
+    ap g.O.Sink.taken (c.write_page_file.ensures.untouched (c.in-Err-OutOfMemory.is ∙ ap Err c.in-Err-OutOfMemory.field-0-is)) in
+    on_ok c.refuse-in-Err-OutOfMemory.result _ _
+    (told_once _ _ _ _ _ _ (read _ c.requires c.in-Ok.ensures.spelled (refused _ (list_due _ _ _ _ c.in-List.ensures.asks c.in-List.ensures.edit) refl refl)))
+    (rw same at ((c.refuse-in-Err-OutOfMemory.ensures.printed is_known).0))
 
 pub returns-in-Err-OutOfMemory-clause-cut : goal.returns-in-Err-OutOfMemory-clause-cut
 returns-in-Err-OutOfMemory-clause-cut g c = λ keeps is_known stands.
     let same : g.O.Sink.taken c.write_page_file.new.sink ≡ g.O.Sink.taken c.args.out.now =
     ap g.O.Sink.taken (c.write_page_file.ensures.untouched (c.in-Err-OutOfMemory.is ∙ ap Err c.in-Err-OutOfMemory.field-0-is)) in
-    on_err c.refuse-in-Err-OutOfMemory.result _ _
-    (cut_due _ _ _ _ _ _ _ _ (
+    cut_told g.K.Keeper keeps stands c.refuse-in-Err-OutOfMemory.result _ _ _ (
       [],
       read _ c.requires c.in-Ok.ensures.spelled (refused _ (list_due _ _ _ _ c.in-List.ensures.asks c.in-List.ensures.edit) refl refl),
       λ known. sym (append-nil _),
     )
-    (λ left now. g.K.Keeper.restarts c.args.round.now.keeper c.args.round.now.book left keeps stands now))
-    (rw same at ((c.refuse-in-Err-OutOfMemory.ensures.printed is_known).1))
+    (rw same at (c.refuse-in-Err-OutOfMemory.ensures.printed is_known))
+
+pub returns-in-Err-OutOfMemory-clause-any_moment : goal.returns-in-Err-OutOfMemory-clause-any_moment
+returns-in-Err-OutOfMemory-clause-any_moment g c = λ keeps stands. unmoved g.K.Keeper keeps stands (λ left is. inl is)
 
 pub returns-in-List-clause-cut : goal.returns-in-List-clause-cut
 returns-in-List-clause-cut g c = λ keeps is_known stands.
     let pages = c.args.round.now.book in
     cut_front _ _ _ _ (page_file pages) (pages_answer (length pages)) _ _
     ([], read _ c.requires c.in-Ok.ensures.spelled (listed c.in-List.ensures.asks refl refl refl), λ known. sym (append-nil _))
-    (λ left now. g.K.Keeper.restarts c.args.round.now.keeper c.args.round.now.book left keeps stands now)
+    (restarted g.K.Keeper keeps stands)
     (rw c.pages.ensures.pages at (c.write_page_file.ensures.part is_known (c.in-Err-WriteFault.is ∙ ap Err c.in-Err-WriteFault.field-0-is)))
+
+pub returns-in-List-clause-any_moment : goal.returns-in-List-clause-any_moment
+returns-in-List-clause-any_moment g c = λ keeps stands. unmoved g.K.Keeper keeps stands (λ left is. inl is)
+
+-- the first record of a journal
+pub returns-in-Journal-clause-replied : goal.returns-in-Journal-clause-replied
+returns-in-Journal-clause-replied g c = λ is_known.
+    on_ok c.print_pages-in-Journal.result _ _
+    (told_once _ _ _ _ _ _ (read _ c.requires c.in-Ok.ensures.spelled (noted c.in-Journal.ensures.asks refl refl refl)))
+    ((c.print_pages-in-Journal.ensures.printed is_known).0)
 
 pub returns-in-Journal-clause-cut : goal.returns-in-Journal-clause-cut
 returns-in-Journal-clause-cut g c = λ keeps is_known stands.
-    on_err c.print_pages-in-Journal.result _ _
-    (cut_due _ _ _ _ _ _ _ _
+    cut_told g.K.Keeper keeps stands c.print_pages-in-Journal.result _ _ _
     ([], read _ c.requires c.in-Ok.ensures.spelled (noted c.in-Journal.ensures.asks refl refl refl), λ known. sym (append-nil _))
-    (λ left now. g.K.Keeper.restarts c.args.round.now.keeper c.args.round.now.book left keeps stands now))
-    ((c.print_pages-in-Journal.ensures.printed is_known).1)
+    (c.print_pages-in-Journal.ensures.printed is_known)
+
+pub returns-in-Journal-clause-any_moment : goal.returns-in-Journal-clause-any_moment
+returns-in-Journal-clause-any_moment g c = λ keeps stands. unmoved g.K.Keeper keeps stands (λ left is. inl is)
+
+-- and one that is judged as an edit
+edited : (g : _) (c : After-answer_edit-done g) (after : List Page) (printed : List ℕ) → IsEditReply (fields_of c.in-Ok.row) c.args.round.now.book after printed →
+    IsLineReply g.P.OutputStore.is_known (HasFailedOutput g.P.Output.Sink.failures) c.args.settings.now.on_limit c.args.line.now c.args.round.now.book after printed []
+edited g c after printed is =
+    let neither =
+    other_none c.line_of.result _ c.in_default.not-List c.in_default.not-Plan c.in_default.not-Journal c.line_of.ensures.asks in
+    read _ c.requires c.in-Ok.ensures.spelled (edit_reply _ _ _ _ _ _ _ neither is)
+
+pub returns-clause-replied : goal.returns-clause-replied
+returns-clause-replied g c = λ is_known.
+    told_as c.answer_edit-done.result _ _ _ _ _ _ (edited g (goal.at.returns-clause-replied g c).After-answer_edit-done c.answer_edit-done.new.round.book)
+    (c.answer_edit-done.ensures.replied is_known)
 
 pub returns-clause-cut : goal.returns-clause-cut
 returns-clause-cut g c = λ keeps is_known stands.
-    let neither =
-    other_none c.line_of.result _ c.in_default.not-List c.in_default.not-Plan c.in_default.not-Journal c.line_of.ensures.asks in
     on_err c.answer_edit-done.result _ _
     (cut_as (IsEditReply (fields_of c.in-Ok.row))
-    (RepliesAndPlaces g.P.OutputStore.is_known (HasFailedOutput g.P.Output.Sink.failures) c.args.settings.now.on_limit c.args.line.now (g.P.OutputStore.placed c.args.settings.now.store) (g.P.OutputStore.placed c.args.settings.now.store)) c.args.round.now.book (g.O.Sink.taken c.args.out.now) (g.O.Sink.taken c.answer_edit-done.new.out) g.K.Keeper.reads_as
-    (g.K.Keeper.may_leave c.answer_edit-done.new.round.keeper)
-    (λ after printed is. ([], read _ c.requires c.in-Ok.ensures.spelled (edit_reply _ _ _ _ _ _ _ neither is), λ known. sym (append-nil _))))
+    (RepliesAndPlaces g.P.OutputStore.is_known (HasFailedOutput g.P.Output.Sink.failures) c.args.settings.now.on_limit c.args.line.now
+    (g.P.OutputStore.placed c.args.settings.now.store) (g.P.OutputStore.placed c.args.settings.now.store))
+    c.args.round.now.book g.K.Keeper.reads_as
+    (λ after printed is. ([], edited g (goal.at.returns-clause-cut g c).After-answer_edit-done after printed is, λ known. sym (append-nil _))))
     (c.answer_edit-done.ensures.cut keeps is_known stands)
-
-pub returns-in-Plan-clause-replied : goal.returns-in-Plan-clause-replied
-returns-in-Plan-clause-replied g c = λ is_known.
-    let asks = rw c.in-Some.is at c.in-Plan.ensures.asks in
-    told_like c.answer_front.result _ _ _ _ _ _ _
-    (λ printed sent is. read _ c.requires c.in-Ok.ensures.spelled (front_reply _ _ _ _ _ _ _ _ _ _ _ _ asks c.in-Plan.ensures.edit is))
-    (c.answer_front.ensures.replied is_known)
-
-pub returns-in-Plan-clause-cut : goal.returns-in-Plan-clause-cut
-returns-in-Plan-clause-cut g c = λ keeps is_known stands.
-    let asks = rw c.in-Some.is at c.in-Plan.ensures.asks in
-    on_err c.answer_front.result _ _
-    (cut_as (FrontRepliesAndPlaces g.P.OutputStore.is_known (HasFailedOutput g.P.Output.Sink.failures) c.args.settings.now.on_limit c.in-Plan.end c.in-Some.batches c.in-Plan.tx.now c.in-Plan.cert.now
-    (g.P.OutputStore.placed c.args.settings.now.store) (g.P.OutputStore.placed c.answer_front.new.settings.store))
-    (RepliesAndPlaces g.P.OutputStore.is_known (HasFailedOutput g.P.Output.Sink.failures) c.args.settings.now.on_limit c.args.line.now (g.P.OutputStore.placed c.args.settings.now.store) (g.P.OutputStore.placed c.answer_front.new.settings.store)) c.args.round.now.book (g.O.Sink.taken c.args.out.now) (g.O.Sink.taken c.answer_front.new.out) g.K.Keeper.reads_as
-    (g.K.Keeper.may_leave c.answer_front.new.round.keeper)
-    (λ after printed is. (
-      is.0,
-      read _ c.requires c.in-Ok.ensures.spelled (front_reply _ _ _ _ _ _ _ _ _ _ _ _ asks c.in-Plan.ensures.edit is.1),
-      is.2,
-    )))
-    (c.answer_front.ensures.cut keeps is_known stands)
-
-pub returns-in-Plan-clause-any_moment : goal.returns-in-Plan-clause-any_moment
-returns-in-Plan-clause-any_moment g c = λ keeps stands.
-    let asks = rw c.in-Some.is at c.in-Plan.ensures.asks in
-    named g.K.Keeper.moment g.K.Keeper.left_since c.args.round.now.keeper c.answer_front.new.round.keeper _ _
-    (c.answer_front.ensures.any_moment keeps stands)
-    (λ left now.
-    read_as (FrontRepliesTo g.P.OutputStore.is_known (HasFailedOutput g.P.Output.Sink.failures) c.args.settings.now.on_limit c.in-Plan.end c.in-Some.batches c.in-Plan.tx.now c.in-Plan.cert.now)
-    (RepliesTo g.P.OutputStore.is_known (HasFailedOutput g.P.Output.Sink.failures) c.args.settings.now.on_limit c.args.line.now) c.args.round.now.book g.K.Keeper.reads_as left
-    (λ after printed is. (
-      is.0,
-      read _ c.requires c.in-Ok.ensures.spelled (front_reply _ _ _ _ _ _ _ _ _ _ _ _ asks c.in-Plan.ensures.edit is.1),
-    )) now)
 
 pub returns-clause-any_moment : goal.returns-clause-any_moment
 returns-clause-any_moment g c = λ keeps stands.
-    let neither =
-    other_none c.line_of.result _ c.in_default.not-List c.in_default.not-Plan c.in_default.not-Journal c.line_of.ensures.asks in
     named g.K.Keeper.moment g.K.Keeper.left_since c.args.round.now.keeper c.answer_edit-done.new.round.keeper _ _
     (c.answer_edit-done.ensures.any_moment keeps stands)
-    (λ left now.
-    read_as (IsEditReply (fields_of c.in-Ok.row)) (RepliesTo g.P.OutputStore.is_known (HasFailedOutput g.P.Output.Sink.failures) c.args.settings.now.on_limit c.args.line.now) c.args.round.now.book g.K.Keeper.reads_as left
-    (λ after printed is. ([], read _ c.requires c.in-Ok.ensures.spelled (edit_reply _ _ _ _ _ _ _ neither is))) now)
-
--- where nothing is kept, a crash leaves what it might have left before
-unmoved : (g : _) (c : Start g) → g.K.Keeper.is_known → g.K.Keeper.represents c.args.round.now.keeper c.args.round.now.book →
-    LeavesOnly g.K.Keeper.moment g.K.Keeper.left_since c.args.round.now.keeper c.args.round.now.keeper
-    (ReadsOrReplied g.K.Keeper.reads_as (RepliesTo g.P.OutputStore.is_known (HasFailedOutput g.P.Output.Sink.failures) c.args.settings.now.on_limit c.args.line.now)
-    c.args.round.now.book)
-unmoved g c = λ keeps stands.
-    started g.K.Keeper.moment g.K.Keeper.left_since c.args.round.now.keeper _
-    (λ left since.
-    inl
-    (g.K.Keeper.restarts c.args.round.now.keeper c.args.round.now.book left keeps stands
-    (g.K.Keeper.only_now c.args.round.now.keeper left keeps since)))
-
-pub returns-in-Err-clause-any_moment : goal.returns-in-Err-clause-any_moment
-returns-in-Err-clause-any_moment g c = unmoved g (goal.at.returns-in-Err-clause-any_moment g c).Start
-
-pub returns-in-Ok-put_plan-clause-any_moment : goal.returns-in-Ok-put_plan-clause-any_moment
-returns-in-Ok-put_plan-clause-any_moment g c = unmoved g (goal.at.returns-in-Ok-put_plan-clause-any_moment g c).Start
-
-pub returns-in-None-clause-any_moment : goal.returns-in-None-clause-any_moment
-returns-in-None-clause-any_moment g c = unmoved g (goal.at.returns-in-None-clause-any_moment g c).Start
-
-pub returns-in-Ok-write_page_file-clause-any_moment : goal.returns-in-Ok-write_page_file-clause-any_moment
-returns-in-Ok-write_page_file-clause-any_moment g c = unmoved g (goal.at.returns-in-Ok-write_page_file-clause-any_moment g c).Start
-
-pub returns-in-Err-OutOfMemory-clause-any_moment : goal.returns-in-Err-OutOfMemory-clause-any_moment
-returns-in-Err-OutOfMemory-clause-any_moment g c = unmoved g (goal.at.returns-in-Err-OutOfMemory-clause-any_moment g c).Start
-
-pub returns-in-List-clause-any_moment : goal.returns-in-List-clause-any_moment
-returns-in-List-clause-any_moment g c = unmoved g (goal.at.returns-in-List-clause-any_moment g c).Start
-
-pub returns-in-Journal-clause-any_moment : goal.returns-in-Journal-clause-any_moment
-returns-in-Journal-clause-any_moment g c = unmoved g (goal.at.returns-in-Journal-clause-any_moment g c).Start
+    (read_as (IsEditReply (fields_of c.in-Ok.row))
+    (RepliesTo g.P.OutputStore.is_known (HasFailedOutput g.P.Output.Sink.failures) c.args.settings.now.on_limit c.args.line.now)
+    c.args.round.now.book g.K.Keeper.reads_as
+    (λ after printed is. ([], edited g (goal.at.returns-clause-any_moment g c).After-answer_edit-done after printed is)))
 
 pub returns-clause-explained : goal.returns-clause-explained
 returns-clause-explained g c = λ counts stands none.

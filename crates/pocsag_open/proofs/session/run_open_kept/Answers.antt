@@ -1,32 +1,17 @@
-use Rattle.pocsag_open.proofs.Prelude.{[], List, ℕ, ◌++◌, ap, arith, refl, sym, append-nil, rules, LeavesOnly, started, then_on, ahead_of, HasFailedOutput, too_long, ReadsAfterLines}
-use Rattle.pocsag_open.proofs.Survival.{Answered, all_answered, cut_due, none_answered, one_answered, read_next, read_now, survives_between, survives_within}
+use Rattle.pocsag_open.proofs.Prelude.{[], List, ℕ, ◌++◌, ap, arith, refl, sym, append-nil, rules, LeavesOnly, then_on, ahead_of, HasFailedOutput, too_long, ReadsAfterLines}
+use Rattle.pocsag_open.proofs.Survival.{Answered, all_answered, cut_due, none_answered, one_answered, read_next, read_now, restarted, survives_between, survives_within, unmoved}
 use Rattle.pocsag_open.proofs.Printed.{told_once}
-use Rattle.pocsag_open.proofs.session.run_open_kept.Goals.{After-compact_if_due, Start, in-TooLong+in_ok-refuse-in-TooLong, in-Kept+in_ok-answer_line-in-Kept}
+use Rattle.pocsag_open.proofs.session.run_open_kept.Goals.{After-compact_if_due, in-TooLong+in_ok-refuse-in-TooLong, in-Kept+in_ok-answer_line-in-Kept}
 use Rattle.pocsag_open.proofs.Ends.{line_counts}
 use Rattle.pocsag_open.proofs.session.run_open_kept.Goals as goal
 
--- before the first line
-begins : (g : _) (c : Start g) → Answered g.P.OutputStore.is_known (HasFailedOutput g.P.Output.Sink.failures) c.args.settings.now.on_limit
-    (g.I.Source.held c.args.input.now) (g.I.Source.held c.args.input.now) c.args.round.now.book c.args.round.now.book (g.O.Sink.taken c.args.out.now)
-    (g.O.Sink.taken c.args.out.now) (g.P.OutputStore.placed c.args.settings.now.store) (g.P.OutputStore.placed c.args.settings.now.store)
-begins g c = none_answered _ _ _ _ _ _ _ _ refl
-
-unmoved : (g : _) (c : Start g) → g.K.Keeper.is_known → g.K.Keeper.represents c.args.round.now.keeper c.args.round.now.book →
-    LeavesOnly g.K.Keeper.moment g.K.Keeper.left_since c.args.round.now.keeper c.args.round.now.keeper
-    (ReadsAfterLines g.P.OutputStore.is_known (HasFailedOutput g.P.Output.Sink.failures) c.args.settings.now.on_limit (g.I.Source.held c.args.input.now) c.args.round.now.book g.K.Keeper.reads_as)
-unmoved g c keeps stands =
-    started g.K.Keeper.moment g.K.Keeper.left_since c.args.round.now.keeper _
-    (λ left since.
-    read_now _ _ _ _ _ _ _ _ _ _ _ _ left (begins g c)
-    (g.K.Keeper.restarts c.args.round.now.keeper c.args.round.now.book left keeps stands (g.K.Keeper.only_now c.args.round.now.keeper left keeps since)))
-
 pub returns-in_err-lines-clause-survives : goal.returns-in_err-lines-clause-survives
 returns-in_err-lines-clause-survives g c = λ keeps reads is_known stands.
-    survives_between _ _ _ _ _ _ _ _ _ _ _ _ _ (begins g (goal.at.returns-in_err-lines-clause-survives g c).Start)
-    (λ left now. g.K.Keeper.restarts c.args.round.now.keeper c.args.round.now.book left keeps stands now)
+    survives_between (none_answered refl) (restarted g.K.Keeper keeps stands)
 
 pub returns-in_err-lines-clause-any_moment : goal.returns-in_err-lines-clause-any_moment
-returns-in_err-lines-clause-any_moment g c = λ keeps reads is_known stands. unmoved g (goal.at.returns-in_err-lines-clause-any_moment g c).Start keeps stands
+returns-in_err-lines-clause-any_moment g c = λ keeps reads is_known stands.
+    unmoved g.K.Keeper keeps stands (λ left is. read_now (none_answered {out = []} {placed = []} refl) is)
 
 pub loop-answered-init : goal.loop-answered-init
 loop-answered-init g c = record {
@@ -38,44 +23,40 @@ loop-answered-init g c = record {
   counted = λ reads. rw c.in_ok-lines.ensures.ahead (omega arith);
   stands = λ stands. stands;
   answered = λ reads is_known.
-      none_answered _ _ _ _ _ _ _ _ (ap (λ (l : List ℕ). l ++ g.I.Source.held c.args.input.now) c.in_ok-lines.ensures.ahead);
-  moments = λ keeps reads is_known stands. unmoved g (goal.at.loop-answered-init g c).Start keeps stands;
+      none_answered (ap (λ (l : List ℕ). l ++ g.I.Source.held c.args.input.now) c.in_ok-lines.ensures.ahead);
+  moments = λ keeps reads is_known stands. unmoved g.K.Keeper keeps stands (λ left is. read_now (none_answered {out = []} {placed = []} refl) is);
 }
 
 pub returns-in_err-read_line-clause-survives : goal.returns-in_err-read_line-clause-survives
 returns-in_err-read_line-clause-survives g c = λ keeps reads is_known stands.
-    survives_between _ _ _ _ _ _ _ _ _ _ _ _ _ (c.loop-answered.invariant.answered reads is_known)
-    (λ left now. g.K.Keeper.restarts c.loop-answered.round.keeper c.loop-answered.round.book left keeps (c.loop-answered.invariant.stands stands) now)
+    survives_between (c.loop-answered.invariant.answered reads is_known) (restarted g.K.Keeper keeps (c.loop-answered.invariant.stands stands))
 
 pub returns-in-End-clause-survives : goal.returns-in-End-clause-survives
 returns-in-End-clause-survives g c = λ keeps reads is_known stands.
-    survives_between _ _ _ _ _ _ _ _ _ _ _ _ _ (c.loop-answered.invariant.answered reads is_known)
-    (λ left now. g.K.Keeper.restarts c.loop-answered.round.keeper c.loop-answered.round.book left keeps (c.loop-answered.invariant.stands stands) now)
+    survives_between (c.loop-answered.invariant.answered reads is_known) (restarted g.K.Keeper keeps (c.loop-answered.invariant.stands stands))
 
 pub returns-clause-survives : goal.returns-clause-survives
 returns-clause-survives g c = λ keeps reads is_known stands.
-    survives_between _ _ _ _ _ _ _ _ _ _ _ _ _ (c.loop-answered.invariant.answered reads is_known)
-    (λ left now. g.K.Keeper.restarts c.loop-answered.round.keeper c.loop-answered.round.book left keeps (c.loop-answered.invariant.stands stands) now)
+    survives_between (c.loop-answered.invariant.answered reads is_known) (restarted g.K.Keeper keeps (c.loop-answered.invariant.stands stands))
 
 pub returns-in-End-clause-session : goal.returns-in-End-clause-session
 returns-in-End-clause-session g c = λ reads is_known.
     let none = rw c.in-End.is at (c.in_ok-read_line.ensures.found reads) in
-    all_answered _ _ _ _ _ _ _ _ _ _ _ none (c.loop-answered.invariant.answered reads is_known)
+    all_answered (c.loop-answered.invariant.answered reads is_known) none
 
 pub returns-in_err-refuse-in-TooLong-clause-survives : goal.returns-in_err-refuse-in-TooLong-clause-survives
 returns-in_err-refuse-in-TooLong-clause-survives g c = λ keeps reads is_known stands.
     let found = rw c.in-TooLong.is at (c.in_ok-read_line.ensures.found reads) in
-    survives_within _ _ _ _ _ found.0 _ _ _ _ _ _ _ _ _ _ _ (c.loop-answered.invariant.answered reads is_known) found.1
+    survives_within (c.loop-answered.invariant.answered reads is_known) found.1
     (cut_due _ _ _ _ _ _ _ _ ([], too_long found.2 refl refl refl, λ known. sym (append-nil _))
-    (λ left now. g.K.Keeper.restarts c.loop-answered.round.keeper c.loop-answered.round.book left keeps (c.loop-answered.invariant.stands stands) now)
-    (c.in_err-refuse-in-TooLong.ensures.printed is_known).1)
+    (restarted g.K.Keeper keeps (c.loop-answered.invariant.stands stands)) (c.in_err-refuse-in-TooLong.ensures.printed is_known).1)
 
 pub returns-in_err-answer_line-in-Kept-clause-survives : goal.returns-in_err-answer_line-in-Kept-clause-survives
 returns-in_err-answer_line-in-Kept-clause-survives g c = λ keeps reads is_known stands.
     let found = rw c.in-Kept.is at (c.in_ok-read_line.ensures.found reads) in
     let cut = rw (c.as_slice.ensures.value, c.loop-answered.invariant.on_limit) at
     (c.in_err-answer_line-in-Kept.ensures.cut keeps is_known (c.loop-answered.invariant.stands stands)) in
-    survives_within _ _ _ _ _ _ _ _ _ _ _ _ _ _ _ _ _ (c.loop-answered.invariant.answered reads is_known) found.0 cut
+    survives_within (c.loop-answered.invariant.answered reads is_known) found.0 cut
 
 pub returns-in_err-answer_line-in-Kept-clause-any_moment : goal.returns-in_err-answer_line-in-Kept-clause-any_moment
 returns-in_err-answer_line-in-Kept-clause-any_moment g c = λ keeps reads is_known stands.
@@ -83,7 +64,7 @@ returns-in_err-answer_line-in-Kept-clause-any_moment g c = λ keeps reads is_kno
     let more = rw (c.as_slice.ensures.value, c.loop-answered.invariant.on_limit) at (c.answer_line.ensures.any_moment keeps (c.loop-answered.invariant.stands stands)) in
     then_on g.K.Keeper.moment g.K.Keeper.left_since _ c.loop-answered.round.keeper c.answer_line.new.round.keeper _ _
     (c.loop-answered.invariant.moments keeps reads is_known stands) more
-    (λ left is. read_next _ _ _ _ _ _ _ _ _ _ _ _ _ _ left (c.loop-answered.invariant.answered reads is_known) found.0 is)
+    (λ left is. read_next (c.loop-answered.invariant.answered reads is_known) found.0 is)
 
 -- what was read is answered before what keeps the edits may put them shorter
 answered : (g : _) (c : After-compact_if_due g) → g.I.Source.is_known → g.O.Sink.is_known →
@@ -95,13 +76,13 @@ answered g c reads is_known = elim c.match-branch-3.branch [
       let found = rw w.in-TooLong.is at (c.in_ok-read_line.ensures.found reads) in
       let printed = w.in_ok-refuse-in-TooLong.ensures.printed is_known in
       rw (w.settings-is, w.round-is, w.out-is)
-      (one_answered _ _ _ _ _ found.0 _ _ _ _ _ _ _ _ _ _ (c.loop-answered.invariant.answered reads is_known) found.1
+      (one_answered (c.loop-answered.invariant.answered reads is_known) found.1
       (told_once _ _ _ _ _ _ (too_long found.2 refl refl refl) printed.0))
   | in-Kept+in_ok-answer_line-in-Kept w ↦
       let found = rw w.in-Kept.is at (c.in_ok-read_line.ensures.found reads) in
       let reply = rw (w.as_slice.ensures.value, c.loop-answered.invariant.on_limit) at (w.in_ok-answer_line-in-Kept.ensures.replied is_known) in
       rw (w.settings-is, w.round-is, w.out-is)
-      (one_answered _ _ _ _ _ _ _ _ _ _ _ _ _ _ _ _ (c.loop-answered.invariant.answered reads is_known) found.0 reply)
+      (one_answered (c.loop-answered.invariant.answered reads is_known) found.0 reply)
 ]
 
 now_stands : (g : _) (c : After-compact_if_due g) → g.K.Keeper.represents c.args.round.now.keeper c.args.round.now.book →
@@ -126,16 +107,16 @@ moments g c keeps reads is_known stands =
           rw w.round-is
           (then_on g.K.Keeper.moment g.K.Keeper.left_since _ c.loop-answered.round.keeper w.answer_line.new.round.keeper _ _
           (c.loop-answered.invariant.moments keeps reads is_known stands) more
-          (λ left is. read_next _ _ _ _ _ _ _ _ _ _ _ _ _ _ left (c.loop-answered.invariant.answered reads is_known) found.0 is))
+          (λ left is. read_next (c.loop-answered.invariant.answered reads is_known) found.0 is))
     ] in
     then_on g.K.Keeper.moment g.K.Keeper.left_since _ c.match-branch-3.round.keeper c.compact_if_due.new.self _ _ so_far
-    (c.compact_if_due.ensures.any_moment keeps (now_stands g c stands)) (λ left is. read_now _ _ _ _ _ _ _ _ _ _ _ _ left (answered g c reads is_known) is)
+    (c.compact_if_due.ensures.any_moment keeps (now_stands g c stands)) (λ left is. read_now (answered g c reads is_known) is)
 
 pub returns-in_err-compact_if_due-clause-survives : goal.returns-in_err-compact_if_due-clause-survives
 returns-in_err-compact_if_due-clause-survives g c = λ keeps reads is_known stands.
     let settled = (goal.at.returns-in_err-compact_if_due-clause-survives g c).After-compact_if_due in
     let settling = c.compact_if_due.ensures.any_moment keeps (now_stands g settled stands) in
-    survives_between _ _ _ _ _ _ _ _ _ _ _ _ _ (answered g settled reads is_known)
+    survives_between (answered g settled reads is_known)
     (λ left now.
     settling.each left (g.K.Keeper.counts_now c.compact_if_due.new.self (g.K.Keeper.moment c.match-branch-3.round.keeper) left keeps settling.later now))
 

@@ -1,8 +1,9 @@
-use Rattle.pocsag_receiver.proofs.Prelude.{◌≡◌, All, Err, ap, inr, refl, subst, sym, ◌∙◌, err_from_is_err_and, IsListable, listing, streams_as, over_bytes, fault_of_list, listed_in, lists, writing}
+use Rattle.pocsag_receiver.proofs.Prelude.{◌≡◌, All, Err, ap, inr, refl, subst, sym, err_from_is_err_and, fault_of_list, IsListable, listing, listed_in}
 use Rattle.pocsag_decode.specs.PageReaders.{pages_left}
+use Rattle.pocsag_receiver.specs.Listings.{ExplainsDecoding, IsDecoded}
 use Rattle.pocsag_receiver.specs.declared.form.ListForm.TheVariants as forms
 use Rattle.pocsag_receiver.proofs.Received.{passed_on}
-use Rattle.pocsag_receiver.proofs.Works.{unlisted}
+use Rattle.pocsag_receiver.proofs.Works.{unlisted, written}
 use Rattle.pocsag_receiver.proofs.decode.list_decoded_in.Goals as goal
 
 pub returns-in_err-list_sent : goal.returns-in_err-list_sent
@@ -13,10 +14,10 @@ returns-in_err-list_sent g c =
     let plain : c.args.form ≡ forms.Listing = cc in
     let put = unlisted g.O.Sink c.args.out.now c.list_sent.new.sink (listing read.0) c.in_err-list_sent.field-0.0 (λ is. done.failures.1 (ap Err is))
     (λ known. done.part known read.0 read.1) (λ is. inr (λ known. done.stopped known (ap Err is) read.0 read.1)) in
-    let as_list = streams_as (writing (listing read.0)) (over_bytes (lists c.args.form) g.O.Sink c.args.bytes.now) g.O.Sink c.args.out.now c.list_sent.new.sink
-    (Err (fault_of_list c.in_err-list_sent.field-0.0)) (λ k. tt)
-    (λ s text q. (q.0, record { pages = read.0; reads = read.1; listed = rw plain q.1 })) (λ f why. rw why read) (λ f why. why) (λ f why. why) put in
-    record { streams = rw (p.1, p.2) as_list }
+    record {
+      streams = rw (p.1, p.2) (written g.O.Sink _ _ (Err (fault_of_list c.in_err-list_sent.field-0.0)) (IsDecoded c.args.form) ExplainsDecoding c.args.bytes.now (listing read.0)
+          (record { pages = read.0; reads = read.1; listed = rw plain refl }) read put);
+    }
 
 pub returns-in-Listing : goal.returns-in-Listing
 returns-in-Listing g c =
@@ -41,10 +42,7 @@ list_from-requires g c =
 pub returns : goal.returns
 returns g c =
     let read = passed_on _ _ _ _ _ c.map_err.ensures.cases c.map_err.ensures.variant c.in_ok-map_err.was c.judge_bytes.ensures.ok in
-    let left = c.new.ensures.left read.0 read.1 in record {
-      streams = streams_as (writing (listed_in c.args.form (pages_left c.new.result))) (over_bytes (lists c.args.form) g.O.Sink c.args.bytes.now) g.O.Sink
-          c.args.out.now c.list_from.new.sink c.list_from.result (λ k. tt) (λ s text q. (
-            q.0,
-            record { pages = read.0; reads = read.1; listed = q.1 ∙ ap (listed_in c.args.form) left },
-          )) (λ f why. rw why read) (λ f why. why) (λ f why. why) c.list_from.ensures.streams;
+    record {
+      streams = written g.O.Sink _ _ c.list_from.result (IsDecoded c.args.form) ExplainsDecoding c.args.bytes.now (listed_in c.args.form (pages_left c.new.result))
+          (record { pages = read.0; reads = read.1; listed = ap (listed_in c.args.form) (c.new.ensures.left read.0 read.1) }) read c.list_from.ensures.streams;
     }

@@ -1,13 +1,18 @@
-use Rattle.pocsag_receiver.proofs.Prelude.{streams_as, over_bytes, shows, views}
+use Rattle.pocsag_receiver.proofs.Prelude.{shows, views}
+use Rattle.pocsag_receiver.specs.declared.repair.Repairing.{Repairing}
+use Rattle.pocsag_receiver.proofs.Works.{over_read, over_repaired}
 use Rattle.pocsag_receiver.proofs.show.show_read.Goals as goal
 
 pub returns : goal.returns
 returns g c =
-    let repaired = c.repair_asked-showing.ensures in record {
-      streams = streams_as (over_bytes (views c.args.showing.now.view) g.O.Sink c.repair_asked-showing.new.bytes)
-          (over_bytes (shows c.args.showing.now.view c.args.showing.now.repairing (record { is_asked = c.args.showing.now.repairing.is_asked; corrected = c.repair_asked-showing.result })) g.O.Sink c.args.bytes.now) g.O.Sink _ _ c.show_bytes.result (λ k. k) (λ s text p. (
-            p.0,
-            record { bytes = c.repair_asked-showing.new.bytes; read = repaired.read; holds = (repaired.counted, p.1) },
-          )) (λ f why. record { bytes = c.repair_asked-showing.new.bytes; read = repaired.read; holds = why }) (λ f why. why) (λ f why. why)
-          c.show_bytes.ensures.streams;
+    let before = c.args.showing.now in
+    let read = c.in_ok-read.ensures in
+    let repaired = c.repair_asked-showing in
+    let shown = c.show_bytes in
+    let after : Repairing = record { is_asked = before.repairing.is_asked; corrected = repaired.result } in
+    record {
+      streams = over_read g.O.Sink _ _ shown.result (shows before.view before.repairing after) g.T.Source c.args.tx.now c.read_transmission.new.tx _ _
+          c.as_mut_slice-bytes.ensures.value read.whole read.uncut read.fits
+          (over_repaired g.O.Sink _ _ shown.result (views before.view) before.repairing after _ repaired.new.bytes repaired.ensures.read repaired.ensures.counted
+          shown.ensures.streams);
     }

@@ -1,4 +1,4 @@
-use Rattle.pocsag_open.proofs.Prelude.{◌≡◌, ◌≤◌, List, ℕ, ◌++◌, length, HasNoLineFeed, IsSeen, between_places, line_limit}
+use Rattle.pocsag_open.proofs.Prelude.{◌≡◌, ◌≤◌, List, ℕ, ◌++◌, length, HasNoLineFeed, IsSeen, ahead_of, line_limit}
 use Rattle.pocsag_open.proofs.lines.Lines.read_line.Given as goal
 
 -- the source has not failed, and what was seen of the line and what is left are what was there
@@ -7,5 +7,5 @@ invariant-loop-seen g l = record {
   unfailed : g.S.Source.failures l.source ≡ g.S.Source.failures l.initial.source;
   short : length l.self.line.items ≤ line_limit;
   seen : g.S.Source.is_known → (seen : List ℕ) × HasNoLineFeed seen × IsSeen l.found seen l.self.line.items
-      × (between_places l.fn.self.piece l.fn.self.start l.fn.self.end ++ g.S.Source.held l.fn.source ≡ seen ++ (between_places l.self.piece l.self.start l.self.end ++ g.S.Source.held l.source)) × (length seen ≡ l._seen);
+      × (ahead_of l.fn.self ++ g.S.Source.held l.fn.source ≡ seen ++ (ahead_of l.self ++ g.S.Source.held l.source)) × (length seen ≡ l._seen);
 }

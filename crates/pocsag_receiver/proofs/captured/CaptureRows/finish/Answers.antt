@@ -5,12 +5,11 @@ use Rattle.pocsag_receiver.proofs.captured.CaptureRows.finish.Goals as goal
 pub loop-begun-preserved : goal.loop-begun-preserved
 loop-begun-preserved c =
     let loop = c.loop-begun in
-    let begun = c.in-Some.begun in
-    let is : loop.self.current ≡ Some begun = sym c.take.ensures.value ∙ c.in-Some.is in record {
+    let is : loop.self.current ≡ Some c.in-Some.begun = sym c.take.ensures.value ∙ c.in-Some.is in record {
       can = c.end.ensures.can;
       left = λ rows heard l.
           let more = c.end.ensures.left rows heard l in
-          loop.invariant.left more.0 heard (left_of loop.self begun is more.0 heard (behind_apart loop.self _ begun more.0 heard more.1));
+          loop.invariant.left more.0 heard (left_of is (behind_apart loop.self more.1));
     }
 
 pub returns : goal.returns
