@@ -9,4 +9,5 @@ pub mod Plans
 pub mod Prelude
 pub mod QueueRounds
 pub mod ReportLines
+pub mod SentMarks
 pub mod Verified

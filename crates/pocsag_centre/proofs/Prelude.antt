@@ -20,7 +20,7 @@ pub use Rattle.pocsag_pages.specs.Listable.{IsListable}
 unfoldable pub use Rattle.pocsag_pages.specs.PageFile.{held_pages}
 pub use Rattle.pocsag_pages.specs.PageFile.{verdict}
 pub use Rattle.pocsag_pages.specs.PageList.{unless_empty}
-pub use Rattle.pocsag_pages.specs.Pages.{AreGood, IsRound, addresses_of, has_address, page_fault_of, page_limit}
+pub use Rattle.pocsag_pages.specs.Pages.{AreGood, addresses_of, has_address, page_fault_of, page_limit}
 unfoldable pub use Rattle.pocsag_pages.specs.Queues.{firsts_after, left_after}
 pub use Rattle.pocsag_pages.specs.Queues.{IsQueue, firsts, is_sent, left_of, queue_verdict}
 pub use Rattle.pocsag_pages.specs.Reading.{AreApart, BeginsNoMessage, EndsAs, EndsIdle, EndsWhole, IsBatchList}
@@ -47,11 +47,11 @@ pub use Rattle.pocsag_words.specs.declared.ending.End.{End}
 pub use Rattle.std.proofs.Common.{All, Bool, List, Some, [], ap, append_assoc, arith, drop, eq-eqb, false, filter, get_or, inl, inr, length, map, min, nat_eq, not, refl, replicate, rules, subst, suc, sym, take, tests, true, zero, ℕ, ◌%◌, ◌&&◌, ◌*◌, ◌++◌, ◌+◌, ◌-◌, ◌/◌, ◌<◌, ◌==◌, ◌^◌, ◌||◌, ◌∙◌, ◌∷◌, ◌≡◌, ◌≢◌, ◌≤◌, ◌⊎◌}
 pub use Rattle.std.proofs.lemmas.Bool.{cases_Bool, cases_eq, cases_lt, le-ltb, lt-ltb, ltb-true, ne_eqb, not-false, not-true, or_right}
 pub use Rattle.std.proofs.lemmas.List.{append-nil, drop_at, get_or-drop, get_or_default, length-append, length-drop, length-map, length-take-le, map-append, take-append-drop, take_all, take_at, take_min}
-pub use Rattle.std.proofs.lemmas.List.Elements.{All-filter, All-head, All-more, All-nil, All-tail, All-weaker}
-pub use Rattle.std.proofs.lemmas.List.Sorted.{Contains-permutation, IsNonDecreasingBy-from_sort_by_key, IsPermutation-sym, answers_always, length_permutation, ties_still_rise}
+pub use Rattle.std.proofs.lemmas.List.Elements.{All-filter, All-head, All-nil, All-tail, All-weaker}
+pub use Rattle.std.proofs.lemmas.List.Sorted.{Contains-permutation, IsNonDecreasingBy-from_sort_by_key, answers_always, ties_still_rise}
 pub use Rattle.std.proofs.lemmas.Result.{err_from_is_err_and}
 pub use Rattle.std.proofs.lemmas.Slice.Eq.{bytes_eq-Decides}
 pub use Rattle.std.specs.List.{AllByRecursion, flat_map, list_any}
 pub use Rattle.std.specs.List.Sorted.{IsNonDecreasingBy, IsSortedByKey}
-pub use Rattle.std.specs.Ordering.{MatchOrdering, nat_cmp, ordering_index}
+pub use Rattle.std.specs.Ordering.{nat_cmp, ordering_index}
 pub use Rattle.std.specs.Prelude.{Contains, Err, IfErr, IfOk, IsOk, IsPermutation, None, Ok, OnOk, Result, codes, ◌↔◌}

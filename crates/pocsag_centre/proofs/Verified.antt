@@ -1,10 +1,6 @@
 -- What was read back, and what was found in its place.
-use Rattle.pocsag_centre.proofs.Prelude.{◌≡◌, ◌≢◌, ℕ, ◌<◌, ◌≤◌, ◌==◌, ◌&&◌, Bool, true, false, eq-eqb, tests, List, length, get_or, map, refl, sym, ap, ◌∙◌, subst, inl, inr, arith, Contains, Err, IfErr, IfOk, IsPermutation, Ok, OnOk, Result, MatchOrdering, nat_cmp, ordering_index, IsNonDecreasingBy, bytes_eq-Decides, cases_eq, cases_lt, get_or_default, length-map, Contains-permutation, IsPermutation-sym, length_permutation, All-weaker, RoundFault, Page, IsRound, AreApart, EndsAs, IsBatchList, apart_pages, BoundTree, IsText, NoneHasFewer, HasFailed, IsOfCut, kind_of, End, ReadsAs, Search, FailedCut, IsStreamOf, CentreFault, PlanFiles}
+use Rattle.pocsag_centre.proofs.Prelude.{◌≡◌, ℕ, false, List, map, refl, sym, ap, ◌∙◌, subst, inl, inr, Err, IfErr, IfOk, Ok, OnOk, Result, length-map, RoundFault, Page, EndsAs, IsBatchList, BoundTree, IsText, NoneHasFewer, HasFailed, IsOfCut, kind_of, End, ReadsAs, Search, FailedCut, IsStreamOf, CentreFault, PlanFiles}
 use Rattle.std.specs.Prelude.{◌⊎◌}
-use Rattle.std.specs.Cmp.{ranks}
-use Rattle.std.specs.Cmp.Lexicographic.{pointwise}
-use Rattle.std.specs.declared.cmp.Ordering.{Ordering}
-use Rattle.std.specs.declared.cmp.Ordering.TheVariants.{Less, Greater}
 use Rattle.pocsag_pages.specs.declared.fault.RoundFault.TheVariants as round_fault
 use Rattle.pocsag_tree.specs.Answers.{given_before, IsFault, IsRefusal}
 use Rattle.pocsag_tree.specs.Parts.{HasFirst}
@@ -12,95 +8,10 @@ use Rattle.pocsag_tree.specs.declared.refusals.CertificateFault.{CertificateFaul
 use Rattle.pocsag_tree.specs.declared.refusals.CertificateFault.TheVariants as tree_fault
 use Rattle.pocsag_words.specs.declared.device.Sink.{Ghosts as Writer}
 use Rattle.pocsag_words.specs.declared.device.Source.{Ghosts as Reader}
-use Rattle.pocsag_slots.proofs.Rearranged.{rearranged}
-use Rattle.pocsag_centre.specs.Verification.{AreAmong, HasRival, IsTransmissionOf, ShowsExpected, Verified, WasNoCertificate, WasNoRound, verifies, verifies_round}
+use Rattle.pocsag_centre.specs.Verification.{AreAmong, IsTransmissionOf, ShowsExpected, Verified, WasNoCertificate, WasNoRound, verifies, verifies_round}
 use Rattle.pocsag_centre.specs.Verification.ExplainsVerifying.{no_round, unverified}
 use Rattle.pocsag_centre.specs.declared.fault.CentreFault.TheVariants as fault
 use Rattle.pocsag_centre.proofs.CutFiles.{failed_cut, told_of_round, told_of_whole, unless_read}
-
-moved_pages : (ps qs : List Page) → IsPermutation ps qs → (R : List Page) → AreAmong qs R → AreAmong ps R
-moved_pages ps qs moved R among = record {
-  as_many = sym (length_permutation ps qs moved) ∙ among.as_many;
-  each = All-weaker (Contains qs) (Contains ps)
-      (λ x there. Contains-permutation qs ps x (IsPermutation-sym ps qs moved) there) R among.each;
-}
-
--- pages that were sorted are the same pages
-module _ (ps qs others R S : List Page) (moved : IsPermutation ps qs) (view : others ≡ qs) (pages : S ≡ R) where
-  pub same_pages : AreAmong others S → AreAmong ps R
-  same_pages among =
-      moved_pages ps qs moved R (subst (λ (v : List Page). AreAmong qs v) pages (subst (λ (v : List Page). AreAmong v S) view among))
-
-  pub same_others : AreAmong ps R → AreAmong others S
-  same_others among =
-      subst (λ (v : List Page). AreAmong v S) (sym view)
-      (subst (λ (v : List Page). AreAmong qs v) (sym pages) (moved_pages qs ps (IsPermutation-sym ps qs moved) R among))
-
--- pages that the test of their fields distinguishes differ
-pub told_apart : (q p : Page) (b : Bool) → b ≡ (q.address == p.address && (q.function == p.function && pointwise ◌==◌ q.payload p.payload)) →
-    b ≡ false → q ≢ p
-told_apart q p b tested apart same =
-    let all : b ≡ (p.address == p.address && (p.function == p.function && pointwise ◌==◌ p.payload p.payload)) =
-    subst (λ (r : Page). b ≡ (r.address == p.address && (r.function == p.function && pointwise ◌==◌ r.payload p.payload))) same tested in
-    let yes : b ≡ true =
-    all ∙ (rw (eq-eqb p.address p.address refl, eq-eqb p.function p.function refl, (bytes_eq-Decides p.payload p.payload).1 refl) refl) in
-    cc
-
--- where the addresses rise, so does how they compare with one of them
-comparing : (a b x : ℕ) → a ≤ b → ordering_index (nat_cmp a x) ≤ ordering_index (nat_cmp b x)
-comparing a b x le = grind (arith, tests)
-
-pub rising : (S : List Page) (x : ℕ) → IsNonDecreasingBy (λ p. p.address) S → IsNonDecreasingBy (λ p. ordering_index (nat_cmp p.address x)) S
-rising S x order = λ i j d low high. comparing (get_or S i d).address (get_or S j d).address x (order i j d low high)
-
--- a page whose address is in none of two parts is not there
-pub not_there : (S : List Page) (p : Page) (i : ℕ) →
-    ((k : ℕ) (d : Page) → 0 ≤ k → k < i → nat_cmp (get_or S k d).address p.address ≡ Less) →
-    ((k : ℕ) (d : Page) → i ≤ k → k < length S → nat_cmp (get_or S k d).address p.address ≡ Greater) → ¬ Contains S p
-not_there S p i below above there =
-    let k : ℕ = there.0 in
-    let same : nat_cmp (get_or S k p).address p.address ≡ nat_cmp p.address p.address = ap (λ (q : Page). nat_cmp q.address p.address) there.2 in
-    elim (cases_lt k i) [
-      | inl low ↦
-          let less : p.address < p.address =
-          subst (λ (o : Ordering). MatchOrdering o (p.address < p.address) (p.address ≡ p.address) (p.address < p.address))
-          (sym same ∙ below k p (omega arith) low) (ranks p.address p.address) in
-          absurd (omega arith)
-      | inr high ↦
-          let less : p.address < p.address =
-          subst (λ (o : Ordering). MatchOrdering o (p.address < p.address) (p.address ≡ p.address) (p.address < p.address))
-          (sym same ∙ above k p high there.1) (ranks p.address p.address) in
-          absurd (omega arith)
-    ]
-
--- two pages of a round with one address are one page
-one_page : (R : List Page) (j k : ℕ) (p q : Page) → AreApart R → j < length R → k < length R → get_or R j p ≡ p → get_or R k q ≡ q →
-    p.address ≡ q.address → p ≡ q
-one_page R j k p q apart within there here_p here_q same =
-    let at_p : get_or R j q ≡ p = get_or_default R j q p within ∙ here_p in
-    elim (cases_eq j k) [
-      | inl e ↦ sym at_p ∙ ap (λ (n : ℕ). get_or R n q) e ∙ here_q
-      | inr other ↦
-          elim (cases_lt j k) [
-            | inl below ↦
-                absurd (apart j k q below there
-                (ap (λ (r : Page). r.address) at_p ∙ same ∙ ap (λ (r : Page). r.address) (sym here_q)))
-            | inr above ↦
-                absurd (apart k j q (omega arith) within
-                (ap (λ (r : Page). r.address) here_q ∙ sym same ∙ ap (λ (r : Page). r.address) (sym at_p)))
-          ]
-    ]
-
--- a page of a round is not among others, or another with its address is: then they are not the pages of the round
-pub not_among : (R S : List Page) (i : ℕ) (p : Page) → IsRound R → i < length R → p ≡ get_or R i p → (¬ Contains S p) ⊎ HasRival S p →
-    ¬ AreAmong S R
-not_among R S i p round within here (inl none) among =
-    none (subst (Contains S) (sym here) (among.each i p within))
-not_among R S i p round within here (inr rival) among =
-    let apart : AreApart R = apart_pages R round.good in
-    let moved : IsPermutation R S = rearranged R S apart among.as_many among.each in
-    let back : Contains R rival.rival = Contains-permutation S R rival.rival (IsPermutation-sym R S moved) rival.there in
-    rival.differs (sym (one_page R i back.0 p rival.rival apart within back.1 (sym here) back.2 (sym rival.same)))
 
 pub transmission : (end : End) (R : List Page) (X : List ℕ) (ps : List Page) (r : ReadsAs X ps) → AreAmong ps R →
     EndsAs end (map kind_of r.codewords) → (n : ℕ) → n ≡ r.sent.batches → IsTransmissionOf end R n X

@@ -8,6 +8,7 @@ pub mod Lines
 pub mod Oversized
 pub mod Refusals
 pub mod Reports
+pub mod SentMarks
 pub mod Slots
 pub mod Verification
 pub mod Works

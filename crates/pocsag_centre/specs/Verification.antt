@@ -35,13 +35,6 @@ pub record AreAmong (others pages : List Page) : Type 0 where
   pub as_many : length others ≡ length pages
   pub each : All (Contains others) pages
 
--- Another page with the address of this one is among the pages.
-pub record HasRival (pages : List Page) (page : Page) : Type 0 where
-  pub rival : Page
-  pub there : Contains pages rival
-  pub same : rival.address ≡ page.address
-  pub differs : rival ≢ page
-
 -- The bytes are sent from codewords that are legal for the round and the end, in so many batches.
 pub record IsTransmissionOf (end : End) (round : List Page) (batches : ℕ) (bytes : List ℕ) : Type 0 where
   pub codewords : List ℕ

@@ -16,6 +16,7 @@ mod plan;
 mod plan_files;
 mod readback;
 mod report;
+mod sent_marks;
 mod slot;
 mod words;
 

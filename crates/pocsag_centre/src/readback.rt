@@ -1,27 +1,25 @@
-ghost use Rattle.std.specs.Prelude.{◌≡◌, ◌⊎◌, ◌↔◌, List, ℕ, false, Contains, map, Err, IfErr, IfOk, IsFalse, IsTrue, MatchResult, Ok, OnOk};
-ghost use Rattle.std.specs.List.Sorted.{IsNonDecreasingBy};
+ghost use Rattle.std.specs.Prelude.{◌≡◌, ◌⊎◌, ◌↔◌, List, ℕ, false, map, Err, IfErr, IfOk, IsTrue, Ok, OnOk};
 ghost use Rattle.pocsag_words.specs.Devices.{HasFailed, IsOfCut};
 ghost use Rattle.pocsag_words.specs.Kinds.{kind_of};
 ghost use Rattle.pocsag_pages.specs.Bytes.{Sent};
 ghost use Rattle.pocsag_pages.specs.PageFile.{verdict};
-ghost use Rattle.pocsag_pages.specs.Pages.{IsRound};
 ghost use Rattle.pocsag_pages.specs.Reading.{EndsAs};
-ghost use Rattle.pocsag_decode.specs.Faults.{HasFault, ReadsAs};
 ghost use Rattle.pocsag_tree.specs.Views.{bound_tree_of};
 ghost use Rattle.pocsag_shell.specs.Readers.{IsSoOfHeld};
 ghost use Rattle.pocsag_shell.specs.Runs.{IsStreamOf, Ran};
 ghost use Rattle.pocsag_plan.specs.Plans.{NoneHasFewer};
 ghost use Rattle.pocsag_centre.specs.FrontFiles.{sent_pages};
-ghost use Rattle.pocsag_centre.specs.Verification.{AreAmong, ExplainsReadback, ExplainsUntaken, HasRival, HoldsSome, IsExpectedBound, IsTransmissionOf, ShowsExpected, verifies, verifies_round};
+ghost use Rattle.pocsag_centre.specs.Verification.{ExplainsReadback, ExplainsUntaken, IsExpectedBound, IsTransmissionOf, ShowsExpected, verifies, verifies_round};
 
 use crate::fault::CentreFault;
 use crate::front::FrontAsked;
 use crate::oversized::{PageParts, part_pages};
 use crate::plan::PlanFiles;
+use crate::sent_marks::are_sent;
 use pocsag_check::check;
-use pocsag_decode::{DecodeFault, PageReader, PageSource, judge_bytes};
+use pocsag_decode::{DecodeFault, judge_bytes};
 use pocsag_pages::{
-    Page, Round, RoundFault, first_pages, preamble_len, read_pages, read_round, read_whole,
+    Round, RoundFault, first_pages, preamble_len, read_pages, read_round, read_whole,
 };
 use pocsag_plan::{OnLimit, Search};
 use pocsag_shell::{ErrorStream, FileFault, put_whole};
@@ -174,33 +172,20 @@ fn shows_due(round: &Round, certificate: &Certificate, batches: usize, search: S
     check(round, certificate.batches, &certificate.tree, search.end)
 }
 
-// The pages that a transmission reads as, in order of transmission.
-fn pages_of(alloc: Global, bytes: &[u8]) -> Result<Vec<Page>, DecodeFault>
-    ensures pages { MatchResult result (λ pages. ReadsAs bytes.now pages.items)
-        (λ f. ((f ≡ DecodeFault.OutOfMemory) × HoldsSome bytes.now) ⊎ HasFault bytes.now f) }
-{
-    judge_bytes(bytes)?;
-    let mut reader = PageReader::new(alloc, bytes);
-    let mut pages = Vec::new(alloc);
-    while let Some(page) = reader.next_page()? {
-        let Ok(()) = pages.push(page) else {
-            return Err(DecodeFault::OutOfMemory);
-        };
-    }
-    Ok(pages)
-}
-
 // The batches of a transmission of the round's pages that ends as is asked for.
 fn read_back(alloc: Global, bytes: &[u8], round: &Round, end: End) -> Result<usize, CentreFault>
     ensures taken { IfOk result (λ batches. IsTransmissionOf end round.now batches bytes.now) }
     ensures explained { IfErr result (ExplainsReadback end round.now bytes.now) }
 {
-    let mut sent = match pages_of(alloc, bytes) {
-        Ok(sent) => sent,
+    match judge_bytes(bytes) {
+        Ok(()) => {}
         Err(fault) => return Err(CentreFault::Transmission(fault)),
+    }
+    let is_sent = match are_sent(alloc, bytes, round.pages()) {
+        Ok(is_sent) => is_sent,
+        Err(_) => return Err(CentreFault::Transmission(DecodeFault::OutOfMemory)),
     };
-    sent.sort_unstable_by_key(|page| page.address);
-    if !are_sent(round.pages(), sent.as_slice()) {
+    if !is_sent {
         return Err(CentreFault::NotThePages);
     }
     if !ends_as(end, bytes) {
@@ -233,35 +218,5 @@ fn ends_as(end: End, bytes: &[u8]) -> bool
             let from = bytes.len().saturating_sub(4);
             &bytes[from..] == IDLE_BYTES.as_slice()
         }
-    }
-}
-
-// Whether the pages of a round are as many as those that were sent, and each is among these, which are in order of
-// their addresses.
-fn are_sent(pages: &[Page], sent: &[Page]) -> bool
-    requires round { IsRound pages.now }
-    requires order { IsNonDecreasingBy (λ page. page.address) sent.now }
-    ensures { IsTrue result ↔ AreAmong sent.now pages.now }
-{
-    if pages.len() != sent.len() {
-        return false;
-    }
-    for page in pages {
-        if !is_sent(page, sent) {
-            return false;
-        }
-    }
-    true
-}
-
-// Whether the page is among pages that are in order of their addresses, where no other with its address is.
-fn is_sent(page: &Page, sent: &[Page]) -> bool
-    requires order { IsNonDecreasingBy (λ page. page.address) sent.now }
-    ensures yes { IsTrue result → Contains sent.now page.now }
-    ensures no { IsFalse result → (¬ Contains sent.now page.now) ⊎ HasRival sent.now page.now }
-{
-    match sent.binary_search_by_key(&page.address, |other| other.address) {
-        Ok(place) => sent[place] == *page,
-        Err(_) => false,
     }
 }
