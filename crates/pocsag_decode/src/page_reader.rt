@@ -70,9 +70,11 @@ impl<'a> PageSource for PageReader<'a> {
             }
             let frame = (place % WORDS - 1) as u32 / 2;
             let kind = kind_of_number(u32::from_be_bytes(self.words[place]));
-            if let Some(page) = OpenPage::take_kind(self.alloc, &mut self.current, frame, kind)? {
-                return Ok(Some(page));
-            }
+            let taken = OpenPage::take_kind(self.alloc, &mut self.current, frame, kind);
+            // No page ends at nearly every codeword, and then nothing is copied.
+            let Ok(None) = taken else {
+                return taken;
+            };
         }
         Ok(OpenPage::end_page(&mut self.current))
     }
