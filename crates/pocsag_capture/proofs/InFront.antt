@@ -1,5 +1,5 @@
 -- The words in front of a run.
-use Rattle.pocsag_capture.proofs.Prelude.{◌≡◌, ◌⊎◌, ℕ, zero, suc, ◌+◌, ◌-◌, ◌*◌, ◌<◌, ◌≤◌, List, [], ◌∷◌, ◌++◌, map, Option, Some, None, refl, sym, ap, ap₂, subst, ◌∙◌, inl, inr, arith, AllZip, range_with_len, cases_eq, cases_lt, map-range_with_len_more, all_zipped_more, HasNoneNear, IsOnlyNear, IsMended, all_mended_same, lost_words, mended_errors, wrong_bits, AreInFront, HasInFront, SlipsInFront, count_read_in_front, in_front_of, sent_at, Polarity}
+use Rattle.pocsag_capture.proofs.Prelude.{◌≡◌, ℕ, zero, suc, ◌+◌, ◌-◌, ◌*◌, ◌<◌, ◌≤◌, List, [], ◌∷◌, ◌++◌, map, Option, Some, None, refl, sym, ap, ap₂, subst, ◌∙◌, inl, inr, arith, AllZip, range_with_len, cases_eq, cases_lt, map-range_with_len_more, all_zipped_more, HasNoneNear, IsOnlyNear, IsMended, all_mended_same, lost_words, mended_errors, wrong_bits, AreInFront, HasInFront, SlipsInFront, count_read_in_front, in_front_of, sent_at, Polarity}
 use Rattle.pocsag_capture.proofs.CorrectedWords.{errors_more, few_mended, lost_more}
 
 -- the first words in front, as AreInFront has them

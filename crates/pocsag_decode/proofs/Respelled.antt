@@ -1,5 +1,5 @@
 -- What a page file of pages spells is read back.
-use Rattle.pocsag_decode.proofs.Prelude.{◌≡◌, ℕ, zero, suc, ◌+◌, ◌-◌, ◌*◌, ◌/◌, ◌≤◌, ◌==◌, Bool, inl, inr, false, List, [], ◌∷◌, ◌++◌, length, map, replicate, position, take, All, nat_lt, refl, sym, ap, ◌∙◌, subst, arith, append_assoc, None, Ok, flat_map, length-append, length-map, length-replicate, map-append, replicate-append-replicate, take_at, cases_Bool, eqb-true, ne_eqb, nat_tests, All-append, All-replicate, All-take, position_or_len, item_digits, spaced, code_or_space, is_bad_digit, space, numeric_bits, numeric_payload, numeric_text, short_of, text_fault, trim_end, trimmed_onto, twenties, fault_none, numeric_payload-good, unless_ok, numeric_text-back}
+use Rattle.pocsag_decode.proofs.Prelude.{◌≡◌, ℕ, zero, suc, ◌+◌, ◌-◌, ◌*◌, ◌/◌, ◌≤◌, ◌==◌, Bool, inl, inr, false, List, [], ◌∷◌, ◌++◌, length, map, replicate, position, take, All, nat_lt, refl, sym, ap, ◌∙◌, subst, arith, append_assoc, None, Ok, flat_map, length-append, length-map, length-replicate, map-append, replicate-append-replicate, take_at, cases_Bool, eqb-true, ne_eqb, nat_tests, All-append, All-replicate, All-take, position_or_len, item_digits, spaced, code_or_space, is_bad_digit, numeric_bits, numeric_payload, numeric_text, short_of, text_fault, trim_end, trimmed_onto, twenties, fault_none, numeric_payload-good, unless_ok, numeric_text-back}
 use Rattle.std.proofs.lemmas.List.Sums.{position_or_len_is}
 use Rattle.pocsag_words.proofs.TruthValues.{not_above}
 use Rattle.pocsag_text.specs.Bits.{high_number, low_first}

@@ -1,12 +1,11 @@
 -- A draft that gains a page, and one that gives some up.
-use Rattle.pocsag_journal.proofs.Prelude.{◌≡◌, ℕ, ◌<◌, ◌-◌, Bool, true, false, cond, List, [], ◌∷◌, ◌++◌, arith, drop, length, nat_eq, take, refl, sym, ap, ◌∙◌, subst, Option, Some, None, option_map, slice_get, keys_of, values_of, lookup, lookup_entry, remove_entry, same_Some, drop-map, length-drop, map-append, take_all, demoted, lru_cache, put_entries, AreGood, addresses_of, page_fault_of, page_limit, Page, good_last, addresses_push, good_push, add_fault, fault_beside, without, not_found, values_push, AreKeyed, without_is, MayFollow, IsDraft}
+use Rattle.pocsag_journal.proofs.Prelude.{◌≡◌, ℕ, ◌<◌, ◌-◌, Bool, true, false, cond, List, [], ◌∷◌, ◌++◌, arith, drop, length, nat_eq, refl, sym, ap, ◌∙◌, subst, Option, Some, None, option_map, slice_get, keys_of, values_of, lookup, lookup_entry, remove_entry, same_Some, drop-map, length-drop, map-append, take_all, demoted, lru_cache, put_entries, AreGood, addresses_of, page_fault_of, page_limit, Page, good_last, addresses_push, good_push, add_fault, fault_beside, not_found, values_push, AreKeyed, without_is, MayFollow, IsDraft}
 use Rattle.std.proofs.Common.{length-append}
-use Rattle.std.specs.Option.{option_map_or}
 use Rattle.std.proofs.lemmas.Map.Entries.{length-values_of}
 use Rattle.lru.proofs.Pairs.{lookup-lookup_entry}
 use Rattle.pocsag_pages.specs.declared.fault.PageFault.{PageFault}
 use Rattle.pocsag_plan.specs.declared.refusal.AddFault.TheVariants as fault
-use Rattle.pocsag_journal.proofs.EditedPages.{MayStand, left_stand, none_stand}
+use Rattle.pocsag_journal.proofs.EditedPages.{left_stand, none_stand}
 use Rattle.pocsag_journal.proofs.Refusals.{same_nat}
 
 -- no entry has a key that no look-up finds

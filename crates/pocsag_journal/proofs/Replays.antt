@@ -1,5 +1,5 @@
 -- Lines that are the text of edits.
-use Rattle.pocsag_journal.proofs.Prelude.{◌≡◌, ◌≢◌, ◌⊎◌, inl, inr, ℕ, ◌+◌, ◌<◌, ◌≤◌, add-one, arith, append_assoc, length, Bool, true, false, cond, List, [], ◌∷◌, ◌++◌, refl, sym, ap, ◌∙◌, subst, AllByRecursion, Option, Some, None, IsSome, codes, option_map, bytes_eq, append-nil, length-append, same_Some, bytes_eq-Decides, Read, line_feed, next_record, default_config, strip_bom, default_writer, row_text, read-write, read-write-many, Row, Page, Asked, IsDone, IsEdit, IsRefusedFor, IsRun, asked_of, cancel, clear, sent, wants_memory, Refusal, HasNoLineFeed, IsWholeLine, first_record, IsBefore, GivesRow, IsBadLine, IsFirstCut, IsLine, MakesLine, Replays, journal_text, rows_text}
+use Rattle.pocsag_journal.proofs.Prelude.{◌≡◌, ◌≢◌, ◌⊎◌, inl, inr, ℕ, ◌+◌, ◌<◌, ◌≤◌, arith, append_assoc, length, Bool, true, false, cond, List, [], ◌∷◌, ◌++◌, refl, sym, ap, ◌∙◌, subst, AllByRecursion, Option, Some, None, IsSome, codes, option_map, bytes_eq, append-nil, length-append, same_Some, bytes_eq-Decides, Read, line_feed, next_record, default_config, strip_bom, default_writer, row_text, read-write, read-write-many, Row, Page, Asked, IsDone, IsEdit, IsRefusedFor, IsRun, asked_of, cancel, sent, wants_memory, Refusal, HasNoLineFeed, IsWholeLine, first_record, IsBefore, GivesRow, IsBadLine, IsFirstCut, IsLine, MakesLine, Replays, journal_text, rows_text}
 use Rattle.std.specs.Borrow.{Bor}
 use Rattle.csv.specs.declared.parser.State.TheVariants as st
 use Rattle.csv.specs.declared.reader.Reader.{Reader}

@@ -1,4 +1,4 @@
-use Rattle.pocsag_capture.proofs.Prelude.{ℕ, ◌+◌, ◌-◌, ◌*◌, ◌≤◌, subst, refl, arith, capture_bits, IsQuiet, behind}
+use Rattle.pocsag_capture.proofs.Prelude.{ℕ, ◌-◌, subst, refl, arith, capture_bits, IsQuiet, behind}
 use Rattle.pocsag_capture.proofs.SearchLemmas.{alone_more, alone_to}
 use Rattle.pocsag_capture.proofs.Windows.{bits_long}
 use Rattle.pocsag_capture.proofs.search.has_other_sync.Goals as goal

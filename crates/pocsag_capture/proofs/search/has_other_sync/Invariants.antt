@@ -1,4 +1,4 @@
-use Rattle.pocsag_capture.proofs.Prelude.{ℕ, ◌+◌, ◌-◌, ◌^◌, ◌<◌, ◌≤◌, capture_bits, behind}
+use Rattle.pocsag_capture.proofs.Prelude.{◌+◌, ◌-◌, ◌^◌, ◌<◌, ◌≤◌, capture_bits, behind}
 use Rattle.pocsag_capture.proofs.SearchLemmas.{IsAlone}
 use Rattle.pocsag_capture.proofs.search.has_other_sync.Given as goal
 

@@ -1,4 +1,4 @@
-use Rattle.pocsag_findings.proofs.Prelude.{◌≡◌, ℕ, ◌∙◌, ◌++◌, ◌∷◌, [], List, arith, sym, ◌*◌, ◌%◌, ◌^◌, rules, column_of}
+use Rattle.pocsag_findings.proofs.Prelude.{◌≡◌, ℕ, ◌∙◌, arith, sym, ◌*◌, ◌%◌, ◌^◌, rules, column_of}
 use Rattle.std.proofs.lemmas.List.FromFn.{map-range_with_len_more}
 use Rattle.pocsag_findings.specs.declared.finding.Column.{Column}
 use Rattle.pocsag_findings.proofs.judgement.columns_at.Goals as goal

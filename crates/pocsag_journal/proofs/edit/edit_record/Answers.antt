@@ -1,4 +1,4 @@
-use Rattle.pocsag_journal.proofs.Prelude.{◌≡◌, ◌⊎◌, true, false, ℕ, List, arith, subst, fields_of, Option, Some, has_address, Page, Asked, IsDone, IsSent, asked_of, cancel, sent, wants_memory}
+use Rattle.pocsag_journal.proofs.Prelude.{◌≡◌, ◌⊎◌, true, false, ℕ, List, arith, subst, Option, Some, has_address, Page, Asked, IsDone, IsSent, cancel, wants_memory}
 use Rattle.pocsag_journal.specs.declared.refusal.Refusal.TheVariants as refusal
 use Rattle.pocsag_journal.proofs.Refusals.{not_done}
 use Rattle.pocsag_journal.proofs.edit.edit_record.Goals.{in-Ok-take_out, in-Err-take_out}

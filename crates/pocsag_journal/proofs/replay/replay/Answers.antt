@@ -1,4 +1,4 @@
-use Rattle.pocsag_journal.proofs.Prelude.{Bool, ℕ, List, ◌++◌, length, drop, ap, arith, subst, sym, ◌∙◌, true≢false, Some, None, codes, Decides-eqb, starts_is, strip_prefix_is, IsBegun}
+use Rattle.pocsag_journal.proofs.Prelude.{ℕ, List, ◌++◌, length, drop, ap, sym, ◌∙◌, true≢false, Some, None, codes, Decides-eqb, starts_is, strip_prefix_is, IsBegun}
 use Rattle.pocsag_journal.proofs.Beginnings.{cut_of, not_begun}
 use Rattle.pocsag_journal.proofs.Replays.{nothing_read}
 use Rattle.pocsag_journal.proofs.replay.replay.Goals.{After-starts_with-2}

@@ -1,4 +1,4 @@
-use Rattle.pocsag_journal.proofs.Prelude.{◌≡◌, List, ℕ, false, ap, sym, ◌∙◌, subst, is_some, LruCache, Page, rest_is, there_is, was_there, nothing_out, takes_out}
+use Rattle.pocsag_journal.proofs.Prelude.{List, ℕ, false, ap, sym, ◌∙◌, subst, is_some, LruCache, Page, rest_is, there_is, was_there, nothing_out, takes_out}
 use Rattle.std.proofs.Common.{Contains}
 use Rattle.pocsag_journal.proofs.Drafts.{shrunk_draft}
 use Rattle.pocsag_journal.proofs.draft.DraftEditable.take_out.Goals as goal
