@@ -3,6 +3,8 @@ ghost use Rattle.pocsag_words.specs.Devices.{HasFailed, IsOfCut};
 ghost use Rattle.pocsag_words.specs.Kinds.{kind_of};
 ghost use Rattle.pocsag_pages.specs.Bytes.{Sent};
 ghost use Rattle.pocsag_pages.specs.PageFile.{verdict};
+ghost use Rattle.pocsag_pages.specs.Pages.{AreGood};
+ghost use Rattle.pocsag_pages.specs.Queues.{IsQueue, firsts};
 ghost use Rattle.pocsag_pages.specs.Reading.{EndsAs};
 ghost use Rattle.pocsag_tree.specs.Views.{bound_tree_of};
 ghost use Rattle.pocsag_shell.specs.Readers.{IsSoOfHeld};
@@ -19,12 +21,12 @@ use crate::sent_marks::are_sent;
 use pocsag_check::check;
 use pocsag_decode::{DecodeFault, judge_bytes};
 use pocsag_pages::{
-    Round, RoundFault, first_pages, preamble_len, read_pages, read_round, read_whole,
+    Page, Round, RoundFault, first_pages, preamble_len, read_pages, read_round, read_whole,
 };
 use pocsag_plan::{OnLimit, Search};
 use pocsag_shell::{ErrorStream, FileFault, put_whole};
 use pocsag_tree::{Certificate, read_certificate};
-use pocsag_words::{BATCH_BYTES, End, INPUT_LIMIT, Sink, Source};
+use pocsag_words::{BATCH_BYTES, End, INPUT_LIMIT, OutOfMemory, Sink, Source};
 use std::alloc::Global;
 
 // The bytes of the idle codeword.
@@ -95,7 +97,7 @@ fn read_sent<P: Source>(
     let Ok(PageParts { planned, aside: _ }) = part_pages(alloc, sent.asked, queue) else {
         return Err(RoundFault::OutOfMemory);
     };
-    let Ok(round) = first_pages(alloc, planned.as_slice()) else {
+    let Ok(round) = round_of_queue(alloc, sent.asked.may_wait, planned) else {
         return Err(RoundFault::OutOfMemory);
     };
     let count = (sent.count as usize).min(round.pages().len());
@@ -106,6 +108,18 @@ fn read_sent<P: Source>(
         Ok((first, _)) => Ok(first),
         Err(_) => Err(RoundFault::OutOfMemory),
     }
+}
+
+// The first page of each address of a queue. Where no page may wait, these are all, and none is copied.
+fn round_of_queue(alloc: Global, may_wait: bool, queue: Vec<Page>) -> Result<Round, OutOfMemory>
+    requires queue { IsQueue queue.items }
+    requires apart { may_wait ≡ false → AreGood queue.items }
+    ensures { IfOk result (λ round. round ≡ firsts queue.items) }
+{
+    if may_wait {
+        return first_pages(alloc, queue.as_slice());
+    }
+    Ok(Round::of(queue))
 }
 
 // Reads the files of a round back, or tells why there is none; the fault is still to be printed. The text is written without
