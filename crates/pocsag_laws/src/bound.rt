@@ -14,16 +14,13 @@ ghost use Rattle.pocsag_words.specs.declared.codeword.Kind.{Kind};
 ghost use Rattle.pocsag_words.specs.declared.ending.End.{End};
 ghost use Rattle.std.specs.Prelude.{ℕ, ◌≤◌, false, List, ◌≡◌, ◌^◌, ◌<◌, Bool};
 
-/// The limits of an accepted node are met by no transmission.
-pub fn accepted_nodes_refute()
-    ensures { (k : Classes) (end : End) (R : List Page) (T : List Kind) (b : ℕ) (l : Limits) (t : BoundTree) →
-        AreApart R → AreClassesOf k end R → Accepts false k end b l t → Fits T end R b l → ⊥ }
-{}
-
-/// Where a tree is accepted for so many batches, each legal transmission has at least as many.
+/// Where a tree is accepted for so many batches, each legal transmission has at least as many; and the limits of an
+/// accepted node are met by no transmission.
 pub fn accepted_trees_bound()
-    ensures { (k : Classes) (end : End) (R : List Page) (T : List Kind) (batches n : ℕ) (t : BoundTree) →
+    ensures batches { (k : Classes) (end : End) (R : List Page) (T : List Kind) (batches n : ℕ) (t : BoundTree) →
         AreApart R → AreClassesOf k end R → AcceptsRoot false k end batches t → IsLegalFor end T n R → batches ≤ n }
+    ensures limits { (k : Classes) (end : End) (R : List Page) (T : List Kind) (b : ℕ) (l : Limits) (t : BoundTree) →
+        AreApart R → AreClassesOf k end R → Accepts false k end b l t → Fits T end R b l → ⊥ }
 {}
 
 /// Where its bound is the number of batches, the headline with a bound is the headline.
@@ -31,16 +28,12 @@ pub fn tight_headlines_are_headlines()
     ensures { IsHeadlineWhereTight }
 {}
 
-/// Of an accepted tree all that is found holds, however deep it is listed. So a tree of which something does not
-/// hold is not accepted.
+/// Of an accepted tree all that is found holds, however deep it is listed: so a tree of which something does not hold is
+/// not accepted. And a tree is accepted where all that is found of it holds, each node being listed.
 pub fn accepted_trees_hold()
-    ensures { (k : Classes) (end : End) (batches depth : ℕ) (t : BoundTree) →
+    ensures hold { (k : Classes) (end : End) (batches depth : ℕ) (t : BoundTree) →
         AcceptsRoot false k end batches t → AllHold (findings_of k end batches depth t) }
-{}
-
-/// A tree is accepted where all that is found of it holds, each node being listed.
-pub fn trees_that_hold_are_accepted()
-    ensures { (k : Classes) (end : End) (batches depth : ℕ) (t : BoundTree) → depth_of t ≤ depth →
+    ensures accepted { (k : Classes) (end : End) (batches depth : ℕ) (t : BoundTree) → depth_of t ≤ depth →
         AllHold (findings_of k end batches depth t) → AcceptsRoot false k end batches t }
 {}
 

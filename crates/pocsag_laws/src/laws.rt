@@ -21,36 +21,31 @@ ghost use Rattle.pocsag_laws.specs.OpenRounds.{IsOpenRound};
 ghost use Rattle.pocsag_laws.specs.Preambles.{clean_start};
 
 /// Codewords that are legal with the idle end are legal with the closed end, and those with the open end; and with a
-/// batch of idle codewords behind them, codewords that are legal with one end are legal with each.
+/// batch of idle codewords behind them, codewords that are legal with one end are legal with each. So the fewest batches
+/// with the open end are at most those with the closed end, these at most those with the idle end, and these at most one
+/// more than those with the open end.
 pub fn stricter_ends_are_legal()
     ensures idle { (T : List ℕ) (b : ℕ) (R : List Page) → IsLegalList Idle T b R → IsLegalList Closed T b R }
     ensures closed { (T : List ℕ) (b : ℕ) (R : List Page) → IsLegalList Closed T b R → IsLegalList Open T b R }
     ensures longer { (one other : End) (T : List ℕ) (b : ℕ) (R : List Page) → IsLegalList one T b R →
         IsLegalList other (T ++ replicate 16 idle_word) (b + 1) R }
+    ensures fewest { (R : List Page) (at_open at_closed at_idle : ℕ) →
+        AreFewest Open R at_open → AreFewest Closed R at_closed → AreFewest Idle R at_idle →
+        (at_open ≤ at_closed) × (at_closed ≤ at_idle) × (at_idle ≤ at_open + 1) }
 {}
 
-/// Pages that are sendable in some number of batches are sendable in each greater number, with the same end.
-pub fn more_batches_are_enough()
-    ensures { (end : End) (R : List Page) (a b : ℕ) → a ≤ b → AreSendable end R a → AreSendable end R b }
-{}
-
-/// Where pages are sendable, it cannot be that no number is their fewest batches, and no two numbers are.
+/// Pages that are sendable in some number of batches are sendable in each greater number, with the same end. Where they
+/// are, it cannot be that no number is their fewest batches, and no two numbers are.
 pub fn one_number_is_fewest()
+    ensures more { (end : End) (R : List Page) (a b : ℕ) → a ≤ b → AreSendable end R a → AreSendable end R b }
     ensures some { (end : End) (R : List Page) (b : ℕ) → AreSendable end R b →
         ¬ ((n : ℕ) → ¬ AreFewest end R n) }
     ensures one { (end : End) (R : List Page) (a b : ℕ) → AreFewest end R a → AreFewest end R b → a ≡ b }
 {}
 
-/// The fewest batches with the open end are at most those with the closed end, these at most those with the idle end,
-/// and these at most one more than those with the open end.
-pub fn ends_cost_one_batch()
-    ensures { (R : List Page) (at_open at_closed at_idle : ℕ) →
-        AreFewest Open R at_open → AreFewest Closed R at_closed → AreFewest Idle R at_idle →
-        (at_open ≤ at_closed) × (at_closed ≤ at_idle) × (at_idle ≤ at_open + 1) }
-{}
-
-/// Where a page is taken away, or all pages that fail a test, the others are sendable in as many batches, with the same
-/// end; so their fewest batches are no more than before.
+/// Where a page is taken away, or all pages that fail a test, or all but the first ones, the others are sendable in as
+/// many batches, with the same end; so their fewest batches are no more than before, and those of the first `k` pages do not
+/// shrink as `k` grows.
 pub fn fewer_pages_need_no_more()
     ensures one { (end : End) (before after : List Page) (p : Page) (b : ℕ) →
         AreApart (before ++ p ∷ after) → AreSendable end (before ++ p ∷ after) b →
@@ -62,14 +57,9 @@ pub fn fewer_pages_need_no_more()
         AreFewest end (before ++ p ∷ after) b → a ≤ b }
     ensures fewest_without_some { (end : End) (R : List Page) (stays : Page → Bool) (a b : ℕ) →
         AreApart R → AreFewest end (filter stays R) a → AreFewest end R b → a ≤ b }
-{}
-
-/// The first pages of a list are sendable in as many batches as more of its first pages, with the same end; so the
-/// fewest batches of the first `k` pages do not shrink as `k` grows.
-pub fn fronts_need_no_more()
-    ensures sendable { (end : End) (R : List Page) (j k b : ℕ) →
+    ensures first { (end : End) (R : List Page) (j k b : ℕ) →
         AreApart R → j ≤ k → AreSendable end (take k R) b → AreSendable end (take j R) b }
-    ensures fewest { (end : End) (R : List Page) (j k a b : ℕ) →
+    ensures fewest_of_first { (end : End) (R : List Page) (j k a b : ℕ) →
         AreApart R → j ≤ k → AreFewest end (take j R) a → AreFewest end (take k R) b → a ≤ b }
 {}
 
@@ -103,17 +93,13 @@ pub fn pages_of_open_rounds_are_spellable()
         verdict (page_file pages) ≡ Ok pages }
 {}
 
-/// Noise alone has no page: there is no reception.
-pub fn noise_shows_nothing()
-    ensures { (capture : List ℕ) (receptions : List Reception) (ps : List Page) →
+/// A capture has one list of receptions and of pages. Of noise alone both are empty.
+pub fn captures_say_one_thing()
+    ensures one { (capture : List ℕ) (rs ss : List Reception) (ps qs : List Page) →
+        HasCaptured capture rs ps → HasCaptured capture ss qs → (rs ≡ ss) × (ps ≡ qs) }
+    ensures noise { (capture : List ℕ) (receptions : List Reception) (ps : List Page) →
         IsNoise (capture_bits capture) 0 (length (capture_bits capture)) → HasCaptured capture receptions ps →
         (receptions ≡ []) × (ps ≡ []) }
-{}
-
-/// A capture has one list of receptions and of pages.
-pub fn captures_say_one_thing()
-    ensures { (capture : List ℕ) (rs ss : List Reception) (ps qs : List Page) →
-        HasCaptured capture rs ps → HasCaptured capture ss qs → (rs ≡ ss) × (ps ≡ qs) }
 {}
 
 /// In the last 544 bits of a preamble of 576 bits that was received as it was sent, before a synchronisation codeword, no

@@ -13,24 +13,17 @@ ghost use Rattle.pocsag_decode.specs.Listing.{kind_field, message_field};
 ghost use Rattle.pocsag_decode.specs.Repairs.{IsRepairOf};
 ghost use Rattle.pocsag_pager.specs.Shown.{AreShown};
 
-/// A list of codewords has at most one reading.
+/// A list of codewords has at most one reading, and bytes have at most one fault. One at a byte that is there stays, however
+/// the bytes go on.
 pub fn readings_are_one()
-    ensures { (ws : List Kind) (i : ℕ) (ps qs : List Page) → Reads ws i ps → Reads ws i qs → ps ≡ qs }
+    ensures reading { (ws : List Kind) (i : ℕ) (ps qs : List Page) → Reads ws i ps → Reads ws i qs → ps ≡ qs }
+    ensures fault { (X : List ℕ) (f g : DecodeFault) → HasFault X f → HasFault X g → f ≡ g }
+    ensures stays { (X Z : List ℕ) (f : DecodeFault) → HasFaultThere X f → HasFaultThere (X ++ Z) f }
 {}
 
 /// Bytes have no fault exactly where they are sent from codewords that have a reading.
 pub fn no_fault_is_a_reading()
     ensures { (X : List ℕ) → All (λ b. b < 256) X → IsFaultless X ↔ ((ps : List Page) × ReadsAs X ps) }
-{}
-
-/// Bytes have at most one fault.
-pub fn faults_are_one()
-    ensures { (X : List ℕ) (f g : DecodeFault) → HasFault X f → HasFault X g → f ≡ g }
-{}
-
-/// A fault at a byte that is there stays, however the bytes go on.
-pub fn a_fault_there_stays()
-    ensures { (X Z : List ℕ) (f : DecodeFault) → HasFaultThere X f → HasFaultThere (X ++ Z) f }
 {}
 
 /// What the pager of an address shows of bytes are the pages of that address, in order, among those that the repaired

@@ -1,8 +1,0 @@
-use Rattle.pocsag_laws.proofs.Prelude.{address_has_codeword, message_has_codeword}
-use Rattle.pocsag_laws.proofs.codeword.kinds_have_codewords.Goals as goal
-
-pub returns-clause-address : goal.returns-clause-address
-returns-clause-address c = address_has_codeword
-
-pub returns-clause-message : goal.returns-clause-message
-returns-clause-message c = message_has_codeword
