@@ -1,8 +1,10 @@
 """The commands of hosts.txt, which each host of the program carries out as the native program does, and their files."""
 
+import random
 import shlex
+import shutil
 
-from codewords import APART, HEADER
+from codewords import APART, HEADER, random_file
 from tally import TOP, files_of, room_in, run, said
 
 ROUND = (TOP / "examples/round.csv").read_bytes()
@@ -30,7 +32,7 @@ def first_files(room):
     mixed = HEADER + b'8,alpha,"a ""b"", c"\r\n16,numeric,12-[ U]*\n24,tone3,\n2007663,alpha,\x01~\x7f\n'
     pages = {"round.csv": ROUND, "apart.csv": APART, "tones.csv": TONES, "bad.csv": HEADER + b"1,tone0,\n2,tone9,\n", "mixed.csv": mixed}
     pages |= {"twice.csv": TONES + b'8,alpha,"a, ""b"""\r\n16,numeric,[12-34]\r\n', "cut.csv": APART[:-1]}
-    pages["crlf.csv"] = ROUND.replace(b"\n", b"\r\n")
+    pages |= {"crlf.csv": ROUND.replace(b"\n", b"\r\n"), "many.csv": random_file(random.Random(64), 300)}
     folder = room_in(room, "first", pages)
     for name in ("round", "apart", "mixed"):
         run(["plan", f"{name}.csv", f"{name}.bin", f"{name}.cert"], folder)
@@ -46,3 +48,15 @@ def commands(files, *more):
     for line in [*LINES, *more]:
         words, _, stdin = (part.strip() for part in line.partition("<"))
         yield shlex.split(words), files.get(stdin, stdin.replace("\\n", "\n").encode())
+
+
+def check_same(tally, room, other, files, words, stdin=b""):
+    """Whether another host does what the native program does, each in a folder with the same files."""
+    found = []
+    for name, host in (("native", native), ("other", other)):
+        shutil.rmtree(room / name, ignore_errors=True)
+        folder = room_in(room, name, files)
+        found.append((host(words, folder, stdin), files_of(folder)))
+    (due, wanted), (told, left) = found
+    wrong = [name for name in left.keys() | wanted.keys() if left.get(name) != wanted.get(name)]
+    tally.check(f"as the native program: {words} {stdin[:40]}", told == due and not wrong, str((told, due, wrong))[:2000])

@@ -1,8 +1,6 @@
 """What the tests of the repository share."""
 
 import contextlib
-import importlib.machinery
-import importlib.util
 import itertools
 import os
 import pathlib
@@ -10,7 +8,6 @@ import re
 import resource
 import shutil
 import subprocess
-import sys
 import tempfile
 
 TOP = pathlib.Path(__file__).resolve().parents[1]
@@ -24,14 +21,6 @@ ONE_IN = int(os.environ.get("POCSAG_ONE_IN") or 1)
 IS_EMULATED = ONE_IN > 1
 # The words that ask `plan` and `report` for each end.
 ENDS = {"open": ["--end", "open"], "closed": ["--end", "closed"], "idle": ["--idle-last"]}
-
-
-def module_at(name, path):
-    """A script as a module, by its path from the top."""
-    loader = importlib.machinery.SourceFileLoader(name, str(TOP / path))
-    module = importlib.util.module_from_spec(importlib.util.spec_from_loader(name, loader))
-    loader.exec_module(module)
-    return module
 
 
 def run(words, folder=None, stdin=b"", before=(), **more):
@@ -132,35 +121,35 @@ class Tally:
         """Whether a run, as (status, output, errors), ended with this status and output, and its errors say all of this."""
         self.check(name, done[:2] == (status, out) and all(it in done[2] for it in said), done)
 
+    def skip(self, why):
+        """Says why nothing is tried, which counts as one thing that passed."""
+        print(f"skipped: {why}")
+        self.passed += 1
+
     def end(self):
         """The last line, and the exit status."""
         print(f"{self.passed} passed, {self.failed} failed")
         return 0 if self.failed == 0 else 1
 
 
-def skipped(why):
-    """Says why nothing is tried, which counts as one thing that passed; gives the exit status."""
-    print(f"skipped: {why}")
+def run_parts(*parts):
+    """Runs each part with a tally and an empty folder, which other users can enter; gives the exit status."""
     tally = Tally()
-    tally.check("skipped", True)
+    for part in parts:
+        with tempfile.TemporaryDirectory() as name:
+            folder = pathlib.Path(name).resolve()
+            folder.chmod(0o755)
+            part(tally, folder)
     return tally.end()
 
 
-def run_parts(*parts, apart=False):
-    """Runs each part with a tally and one empty folder for all of them, or one for each; gives the exit status."""
-    tally = Tally()
-    with tempfile.TemporaryDirectory() as name:
-        folder = pathlib.Path(name).resolve()
-        for part in parts:
-            part(tally, room_in(folder, part.__name__) if apart else folder)
-    return tally.end()
-
-
-def run_all(*modules, apart=False):
-    """The same of each function of the started script, and of these modules, whose name begins with `try_`, in their order."""
-    named = [(module, name, it) for module in (sys.modules["__main__"], *modules) for name, it in vars(module).items()]
-    parts = [it for module, name, it in named if name.startswith("try_") and it.__module__ == module.__name__]
-    return run_parts(*parts, apart=apart)
+def run_all(script):
+    """The same of each function of a script, and of the modules in its PARTS_OF, whose name begins with `try_`, in their order; or of
+    its `try_all` alone, which calls the others."""
+    if hasattr(script, "try_all"):
+        return run_parts(script.try_all)
+    named = [(module, name, it) for module in (script, *getattr(script, "PARTS_OF", ())) for name, it in vars(module).items()]
+    return run_parts(*(it for module, name, it in named if name.startswith("try_") and it.__module__ == module.__name__))
 
 
 def as_nobody(folder):

@@ -10,7 +10,7 @@ import re
 TOP = pathlib.Path(__file__).resolve().parents[1]
 PARTS = ("src", "specs", "proofs")
 PROGRAM = "pocsag_app"  # the crate of the program
-LINE = re.compile(r"([\w-]+(?:/[\w-]+)*)((?: +[\w=+.-]+)*) *(?::([\w\s,/-]*))?")  # a name, what kind of crate it is, its libraries
+LINE = re.compile(r"([\w-]+)((?: +[\w=+.-]+)*):([\w\s-]*)")  # a name, what kind of crate it is, its libraries
 TEST = re.compile(r"^\s*#\s*\[[^]]*\btest\b", re.M)
 FUNCTION = re.compile(r"\bfn \w")
 
@@ -32,7 +32,7 @@ class Crate:
     """A crate: its folder, its line of the list, and the crates of this repository that it uses."""
 
     name: str
-    path: str  # its name in the list: its folder below crates/
+    path: str  # its folder below crates/, which is its name
     folder: pathlib.Path
     line: str
     uses: tuple
@@ -64,11 +64,6 @@ class Crate:
         return sorted(file for folder in folders for file in folder.glob("*.edit"))
 
 
-def last(path):
-    """The name of the crate at a path of the list."""
-    return path.rpartition("/")[2]
-
-
 def read_crates(top=TOP):
     """Each crate of the list by its name, a crate after those that it uses."""
     rows = {}
@@ -78,18 +73,18 @@ def read_crates(top=TOP):
         if line and not found:
             raise BadList(f"crates.txt: NAME: LIBRARY .. is wanted, and not {line}")
         if line:
-            rows[last(found[1])] = found[1], line, map(last, re.split(r"[\s,]+", (found[3] or "").strip()))
+            rows[found[1]] = line, found[3].split()
     ordered = {}
 
     def visit(name, above=()):
         if name in above:
             raise BadList(f"crates.txt: {name} uses itself")
         if name not in ordered:
-            path, line, words = rows[name]
+            line, words = rows[name]
             uses = tuple(it for it in words if it in rows)
             for used in uses:
                 visit(used, (*above, name))
-            ordered[name] = Crate(name, path, top / "crates" / path, line, uses)
+            ordered[name] = Crate(name, name, top / "crates" / name, line, uses)
 
     for name in rows:
         visit(name)
@@ -111,7 +106,7 @@ def below(crates, *names):
 
 def sources(crates):
     """What the crates are made from, relative to the top, also where it is not there (yet)."""
-    return [f"crates/{crate.path}/{part}" for crate in crates for part in PARTS]
+    return [f"crates/{crate.name}/{part}" for crate in crates for part in PARTS]
 
 
 def digest(paths, top=TOP):

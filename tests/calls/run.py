@@ -1,4 +1,3 @@
-#!/usr/bin/env python3
 """Reads from the sources that the calls by name are the calls that run: each `run_NAME` of a group is called by the group itself
 and not by tests alone, `plan` of the program and of the C library call `plan_stream` and `plan_stream_always`, and the C library
 stands on no group of commands; and that each call that may return want of memory has a run at its largest size, and one between,
@@ -7,13 +6,10 @@ in the table `largest.txt`. What reads this table is tried on a small tree."""
 import pathlib
 import re
 import shutil
-import sys
 
-sys.dont_write_bytecode = True
-sys.path[:0] = [str(pathlib.Path(__file__).resolve().parents[1]), str(pathlib.Path(__file__).resolve().parents[2] / "tools")]
 import sizes
 import workspace
-from tally import put, run_parts, samples
+from tally import put, samples
 
 GROUPS = ("pocsag_centre", "pocsag_receiver", "pocsag_sound", "pocsag_open")
 COMMANDS = {  # of the specification, with the group of each
@@ -68,7 +64,3 @@ def try_changes(tally, folder):
             (top / path).write_text(text.replace(old, new, 1))
         found = sizes.problems(top)
         tally.check(f"line {number}: {due or 'nothing'} is told", not before and "; ".join(found) == due, (before, found))
-
-
-if __name__ == "__main__":
-    sys.exit(run_parts(try_sources, try_changes))

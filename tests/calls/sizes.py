@@ -10,7 +10,7 @@ import functools
 import re
 import typing
 
-from sources import HEAD, ITEM, RUST, all_functions, called_in, cleaned, own_name, parts_of, statement, texts_of, type_of
+from sources import CODE, RUST, TYPE, File, all_functions, called_in, cleaned, own_name, texts_of
 from workspace import TOP, below, read_crates
 
 TABLE, TEXTS = "tests/calls/largest.txt", "tests/program/texts"
@@ -66,34 +66,25 @@ class Source:
 
     def __init__(self, name, texts):
         self.name, self.types, self.calls = name, {}, []
-        texts = {path: cleaned(text, RUST) for path, text in texts.items() if path.startswith("src/")}
-        self.exported = {it for found in EXPORT.finditer(texts.get("src/lib.rt", "")) for it in exported(found)}
+        self.exported = {it for found in EXPORT.finditer(cleaned(texts.get("src/lib.rt", ""), RUST)) for it in exported(found)}
         for path, text in texts.items():
-            for lines in parts_of(text.split("\n"), ITEM):
-                self.read_item(lines, path)
+            for names, text, kind in File(path, text).found if path.startswith("src/") else ():
+                if kind == CODE:
+                    self.read_function(names[-1], text, path)
+                elif TYPE.search(text):
+                    self.types[names[0]] = text
 
-    def read_item(self, lines, path):
-        head = next((it for it in map(ITEM.match, lines) if it and not it[1]), None)
-        kind, name = (head[2], head[3]) if head else ("", "")
-        if kind in ("struct", "enum"):
-            self.types[name] = "\n".join(lines)
-        elif kind == "fn" and (name in self.exported or path == "src/lib.rt" and head[0].startswith("pub ")):
-            self.calls.append(Call(self.name, name, statement(lines), path))
-        elif kind in ("impl", "trait"):
-            self.read_block(lines, name if kind == "trait" else "", path)
-
-    def read_block(self, lines, trait, path):
-        """The functions of a trait, or of an `impl` but for a conversion, which returns the fault that it is given."""
-        opens = next(at for at, line in enumerate(lines) if line.endswith(("{", "{}")))
-        header = " ".join(it.strip() for it in lines[: opens + 1])
-        owner = trait or type_of(header)
-        if owner not in self.exported or re.search(r"\bFrom<.*> for ", header):
-            return
-        is_shared = trait or " for " in header
-        for part in parts_of([it[4:] for it in lines[opens + 1 : -1]], ITEM):
-            head = next((it for it in map(HEAD.match, part) if it), None)
-            if head and (is_shared or head[0].startswith("pub fn") or head[0].startswith("pub const fn")):
-                self.calls.append(Call(self.name, f"{owner}::{head[2]}", statement(part), path))
+    def read_function(self, name, text, path):
+        """A function, which in a block has the block's head above it. That of a conversion returns the fault that it is given."""
+        owner, is_in_block, _ = name.rpartition("::")
+        head, _, text = text.partition("{\n") if is_in_block else ("", "", text)
+        is_public = re.search(r"^pub ", text, re.MULTILINE)
+        if is_in_block:
+            is_known = owner in self.exported and (is_public or re.search(r" for |^(?:pub )?trait ", head, re.MULTILINE))
+        else:
+            is_known = name in self.exported or path == "src/lib.rt" and is_public
+        if is_known and not re.search(r"\bFrom<.*> for ", head, re.DOTALL):
+            self.calls.append(Call(self.name, name, text, path))
 
 
 def exported(found):

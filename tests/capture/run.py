@@ -1,20 +1,15 @@
-#!/usr/bin/env python3
 """Runs `decode`, `hear` and `show` with `--capture` on captures that a keyer of this script made: 2,000 with several
 transmissions at any bit and in either polarity, with noise around them and up to two wrong bits in each word; 400 with
 words past repair, ends cut off and bits lost, beside a receiver of this script; cases worked by hand; refusals; and the
 time that 100 MB of noise takes. Of each page the state is wanted too, and of captures of each kind the other forms."""
 
 import json
-import pathlib
 import random
 import resource
-import sys
 
-sys.dont_write_bytecode = True
-sys.path.insert(0, str(pathlib.Path(__file__).resolve().parents[1]))
 import codewords
 from codewords import PREAMBLE, digits, kind_and_message, letters, number_of, rows_of
-from tally import IS_EMULATED, ONE_IN, fault, run, run_parts
+from tally import IS_EMULATED, ONE_IN, fault, run
 
 SYNC, IDLE = (int.from_bytes(it, "big") for it in (codewords.SYNC, codewords.IDLE))
 ONES = 0xFFFFFFFF
@@ -340,10 +335,10 @@ def try_damaged(tally, folder):
         holds = (done.returncode, rows_in(done.stdout), done.stderr) == (0, due, told_lines([one[:6] for one in found]))
         tally.check(f"damaged capture {count}", holds, (due, found, done))
         if count % 4 == 0:
-            try_forms(tally, folder, f"damaged capture {count}", found)
+            check_forms(tally, folder, f"damaged capture {count}", found)
 
 
-def try_forms(tally, folder, name, found):
+def check_forms(tally, folder, name, found):
     """The capture in air.bin, of which this was found, as lines of JSON and with functions as text; of one address too."""
     pages = [(page, (number, one[0], one[1])) for number, one in enumerate(found, 1) for page in one[6]]
     for texts in ((), (0,), (1, 2)):
@@ -516,6 +511,8 @@ def try_words(tally, folder):
 
 
 def try_speed(tally, folder):
+    if IS_EMULATED:
+        return
     (folder / "noise.bin").write_bytes(random.Random(1).randbytes(NOISE_BYTES))
     before = resource.getrusage(resource.RUSAGE_CHILDREN)
     done = run(["decode", "--capture", "noise.bin"], folder)
@@ -523,7 +520,3 @@ def try_speed(tally, folder):
     seconds = after.ru_utime + after.ru_stime - before.ru_utime - before.ru_stime
     tally.check(f"{NOISE_BYTES} bytes of noise", done.returncode == 0 and seconds <= NOISE_SECONDS, (done.returncode, seconds))
     (folder / "noise.bin").unlink()
-
-
-if __name__ == "__main__":
-    sys.exit(run_parts(try_by_hand, try_words, try_captures, try_damaged, *([] if IS_EMULATED else [try_speed])))

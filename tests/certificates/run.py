@@ -1,11 +1,10 @@
-#!/usr/bin/env python3
 """Runs the product's checker and the one in checker.py, which shares nothing with it, over page files and
 certificates, and the wrong checkers of wrong.py.
 
-The pairs are some that are worked by hand, those that the program plans for small random rounds, those of pairs.py,
-among them the vectors, accepted trees with each kind of node on each of their first four levels and page files of every
-sort, and some thousands that are made from them by changing bytes or nodes. The two have to give the same verdict each
-time, each by its text and its status, and each wrong checker has to err on some pair of pairs.py.
+The pairs are those that the program plans for small random rounds, those of pairs.py, among them the vectors, accepted
+trees with each kind of node on each of their first four levels and page files of every sort, and some thousands that are
+made from them by changing bytes or nodes. The two have to give the same verdict each time, each by its text and its
+status, and each wrong checker has to err on some pair of pairs.py.
 """
 
 import pathlib
@@ -16,19 +15,16 @@ import sys
 import threading
 from concurrent.futures import ProcessPoolExecutor, ThreadPoolExecutor
 
-sys.dont_write_bytecode = True
-HERE = pathlib.Path(__file__).resolve().parent
-sys.path[:0] = [str(HERE), str(HERE.parent)]
 import checker
 import wrong
 from checker import CLOSE, SPLIT, TOLD
 from codewords import changed
 from pairs import pairs
-from rounds import HEADER, page_file, small_pages
-from tally import ENDS, run, run_parts
+from rounds import page_file, small_pages
+from tally import ENDS, run
 from trees import UNEXAMINED, certificate, nodes, overload, replaced
-from worked import CHECKS
 
+HERE = pathlib.Path(__file__).resolve().parent
 CHANGES = 3_000
 PLANNED = 60
 RUN_AS_A_PROGRAM = 6  # pairs of each answer
@@ -139,10 +135,7 @@ class Comparing:
             self.known.append((pages, text))
         return theirs
 
-    def examples_and_plans(self, source):
-        for _, records, text, told in CHECKS:
-            due = told if told.startswith(("at least", "not shown")) else "no certificate"
-            self.compare("example", HEADER + records, bytes.fromhex(text), due)
+    def plans(self, source):
         for _ in range(PLANNED):
             pages = page_file(source, small_pages(source))
             for end, told in zip(ENDS, TOLD):
@@ -191,12 +184,8 @@ def check_wrong(tally, judged):
 
 def try_all(tally, folder):
     comparing, source = Comparing(tally, Product(folder)), random.Random(1981)
-    comparing.examples_and_plans(source)
+    comparing.plans(source)
     judged = comparing.all_pairs(random.Random(1981))
     comparing.changes(source)
     comparing.statuses(source)
     check_wrong(tally, judged)
-
-
-if __name__ == "__main__":
-    sys.exit(run_parts(try_all))

@@ -1,4 +1,3 @@
-#!/usr/bin/env python3
 """Runs `explain` and `report --frames` of the compiled program.
 
 The sentences of `explain`, in shown.txt, and the numbers of its drawings are written by hand, from the rules of
@@ -10,15 +9,12 @@ import json
 import pathlib
 import random
 import re
-import sys
 import xml.etree.ElementTree as ElementTree
 
-sys.dont_write_bytecode = True
-sys.path[:0] = [str(pathlib.Path(__file__).resolve().parents[1] / it) for it in (".", "certificates")]
 from checker import CLOSE, CLOSED_END as CLOSED, CUT, IDLE_END as IDLE, OPEN_END as OPEN, SPLIT
 from drawings import SVG, box, check_form
 from rounds import page_file, small_pages
-from tally import ENDS, TOP, run, run_parts
+from tally import ENDS, TOP, run
 from trees import UNEXAMINED, certificate, overload as overload_of
 
 EXAMPLES = TOP / "examples"
@@ -298,7 +294,3 @@ def try_frames(tally, folder):
     wanted = [f"frame {frame} pages {pages} codewords {words} room {room}" for frame, pages, words, room in rows]
     told = done.stdout.decode().splitlines()
     tally.check("the frames of the sample round", done.returncode == 0 and told[7:] == wanted, told)
-
-
-if __name__ == "__main__":
-    sys.exit(run_parts(try_sentences, try_json, try_drawings, try_planned, try_frames))

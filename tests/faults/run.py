@@ -1,4 +1,3 @@
-#!/usr/bin/env python3
 """Runs the compiled programs with memory and devices refused, one call at a time. For each Nth growth of memory, each
 Nth read and each Nth write, counting upwards until a run ends without a refusal, the answer must be the answer with
 ample memory, or the fault of what was refused, and never another."""
@@ -7,17 +6,14 @@ import functools
 import os
 import pathlib
 import subprocess
-import sys
 
-sys.dont_write_bytecode = True
-HERE = pathlib.Path(__file__).resolve().parent
-sys.path[:0] = [str(HERE), str(HERE.parent), str(HERE.parent / "certificates")]
 import read_back
 import trees
 from codewords import APART, HEADER, IDLE, MESSAGE, ZERO, codeword, digits, in_order, transmission
 from sessions import edited, listed, listing
-from tally import CANNOT_OPEN, CANNOT_WRITE, ENDS, NAMED_TWICE, PROGRAM, TOP, fault, run_parts
+from tally import CANNOT_OPEN, CANNOT_WRITE, ENDS, NAMED_TWICE, PROGRAM, TOP, fault
 
+HERE = pathlib.Path(__file__).resolve().parent
 TRIAL = TOP / "crates/pocsag_trial/out/pocsag_trial"
 MOST = 20_000
 LONE_TONE = HEADER + b"8,tone0,\n"
@@ -390,7 +386,7 @@ PRINTED = [
     ("report pages.csv --rate 1200", ["", "--frames"]),
     ("decode tx.bin", ["", "--json", "--text 0", "--repair --json", "--repair --text 0", "--capture"]),
     ("hear 7 tx.bin", ["", "--json", "--text 0", "--capture"]),
-    ("show tx.bin", ["--capture"]),
+    ("show tx.bin", ["", "--svg", "--list", "--capture"]),
     ("wav tx.bin", ["--samples 8000"]),
 ]
 IN_PIECES = [
@@ -525,7 +521,3 @@ def try_all(tally, folder):
     for part in (try_trial, try_large_trial, try_plans, try_open, try_open_pages, try_late_growths, try_devices, read_back.try_lost,
                  read_back.try_read_back, read_back.try_fronts, try_printings, try_kept, try_noted):  # fmt: skip
         part(tally, library, folder)
-
-
-if __name__ == "__main__":
-    sys.exit(run_parts(try_all))

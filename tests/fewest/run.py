@@ -1,4 +1,3 @@
-#!/usr/bin/env python3
 """Plans small random rounds with the built program and compares them with a brute force of its own.
 
 For each round and end, with `--always` and without: the batches are those of the brute force; the transmission's codewords,
@@ -9,15 +8,11 @@ Fronts are compared in the same way.
 """
 
 import itertools
-import pathlib
 import random
 import re
-import sys
 import tempfile
 from functools import lru_cache
 
-sys.dont_write_bytecode = True
-sys.path[:0] = [str(pathlib.Path(__file__).resolve().parents[1] / it) for it in (".", "certificates")]
 import checker
 from codewords import HEADER, IDLE, codewords_of, rows_of, transmission
 from rounds import page_file
@@ -160,20 +155,6 @@ def try_examples(tally, folder):
     tally.check("the tone in the last frame starts early", words[60:64] != IDLE, words.hex())
 
 
-def try_checks(tally, folder, source):
-    """The program's own checker and its decoder, on some of the rounds."""
-    for _ in range(60):
-        pages = random_round(source)
-        text = page_file_of(pages)
-        (folder / "pages.csv").write_bytes(text)
-        for end, search in itertools.product(ENDS, ([], ["--always"])):
-            planned = run(["plan", "pages.csv", "tx.bin", "cert.bin", "--verify", *ENDS[end], *search], folder)
-            tally.check("verified", planned.stdout.endswith(b"\nverified\n"), planned)
-            try_own_checker(tally, folder, end)
-            decoded = run(["decode", "tx.bin"], folder)
-            tally.check("decoded", sorted(rows_of(decoded.stdout)) == sorted(rows_of(text)), decoded)
-
-
 def larger_round(source):
     """Frames and lengths of up to sixty pages, most often as many codewords as fill whole batches."""
     lengths = source.choice([[1], [1, 2, 3, 4], [1, 15, 16, 17, 32], [2, 4, 6, 8, 10, 12, 14], list(range(1, 33))])
@@ -190,8 +171,8 @@ def try_ends(tally, folder, source):
         text, batches = page_file(source, larger_round(source)), []
         (folder / "pages.csv").write_bytes(text)
         for end in ENDS:
-            planned = run(["plan", "pages.csv", "tx.bin", "cert.bin", "--always", *ENDS[end]], folder)
-            told = re.fullmatch(rb"pages \d+\nbatches (\d+)\n", planned.stdout)
+            planned = run(["plan", "pages.csv", "tx.bin", "cert.bin", "--always", "--verify", *ENDS[end]], folder)
+            told = re.fullmatch(rb"pages \d+\nbatches (\d+)\nverified\n", planned.stdout)
             tally.check(f"larger round, {end} end", planned.returncode == 0 and told, (text, planned))
             if planned.returncode != 0 or not told:
                 return
@@ -200,6 +181,8 @@ def try_ends(tally, folder, source):
             tally.check("as many batches", len(sent) == 72 + 68 * batches[-1] and ends_as(sent, end), (text, end))
             try_second_checker(tally, text, (folder / "cert.bin").read_bytes(), end, batches[-1])
             try_own_checker(tally, folder, end)
+        decoded = run(["decode", "tx.bin"], folder).stdout.replace(b" ", b"")  # which fill numeric messages, and are in none
+        tally.check("decoded", sorted(rows_of(decoded)) == sorted(rows_of(text)), (text, decoded))
         of_open, of_closed, of_idle = batches
         tally.check("ends", of_open <= of_closed <= of_idle <= of_open + 1, (text, batches))
         seen.add((of_closed - of_open, of_idle - of_open))
@@ -258,12 +241,12 @@ def try_rounds(tally, folder, source):
 
 def try_all(tally, folder):
     source = random.Random(584)
-    for part in (try_rounds, try_checks, try_ends):
+    for part in (try_rounds, try_ends):
         part(tally, folder, source)
     try_examples(tally, folder)
     try_fronts(tally, folder, source)
 
 
-if __name__ == "__main__":
+def main(_words):
     tempfile.tempdir = MEMORY
-    sys.exit(run_parts(try_all))
+    return run_parts(try_all)

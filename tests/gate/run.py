@@ -1,23 +1,20 @@
-#!/usr/bin/env python3
 """Tries how `./test` counts its parts, with stand-ins for them."""
 
 import io
 import os
-import pathlib
 import re
 import subprocess
 import sys
 import time
 
-sys.dont_write_bytecode = True
-TOP = pathlib.Path(__file__).resolve().parents[2]
-sys.path[:0] = [str(TOP / "tests"), str(TOP / "tools")]
 import kit
 import lanes
 from gate import Gate
 from lanes import Lanes, Task
 from spent import watched
-from tally import put, put_script, run_all
+from tally import TOP, put, put_script
+
+os.environ["RT_JOBS"] = "3"  # so many parts run side by side
 
 # What a part prints, its status, and what the gate counts of it.
 PARTS = [
@@ -189,8 +186,3 @@ def try_layout(tally, folder):
     for text, is_laid_out in ("pub fn one() -> u32 {\n    1\n}\n", True), ("pub fn one() -> u32 { 1 }\n", kit.script() is None):
         put(folder, {"src/lib.rt": text})
         tally.check("the layout of a crate", kit.is_laid_out(folder) == is_laid_out, text)
-
-
-if __name__ == "__main__":
-    os.environ["RT_JOBS"] = "3"
-    sys.exit(run_all(apart=True))

@@ -1,4 +1,3 @@
-#!/usr/bin/env python3
 """Installs the built program into a folder and runs it from there, as another user and without the toolchain."""
 
 import os
@@ -6,13 +5,9 @@ import pathlib
 import re
 import shutil
 import subprocess
-import sys
 
-sys.dont_write_bytecode = True
-TESTS = pathlib.Path(__file__).resolve().parents[1]
-sys.path[:0] = [str(TESTS), str(TESTS.parent / "tools")]
 import version
-from tally import PROGRAM, TOP, as_nobody, put_script, run_parts
+from tally import PROGRAM, TOP, as_nobody, put_script
 
 PLACES = ["bin/pocsag", "share/man/man1/pocsag.1", "share/bash-completion/completions/pocsag", "share/zsh/site-functions/_pocsag",
           "share/fish/vendor_completions.d/pocsag.fish", "share/pocsag/examples/next-slot", "share/pocsag/examples/enqueue"]
@@ -45,7 +40,6 @@ def try_installed(tally, folder):
     prefix, room = folder / "prefix", folder / "room"
     prefix.mkdir()
     room.mkdir()
-    folder.chmod(0o755)
     room.chmod(0o777)
     status, out, err = install(prefix)
     tally.check("install", status == 0, (status, err))
@@ -165,5 +159,6 @@ def try_refused(tally, folder):
         tally.check(name, status == 1 and len(lines) == 1 and lines[0].startswith(told), (status, out, err))
 
 
-if __name__ == "__main__":
-    sys.exit(run_parts(try_installed, try_library, try_loader, try_again, try_refused))
+def try_all(tally, folder):
+    for part in (try_installed, try_library, try_loader, try_again, try_refused):
+        part(tally, folder)

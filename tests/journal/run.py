@@ -1,4 +1,3 @@
-#!/usr/bin/env python3
 """Keeps an open round in a journal through kills, cuts, refused calls, a full disk, a full file system, and others who move
 it or write to it; lists it without holding it; and reads what `--verbose` tells of it.
 
@@ -7,23 +6,19 @@ Each start must list what the edits that were answered `ok` leave, or these and 
 
 import itertools
 import os
-import pathlib
 import random
 import re
 import resource
 import shutil
 import subprocess
-import sys
 import time
 
-sys.dont_write_bytecode = True
-sys.path.insert(0, str(pathlib.Path(__file__).resolve().parents[1]))
 import sessions
 import tally as shared
 from codewords import HEADER
 from sessions import listing
 from tally import CANNOT_OPEN, CANNOT_WRITE, IS_EMULATED, NO_OWNER, ONE_IN, PROGRAM, as_nobody, fault, faulty
-from tally import files_of, own_disk, put, room_in, run_all, sampled, with_most_bytes
+from tally import files_of, own_disk, put, room_in, sampled, with_most_bytes
 
 FIRST_LINE = b"pocsag journal,1\n"
 EDITS, KILLS, TURNS = (500, 30, 2_000) if IS_EMULATED else (5_000, 300, 20_000)
@@ -328,8 +323,6 @@ def with_notes(*notes):
 
 def try_rights(tally, place):
     """A journal that is written anew keeps its owner, group and mode; where the system refuses that, it stays as it is."""
-    place.parent.chmod(0o755)
-    place.chmod(0o755)
     path, user = place / NAME, as_nobody(place)
     for owner, mode in itertools.product([(os.geteuid(), os.getegid()), *[(NOBODY, NOBODY)] * bool(user)], (0o600, 0o640, 0o664)):
         path.write_bytes(THREE_EDITS)
@@ -626,7 +619,3 @@ def try_growth(tally, place):
     found, err = listed(place)
     tally.check("a long day: the list", found == HEADER, (found, err))
     tally.check("a long day: written anew", path.read_bytes() == FIRST_LINE)
-
-
-if __name__ == "__main__":
-    sys.exit(run_all(apart=True))

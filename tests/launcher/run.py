@@ -1,4 +1,3 @@
-#!/usr/bin/env python3
 """Runs the script `pocsag` at the top of the repository with a stand-in for the toolchain's `rt`.
 
 The stand-in writes down how it was called and makes a small program in place of the proved one, so that each way in
@@ -6,7 +5,6 @@ which a build can go is tried in a moment.
 """
 
 import os
-import pathlib
 import re
 import shutil
 import signal
@@ -14,19 +12,10 @@ import subprocess
 import sys
 import time
 
-sys.dont_write_bytecode = True
-sys.path.insert(0, str(pathlib.Path(__file__).resolve().parents[1]))
-from tally import TOP, as_nobody, put_script, room_in, run_parts
+from tally import TOP, as_nobody, put_script, room_in
 
 CRATES = "low:\nmiddle: low csv\npocsag_app: clap middle low\npocsag_beside: middle\npocsag_trial: low\n"
 NAMES = ("low", "middle", "pocsag_app", "pocsag_beside", "pocsag_trial")
-# Other forms of the same list that the prover reads.
-FORMS = [
-    "low :\nmiddle : low csv\npocsag_app : clap middle low\npocsag_beside: middle\npocsag_trial: low\n",
-    "low\nmiddle: low, csv\npocsag_app: clap,middle,low\npocsag_beside: middle\npocsag_trial: low\n",
-    "# all\n  low: # the lowest\n\n  middle:  low csv  # next\npocsag_app status=0: clap middle low\npocsag_beside: middle\npocsag_trial: low\n",
-    "pocsag_app: clap middle low\npocsag_trial: low\npocsag_beside: middle\nmiddle: low csv\nlow:\n",
-]
 COMMANDS = "bash basename cat chmod dirname find mkdir mv pwd readlink rm sh sleep touch".split()
 
 # What each stand-in does when it is called as `rt run .. -- --help` in a program's folder.
@@ -172,14 +161,8 @@ def try_old_times(tally, clone):
         clone.check_builds(tally, name, count)
 
 
-def try_forms(tally, clone):
-    """Forms of the list of crates that the prover reads too."""
-    for number, form in enumerate(FORMS, 1):
-        (clone.top / "crates.txt").write_text(form)
-        clone.calls.unlink(missing_ok=True)
-        status, _, err = clone.run()
-        calls = clone.builds()[1]
-        tally.check(f"form {number} of the list", status == 7 and calls == ["low lib", "middle lib", "pocsag_app run"], (err, calls))
+def try_lists(tally, clone):
+    """Lists of crates that cannot be read."""
     (clone.top / "crates.txt").write_text("low: middle\nmiddle: low\npocsag_app: low\n")
     tally.check_run("a ring of crates", clone.run(), 3, "", "uses itself")
     (clone.top / "crates.txt").write_text("low:\n! middle\n")
@@ -353,7 +336,7 @@ def try_gate(tally, clone):
 
 
 TRIALS = {
-    "makes": (try_success, try_multiples, try_unit, try_compilers, try_gate, try_old_times, try_forms, try_options, try_unwritable, try_side_by_side),
+    "makes": (try_success, try_multiples, try_unit, try_compilers, try_gate, try_old_times, try_lists, try_options, try_unwritable, try_side_by_side),
     "fails": (try_failure,),
     None: (try_missing,),
     "leaves nothing": (lambda tally, clone: tally.check_run("no program left", clone.run(), 3, "", "left no program"),),
@@ -364,10 +347,5 @@ TRIALS = {
 
 
 def try_all(tally, folder):
-    folder.chmod(0o755)
     for number, (stand_in, trial) in enumerate((it, trial) for it, trials in TRIALS.items() for trial in trials):
         trial(tally, Clone(room_in(folder, str(number)), stand_in))
-
-
-if __name__ == "__main__":
-    sys.exit(run_parts(try_all))

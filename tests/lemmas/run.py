@@ -1,4 +1,3 @@
-#!/usr/bin/env python3
 """Wants each lemma to stand once: compares the statements of all lemmas of the crates' proofs.
 
 Two statements are the same where they differ in nothing but the names of their variables, in whether a premise has
@@ -9,11 +8,8 @@ What std has is std's: no lemma is one of std's at some types. What answers a go
 import pathlib
 import re
 import subprocess
-import sys
 
-sys.dont_write_bytecode = True
-sys.path.insert(0, str(pathlib.Path(__file__).resolve().parents[1]))
-from tally import TOP, run_parts
+from tally import TOP
 
 IMPORT = re.compile(r"^use ([\w.-]+)\.\{([^}]*)\}", re.MULTILINE)
 OPENING = re.compile(r"(?:pub )?(?:abbrev )?(?:pub )?([^\s(){}:]+) : (.*)")
@@ -233,7 +229,3 @@ def try_lemmas(tally, _folder):
             twins += [seen[form]] if form in seen else []
             tally.check(place, not twins, f"is the lemma {', '.join(twins)}: {statement}")
             seen.setdefault(form, place)
-
-
-if __name__ == "__main__":
-    sys.exit(run_parts(try_lemmas))

@@ -1,4 +1,3 @@
-#!/usr/bin/env python3
 """Calls the C library from C, C++, Python and Rust, beside the built program.
 
 It makes the library, by LLVM and by the compiler that is written in Rattle, and compares the bytes, the listings and
@@ -17,9 +16,6 @@ import shutil
 import subprocess
 import sys
 
-sys.dont_write_bytecode = True
-HERE = pathlib.Path(__file__).resolve().parent
-sys.path[:0] = [str(HERE.parent / it) for it in (".", "calls", "certificates", "library", "program", "wrong_bodies", "../clib", "../tools")]
 import greatest
 import in_c
 import in_python
@@ -31,8 +27,9 @@ import workspace
 from prover import Room
 from answers import TOLD, WORDS, attempt, check_fault, is_same, program
 from codewords import HEADER, IDLE, TONE, changed, random_file, rows_of, transmission
-from tally import LIBRARY, TOP, call as run, run_parts
+from tally import LIBRARY, TOP, call as run
 
+HERE = pathlib.Path(__file__).resolve().parent
 EXAMPLES = TOP / "clib/examples"
 ROUND = TOP / "examples/round.csv"
 ROUNDS, CHANGED = 1_200, 400
@@ -549,7 +546,7 @@ def put_library(folder):
     (folder / "libpocsag.so").symlink_to(make.SONAME)
 
 
-def try_library(tally, room):
+def try_all(tally, room):
     folder = room / "library"
     put_library(folder)
     library = Library(folder, room)
@@ -560,7 +557,3 @@ def try_library(tally, room):
         part(tally, library)
     if not LIBRARY:
         try_other_compiler(tally, library)
-
-
-if __name__ == "__main__":
-    sys.exit(run_parts(try_library))

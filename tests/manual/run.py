@@ -1,19 +1,14 @@
-#!/usr/bin/env python3
 """Compares the manual page with the help of the compiled program, and has it read by `man` and `mandoc`.
 
 Where `man` or `mandoc` is missing, that part is left out.
 """
 
-import pathlib
 import re
 import shutil
 import subprocess
-import sys
 
-sys.dont_write_bytecode = True
-sys.path.insert(0, str(pathlib.Path(__file__).resolve().parents[1]))
 from helped import commands, help_of, options_of
-from tally import TOP, run, run_parts
+from tally import TOP
 
 MANUAL = TOP / "docs/pocsag.1"
 EVERYWHERE = {"-h", "--help", "-V", "--version"}
@@ -78,15 +73,9 @@ def try_manual(tally, _folder):
     text = plain(MANUAL.read_text())
     compare(tally, text)
     tally.check_same("exit statuses", terms(section(text, "EXIT STATUS")), ["0", "1", "2", "3"])
-    version = re.match(r"pocsag ([^,]+),", run(["--version"]).stdout.decode())[1]
-    tally.check("the version", f'"pocsag {version}"' in text, version)
     if shutil.which("man"):
         done = subprocess.run(["man", "--warnings", "-E", "UTF-8", "-l", "-Tutf8", "-Z", str(MANUAL)], capture_output=True, timeout=60)
         tally.check("man finds nothing", done.returncode == 0 and done.stderr == b"", done.stderr)
     if shutil.which("mandoc"):
         done = subprocess.run(["mandoc", "-T", "lint", str(MANUAL)], capture_output=True, timeout=60)
         tally.check("mandoc finds nothing", done.returncode == 0 and done.stdout + done.stderr == b"", done)
-
-
-if __name__ == "__main__":
-    sys.exit(run_parts(try_manual))

@@ -1,17 +1,12 @@
-#!/usr/bin/env python3
 """The completions of three shells, beside the help of the program: the same words for each, and what each shell offers where it
 is installed. With --write it first writes these words into completions/, as the help has them."""
 
 import functools
-import pathlib
 import re
 import shlex
 import shutil
 import subprocess
-import sys
 
-sys.dont_write_bytecode = True
-sys.path.insert(0, str(pathlib.Path(__file__).resolve().parents[1]))
 import helped
 from tally import TOP, run_parts
 
@@ -59,7 +54,7 @@ def try_words(tally, _folder):
     """Each option of each help stands in each file, and no other."""
     for shell, path in FILES.items():
         text = path.read_text()
-        tally.check(f"{shell}: the words of the help", text == written(text), "run tests/operation/completions.py --write")
+        tally.check(f"{shell}: the words of the help", text == written(text), "run python3 tests operation/completions --write")
         found = {name: set(options.split()) for name, options in re.findall(r"^ +\[?(\w+)\]?='([^']*)'", text, re.M) if options}
         for name, options in due().items():
             tally.check(f"{shell}: the options of {name}", found.get(name) == set(options), (found.get(name), options))
@@ -89,7 +84,7 @@ def try_shells(tally, folder):
             tally.check(f"{shell}: {shlex.quote(line)}", found == (wanted, ""), (found, wanted))
 
 
-if __name__ == "__main__":
-    for file in FILES.values() if sys.argv[1:] == ["--write"] else ():
+def main(words):
+    for file in FILES.values() if words == ["--write"] else ():
         file.write_text(written(file.read_text()))
-    sys.exit(run_parts(try_words, try_shells))
+    return run_parts(try_words, try_shells)

@@ -78,7 +78,6 @@ def try_streams(tally, folder):
 
 def another_user(folder):
     """The words that run the program as a user without rights in a folder of this one; none where we cannot."""
-    folder.chmod(0o755)
     return as_nobody(folder) and as_nobody(PROGRAM.parent)
 
 

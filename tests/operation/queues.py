@@ -1,10 +1,9 @@
-#!/usr/bin/env python3
 """The queue of docs/OPERATION.md: examples/next-slot and examples/enqueue under kills, refused calls, on two file systems
 and on full disks. Each page that `enqueue` took must be sent once, in order.
 
-    tests/operation/queues.py          ends a script at each call that changes something outside its process
-    tests/operation/queues.py --all    at each system call
-    tests/operation/queues.py 10000    sends so many pages while next-slot is ended at random moments, and does nothing else
+    python3 tests operation/queues          ends a script at each call that changes something outside its process
+    python3 tests operation/queues --all    at each system call
+    python3 tests operation/queues 10000    sends so many pages while next-slot is ended at random moments, and does nothing else
 
 Where strace is missing, commands are killed before and behind their work, and not at their calls.
 """
@@ -20,8 +19,6 @@ import tempfile
 import threading
 import time
 
-sys.dont_write_bytecode = True
-sys.path.insert(0, str(pathlib.Path(__file__).resolve().parents[1]))
 from channel import HEADER, KILLS, Channel, calls_of, can_trace, pages_of
 from tally import MEMORY, TOP, as_nobody, files_of, own_disk, run_all, run_parts
 
@@ -447,7 +444,6 @@ def try_new_number(tally, folder):
 
 def try_other_owner(tally, folder):
     """What the superuser left who ran a script once, or whose run was killed, does not block the channel of another user."""
-    folder.chmod(0o755)
     others = as_nobody(folder) and as_nobody(TOP)  # where the scripts are
     if not others:
         print("left out: the channel of another user, which wants the superuser, and a repository that all can enter")
@@ -510,5 +506,5 @@ def try_oversized(tally, folder):
                 file.unlink()
 
 
-if __name__ == "__main__":
-    sys.exit(run_parts(try_random) if ASKED else run_all())
+def main(_words):
+    return run_parts(try_random) if ASKED else run_all(sys.modules[__name__])

@@ -1,4 +1,3 @@
-#!/usr/bin/env python3
 """Runs the compiled program as an operator does: `--keep` under kills and refused calls, pipes, terminals, and each
 command of docs/OPERATION.md. The scripts of its queue have a test of their own, queues.py.
 
@@ -6,7 +5,6 @@ Where `strace` is missing, the kills at single system calls are left out.
 """
 
 import os
-import pathlib
 import random
 import re
 import shutil
@@ -17,17 +15,17 @@ import subprocess
 import sys
 import time
 
-sys.dont_write_bytecode = True
-sys.path[:0] = [str(pathlib.Path(__file__).resolve().parents[at]) for at in (0, 1)]
 import doors
 import turns
 from codewords import APART, HEADER
 from doors import OLD, TONE, fresh, names, stand
 from tally import CANNOT_OPEN, NAMED_TWICE, PLAN, PROGRAM, TOP
-from tally import at_terminal, faulty, module_at, put, put_script, room_in, run, run_all
+from tally import at_terminal, faulty, put, put_script, room_in, run
+from workspace import module_at
 
+PARTS_OF = (doors, turns)
 KILLS = 200
-papers = module_at("papers", "tests/papers/run.py")
+papers = module_at("papers", TOP / "tests/papers/run.py")
 
 
 def planned(folder, file, name):
@@ -316,7 +314,3 @@ def try_recipe(tally, folder):
     due, _ = planned(folder, APART, "due recipe")
     holds = len(made) == 98 and all((room / "channels" / name.replace("cert", "bin")).read_bytes() == due for name in made)
     tally.check("and plans the others", holds, made)
-
-
-if __name__ == "__main__":
-    sys.exit(run_all(doors, turns))

@@ -1,4 +1,3 @@
-#!/usr/bin/env python3
 """Runs each command of the papers, README and docs/*.md, as a reader would, and compares what is printed with what the
 paper says ('# prints: ..' below a command). docs/OPERATION.md and docs/LIBRARY.md have tests of their own; the example in C
 of the latter is also built here, with the library that `./install` brings.
@@ -7,15 +6,11 @@ Where `cc` or `pkg-config` is missing, the example in C is left out.
 """
 
 import os
-import pathlib
 import re
 import shutil
 import subprocess
-import sys
 
-sys.dont_write_bytecode = True
-sys.path.insert(0, str(pathlib.Path(__file__).resolve().parents[1]))
-from tally import PROGRAM, TOP, put_script, run_parts
+from tally import PROGRAM, TOP, put_script
 
 ELSEWHERE = {"OPERATION.md", "LIBRARY.md"}
 PAPERS = [TOP / "README.md"] + sorted(path for path in (TOP / "docs").glob("*.md") if path.name not in ELSEWHERE)
@@ -86,7 +81,3 @@ def try_links(tally, _folder):
     for paper in [*PAPERS, *(TOP / "docs" / name for name in sorted(ELSEWHERE))]:
         for link in re.findall(r"\]\(([^)#:]+)\)", paper.read_text()):
             tally.check(f"{paper.name} links {link}", (paper.parent / link).exists())
-
-
-if __name__ == "__main__":
-    sys.exit(run_parts(try_commands, try_examples, try_links))

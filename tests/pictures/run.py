@@ -1,25 +1,19 @@
-#!/usr/bin/env python3
-"""Runs `show` of the compiled program on transmissions: its text, its listing, its drawing, and memory and devices
-refused; and makes the pictures of docs/pictures again and compares them."""
+"""Runs `show` of the compiled program on transmissions: its text, its listing and its drawing; and makes the pictures of
+docs/pictures again and compares them."""
 
 import bisect
 import itertools
 import math
-import pathlib
 import random
 import re
-import sys
 import xml.etree.ElementTree as ElementTree
 
-sys.dont_write_bytecode = True
-sys.path.insert(0, str(pathlib.Path(__file__).resolve().parents[1]))
 from codewords import HEADER, IDLE, ONES as MESSAGE, TONE, ZERO, address_at, codewords_of, pages_in, rows_of, transmission
 from drawings import SVG, box, check_form
-from tally import TOP, fault, module_at, run, run_parts
+from tally import TOP, fault, run
+from workspace import module_at
 
-sys.path.insert(0, str(TOP / "docs/pictures"))
-import make
-
+make = module_at("pictures", TOP / "docs/pictures/make.py")
 HEAD = "       0  1  2  3  4  5  6  7"
 # Measures of the drawing: the left side of the first cell, a cell's width and height, the upper side of the first row,
 # and from row to row; how wide the dark part of an address codeword is, and the size of the legend.
@@ -77,7 +71,7 @@ def random_words(chance, batches):
     return words
 
 
-def check_text(tally, folder):
+def try_text(tally, folder):
     chance, path = random.Random(20261122), folder / "tx"
     for batches in (*(1 + trial // 2 for trial in range(60)), 99, 100, 101, 300, 1_001, 10_001):
         words = random_words(chance, batches)
@@ -85,7 +79,7 @@ def check_text(tally, folder):
         tally.check_done(f"text of {batches} batches", run(["show", path]), 0, text_of(words))
 
 
-def check_list(tally, folder):
+def try_list(tally, folder):
     """The places of the pages in the listing, beside the codewords, and the decoder's fields."""
     page_file, tx = folder / "pages.csv", folder / "tx"
     kinds = (b"tone0,", b"tone1,", b"tone2,", b"tone3,", b"numeric,5550199", b'alpha,"Ward 3, ""bed"" 2"', b"alpha,\x01\x7f")
@@ -199,7 +193,7 @@ def check_drawing(tally, name, text, words, sent, first=1, last=None):
     return root
 
 
-def check_svg(tally, folder):
+def try_svg(tally, folder):
     chance = random.Random(7)
     path = folder / "tx"
     for name, words in (
@@ -227,7 +221,7 @@ def check_svg(tally, folder):
         tally.check(f"{name}: the message", due in titles, titles)
 
 
-def check_rows_wanted(tally, folder):
+def try_rows_wanted(tally, folder):
     """Some rows alone, of text and drawing; and words that name no rows."""
     chance, path = random.Random(28), folder / "tx"
     words = random_words(chance, 40)
@@ -265,7 +259,7 @@ def lab_of(colour, vision):
     return 116 * y - 16, 500 * (x - y), 200 * (y - z)
 
 
-def check_hues(tally, folder):
+def try_hues(tally, folder):
     """Hues that stand next to one another in the order of letters, and the dark part of each page beside each tint, are
     at least 23 apart (CIE 1976) for each vision, in light and in dark; labels can be read."""
     path = folder / "tx"
@@ -298,21 +292,7 @@ def luminance(colour):
     return sum(weight * part for weight, part in zip((0.2126, 0.7152, 0.0722), parts))
 
 
-def check_refusals(tally, folder):
-    """Each growth, each read and each write refused: the text with ample memory, or a part of it and the fault of what was refused.
-    tests/faults has the same of many batches."""
-    faults = module_at("refusals", "tests/faults/run.py")
-    library = faults.build(folder)
-    words = [ZERO, *[MESSAGE] * 5, TONE, *[MESSAGE] * 15, ZERO, *[MESSAGE] * 7, IDLE, IDLE]
-    for form in ([], ["--svg"], ["--list"]):
-        faults.try_printing(tally, library, folder, ["show", "tx", *form], {"tx": transmission(words)})
-
-
-def check_pictures(tally, _folder):
+def try_pictures(tally, _folder):
     for name, text in make.pictures().items():
         kept = TOP / "docs/pictures" / name
         tally.check(f"picture {name}", kept.is_file() and kept.read_bytes() == text, "run docs/pictures/make.py")
-
-
-if __name__ == "__main__":
-    sys.exit(run_parts(check_text, check_list, check_svg, check_rows_wanted, check_hues, check_refusals, check_pictures))

@@ -1,8 +1,7 @@
-#!/usr/bin/env python3
 """Runs the program as C beside the native one: by cases for its host, and by the scripts that run the program.
 
-    tests/portable/run.py             by this machine's compiler
-    tests/portable/run.py --others    with musl, and for 32-bit ARM and RISC-V under emulators
+    python3 tests portable/run             by this machine's compiler
+    python3 tests portable/run --others    with musl, and for 32-bit ARM and RISC-V under emulators
 
 It is made over the proofs that stand; without the toolchain it is the one of release/. What is compiled is kept in
 out/portable, which release/make takes it from too. Where a tool is missing, that part is left out and says so.
@@ -15,21 +14,18 @@ import shutil
 import subprocess
 import sys
 
-sys.dont_write_bytecode = True
-TOP = pathlib.Path(__file__).resolve().parents[2]
-sys.path[:0] = [str(TOP / it) for it in ("tests", "tests/release", "release", "tools", "clib")]
 import arm64
 import packages
 import products
 import version
-from tally import LIBRARY, PROGRAM, as_nobody, put, put_script, run_parts, said, samples, skipped
+from tally import LIBRARY, PROGRAM, TOP, as_nobody, put, put_script, said, samples
 
 HERE = pathlib.Path(__file__).resolve().parent
 # The scripts that run the program, and of how many of their cases one is tried here: the host is not another in each. Those of
 # tests/faults are not among them: they refuse single calls for memory, and the program as C grows its memory by many pages at once.
-SCRIPTS = {"tests/program/run.py": 13, "tests/program/open.py": 1, "tests/journal/run.py": 7, "tests/sound/run.py": 13, "tests/capture/run.py": 13,
-           "tests/explain/run.py": 13, "tests/pictures/run.py": 13, "tests/operation/queues.py": 1}
-ON_ARM = {"tests/program/run.py": 101, "tests/program/open.py": 101, "tests/journal/run.py": 101}
+SCRIPTS = {"program/run": 13, "program/open": 1, "journal/run": 7, "sound/run": 13, "capture/run": 13, "explain/run": 13, "pictures/run": 13,
+           "operation/queues": 1}
+ON_ARM = {"program/run": 101, "program/open": 101, "journal/run": 101}
 # How the Makefile has the runtime of wasm2c, and what it has where each address is checked.
 RUNTIME = ["-DWASM_RT_SKIP_SIGNAL_RECOVERY=1", "-DWASM_RT_USE_STACK_DEPTH_COUNT=0"]
 CHECKS = {"by the system": [], "one by one": ["-DWASM_RT_MEMCHECK_SIGNAL_HANDLER=0"]}
@@ -169,7 +165,6 @@ def try_package(tally, folder):
 
 def try_armhf(tally, room):
     """The program for 32-bit ARM, under an emulator."""
-    room.chmod(0o755)
     native, why_not = room / "native armhf", arm64.why_not(products.ARMHF)
     if why_not:
         print(f"left out: {why_not}")
@@ -195,7 +190,6 @@ def try_others(tally, room):
 
 
 def try_native(tally, room):
-    room.chmod(0o755)
     folder = compiled(room, "native", "CFLAGS=-O1")
     program = shutil.copy(folder / "bin/pocsag", room / "pocsag")
     for part in (try_cases, try_memory, try_stack):
@@ -205,11 +199,8 @@ def try_native(tally, room):
     arm64.try_scripts(tally, program, SCRIPTS)
 
 
-def main(words):
+def try_all(tally, room):
     if what_is_missing():
-        return skipped(what_is_missing())
-    return run_parts(*((try_others, try_armhf) if words == ["--others"] else (try_native,)))
-
-
-if __name__ == "__main__":
-    sys.exit(main(sys.argv[1:]))
+        return tally.skip(what_is_missing())
+    for part in (try_others, try_armhf) if sys.argv[1:] == ["--others"] else (try_native,):
+        part(tally, room)

@@ -139,11 +139,11 @@ def try_limits(tally, folder):
     ]
     for files, stdin, status, told, left in cases:
         for limit in ("0", "1000001", "4294967295"):
-            for always in ([], ["--always"]):
+            for more in ([], ["--always"], ["--idle-last"], ["--end", "closed", "--always"]):
                 put(room, OLD)
-                done = run(["plan", *files, "--limit", limit, *always], room, stdin)
+                done = run(["plan", *files, "--limit", limit, *more], room, stdin)
                 holds = stand(room) == [left, left] and (room / "pages.csv").read_bytes() == TONE
-                tally.check_done(f"plan {files} --limit {limit} {always}", done, status, b"", told, holds)
+                tally.check_done(f"plan {files} --limit {limit} {more}", done, status, b"", told, holds)
     done = run(["plan", "apart.csv", "tx.bin", "cert.bin", "--limit", "3"], room)
     tally.check_done("a limit that the round does not reach", done, 0, b"pages 2\nbatches 3\n")
     put(room, None)
@@ -159,13 +159,13 @@ def try_reports(tally, folder):
         ("bad.csv", "512", "0", 1, BAD_RECORD),
         ("bad.csv", "9", "1", 1, BAD_RECORD),
         ("pages.csv", "9", "0", 1, BAD_LIMIT),
-        ("pages.csv", "512", "1000001", 1, BAD_LIMIT),
+        *(("pages.csv", "512", limit, 1, BAD_LIMIT) for limit in ("0", "1000001", "4294967295")),
         ("apart.csv", "9", "1", 1, STOPPED),
         ("apart.csv", "512", "2", 1, STOPPED),
-        ("apart.csv", "9", "3", 1, BAD_RATE),
+        *(("apart.csv", rate, "3", 1, BAD_RATE) for rate in ("9", "0", "511", "1201", "4294967295")),
     ]
     for pages, rate, limit, status, told in cases:
-        for more in ([], ["--frames"], ["--end", "closed"]):
+        for more in ([], ["--frames"], ["--end", "closed"], ["--idle-last", "--frames"]):
             done = run(["report", pages, "--rate", rate, "--limit", limit, *more], room)
             tally.check_done(f"report {pages} at {rate} to {limit} {more}", done, status, b"", told)
 

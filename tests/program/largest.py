@@ -1,22 +1,18 @@
-#!/usr/bin/env python3
 """Each command with each option at the largest size that its limits allow, and at one between: contracts cannot exclude that a
 call gives up for want of memory above some size. `tests/calls/largest.txt` says which of these runs is the largest of each call.
 All numbers are worked by hand, and transmissions are made by `forms.py`."""
 
 import pathlib
 import subprocess
-import sys
 import tempfile
 
-sys.dont_write_bytecode = True
-sys.path[:0] = [str(pathlib.Path(__file__).resolve().parents[1] / it) for it in ("program", ".", "calls", "certificates", "../tools")]
 import checker
 import sizes
 import trees
 import worked
 from codewords import HEADER, IDLE, LARGEST, PREAMBLE, SYNC, TONE, address_word, codeword, items_of, letters, sent
 from forms import due_of
-from tally import MEMORY, brief, fault, run, run_all
+from tally import MEMORY, brief, fault, run
 
 PAGES = 20_000
 READ_ONLY = ["open", "--journal", "journal", "--read-only"]
@@ -364,7 +360,3 @@ def try_journals(tally, folder):
 def try_table(tally, _):
     missing = sizes.runs_of("tests/program/largest.py") - tally.names
     tally.check("each run that tests/calls/largest.txt names was made", not missing, missing)
-
-
-if __name__ == "__main__":
-    sys.exit(run_all())

@@ -1,19 +1,14 @@
-#!/usr/bin/env python3
 """Drives `pocsag open` over pipes as a paging centre's script does: each answer is awaited before the next
 line is sent, and edits by the thousand are compared with a list that is kept here."""
 
 import collections
 import os
-import pathlib
 import random
 import re
-import sys
 
-sys.dont_write_bytecode = True
-sys.path.insert(0, str(pathlib.Path(__file__).resolve().parents[1]))
 from codewords import HEADER
 from sessions import Session, edited, listing
-from tally import TOP, fault, room_in, run, run_all
+from tally import TOP, fault, room_in, run
 from worked import HARD, shaped
 
 PAGE = TOP / "docs/OPEN_ROUND.md"
@@ -289,7 +284,3 @@ def try_demands(tally, folder):
             (room / "round.journal").unlink(missing_ok=True)
     for words in (["--strict"], ["--expect", "2"], ["--journal", "j", "--strict"], ["--journal", "j", "--read-only", "--expect", "2"]):
         tally.check_usage(f"no PAGES {words}", run(["open", *words], room), also=os.listdir(room) == ["pages.csv"])
-
-
-if __name__ == "__main__":
-    sys.exit(run_all())

@@ -6,7 +6,8 @@ import random
 
 import tally as shared
 from codewords import in_order
-from tally import BAD_LIMIT, BAD_RATE, fault, module_at, sampled
+from tally import TOP, fault, sampled
+from workspace import module_at
 
 ENDS = ([], ["--end", "open"], ["--end", "closed"], ["--end=closed"], ["--idle-last"], ["--end", "idle"])
 LIMITS = ([], ["--limit", "100000"], ["--limit=1000000"], ["--limit", "1"])
@@ -23,7 +24,7 @@ def run(words, folder, stdin=b""):
     return done
 
 
-FEWEST = module_at("fewest", "tests/fewest/run.py")  # has the brute force
+FEWEST = module_at("fewest", TOP / "tests/fewest/run.py")  # has the brute force
 # Rounds as pages (address, message codewords): where the ends differ, where the least is one below the fewest, where
 # no search is needed; and some at random.
 ROUNDS = [
@@ -143,17 +144,3 @@ def try_input_options(tally, folder):
         due = Due(pages, "open")
         told = b"pages %d\nbatches %d\n" % (len(pages), due.fewest)
         tally.check_done(f"no words {verbose}", run(verbose, folder, due.text), 0, told)
-
-
-def try_bad_numbers(tally, folder):
-    """Rates and limits that are none, beside each other option: status 1, and nothing told."""
-    (folder / "pages.csv").write_bytes(Due(ROUNDS[0], "open").text)
-    for end, always, verbose in combinations(ENDS, ([], ["--always"]), VERBOSE):
-        always = always + verbose
-        for rate in ("0", "511", "1201", "4294967295"):
-            done = run(["report", "pages.csv", "--rate", rate, *end, *always], folder)
-            tally.check_done(f"rate {rate} {end} {always}", done, 1, b"", BAD_RATE)
-        for limit in ("0", "1000001", "4294967295"):
-            for words in (["report", "pages.csv", "--rate", "512"], ["plan", "pages.csv", "tx.bin", "cert.bin"]):
-                done = run([*words, "--limit", limit, *end, *always], folder)
-                tally.check_done(f"{words[0]} with limit {limit} {end} {always}", done, 1, b"", BAD_LIMIT)

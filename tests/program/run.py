@@ -1,13 +1,8 @@
-#!/usr/bin/env python3
 """Runs the compiled program on real files as a user would: what it prints, its status, its files."""
 
 import itertools
 import os
-import pathlib
-import sys
 
-sys.dont_write_bytecode = True
-sys.path[:0] = [str(pathlib.Path(__file__).resolve().parents[at]) for at in (0, 1)]
 import doors
 import edges
 import forms
@@ -16,9 +11,10 @@ import options
 import usage
 import verbose
 from codewords import HEADER, HEADS, IDLE, ONES as MESSAGE, TONE, ZERO, flipped, transmission
-from tally import BAD_RATE, CANNOT_OPEN, CANNOT_WRITE, ENDS, NAMED_TWICE, PLAN, TOO_LARGE, fault, make_huge, run, run_all, sampled
+from tally import BAD_RATE, CANNOT_OPEN, CANNOT_WRITE, ENDS, NAMED_TWICE, PLAN, TOO_LARGE, fault, make_huge, run, sampled
 from worked import BOTH_WAYS, EXACT, HARD, LONE_TONE, LONG_ALPHA, LOOP_APART, ONE_FULL, TIGHT, of_ones, shaped
 
+PARTS_OF = (usage, doors, edges, forms, fronts, options, verbose)
 # What `check` prints of a certificate for each end.
 TOLD = {"open": "", "closed": " with a closed end", "idle": " with an idle last"}
 
@@ -223,7 +219,3 @@ def try_receivers(tally, folder):
         tally.check_done(f"hear {name}", run(["hear", address, "tx.bin"], folder), *due)
     for words in (["decode", "none.bin"], ["hear", "8", "none.bin"], ["decode", "folder"]):
         tally.check_done(f"missing file {words}", run(words, folder), 3, b"", CANNOT_OPEN)
-
-
-if __name__ == "__main__":
-    sys.exit(run_all(usage, doors, edges, forms, fronts, options, verbose))

@@ -1,28 +1,21 @@
-#!/usr/bin/env python3
 """Runs the program and the C library for ARM64 under qemu-user, beside those for x86-64 and by the scripts of this repository.
 
 Where the cross compiler of Debian or qemu-user is missing, it is left out.
 """
 
-import pathlib
-import random
 import re
 import shutil
 import subprocess
 import sys
 
-sys.dont_write_bytecode = True
-TOP = pathlib.Path(__file__).resolve().parents[2]
-sys.path[:0] = [str(TOP / it) for it in ("tests", "release", "tools", "clib")]
+import hosts
 import lanes
 import make
 import products
-from codewords import random_file
-from tally import PROGRAM, files_of, put_script, room_in, run_parts, said, skipped
+from tally import TOP, put_script, said
 
 EMULATORS = {products.ARM: "qemu-aarch64", products.ARMHF: "qemu-arm"}
-SCRIPTS = ("tests/program/run.py", "tests/program/open.py", "tests/journal/run.py", "tests/sound/run.py", "tests/vectors/run.py")
-ROUNDS = 10
+SCRIPTS = ("program/run", "program/open", "journal/run", "sound/run", "vectors/run")
 
 
 def why_not(processor=products.ARM):
@@ -41,31 +34,12 @@ def emulated(folder, name, program, processor=products.ARM):
     return put_script(folder / name, f'#!/bin/sh\nexec {EMULATORS[processor]} -L /usr/{processor.triple} "{program}" "$@"\n')
 
 
-# What is run of each round, one command after the other in one folder.
-COMMANDS = [
-    ["plan", "p.csv", "t.bin", "c.cert"], ["plan", "p.csv", "idle.bin", "idle.cert", "--idle-last", "--always"], ["check", "p.csv", "c.cert"],
-    ["explain", "p.csv", "c.cert", "--json"], ["decode", "t.bin"], ["decode", "t.bin", "--json"], ["decode", "t.bin", "--text", "0,3"],
-    ["decode", "t.bin", "--capture"], ["show", "t.bin"], ["show", "t.bin", "--svg"], ["hear", "8", "t.bin"], ["wav", "t.bin", "--rate", "1200"],
-    ["report", "p.csv", "--rate", "512"], ["check", "p.csv", "t.bin"], ["plan", "none", "t", "c", "--verbose"],
-]
-
-
-def answers(program, folder, file):
-    """All that the commands print and write of a round."""
-    shutil.rmtree(folder, ignore_errors=True)
-    room_in(folder.parent, folder.name, {"p.csv": file})
-    found = [(words, said(subprocess.run([str(program), *words], cwd=folder, capture_output=True, timeout=300))) for words in COMMANDS]
-    return found + sorted(files_of(folder).items())
-
-
 def try_beside(tally, folder, program):
-    """Of each round both programs print and write the same bytes."""
-    chance = random.Random(64)
-    files = [path.read_bytes() for path in sorted((TOP / "examples").glob("*.csv"))]
-    files += [random_file(chance, chance.choice([1, 2, 6, 30, 300])) for _ in range(ROUNDS)]
-    for number, file in enumerate(files):
-        ours, theirs = answers(PROGRAM, folder / "native", file), answers(program, folder / "other", file)
-        tally.check(f"round {number} as on x86-64", ours == theirs, [pair for pair in zip(ours, theirs) if pair[0] != pair[1]][:1])
+    """The commands of each host, beside the native program."""
+    run = lambda words, room, stdin: said(subprocess.run([str(program), *words], cwd=room, input=stdin, capture_output=True, timeout=300))
+    files = hosts.first_files(folder)
+    for words, stdin in hosts.commands(files):
+        hosts.check_same(tally, folder, run, files, words, stdin)
 
 
 def try_library(tally, folder, archive, memory):
@@ -82,7 +56,7 @@ def try_library(tally, folder, archive, memory):
 
 def try_scripts(tally, program, scripts):
     """The scripts that run the program, with this one, each with one in so many of its cases."""
-    words = lambda script, one_in: ["env", f"POCSAG_PROGRAM={program}", f"POCSAG_ONE_IN={one_in}", sys.executable, script]
+    words = lambda script, one_in: ["env", f"POCSAG_PROGRAM={program}", f"POCSAG_ONE_IN={one_in}", sys.executable, "tests", script]
     for it in lanes.Lanes([lanes.Task(script, words(script, one_in), TOP) for script, one_in in scripts.items()]).run():
         counts = re.findall(r"^(\d+) passed, (\d+) failed$", it.text, re.M)
         passed, failed = map(int, counts[-1]) if counts else (0, 1)
@@ -92,14 +66,11 @@ def try_scripts(tally, program, scripts):
         tally.check(f"{it.name} ended well", not it.status)
 
 
-def try_arm64(tally, folder):
-    folder.chmod(0o755)
+def try_all(tally, folder):
+    if why_not():
+        return tally.skip(why_not())
     linked, archive, memory = products.built_for_arm(folder)
     program = emulated(folder, "pocsag", linked)
     try_beside(tally, folder, program)
     try_library(tally, folder, archive, memory)
     try_scripts(tally, program, dict.fromkeys(SCRIPTS, 101))
-
-
-if __name__ == "__main__":
-    sys.exit(skipped(why_not()) if why_not() else run_parts(try_arm64))

@@ -16,8 +16,8 @@ BUILT = ("crates/pocsag_app/out/pocsag_app", "crates/pocsag_c/out/libpocsag_c.a"
 NATIVE_ALONE = """
 import sys
 sys.dont_write_bytecode = True
-sys.path.insert(0, "tests")
-from tally import module_at
+sys.path.insert(0, "tools")
+from workspace import module_at
 module = module_at("release_make", "release/make")
 module.contents.page = lambda: None
 module.contents.groups = lambda page=None, groups=module.contents.groups: [it for it in groups(page) if it[0] == module.products.NATIVE.name]
@@ -85,9 +85,9 @@ class User:
             elif shutil.which(name):
                 (self.commands / name).symlink_to(os.path.realpath(shutil.which(name)))
 
-    def run(self, *words, folder=None, script=None, **environment):
+    def run(self, *words, **environment):
         """Runs ./pocsag; gives its status and what it printed on both streams."""
-        command = [str(script or self.copy.top / "pocsag"), *map(str, words)]
-        how = {"cwd": folder or self.copy.top, "env": {"PATH": str(self.commands), **environment}, "capture_output": True, "timeout": 60}
+        command = [str(self.copy.top / "pocsag"), *map(str, words)]
+        how = {"cwd": self.copy.top, "env": {"PATH": str(self.commands), **environment}, "capture_output": True, "timeout": 60}
         done = subprocess.run(command, stdin=subprocess.DEVNULL, **how)
         return done.returncode, done.stdout.decode("latin-1"), done.stderr.decode("latin-1")

@@ -1,4 +1,3 @@
-#!/usr/bin/env python3
 """Packs what is built here, forges and spoils the packages, and has them used by those who have no toolchain.
 
 Without the toolchain it takes the release that is there. Where `lintian`, `dpkg-deb` or `pip` is missing, that part is
@@ -10,21 +9,18 @@ import email
 import hashlib
 import lzma
 import os
-import pathlib
 import re
 import shutil
 import subprocess
 import sys
 import time
 
-sys.dont_write_bytecode = True
-TOP = pathlib.Path(__file__).resolve().parents[2]
-sys.path[:0] = [str(TOP / it) for it in ("tests/release", "tests", "release", "clib", "tools")]
 import packages
 import version
 from copies import Copy, User
 from packages import File
-from tally import LIBRARY, module_at, put_script, run_parts
+from tally import LIBRARY, TOP, put_script
+from workspace import module_at
 
 ENDINGS = (".tar.xz", ".deb", ".whl")
 WORDS = ("plan", "examples/round.csv", "round.bin", "round.cert")
@@ -239,11 +235,6 @@ def try_later_calls(tally, copy):
     path.with_suffix(".away").rename(path)
     os.utime(copy.top / "crates/pocsag_words/src/lib.rt")
     tally.check("another time of a source changes nothing", user.run(*WORDS) == (0, PLANNED, "") and program.stat().st_ino == inode)
-    elsewhere = copy.top.parent / "elsewhere"
-    elsewhere.mkdir()
-    (elsewhere / "link").symlink_to(copy.top / "pocsag")
-    words = ("check", copy.top / "examples/round.csv", copy.top / "round.cert")
-    tally.check("by a link, from another folder", user.run(*words, folder=elsewhere, script=elsewhere / "link") == (0, "at least 2 batches\n", ""))
     due = f"pocsag {version.VERSION}, proved by "
     for option in ("--version", "-V"):
         status, out, err = user.run(option)
@@ -468,5 +459,6 @@ def try_release(tally, folder):
         part(tally, copy, folder)
 
 
-if __name__ == "__main__":
-    sys.exit(run_parts(try_versions, try_kinds, try_release))
+def try_all(tally, folder):
+    for part in (try_versions, try_kinds, try_release):
+        part(tally, folder)

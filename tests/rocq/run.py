@@ -1,4 +1,3 @@
-#!/usr/bin/env python3
 """Builds the checker of rocq/ and runs it: the vectors, plans of the product and changed ones, page files and certificates
 of every sort, a plan in Coq's kernel, and wrong rules, which no longer prove.
 
@@ -6,19 +5,15 @@ Where Coq is not installed it says so and passes.
 """
 
 import csv
-import pathlib
 import random
 import re
 import shutil
-import sys
 
-sys.dont_write_bytecode = True
-sys.path[:0] = [str(pathlib.Path(__file__).resolve().parents[1] / it) for it in (".", "certificates")]
 from checker import CLOSED_END, IDLE_END, OPEN_END, TOLD
 from codewords import IDLE, PREAMBLE, SYNC, codewords_of, pages_in, transmission
 from pairs import of_bytes, of_files, of_trees
 from rounds import HEADER, message_of, page_file, small_pages
-from tally import ENDS, PROGRAM, TOP, call, run_parts, said, skipped
+from tally import ENDS, PROGRAM, TOP, call, said
 
 PLANS = 500
 PAIRS = 1_000
@@ -266,13 +261,10 @@ def try_rules(tally, copy, top):
 
 
 def try_all(tally, folder):
+    missing = [it for it in NEEDED if not shutil.which(it)]
+    if missing:
+        return tally.skip(f"not installed: {' '.join(missing)} (on Debian: apt-get install coq ocaml-findlib)")
     copy = Copy(folder)
     if build(tally, copy):
         for part in (try_theorems, try_words, try_vectors, try_large, try_plans, try_pairs, try_kernel, try_rules):
             part(tally, copy, folder)
-
-
-if __name__ == "__main__":
-    missing = [it for it in NEEDED if not shutil.which(it)]
-    why = f"not installed: {' '.join(missing)} (on Debian: apt-get install coq ocaml-findlib)"
-    sys.exit(skipped(why) if missing else run_parts(try_all))

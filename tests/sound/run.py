@@ -1,21 +1,16 @@
-#!/usr/bin/env python3
 """Runs `wav` of the compiled program: its header and each of its samples, beside those that are worked out here from the
 bits; every option with every other; what it refuses; pipes; and writes that fail."""
 
 import io
 import itertools
-import pathlib
 import random
 import struct
 import subprocess
-import sys
 import wave
 
-sys.dont_write_bytecode = True
-sys.path.insert(0, str(pathlib.Path(__file__).resolve().parents[1]))
 import tally as shared
 from codewords import HEADER, SYNC, TONE, transmission
-from tally import BAD_RATE, CANNOT_WRITE, ENDS, PROGRAM, fault, run_parts, sampled, with_most_bytes
+from tally import BAD_RATE, CANNOT_WRITE, ENDS, PROGRAM, fault, sampled, with_most_bytes
 
 RATES = (512, 1200, 2400)
 SAMPLES = (2_400, 8_000, 22_050, 44_100, 48_000, 96_000, 192_000)
@@ -158,7 +153,3 @@ def try_failing_writes(tally, folder):
             done = run(["tx.bin"], folder, stdout=out, **with_most_bytes(size))
         due = (0, None) if size == len(whole) else (3, None, CANNOT_WRITE)
         tally.check_done(f"a disk of {size} bytes", done, *due, also=(folder / "out.wav").read_bytes() == whole[:size])
-
-
-if __name__ == "__main__":
-    sys.exit(run_parts(try_by_hand, try_rounds, try_options, try_numbers, try_lengths, try_pipes, try_failing_writes))

@@ -1,4 +1,3 @@
-#!/usr/bin/env python3
 """Runs `check`, `explain` and `decode` of the compiled program, and the second checker, over the vectors of vectors/.
 
 What is due stands in vectors/table.csv, worked out by hand.
@@ -6,20 +5,16 @@ What is due stands in vectors/table.csv, worked out by hand.
 
 import csv
 import hashlib
-import pathlib
-import sys
 
-sys.dont_write_bytecode = True
-TOP = pathlib.Path(__file__).resolve().parents[2]
-VECTORS = TOP / "vectors"
-sys.path[:0] = [str(TOP / "tests"), str(TOP / "tests/certificates"), str(VECTORS)]
 import checker
-import make
 from codewords import IDLE, rows_of
-from tally import put, run as tally_run, run_parts, sampled
+from tally import TOP, put, run as tally_run, sampled
+from workspace import module_at
 
+VECTORS = TOP / "vectors"
+make = module_at("vectors", VECTORS / "make.py")
 FAULT = "pocsag: "
-PAGES = "772c6dd34c2dfd0305b3c8770f9074d0cf62698fdb1d26c872fcd89746a0701e"  # the names and the bytes of vectors/pages
+PAGES = "5cd5d2ed96e0127b326424b54562b3d8afaaf337dd0864055bdbb93a28cdd3b6"  # the names and the bytes of vectors/pages
 TOLD = ("refused", "no certificate")  # the answers of the second checker where the product prints a fault
 
 
@@ -92,5 +87,6 @@ def try_transmissions(tally, folder):
             tally.check_same(f"{' '.join(words)}: {row['name']}", run(folder, *words, row["tx"]), (1, row["sent"]))
 
 
-if __name__ == "__main__":
-    sys.exit(run_parts(try_files, try_verdicts, try_transmissions))
+def try_all(tally, folder):
+    for part in (try_files, try_verdicts, try_transmissions):
+        part(tally, folder)

@@ -18,7 +18,7 @@ from tally import as_nobody, at_terminal, fault, faulty, files_of, put, put_scri
 TONE = HEADER + b"8,tone0,\n"
 OLD = {"pages.csv": TONE, "tx.bin": b"older", "cert.bin": b"older too"}
 # Scripts of the program that run over Node, with one of so many of their cases.
-SCRIPTS = {"tests/program/run.py": 41, "tests/capture/run.py": 41}
+SCRIPTS = {"program/run": 41, "capture/run": 41}
 # Places where Wine tells another fault, and journals, of which Node has none.
 LINES = [
     "plan round.csv a.bin '' --keep --verbose",
@@ -63,12 +63,11 @@ def try_beside(tally, room, node):
     runs = [*hosts.commands(files, *LINES)]
     found = list(in_memory(node, runs, files))
     for k, (words, stdin) in enumerate(runs):
-        folders = [put(room / f"{name} {k}", files) for name in ("native", "node")]
-        due = native(words, folders[0], stdin), files_of(folders[0])
+        folder = put(room / f"native {k}", files)
+        due = native(words, folder, stdin), files_of(folder)
         tally.check(f"in memory {words}", found[k : k + 1] == [due], (found[k : k + 1], due))
         if "--journal" not in words:
-            told = node.run(words, folders[1], stdin), files_of(folders[1])
-            tally.check(f"in Node {words}", told == due, (told, due))
+            hosts.check_same(tally, room, node.run, files, words, stdin)
 
 
 def try_locks(tally, room, node):
@@ -167,7 +166,6 @@ def try_limits(tally, room, node):
 
 def try_hosts(tally, room, made, path):
     room.mkdir()
-    room.parent.chmod(0o755)
     node = Node(room, made, path)
     for part in (try_beside, try_locks, try_way_back, try_streams, try_limits):
         part(tally, room, node)

@@ -1,4 +1,3 @@
-#!/usr/bin/env python3
 """Tries the WebAssembly modules, the ES modules over them, the program in Node, and the page in Chromium and in Firefox.
 
 It makes them twice, in two folders; makes the same calls of the module and of the native library, with random rounds, changed
@@ -18,14 +17,13 @@ import shutil
 import sys
 import tarfile
 
-sys.dont_write_bytecode = True
-HERE = pathlib.Path(__file__).resolve().parent
-sys.path[:0] = [str(HERE.parent / it) for it in ("web", ".", "release", "../release", "../tools")]
 import host
 import package
 from codewords import HEADER, changed, random_file
-from tally import LIBRARY, PROGRAM, TOP, call as run, module_at, run_parts
+from tally import LIBRARY, PROGRAM, TOP, call as run
+from workspace import module_at
 
+HERE = pathlib.Path(__file__).resolve().parent
 ROUNDS, PER_BATCH = 2_000, 500
 NODE, CHROMIUM, FIREFOX = shutil.which("node"), shutil.which("chromium"), shutil.which("firefox-esr") or shutil.which("firefox")
 SIZES = {"plan": 48, "front": 56, "check": 32, "report": 72, "frames": 224, "place": 24, "number": 4}
@@ -135,9 +133,9 @@ class Made:
     """What the tests share: the native library and the module, made in folders of their own, and the scripts of other tests."""
 
     def __init__(self, room):
-        self.library = module_at("library_tests", "tests/library/run.py")
-        self.web = module_at("web_make", "web/make.py")
-        self.program = module_at("program_tests", "tests/program/run.py")
+        self.library = module_at("library_tests", TOP / "tests/library/run.py")
+        self.web = module_at("web_make", TOP / "web/make.py")
+        self.program = module_at("program_tests", TOP / "tests/program/run.py")
         (room / "native").mkdir()
         if LIBRARY:
             shutil.copytree(pathlib.Path(LIBRARY) / "lib", room / "native", dirs_exist_ok=True)
@@ -270,14 +268,12 @@ def billed(part, *given):
     print(f"{part.__name__}: {sum(os.times()[:4]) - sum(before[:4]):.0f} s of processors", flush=True)
 
 
-def main(tally, room):
+def try_all(tally, room):
     makers = [] if LIBRARY else [(name, shutil.which(name)) for name in ("rt", "wasm-opt")]
     has_node = NODE and int(re.match(rb"v(\d+)", run(NODE, "--version").stdout)[1]) >= 20
     missing = [name for name, found in [("node 20", has_node), *makers] if not found]
     if missing:
-        print(f"skipped: {' and '.join(missing)} missing in PATH")
-        tally.check("nothing to try", True)
-        return
+        return tally.skip(f"{' and '.join(missing)} missing in PATH")
     made = Made(room)
     for part in (take_released if LIBRARY else try_made, try_rounds, try_large, try_node):
         billed(part, tally, made)
@@ -288,7 +284,3 @@ def main(tally, room):
             billed(try_page, tally, made, name, browser, least)
         else:
             print(f"skipped: the page, since {what} is missing in PATH")
-
-
-if __name__ == "__main__":
-    sys.exit(run_parts(main))

@@ -1,4 +1,3 @@
-#!/usr/bin/env python3
 """Lists each word of specs/ that a public clause cites, and wants a comment above its definition, which tools/definitions.py
 prints; and wants each word of specs/ to have one meaning: no name is given in two modules. Of the code it wants that no two
 crates give a name to two things, a module aside, but for the names of twice.txt, which says of each why; that each line of
@@ -11,15 +10,12 @@ on.
 
 import pathlib
 import re
-import sys
 
-sys.dont_write_bytecode = True
-sys.path[:0] = [str(pathlib.Path(__file__).resolve().parents[1] / it) for it in (".", "calls", "../tools")]
 import definitions
 import workspace
 from sizes import Source
 from sources import texts_of
-from tally import TOP, run_parts
+from tally import TOP
 
 IMPORT = re.compile(r"ghost use Rattle\.(pocsag_\w+)\.specs\.([\w.]+)\.\{([^}]*)\};")
 MODULE_IMPORT = re.compile(r"ghost use Rattle\.(pocsag_\w+)\.specs\.([\w.]+) as (\w+);")
@@ -51,7 +47,7 @@ def imports(text):
     return words
 
 
-def check_meanings(tally, _):
+def try_meanings(tally, _):
     """Wants each name that is given in specs/ to be given in one module alone."""
     givers = {}
     for file in sorted(TOP.glob("crates/*/specs/*.antt")):
@@ -70,7 +66,7 @@ def sources():
                 yield crate.name, file
 
 
-def check_items(tally, _):
+def try_items(tally, _):
     """Wants each name that the code of two crates gives to an item to stand in twice.txt, and no other to stand there."""
     givers = {}
     for crate, file in sources():
@@ -87,7 +83,7 @@ def check_items(tally, _):
             print(f"{name} of twice.txt is given once: its line may go")
 
 
-def check_files(tally, _):
+def try_files(tally, _):
     """Wants `thiserror` to derive each type whose name ends in `Fault`, and none of them to be told by hand; each fault and each
     of its variants to have a row in a table of texts, a `fault_texts.rt` of the tests; and each line of a clause to end at the
     last column."""
@@ -110,25 +106,22 @@ def check_files(tally, _):
         tally.check(f"clauses of {crate} {file.name}", not there, f"end behind column {LAST_COLUMN} at the lines {there}")
 
 
-def check_libraries(tally, _):
-    """Wants each crate that crates.txt gives one of the libraries to use it."""
-    for line in (TOP / "crates.txt").read_text().split("\n"):
-        crate, _, needed = line.partition(":")
-        for library in LIBRARIES & set(needed.split()):
-            crate = crate.split()[0]
+def try_libraries(tally, _):
+    """Wants each library that was chosen for the product in crates.txt, and each crate that has it there to use it."""
+    rows = [line.partition(":") for line in (TOP / "crates.txt").read_text().split("\n")]
+    for library in sorted(LIBRARIES):
+        crates = [crate.split()[0] for crate, _, needed in rows if library in needed.split()]
+        tally.check(f"library {library}", crates, "no crate has it")
+        for crate in crates:
             used = any(re.search(rf"\b{library}::|ghost use Rattle\.{library}\.", file.read_text()) for file in (TOP / "crates" / crate / "src").rglob("*.rt"))
             tally.check(f"{library} in {crate}", used, "stands in crates.txt alone")
 
 
-def check_reader(tally, _):
-    """Wants `csv::Reader` to read what `pocsag_pages` reads, and code to use each library that was chosen for the product."""
-    texts = [(crate, file.read_text()) for crate, file in sources()]
-    of_pages = "".join(text for crate, text in texts if crate == "pocsag_pages")
+def try_reader(tally, _):
+    """Wants `csv::Reader` to read what `pocsag_pages` reads."""
+    of_pages = "".join(file.read_text() for crate, file in sources() if crate == "pocsag_pages")
     reads = re.search(r"^use csv::\{[^}]*\bReader\b", of_pages, re.MULTILINE) and ".read_byte_record(" in of_pages
     tally.check("reader of pocsag_pages", reads, "no `csv::Reader` reads records there")
-    for library in sorted(LIBRARIES):
-        used = any(re.search(rf"^use {library}::", text, re.MULTILINE) for _, text in texts)
-        tally.check(f"library {library}", used, "no code uses it")
 
 
 def in_clause(lines, place):
@@ -153,7 +146,7 @@ def wanted_words():
     return wanted
 
 
-def check_comments(tally, _):
+def try_comments(tally, _):
     """Wants a comment above each word that a public clause cites, which tools/definitions.py prints."""
     wanted, told = wanted_words(), set(definitions.told())
     for word, cited in sorted(wanted.items()):
@@ -162,7 +155,3 @@ def check_comments(tally, _):
     for crate in sorted({word[0] for word in given}):
         text = definitions.section(crates[crate], given)
         tally.check(f"what tools/definitions.py prints of {crate}", all(f"`{name}`" in text for place, _, name in given if place == crate), text)
-
-
-if __name__ == "__main__":
-    sys.exit(run_parts(check_meanings, check_items, check_files, check_libraries, check_reader, check_comments))

@@ -1,19 +1,14 @@
-#!/usr/bin/env python3
 """Tries the script that tries wrong bodies.
 
-  selftest.py             without the prover: each wrong body can be planted; a body that spoils its round is found; what was refused
-                          is kept until what its verdict rests on changes; contracts are narrowed, and other bodies emptied
-  selftest.py --prover    with the prover: among wrong bodies of pocsag_text stand a body that is right, one that does not
-                          compile and one that only no longer fits its proof file, and are reported by name
+  selftest             without the prover: each wrong body can be planted; a body that spoils its round is found; what was refused
+                       is kept until what its verdict rests on changes; contracts are narrowed, and other bodies emptied
+  selftest --prover    with the prover: among wrong bodies of pocsag_text stand a body that is right, one that does not
+                       compile and one that only no longer fits its proof file, and are reported by name
 """
 
 import pathlib
 import re
-import sys
 
-sys.dont_write_bytecode = True
-HERE = pathlib.Path(__file__).resolve().parent
-sys.path[:0] = [str(HERE), str(HERE.parent)]
 import run
 from basis import Basis
 from edits import Edit, given, narrowed, read_edits
@@ -23,6 +18,7 @@ from sources import all_functions, functions_of, texts_of
 from tally import put, run_parts, samples
 from workspace import below, read_crates
 
+HERE = pathlib.Path(__file__).resolve().parent
 CRATE = "pocsag_text"
 RENAMED = [("let mut len = text.len();", "let mut left = text.len();"), ("while len > 0 {", "while left > 0 {"),
            ("text[len - 1] != unwanted", "text[left - 1] != unwanted"), ("return len;", "return left;"),
@@ -241,6 +237,6 @@ def test_copies(tally, _):
     tally.check("and no answers", "proofs/top/Answers.antt" not in texts, [*texts])
 
 
-if __name__ == "__main__":
-    parts = [test_rounds] if "--prover" in sys.argv else [test_fit, test_clauses, test_narrowing, test_copies, test_halving, test_sums, test_kept]
-    sys.exit(run_parts(*parts))
+def main(words):
+    parts = [test_rounds] if words == ["--prover"] else [test_fit, test_clauses, test_narrowing, test_copies, test_halving, test_sums, test_kept]
+    return run_parts(*parts)

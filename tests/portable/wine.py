@@ -1,4 +1,3 @@
-#!/usr/bin/env python3
 """Runs the program for Windows under Wine: beside the native program with the same words and files, and in cases of its host.
 
 Texts, statuses and the bytes of all files are compared. The program is made over the proofs that stand; without the toolchain
@@ -11,22 +10,19 @@ import pathlib
 import random
 import shutil
 import subprocess
-import sys
 import time
 
-sys.dont_write_bytecode = True
-TOP = pathlib.Path(__file__).resolve().parents[2]
-sys.path[:0] = [str(TOP / it) for it in ("tests", "tests/program", "portable", "release", "tools")]
 import hosts
 import packages
-import run as program
 import version
-import windows
 from codewords import APART, HEADER
-from hosts import ROUND, native
-from tally import CANNOT_OPEN, CANNOT_WRITE, ENDS, LIBRARY, NAMED_TWICE, NO_OWNER
-from tally import fault, files_of, own_disk, put, run_parts, skipped
+from hosts import ROUND, check_same, native
+from tally import CANNOT_OPEN, CANNOT_WRITE, ENDS, LIBRARY, NAMED_TWICE, NO_OWNER, TOP
+from tally import fault, files_of, own_disk, put
+from workspace import module_at
 
+program = module_at("program_tests", TOP / "tests/program/run.py")
+windows = module_at("windows", TOP / "portable/windows.py")
 TOOLS = {"wine": "wine", "wineserver": "wine", "wasm2c": "wabt", "wat2wasm": "wabt", windows.COMPILER: "gcc-mingw-w64-x86-64"}  # with Debian's packages
 STREAMS = ("stdin", "stdout", "stderr")
 PLANNED = (0, b"pages 6\nbatches 2\n", b"")  # what a plan of ROUND prints
@@ -77,17 +73,6 @@ def begin(folder, files):
     return put(folder, files)
 
 
-def try_same(tally, room, wine, files, words, stdin=b""):
-    """Whether the program for Windows and the native one do the same, each in a folder with the same files."""
-    found = []
-    for name, run in (("native", native), ("windows", wine.run)):
-        begin(room / name, files)
-        found.append((run(words, room / name, stdin), files_of(room / name)))
-    (told, left), (due, wanted) = found
-    wrong = [name for name in left.keys() | wanted.keys() if left.get(name) != wanted.get(name)]
-    tally.check(f"as the native program: {words} {stdin[:40]}", found[0] == found[1], str((told, due, wrong))[:2000])
-
-
 # Devices that Wine has from the system, and journals that are not written.
 LINES = [
     "plan round.csv /dev/null a.cert",
@@ -101,16 +86,16 @@ def try_beside(tally, room, wine):
     """A sample of the cases of the native program's own tests."""
     files = hosts.first_files(room) | {"old.journal": b"add,8,tone0,\nadd,16,tone1,\n"}
     for words, stdin in hosts.commands(files, *LINES):
-        try_same(tally, room, wine, files, words, stdin)
+        check_same(tally, room, wine.run, files, words, stdin)
 
 
 def try_rounds(tally, room, wine):
     """Some of the worked rounds, and of the page files that are refused."""
     words = ["plan", "pages.csv", "tx.bin", "cert.bin"]
     for name, end in itertools.islice(itertools.product(program.ROUNDS, ENDS), 0, None, 4):
-        try_same(tally, room, wine, {"pages.csv": HEADER + program.ROUNDS[name][0]}, [*words, *ENDS[end], "--verify"])
+        check_same(tally, room, wine.run, {"pages.csv": HEADER + program.ROUNDS[name][0]}, [*words, *ENDS[end], "--verify"])
     for name in list(program.REFUSED)[::3]:
-        try_same(tally, room, wine, {"pages.csv": program.REFUSED[name][0] or b""}, [*words, "--verbose"])
+        check_same(tally, room, wine.run, {"pages.csv": program.REFUSED[name][0] or b""}, [*words, "--verbose"])
 
 
 def try_names(tally, room, wine):
@@ -304,7 +289,11 @@ def try_traps(tally, room, wine):
         tally.check_same(f"trap {why}", ended(wine.start([], folder, exe=windows.PROGRAM), stdin), (3, b"", fault(why)))
 
 
-def try_windows(tally, room):
+def try_all(tally, room):
+    missing = [it for it in TOOLS if not shutil.which(it)]
+    if missing:
+        packages_of = " ".join(dict.fromkeys(TOOLS[it] for it in missing))
+        return tally.skip(f"missing in PATH: {' '.join(missing)}; on Debian: apt-get install {packages_of}")
     wine = Windows(room)
     try:
         for part in (try_beside, try_rounds, try_names, try_paths, try_journal, try_kept, try_left, try_killed, try_full, try_streams,
@@ -312,14 +301,3 @@ def try_windows(tally, room):
             part(tally, room, wine)
     finally:
         wine.end()
-
-
-def main():
-    missing = [it for it in TOOLS if not shutil.which(it)]
-    if missing:
-        return skipped(f"missing in PATH: {' '.join(missing)}; on Debian: apt-get install {' '.join(dict.fromkeys(TOOLS[it] for it in missing))}")
-    return run_parts(try_windows)
-
-
-if __name__ == "__main__":
-    sys.exit(main())
