@@ -14,8 +14,8 @@ from tally import TOP
 IMPORT = re.compile(r"^use ([\w.-]+)\.\{([^}]*)\}", re.MULTILINE)
 OPENING = re.compile(r"(?:pub )?(?:abbrev )?(?:pub )?([^\s(){}:]+) : (.*)")
 BLOCK = re.compile(r"(?:pub )?(module|mutual)\b")
-TOKEN = re.compile(r"[(){},;]|[^\s(){},;]+")
-CLOSED_BY = {"(": ")", "{": "}"}
+TOKEN = re.compile(r'"(?:\\.|[^"\\])*"|[(){},;]|[^\s(){},;]+')
+NAME = re.compile(r"[^\W\d][\w'-]*")
 
 
 def depth_of(line):
@@ -72,28 +72,24 @@ def aliases(text):
     return given
 
 
-def end_of_group(tokens, start):
-    """The place behind the bracket that closes the one at `start`."""
-    depth = 0
-    for place in range(start, len(tokens)):
-        depth += (tokens[place] in CLOSED_BY) - (tokens[place] in CLOSED_BY.values())
-        if depth == 0:
-            return place + 1
-    return len(tokens)
+def grouped(text):
+    """The words of a statement, each part in brackets as a list of its own."""
+    groups = [[]]
+    for token in TOKEN.findall(text):
+        if token in "({":
+            groups.append([])
+        elif token in ")}":
+            groups[-2].append(groups.pop())
+        else:
+            groups[-1].append(token)
+    return groups[0]
 
 
-def binder(tokens, start):
-    """The names and the type of the binder `(x y : T)` or `{x : T}` at `start`, with the place behind it."""
-    if start >= len(tokens) or tokens[start] not in CLOSED_BY:
-        return None
-    end = end_of_group(tokens, start)
-    inner = tokens[start + 1:end - 1]
-    count = 0
-    while count < len(inner) and re.fullmatch(r"[^\W\d][\w'-]*", inner[count]):
-        count += 1
-    if count == 0 or count >= len(inner) or inner[count] != ":":
-        return None
-    return inner[:count], inner[count + 1:], end
+def binder(item):
+    """The names and the type of a binder `(x y : T)` or `{x : T}`; none where it is no binder."""
+    place = item.index(":") if isinstance(item, list) and ":" in item else 0
+    names = item[:place]
+    return (names, item[place + 1:]) if place and all(isinstance(it, str) and NAME.fullmatch(it) for it in names) else None
 
 
 class Form:
@@ -103,25 +99,20 @@ class Form:
         self.given = given
         self.bound = 0
 
-    def of(self, tokens, known):
+    def of(self, items, known):
         """The form of a type, where `known` maps the variables in scope to their numbers."""
         written, place = [], 0
-        while place < len(tokens):
-            found = binder(tokens, place)
+        while place < len(items):
+            item, found, place = items[place], binder(items[place]), place + 1
             if found:
-                names, kind, place = found
-                known = self.bind(names, kind, known, written)
-                if place < len(tokens) and tokens[place] == "→":
-                    place += 1
-            elif tokens[place] == "λ" and "." in " ".join(tokens[place:]):
-                place, known = self.through_lambda(tokens, place + 1, known, written)
-            elif tokens[place] in CLOSED_BY:
-                end = end_of_group(tokens, place)
-                written += ["(", *self.of(tokens[place + 1:end - 1], known), ")"]
-                place = end
+                known = self.bind(*found, known, written)
+                place += items[place:place + 1] == ["→"]
+            elif item == "λ" and "." in str(items[place:]):
+                place, known = self.through_lambda(items, place, known, written)
+            elif isinstance(item, list):
+                written += ["(", *self.of(item, known), ")"]
             else:
-                written.append(self.word(tokens[place], known))
-                place += 1
+                written.append(self.word(item, known))
         return written
 
     def bind(self, names, kind, known, written):
@@ -133,18 +124,18 @@ class Form:
             self.bound += 1
         return known
 
-    def through_lambda(self, tokens, place, known, written):
-        """Writes the names that a λ binds."""
+    def through_lambda(self, items, place, known, written):
+        """Writes the names that a λ binds, up to its point."""
         written.append("λ")
-        while place < len(tokens):
-            found = binder(tokens, place)
-            names, place = (found[0], found[2]) if found else ([tokens[place].rstrip(".")], place + 1)
+        is_last = False
+        while place < len(items) and not is_last:
+            item, place = items[place], place + 1
+            names, _ = binder(item) or ([item.rstrip(".")], None)
             for name in names:
                 known = {**known, name: f"#{self.bound}"}
                 self.bound += 1
-            if tokens[place - 1].endswith(".") or place < len(tokens) and tokens[place] == ".":
-                place += place < len(tokens) and tokens[place] == "."
-                break
+            has_point = items[place:place + 1] == ["."]
+            is_last, place = has_point or item[-1:] == ".", place + has_point
         return place, known
 
     def word(self, token, known):
@@ -161,7 +152,7 @@ def lemmas(file):
     given = aliases(text)
     for name, statement in statements(text):
         # A premise is written the same whether it stood in brackets of its own or not.
-        form = re.sub(r"\( ([^()]*) \) →", r"\1 →", " ".join(Form(given).of(TOKEN.findall(statement), {})))
+        form = re.sub(r"\( ([^()]*) \) →", r"\1 →", " ".join(Form(given).of(grouped(statement), {})))
         # It says something of values: the type of a function or of a definition does not.
         speaks = re.search(r"#\d|[≡≤<≢⊎\[]|(?<!\S)[a-z_]", form) and not form.endswith("Type 0")
         if speaks and not statement.startswith("goal."):
