@@ -25,10 +25,9 @@ ENDS = {"open": ["--end", "open"], "closed": ["--end", "closed"], "idle": ["--id
 
 def run(words, folder=None, stdin=b"", before=(), **more):
     """A run of the program with these words in a folder, with bytes or a file as its input; behind other words, which start it."""
-    words = [*before, str(PROGRAM), *(str(it) if isinstance(it, int) else it for it in words)]
     given = {"input" if isinstance(stdin, bytes) else "stdin": stdin}
-    how = {"stdout": subprocess.PIPE, "stderr": subprocess.PIPE, "cwd": folder, "timeout": 300}
-    return subprocess.run(words, **(given | how | more))
+    how = {"stdout": subprocess.PIPE, "stderr": subprocess.PIPE, "cwd": folder, "capture_output": False, "timeout": 300}
+    return call(*before, PROGRAM, *words, **(given | how | more))
 
 
 def said(done):
@@ -46,6 +45,17 @@ def fault(text):
     return f"pocsag: {text}\n".encode()
 
 
+class Text:
+    """Is equal to each text for which this holds: what `check_done` is given where a text is not due to the letter."""
+
+    def __init__(self, holds):
+        self.holds = holds
+
+    def __eq__(self, text):
+        return bool(self.holds(text))
+
+
+ANY = Text(lambda _: True)
 # Faults that each command may tell.
 CANNOT_OPEN, CANNOT_WRITE, NAMED_TWICE = map(fault, ("cannot read or open a file", "cannot write", "the same file is named twice"))
 BAD_LIMIT, BAD_RATE = map(fault, ("the limit must be 1 to 1000000", "the rate must be 512, 1200 or 2400"))
@@ -103,6 +113,10 @@ class Tally:
         """Whether what was found is what is due."""
         self.check(name, found == due, (found, due))
 
+    def check_none(self, name, found):
+        """Whether nothing was found."""
+        self.check(name, not found, found)
+
     def check_done(self, name, done, status=0, out=b"", err=b"", also=True):
         """Whether a run ended with this status and printed this alone, and what else has to hold."""
         self.check(name, said(done) == (status, out, err) and also, (brief(done), also))
@@ -115,7 +129,7 @@ class Tally:
         """Whether a run tells that its standard output is a full device."""
         with open("/dev/full", "wb") as full:
             done = run(words, folder, stdout=full)
-        self.check(name, (done.returncode, done.stderr) == (3, CANNOT_WRITE), done)
+        self.check_done(name, done, 3, None, CANNOT_WRITE)
 
     def check_run(self, name, done, status, out, *said):
         """Whether a run, as (status, output, errors), ended with this status and output, and its errors say all of this."""
@@ -212,4 +226,5 @@ def samples(file):
 
 def call(*words, **how):
     """A run of a command by words, paths and numbers, with what it printed."""
-    return subprocess.run([str(word) for word in words], **({"capture_output": True, "timeout": 600} | how))
+    words = [str(word) if isinstance(word, int) else word for word in words]
+    return subprocess.run(words, **({"capture_output": True, "timeout": 600} | how))

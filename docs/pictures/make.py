@@ -29,15 +29,7 @@ def point(turn, radius):
 
 def spiral(start, end):
     """The way from one codeword to another, sixteen to a turn, outwards from turn to turn."""
-    steps = 4 * (end - start)
-    points = [start + (end - start) * step / steps for step in range(steps + 1)]
-    return "M" + "L".join(point(at / 16, 80 + 40 * at / 16) for at in points)
-
-
-def legend_line(number, band, text):
-    """What a band of the tour is, below it."""
-    y = 490 + 20 * number
-    return f'<path {band} d="M80 {y}h28"/><text class="n" x="116" y="{y + 4}">{text}</text>'
+    return "M" + "L".join(point(at / 64, 80 + 40 * at / 64) for at in range(4 * start, 4 * end + 1))
 
 
 def tour(found, total):
@@ -64,20 +56,19 @@ def tour(found, total):
         inner, outer = point(boundary / 16, 60), point(boundary / 16, 205)
         x, y = point(boundary / 16, 220).split()
         lines.append(f'<path class="b" d="M{inner}L{outer}"/><text x="{x}" y="{float(y) + 4:.1f}">{boundary}</text>')
-    at = 0
-    legend = []
+    at, legend = 0, []  # what each band is, below the tour
     for number, (start, end, address) in enumerate(found):
         if at < start:
             lines.append(f'<path class="i" d="{spiral(at, start)}"/>')
-        at = end
-        band = f'class="p" style="stroke:hsl({137 * (number % 26) % 360},60%,55%)"'
+        at, band = end, f'class="p" style="stroke:hsl({137 * (number % 26) % 360},60%,55%)"'
         told = f"address {address}, from boundary {start % 16} to boundary {end % 16}, {end - start} codeword{'s' * (end - start > 1)}"
         lines.append(f'<path {band} d="{spiral(start, at)}"><title>{told}</title></path>')
-        legend.append(legend_line(number, band, told))
+        legend.append((band, told))
     if at < total:
         lines.append(f'<path class="i" d="{spiral(at, total)}"/>')
-    legend.append(legend_line(len(found), 'class="i"', "idle codewords"))
-    return "\n".join([*lines, *legend, "</svg>", ""]).encode()
+    for y, (band, told) in enumerate([*legend, ('class="i"', "idle codewords")]):
+        lines.append(f'<path {band} d="M80 {490 + 20 * y}h28"/><text class="n" x="116" y="{494 + 20 * y}">{told}</text>')
+    return "\n".join([*lines, "</svg>", ""]).encode()
 
 
 def pictures():

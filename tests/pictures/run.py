@@ -10,7 +10,7 @@ import xml.etree.ElementTree as ElementTree
 
 from codewords import HEADER, IDLE, ONES as MESSAGE, TONE, ZERO, address_at, codewords_of, pages_in, rows_of, transmission
 from drawings import SVG, box, check_form
-from tally import TOP, fault, run
+from tally import ANY, TOP, fault, run
 from workspace import module_at
 
 make = module_at("pictures", TOP / "docs/pictures/make.py")
@@ -118,15 +118,9 @@ def due_pieces(start, end, number, low, high):
     return found
 
 
-def found_pieces(group):
-    """What a group of the drawing has, in order."""
-    found = []
-    for node in group:
-        if node.tag == SVG + "rect":
-            found.append((node.get("class"), box(node)))
-        elif node.tag == SVG + "text":
-            found.append((node.get("class"), node.text, int(node.get("x")), int(node.get("y"))))
-    return found
+def piece(node):
+    """What a rectangle or a text of the drawing is."""
+    return (node.get("class"), *([box(node)] if node.tag == SVG + "rect" else [node.text, int(node.get("x")), int(node.get("y"))]))
 
 
 def due_groups(words, listed, low, high):
@@ -153,7 +147,7 @@ def due_groups(words, listed, low, high):
 def check_rows(tally, name, root, words, low, high, drawn):
     """What stands behind the pages: numbers, synchronisation codewords and hatching of each row; words and axes."""
     rows = range(max(high - low, 0))
-    texts = [(node.get("class"), node.text, int(node.get("x")), int(node.get("y"))) for node in root.findall(SVG + "text")]
+    texts = [piece(node) for node in root.findall(SVG + "text")]
     heading = f"Batches {low + 1} to {high} of {len(words) // 16}"
     due = [("t", heading, 12, 22), ("e", "frame", 74, 60), ("e", "slot", 74, 74), ("e", "batch", 50, 74)]
     due += [("m", str(frame), LEFT + CELL * (2 * frame + 1), 60) for frame in range(8)]
@@ -183,7 +177,8 @@ def check_drawing(tally, name, text, words, sent, first=1, last=None):
     low, high = first - 1, min(last or len(words) // 16, len(words) // 16)
     listed = [[field.encode("latin-1") for field in row] for row in rows_of(run(["decode", sent]).stdout)[1:]]
     due, drawn = due_groups(words, listed, low, high)
-    found = [(group.get("class"), group.findtext(SVG + "title"), found_pieces(group)) for group in root.findall(SVG + "g")]
+    pieces = lambda group: [piece(node) for node in group if node.tag in (SVG + "rect", SVG + "text")]
+    found = [(group.get("class"), group.findtext(SVG + "title"), pieces(group)) for group in root.findall(SVG + "g")]
     wrong = [pair for pair in zip(found, due) if pair[0] != pair[1]]
     tally.check(f"{name}: pages and legend", len(found) == len(due) and not wrong, wrong[:1] or (len(found), len(due)))
     check_rows(tally, name, root, words, low, high, drawn)
@@ -205,7 +200,7 @@ def try_svg(tally, folder):
     ):
         path.write_bytes(transmission(words))
         done = run(["show", path, "--svg"])
-        tally.check(f"{name}: status", done.returncode == 0 and done.stderr == b"", done.stderr)
+        tally.check_done(f"{name}: status", done, 0, ANY)
         check_drawing(tally, name, done.stdout, words, path)
     page_file = folder / "pages.csv"
     every = bytes(range(1, 128)).replace(b'"', b'""')
@@ -281,15 +276,11 @@ def try_hues(tally, folder):
         tally.check(f"{scheme}: labels on their ground", least >= 4.5, least)
 
 
-def contrast(one, other):
+def contrast(*colours):
     """The contrast of two colours, as the guidelines for web contents have it."""
-    bright, dim = sorted((luminance(one), luminance(other)), reverse=True)
+    lights = [[linear(int(colour[at : at + 2], 16)) for at in (0, 2, 4)] for colour in colours]
+    dim, bright = sorted(0.2126 * red + 0.7152 * green + 0.0722 * blue for red, green, blue in lights)
     return (bright + 0.05) / (dim + 0.05)
-
-
-def luminance(colour):
-    parts = (linear(int(colour[at : at + 2], 16)) for at in (0, 2, 4))
-    return sum(weight * part for weight, part in zip((0.2126, 0.7152, 0.0722), parts))
 
 
 def try_pictures(tally, _folder):
