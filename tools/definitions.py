@@ -83,18 +83,22 @@ def section(crate, cited):
     return "\n".join([f"## `{crate.name}`\n", *parts]) if parts else ""
 
 
+def words_of_specs():
+    """Each word of specs/, with its crate and its file."""
+    for crate in workspace.read_crates().values():
+        for file in sorted((crate.folder / "specs").glob("*.antt")):
+            yield from ((crate.name, file, it) for it in read_file(file)[1])
+
+
 def told():
     """Each word of specs/ that has a comment, as (crate, file, name)."""
-    for crate in workspace.read_crates().values():
-        for file in (crate.folder / "specs").glob("*.antt"):
-            yield from ((crate.name, file.stem, it.name) for it in read_file(file)[1] if it.comment)
+    return ((crate, file.stem, it.name) for crate, file, it in words_of_specs() if it.comment)
 
 
 def places(word):
     """The sentence of each word of specs/ that has this name, with its file."""
-    for crate in workspace.read_crates().values():
-        for file in sorted((crate.folder / "specs").glob("*.antt")):
-            yield from (filled("", "  ", f"{it.name} ({file.relative_to(workspace.TOP)}): {it.comment}") for it in read_file(file)[1] if it.name == word)
+    found = ((file.relative_to(workspace.TOP), it) for _, file, it in words_of_specs() if it.name == word)
+    return (filled("", "  ", f"{it.name} ({file}): {it.comment}") for file, it in found)
 
 
 def main(words):

@@ -17,8 +17,8 @@ from sizes import Source
 from sources import texts_of
 from tally import TOP
 
-IMPORT = re.compile(r"ghost use Rattle\.(pocsag_\w+)\.specs\.([\w.]+)\.\{([^}]*)\};")
-MODULE_IMPORT = re.compile(r"ghost use Rattle\.(pocsag_\w+)\.specs\.([\w.]+) as (\w+);")
+IMPORT = re.compile(r"ghost use Rattle\.(pocsag_\w+)\.specs\.(?!declared)([\w.]+)\.\{([^}]*)\};")
+MODULE_IMPORT = re.compile(r"ghost use Rattle\.(pocsag_\w+)\.specs\.(?!declared)([\w.]+) as (\w+);")
 CITED = re.compile(r"[A-Za-z_][\w']*(?:-\w+)*(?:\.[A-Za-z_][\w']*(?:-\w+)*)*")
 IGNORED_CRATES = {f"pocsag_{of}" for of in ("command_cases", "core_cases", "trial")}
 ITEM = re.compile(r"^(?:pub(?:\([^)]*\))? )?(?:const )?(?:unsafe )?(?:extern \"C\" )?(?:fn|struct|enum|trait|const|static|type) (\w+)")
@@ -34,16 +34,12 @@ def imports(text):
     the module is imported under a name of its own."""
     words = {}
     for crate, module, listed in IMPORT.findall(text):
-        if module.startswith("declared"):
-            continue
-        for item in listed.split(","):
-            name, _, alias = item.strip().partition(" as ")
+        for name, _, alias in (item.strip().partition(" as ") for item in listed.split(",")):
             if name:
                 words[alias or name] = (crate, module, name)
     for crate, module, alias in MODULE_IMPORT.findall(text):
-        if not module.startswith("declared"):
-            for name in re.findall(rf"(?<![\w.]){alias}\.(\w[\w'-]*)", text):
-                words[f"{alias}.{name}"] = (crate, module, name)
+        for name in re.findall(rf"(?<![\w.]){alias}\.(\w[\w'-]*)", text):
+            words[f"{alias}.{name}"] = (crate, module, name)
     return words
 
 
@@ -54,8 +50,7 @@ def try_meanings(tally, _):
         for name in {it.name for it in definitions.read_file(file)[1]}:
             givers.setdefault(name, []).append(f"{file.parts[-3]}.specs.{file.stem}")
     for name, modules in sorted(givers.items()):
-        may_be_twice = "◌" in name or name in TWICE
-        tally.check(f"one meaning of {name}", may_be_twice or len(modules) == 1, f"given in {', '.join(modules)}")
+        tally.check(f"one meaning of {name}", "◌" in name or name in TWICE or len(modules) == 1, f"given in {', '.join(modules)}")
 
 
 def sources():
