@@ -13,7 +13,7 @@ import sys
 import typing
 
 sys.dont_write_bytecode = True
-sys.path[:0] = [str(pathlib.Path(__file__).resolve().parents[1] / folder) for folder in ("tools", "tests", "tests/words")]
+sys.path[:0] = [str(pathlib.Path(__file__).resolve().parents[1] / folder) for folder in ("tools", "tests", "tests/words", "tests/calls")]
 import workspace
 
 WIDTH = 120

@@ -15,7 +15,7 @@ import definitions
 import workspace
 from sizes import Source
 from sources import texts_of
-from tally import TOP
+from tally import TOP, Text, call
 
 IMPORT = re.compile(r"ghost use Rattle\.(pocsag_\w+)\.specs\.(?!declared)([\w.]+)\.\{([^}]*)\};")
 MODULE_IMPORT = re.compile(r"ghost use Rattle\.(pocsag_\w+)\.specs\.(?!declared)([\w.]+) as (\w+);")
@@ -150,3 +150,5 @@ def try_comments(tally, _):
     for crate in sorted({word[0] for word in given}):
         text = definitions.section(crates[crate], given)
         tally.check(f"what tools/definitions.py prints of {crate}", all(f"`{name}`" in text for place, _, name in given if place == crate), text)
+    told = Text(lambda out: b"\n## `pocsag_words`\n" in out)
+    tally.check_done("tools/definitions.py as a program", call(TOP / "tools/definitions.py", "IsTour", "pocsag_words"), 0, told)
