@@ -40,22 +40,17 @@ def try_sources(tally, _):
     for crate in ("pocsag_centre", "pocsag_c"):
         for name in STREAMS:
             tally.check(f"{crate} plans by {name}", re.search(rf"\b{name}\(", code_of(crates[crate])))
-    above = ABOVE & {*workspace.below(crates, "pocsag_c")}
-    tally.check("the C library stands on no commands", not above, above)
+    tally.check_none("the C library stands on no commands", ABOVE & {*workspace.below(crates, "pocsag_c")})
     wrong = sizes.problems(sizes.TOP)
     tally.check("each call that may lack memory has its largest run", not wrong, "\n".join(wrong))
 
 
-def cells(row):
-    """The cells of a row, between bars that stand by themselves; in a cell a bar is written `\\|`."""
-    return [it.replace("\\|", "|").replace("\\n", "\n") for it in re.split(r" (?<!\\)\| ", row)]
-
-
 def try_changes(tally, folder):
-    """Nothing is wrong with a small tree, and what each change makes wrong is told, and no more."""
+    """Nothing is wrong with a small tree, and what each change makes wrong is told, and no more. In a cell of a row, between bars that
+    stand by themselves, a bar is written `\\|`."""
     top, small = folder / "small", samples(SELFTEST / "small.txt")
     for number, row in enumerate((SELFTEST / "changes.txt").read_text().splitlines()[1:], 2):
-        due, *changes = cells(row)
+        due, *changes = (it.replace("\\|", "|").replace("\\n", "\n") for it in re.split(r" (?<!\\)\| ", row))
         shutil.rmtree(top, ignore_errors=True)
         before = sizes.problems(put(top, small))
         for path, old, new in zip(changes[::3], changes[1::3], changes[2::3]):

@@ -9,7 +9,7 @@ import resource
 
 import codewords
 from codewords import PREAMBLE, digits, kind_and_message, letters, number_of, rows_of
-from tally import IS_EMULATED, ONE_IN, fault, run
+from tally import ANY, IS_EMULATED, ONE_IN, Text, fault, run
 
 SYNC, IDLE = (int.from_bytes(it, "big") for it in (codewords.SYNC, codewords.IDLE))
 ONES = 0xFFFFFFFF
@@ -247,6 +247,12 @@ def rows_in(listing):
     return rows_of(listing)[1:] if listing.startswith(HEADER) else listing
 
 
+def listed(words, folder):
+    """The status of a listing of a capture, its rows, and what is told."""
+    done = run(words, folder)
+    return done.returncode, rows_in(done.stdout), done.stderr
+
+
 def with_states(some, cut):
     """The rows of the pages of a transmission that was received whole; behind the last page the end may stand."""
     rows = [[*row_of(page), "whole"] for page in some]
@@ -293,21 +299,17 @@ def try_captures(tally, folder):
     for count in range(CAPTURES):
         bits, pages, told, sent = some_capture(chance)
         (folder / "air.bin").write_bytes(file_of(bits))
-        done = run(["decode", "--capture", "air.bin", "--verbose"], folder)
         due = [row for some, (*_, cut) in zip(pages, told) for row in with_states(some, cut)]
-        holds = (done.returncode, rows_in(done.stdout), done.stderr) == (0, due, told_lines(told))
-        tally.check(f"capture {count}", holds, (due, told, done))
+        tally.check_same(f"capture {count}", listed(["decode", "--capture", "air.bin", "--verbose"], folder), (0, due, told_lines(told)))
         if count % 10 == 0:
             address = chance.choice(due)[0]
-            done = run(["hear", address, "air.bin", "--capture"], folder)
-            tally.check(f"capture {count} heard", rows_in(done.stdout) == [row for row in due if row[0] == address], done)
+            heard_of = listed(["hear", address, "air.bin", "--capture"], folder)
+            tally.check_same(f"capture {count} heard", heard_of, (0, [row for row in due if row[0] == address], b""))
             nth = chance.randint(1, len(sent))
             (folder / "tx.bin").write_bytes(PREAMBLE + file_of(bits_of(sent[nth - 1])))
             for view in ([], ["--svg"], ["--list"]):
-                done = run(["show", "air.bin", "--capture", "--nth", nth, *view], folder)
-                plain = run(["show", "tx.bin", *view], folder)
-                holds = (done.returncode, done.stdout) == (0, plain.stdout) and plain.returncode == 0
-                tally.check(f"capture {count} shown {view}", holds, (done, plain))
+                done, plain = (run(["show", *words, *view], folder) for words in (["air.bin", "--capture", "--nth", nth], ["tx.bin"]))
+                tally.check_done(f"capture {count} shown {view}", done, 0, plain.stdout, ANY, plain.returncode == 0)
 
 
 def try_damaged(tally, folder):
@@ -329,11 +331,9 @@ def try_damaged(tally, folder):
             bits += some_noise(chance, chance.choice((0, chance.randrange(200))))
         bits = bits[: chance.randint(len(bits) // 2, len(bits)) // 8 * 8]
         (folder / "air.bin").write_bytes(file_of(bits))
-        done = run(["decode", "--capture", "air.bin", "--verbose"], folder)
         found = heard(bits)
-        due = [read_row(page) for one in found for page in one[6]]
-        holds = (done.returncode, rows_in(done.stdout), done.stderr) == (0, due, told_lines([one[:6] for one in found]))
-        tally.check(f"damaged capture {count}", holds, (due, found, done))
+        due = 0, [read_row(page) for one in found for page in one[6]], told_lines([one[:6] for one in found])
+        tally.check_same(f"damaged capture {count}", listed(["decode", "--capture", "air.bin", "--verbose"], folder), due)
         if count % 4 == 0:
             check_forms(tally, folder, f"damaged capture {count}", found)
 
@@ -349,11 +349,9 @@ def check_forms(tally, folder, name, found):
             done = run([*words, "air.bin", "--capture", "--json", *option], folder)
             lines = [json.loads(line) for line in done.stdout.decode("latin-1").split("\n")[:-1]]
             due = [read_object(page, where, texts) for page, where in kept]
-            holds = (done.returncode, done.stderr) == (0, b"") and done.stdout.isascii() and lines == due
-            tally.check(f"{name} as JSON {texts} of {only}", holds, (due, done))
-            done = run([*words, "air.bin", "--capture", *option], folder)
-            due = [read_row(page, texts) for page, _ in kept]
-            tally.check(f"{name} as text {texts} of {only}", (done.returncode, rows_in(done.stdout)) == (0, due), (due, done))
+            tally.check_done(f"{name} as JSON {texts} of {only}", done, 0, Text(bytes.isascii), b"", lines == due)
+            due = 0, [read_row(page, texts) for page, _ in kept], b""
+            tally.check_same(f"{name} as text {texts} of {only}", listed([*words, "air.bin", "--capture", *option], folder), due)
 
 
 # Words and records of the cases that are worked by hand: a call of address 8, in frame 0, a word of a message, and one past repair.
@@ -482,9 +480,8 @@ def try_by_hand(tally, folder):
     for name, given, due, told, likely in rows:
         bits = bits_of(whole(given)) if isinstance(given, list) else given
         (folder / "air.bin").write_bytes(bits if isinstance(bits, bytes) else file_of(bits))
-        done = run(["decode", "--capture", "air.bin", "--verbose"], folder)
-        holds = (done.returncode, rows_in(done.stdout)) == (0, due) and (told is None or done.stderr == told_lines(told, likely))
-        tally.check(name, holds, (due, done))
+        due = 0, due, ANY if told is None else told_lines(told, likely)
+        tally.check_same(name, listed(["decode", "--capture", "air.bin", "--verbose"], folder), due)
 
 
 def try_words(tally, folder):
@@ -502,11 +499,11 @@ def try_words(tally, folder):
     tally.check_done("without --capture", run(["decode", "air.bin"], folder), 1, b"", fault("the preamble is too short"))
     none = run(["show", "air.bin", "--capture", "--nth", "2"], folder)
     tally.check_done("no second transmission", none, 1, b"", fault("transmission 2 of 1: the capture has no such transmission"))
-    first, named = run(["show", "air.bin", "--capture"], folder), run(["show", "air.bin", "--capture", "--nth", 1], folder)
-    tally.check("the first without --nth", first.stdout == named.stdout == run(["show", "tx.bin"], folder).stdout, first)
+    ways = (["air.bin", "--capture"], ["air.bin", "--capture", "--nth", 1], ["tx.bin"])
+    first, named, plain = (run(["show", *words], folder).stdout for words in ways)
+    tally.check("the first without --nth", first == named == plain, first)
     for name, words in (("counted from 1", ["--nth", "0"]), ("rows behind the last", ["--rows", "9"])):
-        done = run(["show", "air.bin", "--capture", *words], folder)
-        tally.check(name, (done.returncode, done.stdout) == (1, b""), done)
+        tally.check_done(name, run(["show", "air.bin", "--capture", *words], folder), 1, b"", ANY)
     tally.check_done("a bad address", run(["hear", "2097152", "air.bin", "--capture"], folder), 1, b"", fault("bad address"))
 
 

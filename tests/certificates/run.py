@@ -10,7 +10,6 @@ status, and each wrong checker has to err on some pair of pairs.py.
 import pathlib
 import random
 import re
-import subprocess
 import sys
 import threading
 from concurrent.futures import ProcessPoolExecutor, ThreadPoolExecutor
@@ -21,23 +20,23 @@ from checker import CLOSE, SPLIT, TOLD
 from codewords import changed
 from pairs import pairs
 from rounds import page_file, small_pages
-from tally import ENDS, run
+from tally import ENDS, PROGRAM, call, run, said
 from trees import UNEXAMINED, certificate, nodes, overload, replaced
 
 HERE = pathlib.Path(__file__).resolve().parent
 CHANGES = 3_000
 PLANNED = 60
 RUN_AS_A_PROGRAM = 6  # pairs of each answer
-YES = re.compile(r"at least \d+ batches( with a closed end| with an idle last)?\n")
-REFUSED = re.compile(
-    r"pocsag: (the header must be address,kind,message|there are no pages|the file is too large|record \d+: ("
-    r"three fields are wanted|bad address|reserved address|unknown kind|a tone page has no message|the message is "
-    r"empty|bad character at \d+|the message is too long|the address is already there|too many pages))\n"
-)
-NO_CERTIFICATE = re.compile(
-    r"pocsag: (not a certificate|unknown certificate version|bytes after the certificate|the certificate ("
-    r"is cut short|is malformed|is too deep|has too many nodes))\n"
-)
+# The status, the output and the errors that go together, and the verdict in the words of the second checker, or as it is told.
+VERDICTS = [
+    (0, r"(at least \d+ batches(?: with a closed end| with an idle last)?)\n", "", None),
+    (1, r"not shown\n", "", "not shown"),
+    (1, "", r"pocsag: (the header must be address,kind,message|there are no pages|the file is too large|record \d+: ("
+     r"three fields are wanted|bad address|reserved address|unknown kind|a tone page has no message|the message is "
+     r"empty|bad character at \d+|the message is too long|the address is already there|too many pages))\n", "refused"),
+    (1, "", r"pocsag: (not a certificate|unknown certificate version|bytes after the certificate|the certificate ("
+     r"is cut short|is malformed|is too deep|has too many nodes))\n", "no certificate"),
+]  # fmt: skip
 
 
 class Product:
@@ -60,17 +59,11 @@ class Product:
     def verdict(self, pages, text):
         """The verdict in the words of the second checker, where status, output and errors go together."""
         self.write(pages, text)
-        done = run(["check", "pages.csv", "cert.bin"], self.folder)
-        told, refusal = done.stdout.decode(), done.stderr.decode()
-        if done.returncode == 0 and YES.fullmatch(told) and not refusal:
-            return told.rstrip("\n")
-        if done.returncode == 1 and told == "not shown\n" and not refusal:
-            return "not shown"
-        if done.returncode == 1 and not told and REFUSED.fullmatch(refusal):
-            return "refused"
-        if done.returncode == 1 and not told and NO_CERTIFICATE.fullmatch(refusal):
-            return "no certificate"
-        return f"status {done.returncode}: {told} {refusal}"
+        found, out, err = said(call(PROGRAM, "check", "pages.csv", "cert.bin", cwd=self.folder, text=True))
+        for status, told, refusal, answer in VERDICTS:
+            if found == status and re.fullmatch(told, out) and re.fullmatch(refusal, err):
+                return answer or out.rstrip("\n")
+        return f"status {found}: {out} {err}"
 
     def planned(self, pages, end):
         """The certificate that the program writes for the round."""
@@ -81,9 +74,7 @@ class Product:
     def second_checker(self, pages, text):
         """What the second checker prints as a program, and its status."""
         self.write(pages, text)
-        words = [sys.executable, str(HERE / "checker.py"), "pages.csv", "cert.bin"]
-        done = subprocess.run(words, cwd=self.folder, capture_output=True, timeout=110)
-        return done.returncode, done.stdout.decode(), done.stderr.decode()
+        return said(call(sys.executable, HERE / "checker.py", "pages.csv", "cert.bin", cwd=self.folder, text=True))
 
 
 def changed_node(source, tree):

@@ -14,7 +14,7 @@ import xml.etree.ElementTree as ElementTree
 from checker import CLOSE, CLOSED_END as CLOSED, CUT, IDLE_END as IDLE, OPEN_END as OPEN, SPLIT
 from drawings import SVG, box, check_form
 from rounds import page_file, small_pages
-from tally import ENDS, TOP, run
+from tally import ANY, ENDS, TOP, Text, run
 from trees import UNEXAMINED, certificate, overload as overload_of
 
 EXAMPLES = TOP / "examples"
@@ -188,10 +188,8 @@ DRAWN_REFUSED = [
 ]  # fmt: skip
 
 
-def sentences(text):
-    """The sentences of a text, each as one line."""
-    starts = r"\n(?= *(?:node [\d.]+[:,]|limits:|so \d+ batch|\.\. \d|at least \d+ batch))"
-    return [" ".join(it.split()) for it in re.split(starts, text)]
+# What the sentences of a text begin with.
+STARTS = r"\n(?= *(?:node [\d.]+[:,]|limits:|so \d+ batch|\.\. \d|at least \d+ batch))"
 
 
 def drawn():
@@ -199,7 +197,7 @@ def drawn():
     shown = {name: row for name, *row in SHOWN}
     rows = [(name, *shown[name][:2], 0, nodes) for name, nodes in DRAWN.items()]
     for name, pages, text, status, nodes in rows + [(*row[:3], 1, row[3]) for row in DRAWN_REFUSED]:
-        heading, *lines = sentences(TEXTS[name])
+        heading, *lines = (" ".join(it.split()) for it in re.split(STARTS, TEXTS[name]))
         told = [line for line in lines if line.startswith("node ")]
         last = "" if status else f"{lines[-1]} "
         yield name, pages, text, status, heading, last, [(line, *row) for line, row in zip(told, nodes, strict=True)]
@@ -229,7 +227,7 @@ def found_column(group):
 def try_drawings(tally, folder):
     for name, pages, text, status, heading, last, nodes in drawn():
         done = explained(folder, pages, text, "--svg")
-        tally.check(f"drawing: {name}", (done.returncode, done.stderr) == (status, b"") and done.stdout.endswith(b"</svg>\n"), done)
+        tally.check_done(f"drawing: {name}", done, status, Text(lambda out: out.endswith(b"</svg>\n")))
         root = ElementTree.fromstring(done.stdout)
         check_form(tally, f"drawing: {name}", root, done.stdout, "pocsag-why")
         # The texts stand one below the other, and the last of them in the drawing.
@@ -237,8 +235,7 @@ def try_drawings(tally, folder):
         holds = root.get("viewBox") == f"0 0 540 {tall}" and bases == sorted(set(bases)) and bases[-1] < tall
         tally.check(f"drawing: {name}: size", holds, (root.attrib, bases))
         tally.check(f"drawing: {name}: heading", root.findtext(SVG + "title") == heading, root.findtext(SVG + "title"))
-        seen = words_of(root.findall(SVG + "text"))
-        tally.check(f"drawing: {name}: words", seen == f"{heading} {last}{root.findtext(SVG + 'desc')}", seen)
+        tally.check_same(f"drawing: {name}: words", words_of(root.findall(SVG + "text")), f"{heading} {last}{root.findtext(SVG + 'desc')}")
         groups = root.findall(SVG + "g")
         tally.check(f"drawing: {name}: nodes", [words_of(g.findall(SVG + "text")) for g in groups] == [n[0] for n in nodes], words_of(groups[0]))
         most = max(1, *(number for node in nodes for number in [*node[1], *node[2]]))
@@ -246,8 +243,7 @@ def try_drawings(tally, folder):
             number = line.split(":")[0]
             inner = group.find(SVG + "g")
             due = [due_column(slot, least[slot], room[slot], slot in marked, most) for slot in EVERY]
-            found = [found_column(column) for column in inner.findall(SVG + "g")]
-            tally.check(f"drawing: {name}: columns of {number}", found == due, (found, due))
+            tally.check_same(f"drawing: {name}: columns of {number}", [found_column(column) for column in inner.findall(SVG + "g")], due)
             lines = [path.get("d") for path in inner.findall(SVG + "path") if path.get("class") == "s"]
             due = [f"M{LEFT + WIDTH * boundary} 6V102" for boundary in boundaries]
             tally.check(f"drawing: {name}: boundaries of {number}", lines == due, lines)
@@ -263,16 +259,17 @@ def try_planned(tally, folder):
         end = ENDS[chance.choice([*ENDS])]
         names = [folder / name for name in ("pages.csv", "tx.bin", "cert.bin")]
         batches = int(run(["plan", *names, *end, "--always"]).stdout.split()[3])
-        checked, done = run(["check", names[0], names[2]]), run(["explain", names[0], names[2]])
+        judge = lambda: [run([command, names[0], names[2]]) for command in ("check", "explain")]
+        checked, done = judge()
         sum_of_it = f"{len(pages)} page{'s' * (len(pages) > 1)}, {sum(n for _, n in pages)} codeword"
         holds = checked.returncode == done.returncode == 0 and sum_of_it.encode() in done.stdout and b"\nnode 1: " in done.stdout
         tally.check(f"planned {number}: explained", holds, (text, done))
         bytes_ = bytearray(names[2].read_bytes())
         bytes_[chance.randrange(9, len(bytes_))] ^= 1 << chance.randrange(8)
         names[2].write_bytes(bytes_)
-        checked, done = run(["check", names[0], names[2]]), run(["explain", names[0], names[2]])
-        same = (done.returncode, done.stderr) == (checked.returncode, checked.stderr)
-        tally.check(f"planned {number}: the verdict of check", same and (b"not shown" in done.stdout) == (checked.stdout == b"not shown\n"), (checked, done))
+        checked, done = judge()
+        same = (b"not shown" in done.stdout) == (checked.stdout == b"not shown\n")
+        tally.check_done(f"planned {number}: the verdict of check", done, checked.returncode, ANY, checked.stderr, same)
         words = ["report", names[0], "--rate", "1200", *end, "--always"]
         plain, framed = run(words), run([*words, "--frames"])
         grid = [line.split()[1:] for line in run(["show", names[1]]).stdout.decode().splitlines()[2:]]
@@ -281,10 +278,8 @@ def try_planned(tally, folder):
             (idles[frame], frame, f"frame {frame} pages {len(mine)} codewords {sum(mine)} room {idles[frame]}\n")
             for frame in range(8) for mine in [[n for at, n in pages if at == frame]]
         ]
-        told = framed.stdout[len(plain.stdout):].decode().splitlines(True)
-        holds = framed.stdout.startswith(plain.stdout) and framed.returncode == 0 and sorted(told) == sorted(row for _, _, row in rows)
-        holds = holds and told == [row for _, _, row in sorted(rows)]
-        tally.check(f"planned {number}: frames of {batches} batches", holds, (text, framed, rows))
+        due = plain.stdout + "".join(row for _, _, row in sorted(rows)).encode()
+        tally.check_done(f"planned {number}: frames of {batches} batches", framed, 0, due, ANY)
 
 
 def try_frames(tally, folder):

@@ -12,7 +12,7 @@ import lanes
 from gate import Gate
 from lanes import Lanes, Task
 from spent import watched
-from tally import TOP, put, put_script
+from tally import TOP, call, put, put_script
 
 os.environ["RT_JOBS"] = "3"  # so many parts run side by side
 
@@ -71,8 +71,7 @@ def try_beside(tally, _):
     gate.beside([(name, "sh", "-c", script) for name, script, _, _ in PARTS])
     passed, failed = (sum(row[3][at] for row in PARTS) for at in (0, 1))
     tally.check("side by side: the counts", (gate.passed, gate.failed) == (passed, failed), (gate.passed, gate.failed))
-    bad = [name for name, _, status, _ in PARTS if status]
-    tally.check("side by side: what failed", sorted(gate.bad) == sorted(bad), gate.bad)
+    tally.check("side by side: what failed", sorted(gate.bad) == sorted(name for name, _, status, _ in PARTS if status), gate.bad)
     tally.check("side by side: the status", gate.end() == 1)
     gate = Gate(TOP, io.StringIO())
     gate.beside([("missing", "/nowhere/no-such-command"), ("there", "echo", "1 passed, 0 failed")])
@@ -173,7 +172,7 @@ def try_unknown(tally, folder):
     """Each step of the toolchain by its command alone, where `rt` is not the script that is known."""
     put_script(folder / "rt", UNKNOWN)
     settings = {**os.environ, "PATH": f"{folder}:{os.environ['PATH']}", "CALLS": str(folder / "calls")}
-    run = lambda *words: subprocess.run([sys.executable, *words], cwd=TOP, env=settings, capture_output=True, text=True)
+    run = lambda *words: call(sys.executable, *words, cwd=TOP, env=settings, text=True)
     done = [run("tools/kit.py", "lib", "2"), run("tools/kit.py", "run", "1", "--help"), run("-c", STEPS)]
     tally.check("the commands for an unknown toolchain", [it.returncode for it in done] == [0, 0, 0], done)
     told = (folder / "calls").read_text().splitlines()

@@ -4,26 +4,23 @@ import os
 import pathlib
 import re
 import shutil
-import subprocess
 
 import version
-from tally import PROGRAM, TOP, as_nobody, put_script
+from tally import ANY, PROGRAM, TOP, Text, as_nobody, call, put_script, said
 
 PLACES = ["bin/pocsag", "share/man/man1/pocsag.1", "share/bash-completion/completions/pocsag", "share/zsh/site-functions/_pocsag",
           "share/fish/vendor_completions.d/pocsag.fish", "share/pocsag/examples/next-slot", "share/pocsag/examples/enqueue"]
 # The Python that runs `install` has the module in its own folder.
 PYTHON = shutil.which("python3")
-WORDS = [PYTHON, "-c", "import sys; print(*sys.version_info[:2], sep='.')"]
-SITE = f"lib/python{subprocess.run(WORDS, capture_output=True, text=True).stdout.strip()}/site-packages"
+SITE = "lib/python{}.{}/site-packages".format(*call(PYTHON, "-c", "import sys; print(*sys.version_info)", text=True).stdout.split())
 MODULE = f"{SITE}/pocsag/__init__.py"
 PACKAGE = "lib/pkgconfig/pocsag.pc"
 DOCUMENTS = ["share/doc/pocsag/LIBRARY.md", "share/pocsag/examples/plan.c", "share/pocsag/examples/plan.py"]
 LIBRARY = ["lib/libpocsag.a", "lib/libpocsag.so.1", "include/pocsag.h", MODULE, MODULE.replace("__init__.py", "py.typed"), PACKAGE, *DOCUMENTS, "lib/libpocsag.so"]
 
 
-def install(*words):
-    ran = subprocess.run([str(TOP / "install"), *map(str, words)], capture_output=True, text=True, timeout=600)
-    return ran.returncode, ran.stdout, ran.stderr
+def install(*words, **how):
+    return said(call(TOP / "install", *words, text=True, **how))
 
 
 def files_below(folder):
@@ -32,8 +29,7 @@ def files_below(folder):
 
 def run_as_nobody(words, folder):
     """Runs a command as a user with no rights here, with the system's own commands alone in PATH."""
-    environment = {"PATH": "/usr/bin:/bin", "HOME": str(folder)}
-    return subprocess.run([*as_nobody(folder), *map(str, words)], capture_output=True, cwd=folder, env=environment, timeout=60)
+    return call(*as_nobody(folder), *words, cwd=folder, env={"PATH": "/usr/bin:/bin", "HOME": str(folder)})
 
 
 def try_installed(tally, folder):
@@ -51,8 +47,7 @@ def try_installed(tally, folder):
     (room / "round.csv").chmod(0o644)
     ran = run_as_nobody([program, "plan", "round.csv", "round.bin", "round.cert"], room)
     tally.check("another user plans", (ran.returncode, ran.stdout) == (0, b"pages 6\nbatches 2\n"), ran)
-    ran = run_as_nobody([program, "check", "round.csv", "round.cert"], room)
-    tally.check("and checks", (ran.returncode, ran.stdout) == (0, b"at least 2 batches\n"), ran)
+    tally.check_done("and checks", run_as_nobody([program, "check", "round.csv", "round.cert"], room), 0, b"at least 2 batches\n", ANY)
     for number in range(40):
         shutil.copy(room / "round.csv", room / f"{number}.csv")
     script = "ls [0-9]*.csv | sed 's/\\.csv$//' | xargs -P 4 -I {} " + f"'{program}' plan {{}}.csv {{}}.bin {{}}.cert"
@@ -64,12 +59,10 @@ def try_installed(tally, folder):
 def try_library(tally, folder):
     """Compiles and runs an example over the installed library alone."""
     prefix = folder / "prefix"
-    words = ["cc", "-o", str(folder / "plan"), str(TOP / "clib/examples/plan.c"), f"-I{prefix / 'include'}", f"-L{prefix / 'lib'}", "-lpocsag"]
-    built = subprocess.run(words, capture_output=True, text=True)
-    tally.check("an example is compiled over it", built.returncode == 0, built.stderr)
-    environment = {"PATH": "/usr/bin:/bin", "LD_LIBRARY_PATH": str(prefix / "lib")}
-    ran = subprocess.run([str(folder / "plan"), str(TOP / "examples/round.csv")], capture_output=True, text=True, env=environment)
-    tally.check("and runs", ran.returncode == 0 and ran.stdout.startswith("pages 6\nbatches 2\n"), ran)
+    words = ["cc", "-o", folder / "plan", TOP / "clib/examples/plan.c", f"-I{prefix}/include", f"-L{prefix}/lib", "-lpocsag"]
+    tally.check_done("an example is compiled over it", call(*words), 0, ANY, ANY)
+    ran = call(folder / "plan", TOP / "examples/round.csv", env={"PATH": "/usr/bin:/bin", "LD_LIBRARY_PATH": f"{prefix}/lib"})
+    tally.check_done("and runs", ran, 0, Text(lambda out: out.startswith(b"pages 6\nbatches 2\n")), ANY)
     try_moved(tally, folder)
 
 
@@ -78,24 +71,22 @@ def python(folder, prefix):
     command = "/usr/bin/python3" if pathlib.Path("/usr/bin/python3").exists() else PYTHON
     script = "import pocsag; plan = pocsag.Pocsag().plan(bytearray(open('room/round.csv', 'rb').read())); print(plan.batches)"
     environment = {"PATH": "/usr/bin:/bin", "PYTHONPATH": str(prefix / SITE), "PYTHONDONTWRITEBYTECODE": "1"}
-    return subprocess.run([*as_nobody(folder), command, "-c", script], capture_output=True, text=True, cwd=folder, env=environment)
+    return call(*as_nobody(folder), command, "-c", script, text=True, cwd=folder, env=environment)
 
 
 def try_moved(tally, folder):
     """What is installed still finds itself where its folder is moved as a whole."""
     prefix, moved = folder / "prefix", folder / "moved"
-    ran = python(folder, prefix)
-    tally.check("Python plans by the installed module", ran.stdout == "2\n", ran)
+    tally.check_done("Python plans by the installed module", python(folder, prefix), 0, "2\n", "")
     shutil.copytree(prefix, moved, symlinks=True)
-    ran = python(folder, moved)
-    tally.check("and so from another folder", ran.stdout == "2\n", ran)
+    tally.check_done("and so from another folder", python(folder, moved), 0, "2\n", "")
     text = (moved / PACKAGE).read_text()
     number = re.search(r"#define POCSAG_VERSION (\d+)u", (moved / "include/pocsag.h").read_text())[1]
     tally.check("the package has the version and the number of the interface", f"interface={number}\n" in text and f"Version: {version.VERSION}\n" in text, text)
     tally.check("and no folder of this machine", "prefix=${pcfiledir}/../..\n" in text and str(prefix) not in text, text)
     if shutil.which("pkg-config"):
         environment = {"PATH": "/usr/bin:/bin", "PKG_CONFIG_PATH": str((moved / PACKAGE).parent)}
-        told = subprocess.run(["pkg-config", "--cflags", "--libs", "pocsag"], capture_output=True, text=True, env=environment)
+        told = call("pkg-config", "--cflags", "--libs", "pocsag", text=True, env=environment)
         folders = [pathlib.Path(word[2:]).resolve() for word in told.stdout.split()[:2]]
         tally.check("pkg-config finds the moved folder", folders == [moved / "include", moved / "lib"], told)
     shutil.rmtree(moved)
@@ -103,19 +94,16 @@ def try_moved(tally, folder):
 
 def try_loader(tally, folder):
     """The loader is told of a library where that may be, and else the line that is needed is printed."""
-    told = folder / "told"
-    fake = folder / "commands"
+    prefix, told, fake = folder / "prefix", folder / "told", folder / "commands"
     fake.mkdir()
     put_script(fake / "ldconfig", f"#!/bin/sh\necho \"$@\" >> '{told}'\n")
-    prefix = folder / "prefix"
     environment = {**os.environ, "PATH": f"{fake}:{os.environ['PATH']}"}
-    ran = subprocess.run([str(TOP / "install"), str(prefix)], capture_output=True, text=True, env=environment, timeout=600)
     lines = [f"export {name}={prefix / path}" for name, path in (("LD_LIBRARY_PATH", "lib"), ("PYTHONPATH", SITE), ("PKG_CONFIG_PATH", "lib/pkgconfig"))]
-    tally.check("the lines that are needed are printed", ran.returncode == 0 and all(line in ran.stderr for line in lines), ran.stderr)
+    tally.check_run("the lines that are needed are printed", install(prefix, env=environment), 0, ANY, *lines)
     tally.check("the loader's list of another folder is left", "\n\n" not in f"\n{told.read_text()}" if told.exists() else True, told)
     script = "import importlib.machinery as m, pathlib, sys; i = m.SourceFileLoader('i', sys.argv[1]).load_module(); [i.list_for_loader(pathlib.Path(p)) for p in sys.argv[2:]]"
     told.unlink(missing_ok=True)
-    ran = subprocess.run([PYTHON, "-W", "ignore", "-c", script, str(TOP / "install"), "/usr/local", str(prefix)], capture_output=True, text=True, env=environment)
+    ran = call(PYTHON, "-W", "ignore", "-c", script, TOP / "install", "/usr/local", prefix, text=True, env=environment)
     calls = told.read_text().split("\n") if told.exists() else [""]
     tally.check("and the loader is asked once below /usr/local by root alone", ran.returncode == 0 and len(calls) - 1 == (os.geteuid() == 0), (ran, calls))
 
@@ -145,8 +133,9 @@ def try_refused(tally, folder):
     status, out, err = install("--help")
     tally.check("help", status == 0 and "PREFIX" in out and not err, (status, out, err))
     for script in ("install", "test"):
-        ran = subprocess.run(["/bin/sh", str(TOP / script)], env={"PATH": str(folder / "none")}, capture_output=True, text=True)
-        tally.check(f"./{script} where Python is missing", (ran.returncode, ran.stderr) == (1, f"{script}: python3 is missing; on Debian: apt-get install python3\n"), ran)
+        ran = call("/bin/sh", TOP / script, env={"PATH": f"{folder}/none"}, text=True)
+        told = f"{script}: python3 is missing; on Debian: apt-get install python3\n"
+        tally.check_done(f"./{script} where Python is missing", ran, 1, ANY, told)
     (folder / "file").write_text("")
     (folder / "closed").mkdir()
     (folder / "closed/bin").symlink_to("/proc")

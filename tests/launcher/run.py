@@ -12,7 +12,7 @@ import subprocess
 import sys
 import time
 
-from tally import TOP, as_nobody, put_script, room_in
+from tally import TOP, as_nobody, call, put_script, room_in
 
 CRATES = "low:\nmiddle: low csv\npocsag_app: clap middle low\npocsag_beside: middle\npocsag_trial: low\n"
 NAMES = ("low", "middle", "pocsag_app", "pocsag_beside", "pocsag_trial")
@@ -99,8 +99,7 @@ class Clone:
 
     def build(self, *words, **how):
         """Runs the script that builds."""
-        words = [str(self.commands / "python3"), str(self.top / "tools/build.py"), *words]
-        return subprocess.run(words, cwd=self.top, env=self.environment(), **how)
+        return call(self.commands / "python3", self.top / "tools/build.py", *words, cwd=self.top, env=self.environment(), text=True, **how)
 
     def source(self, crate):
         return self.top / "crates" / crate / "src/lib.rt"
@@ -126,12 +125,11 @@ def try_success(tally, clone):
     (clone.top / "crates/low/proofs").mkdir()
     (clone.top / "crates/low/proofs/Lib.antt").write_text("new\n")
     clone.check_builds(tally, "a new folder of proofs builds anew", 3)
-    elsewhere = clone.top.parent / "elsewhere"
-    elsewhere.mkdir()
+    elsewhere = room_in(clone.top.parent, "elsewhere")
     (elsewhere / "planner").symlink_to(clone.top / "pocsag")
+    due = 7, f"pocsag_app: y\nfolder: {elsewhere}\n", ""
     for name, script in (("a symbolic link", elsewhere / "planner"), ("a path", "../clone/pocsag")):
-        told = clone.run(["y"], folder=elsewhere, script=script)
-        tally.check(f"{name} from another folder", told == (7, f"pocsag_app: y\nfolder: {elsewhere}\n", ""), told)
+        tally.check_same(f"{name} from another folder", clone.run(["y"], folder=elsewhere, script=script), due)
 
 
 def put_old(path, text):
@@ -299,8 +297,8 @@ def try_unit(tally, clone):
     clone.source("pocsag_words").write_text("first\n")
     for status in (0, 1):
         clone.change("exit 0\n", f"{{ cat src/lib.rt; touch src/proved; exit {status}; }}\n")
-        ran, printed = clone.build("unit", capture_output=True, text=True), f"first\n{1 - status} passed, {status} failed\n"
-        tally.check_done(f"the lowest crate, status {status}", ran, status, printed, "pocsag: spent 0 s on pocsag_words\n")
+        printed, told = f"first\n{1 - status} passed, {status} failed\n", "pocsag: spent 0 s on pocsag_words\n"
+        tally.check_done(f"the lowest crate, status {status}", clone.build("unit"), status, printed, told)
     tally.check("it was proved in a copy", [it.name for it in clone.source("pocsag_words").parent.iterdir()] == ["lib.rt"])
     clone.check_no_log(tally, "nor a copy")
 
@@ -319,7 +317,7 @@ def try_compilers(tally, clone):
             clone.source("low").write_text(edit)
         os.utime(clone.source("middle"))
         if is_installed:
-            clone.build("program", capture_output=True, check=True)
+            clone.build("program", check=True)
         tally.check(f"{name}: the program runs", clone.run(["w"])[0] == 7)
         tally.check_same(f"{name}: its compiler", (clone.compiler.read_text().strip(), clone.builds()[0]), (wanted, count))
 

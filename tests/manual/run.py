@@ -5,10 +5,9 @@ Where `man` or `mandoc` is missing, that part is left out.
 
 import re
 import shutil
-import subprocess
 
 from helped import commands, help_of, options_of
-from tally import TOP
+from tally import ANY, TOP, call
 
 MANUAL = TOP / "docs/pocsag.1"
 EVERYWHERE = {"-h", "--help", "-V", "--version"}
@@ -65,8 +64,7 @@ def compare(tally, text):
         tally.check(f"the words of {name}", sorted(tail) == sorted(positional + values), (tail, positional, values))
     tally.check("the manual's options", tagged == asked, (tagged, asked))
     for words in ([], *([name] for name in sorted(told - {"help"}))):
-        wide = [line for line in help_of(*words).splitlines() if len(line) > 80]
-        tally.check(f"help within 80 columns: {words}", not wide, wide)
+        tally.check_none(f"help within 80 columns: {words}", [line for line in help_of(*words).splitlines() if len(line) > 80])
 
 
 def try_manual(tally, _folder):
@@ -74,8 +72,7 @@ def try_manual(tally, _folder):
     compare(tally, text)
     tally.check_same("exit statuses", terms(section(text, "EXIT STATUS")), ["0", "1", "2", "3"])
     if shutil.which("man"):
-        done = subprocess.run(["man", "--warnings", "-E", "UTF-8", "-l", "-Tutf8", "-Z", str(MANUAL)], capture_output=True, timeout=60)
-        tally.check("man finds nothing", done.returncode == 0 and done.stderr == b"", done.stderr)
+        tally.check_done("man finds nothing", call("man", "--warnings", "-E", "UTF-8", "-l", "-Tutf8", "-Z", MANUAL), 0, ANY)
     if shutil.which("mandoc"):
-        done = subprocess.run(["mandoc", "-T", "lint", str(MANUAL)], capture_output=True, timeout=60)
+        done = call("mandoc", "-T", "lint", MANUAL)
         tally.check("mandoc finds nothing", done.returncode == 0 and done.stdout + done.stderr == b"", done)

@@ -5,10 +5,9 @@ import functools
 import re
 import shlex
 import shutil
-import subprocess
 
 import helped
-from tally import TOP, run_parts
+from tally import TOP, call, run_parts
 
 FILES = {shell: TOP / f"completions/pocsag.{shell}" for shell in ("bash", "zsh", "fish")}
 # What prints the words that a shell offers for the last word of a line; the files among them are those of the folder.
@@ -65,7 +64,7 @@ def try_words(tally, _folder):
 def offered(shell, line, folder):
     """What a shell offers for the last word of a line, as far as the word goes."""
     words = [shell, *NO_CONFIGURATION[shell], "-c", SCRIPTS[shell], *([shell] if shell != "fish" else []), str(FILES[shell]), line]
-    done = subprocess.run(words, cwd=folder, capture_output=True, text=True, timeout=60)
+    done = call(*words, cwd=folder, text=True)
     begun = line.rsplit(" ", 1)[-1]
     return {word for word in done.stdout.split() if word.startswith(begun)}, done.stderr
 

@@ -8,9 +8,8 @@ Where `cc` or `pkg-config` is missing, the example in C is left out.
 import os
 import re
 import shutil
-import subprocess
 
-from tally import PROGRAM, TOP, put_script
+from tally import ANY, PROGRAM, TOP, call, put_script
 
 ELSEWHERE = {"OPERATION.md", "LIBRARY.md"}
 PAPERS = [TOP / "README.md"] + sorted(path for path in (TOP / "docs").glob("*.md") if path.name not in ELSEWHERE)
@@ -39,7 +38,7 @@ def fresh(folder, name):
 
 
 def run(words, room, environment):
-    return subprocess.run(words, cwd=room, env=environment, capture_output=True, text=True, timeout=600)
+    return call(*words, cwd=room, env=environment, text=True)
 
 
 def check_block(tally, name, words, text, room, environment):
@@ -70,8 +69,7 @@ def try_examples(tally, folder):
     room, environment = fresh(folder, "example")
     (room / "first.c").write_text(c)
     command, printed = re.search(r"`(cc first\.c .*)`\s+makes\s+a\s+program\s+that\s+prints\s+`(.*)`", library.read_text()).groups()
-    done = run(["sh", "-c", f"./install && {command}"], room, environment)
-    tally.check("the example in C is compiled", done.returncode == 0, done)
+    tally.check_done("the example in C is compiled", run(["sh", "-c", f"./install && {command}"], room, environment), 0, ANY, ANY)
     done = run(["./a.out"], room, dict(environment, LD_LIBRARY_PATH=f"{room}/usr/lib"))
     tally.check("the example in C", done.stdout.strip() == printed, done)
 

@@ -10,7 +10,7 @@ import wave
 
 import tally as shared
 from codewords import HEADER, SYNC, TONE, transmission
-from tally import BAD_RATE, CANNOT_WRITE, ENDS, PROGRAM, fault, sampled, with_most_bytes
+from tally import BAD_RATE, CANNOT_WRITE, ENDS, PROGRAM, call, fault, sampled, with_most_bytes
 
 RATES = (512, 1200, 2400)
 SAMPLES = (2_400, 8_000, 22_050, 44_100, 48_000, 96_000, 192_000)
@@ -139,7 +139,7 @@ def try_pipes(tally, folder):
     """The line of the manual: a plan is keyed as it is made."""
     (folder / "pages.csv").write_bytes(HEADER + ROUNDS["mixed"])
     line = f"'{PROGRAM}' plan pages.csv - cert.bin 2> told | '{PROGRAM}' wav - --rate 512 | cat"
-    done = subprocess.run(["bash", "-o", "pipefail", "-c", line], cwd=folder, capture_output=True, timeout=60)
+    done = call("bash", "-o", "pipefail", "-c", line, cwd=folder)
     samples = samples_of(planned(folder, ROUNDS["mixed"], "open"), 512, 48_000)
     tally.check("plan into wav", done.returncode == 0 and is_sound(done.stdout, samples, 48_000), done.stderr)
 

@@ -56,8 +56,7 @@ def try_verdicts(tally, folder):
         as_due = text == due[1] if due[1].startswith(FAULT) else text.split("\n")[0].startswith("at least" if due[0] == 0 else "not shown")
         tally.check(f"explain: {row['name']}", status == due[0] and as_due, (status, text))
         answer = checker.verdict((folder / row["pages"]).read_bytes(), (folder / row["cert"]).read_bytes())
-        agrees = answer in TOLD if due[1].startswith(FAULT) else answer == due[1]
-        tally.check(f"second checker: {row['name']}", agrees, answer)
+        tally.check(f"second checker: {row['name']}", answer in TOLD if due[1].startswith(FAULT) else answer == due[1], answer)
 
 
 def pages_of(text):
