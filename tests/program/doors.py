@@ -2,11 +2,10 @@
 opened, emptied and judged."""
 
 import os
-import subprocess
 
 from codewords import APART, HEADER
-from tally import BAD_LIMIT, BAD_RATE, CANNOT_OPEN, CANNOT_WRITE, IS_EMULATED, NAMED_TWICE, PLAN, PROGRAM, TOO_LARGE
-from tally import fault, make_huge, room_in, run, sampled
+from tally import ANY, BAD_LIMIT, BAD_RATE, CANNOT_OPEN, CANNOT_WRITE, IS_EMULATED, NAMED_TWICE, PLAN, PROGRAM, TOO_LARGE
+from tally import Text, call, fault, make_huge, room_in, run, sampled
 
 TONE = HEADER + b"8,tone0,\n"
 BAD = HEADER + b"8,tone0,\n9,tone9,\n"
@@ -87,9 +86,8 @@ def try_unheard(tally, folder):
             for more in ([],) if "help" in call or "--version" in call else ([], ["--verbose"]):
                 put(room, OLD) if call.startswith("plan") else run(PLAN, room)
                 done = unheard([*call.split(), *more], room, STDIN.get(call, b""), output)
-                told = b"".join(done.stderr.splitlines(True)[:1]) if more else done.stderr
-                holds = (done.returncode, told) == (3, CANNOT_WRITE) and (stand(room) == made or " - " in call)
-                tally.check(f"{output} output: {call} {more}", holds, (done, stand(room)))
+                told = Text(lambda err: err.splitlines(True)[:1] == [CANNOT_WRITE]) if more else CANNOT_WRITE
+                tally.check_done(f"{output} output: {call} {more}", done, 3, ANY, told, stand(room) == made or " - " in call)
 
 
 # Words, closed streams, the status, what is told on the other streams, and what TX and CERT are then: as they were, emptied, or
@@ -119,7 +117,7 @@ def try_closed(tally, folder):
     found = {"old": [OLD, OLD], "empty": [b"", b""], "made": made}
     for words, closed, status, out, err, left in [] if IS_EMULATED else CLOSED:
         put(room, OLD)
-        done = subprocess.run(["sh", "-c", f'"$0" {words} {closed}', str(PROGRAM)], cwd=room, input=b"", capture_output=True, timeout=60)
+        done = call("sh", "-c", f'"$0" {words} {closed}', PROGRAM, cwd=room, input=b"")
         tally.check_done(f"{words} {closed}", done, status, out, err, stand(room) == found[left])
 
 

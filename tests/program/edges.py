@@ -1,7 +1,7 @@
 """The program at the edges of its numbers: places by the thousand, the largest files, the default limit of nodes."""
 
 from codewords import HEADER, IDLE, LARGEST, ONES, PREAMBLE, SYNC, TONE
-from tally import IS_EMULATED, PLAN, TOO_LARGE, fault, run
+from tally import ANY, IS_EMULATED, PLAN, TOO_LARGE, Text, fault, run
 from worked import shaped
 
 SHOWN = b"batch,frame,slot,codewords,address,kind,message\n1,0,0,1,8,tone0,\n"
@@ -72,9 +72,8 @@ def try_default_limit(tally, folder):
             for limit, is_done in limits:
                 done = run([*words, *limit], folder)
                 status, printed, why = due[is_done]
-                holds = (done.returncode, done.stderr) == (status, why) and (words[0] == "report" or done.stdout == printed)
-                tally.check(f"{nodes} nodes: {words[0]} {limit}", holds, done)
+                tally.check_done(f"{nodes} nodes: {words[0]} {limit}", done, status, ANY if words[0] == "report" else printed, why)
         tally.check_done(f"{nodes} nodes: no words", run_on(folder / "pages.csv"), *due[is_default])
         done = run(["open"], folder, b"".join(b"add," + record for record in records) + b"plan,tx.bin,cert.bin\n")
-        answer = f"batches {batches}" if is_default else f"refused: {stopped}"
-        tally.check(f"{nodes} nodes: open", done.returncode == 0 and done.stdout.endswith(f"\n{answer}\n".encode()), done)
+        answer = f"\nbatches {batches}\n" if is_default else f"\nrefused: {stopped}\n"
+        tally.check_done(f"{nodes} nodes: open", done, 0, Text(lambda out: out.endswith(answer.encode())), ANY)

@@ -12,7 +12,7 @@ import tty
 
 import codewords
 from codewords import IDLE, SYNC, flipped, items_of, kind_and_message, random_file, sent
-from tally import PROGRAM, fault, run, said, sampled
+from tally import ANY, PROGRAM, call, fault, run, said, sampled
 
 HEADER = codewords.HEADER.decode()
 FRONT, WORD = 72, 4  # bytes of the preamble and of a codeword
@@ -76,19 +76,19 @@ def check_pages(tally, folder, source, pages, reads):
     for (word, texts), is_json in sampled(itertools.product(TEXTS.items(), (False, True)), 5):
         asked = (["--text", word] if word else []) + (["--json"] if is_json else [])
         due, objects = due_of(pages, texts, is_json)
-        for call, stdin, told in (
+        for given, stdin, told in (
             (["decode", "tx.bin", *asked], b"", ""),
             (["decode", *asked, "-"], tx, ""),
             (["decode", "rx.bin", "--repair", *asked], b"", ""),
             (["decode", "--verbose", *asked, "rx.bin", "--repair"], b"", count),
             (["decode", "tx.bin", "--verbose", *asked], b"", ""),
         ):
-            done = run(call, folder, stdin)
-            tally.check_done(f"{call} of {len(pages)} pages", done, 0, due.encode(), told.encode())
+            done = run(given, folder, stdin)
+            tally.check_done(f"{given} of {len(pages)} pages", done, 0, due.encode(), told.encode())
         if is_json:
             tally.check(f"json reads {asked}", [json.loads(line) for line in done.stdout.decode().splitlines()] == objects)
             if reads:
-                read = subprocess.run(["jq", "-c", "[.address,.function,.kind,.message]"], input=done.stdout, capture_output=True)
+                read = call("jq", "-c", "[.address,.function,.kind,.message]", input=done.stdout)
                 tally.check(f"jq reads {asked}", [json.loads(line) for line in read.stdout.splitlines()] == [[*it.values()] for it in objects], read)
         due, _ = due_of(heard, texts, is_json)
         for name, more in (("tx.bin", []), ("rx.bin", []), ("rx.bin", ["--verbose"])):
@@ -115,7 +115,7 @@ def try_long(tally, folder):
     for words in (["--json"], ["--text", "0,1,2"], ["--json", "--text", "1"]):
         once, done = (run(["decode", name, *words], folder) for name in ("once.bin", "long.bin"))
         head = b"" if "--json" in words else HEADER.encode()
-        tally.check(f"decode {words} of a long one", done.stdout == head + times * once.stdout[len(head) :] and done.returncode == 0, done.stderr)
+        tally.check_done(f"decode {words} of a long one", done, 0, head + times * once.stdout[len(head) :], ANY)
         tally.check_full(f"decode {words} on a full disk", ["decode", "long.bin", *words], folder)
 
 
@@ -143,10 +143,8 @@ def try_terminal(tally, folder):
     for count in (1, 24):
         (folder / "tx.bin").write_bytes(once[:72] + count * once[72:])
         for words in (["decode"], ["decode", "--json"], ["decode", "--capture"], ["hear", "11"], ["hear", "11", "--capture"], ["show", "--list"]):
-            elsewhere = run([*words, "tx.bin"], folder)
-            has_controls = b"\x1b" in elsewhere.stdout
-            holds = elsewhere.returncode == 0 and has_controls == ("--json" not in words)
-            shown = at_terminal([*words, "tx.bin"], folder)
+            elsewhere, shown = run([*words, "tx.bin"], folder), at_terminal([*words, "tx.bin"], folder)
+            holds = elsewhere.returncode == 0 and (b"\x1b" in elsewhere.stdout) == ("--json" not in words)
             tally.check(f"{words} of {count} pages at a terminal", holds and shown == (0, elsewhere.stdout.translate(plain)), (shown[0], shown[1][:80]))
 
 
@@ -174,19 +172,17 @@ def check_repair(tally, folder, source):
     sent = (folder / "tx.bin").read_bytes()
     received, words, bits = damaged(sent, source)
     (folder / "rx.bin").write_bytes(received)
-    count = f"pocsag: transmission rx.bin: corrected bits {bits}, words {words}\n"
+    count = fault(f"transmission rx.bin: corrected bits {bits}, words {words}")
     for command, views in (("decode", ([],)), ("show", VIEWS)):
         for view in views:
             due = run([command, "tx.bin", *view], folder)
-            plain = run([command, "tx.bin", *view, "--repair"], folder)
-            tally.check_done(f"{command} {view} of what was sent", plain, *said(due))
+            tally.check_done(f"{command} {view} of what was sent", run([command, "tx.bin", *view, "--repair"], folder), *said(due))
             for more in ([], ["--verbose"]):
                 done = run([command, "rx.bin", *view, "--repair", *more], folder)
-                told = count if more and due.returncode == 0 else None
-                holds = (done.returncode, done.stdout) == (due.returncode, due.stdout) and (told is None or done.stderr.decode() == told)
-                tally.check(f"{command} {view} {more} of what was received", holds, (done, told))
-            refused = run([command, "rx.bin", *view], folder).returncode
-            tally.check(f"{command} {view} refuses it without repair", refused == (1 if words else due.returncode), refused)
+                told = count if more and due.returncode == 0 else ANY
+                tally.check_done(f"{command} {view} {more} of what was received", done, due.returncode, due.stdout, told)
+            refused = 1 if words else due.returncode
+            tally.check_done(f"{command} {view} refuses it without repair", run([command, "rx.bin", *view], folder), refused, ANY, ANY)
     place = source.randrange((len(sent) - FRONT) // WORD)
     at = FRONT + WORD * place
     wrong = flipped(sent[at : at + WORD], *source.sample(range(32), 3))
@@ -202,5 +198,4 @@ def try_repair(tally, folder):
     source = random.Random(584)
     for _ in sampled(range(12)):
         check_repair(tally, folder, source)
-    by_pager = run(["hear", "8", "rx.bin"], folder)
-    tally.check("hear of the same", by_pager.returncode == 0, by_pager)
+    tally.check_done("hear of the same", run(["hear", "8", "rx.bin"], folder), 0, ANY, ANY)

@@ -5,7 +5,7 @@ import os
 import random
 
 from codewords import APART, HEADER
-from tally import BAD_LIMIT, BAD_RATE, NAMED_TWICE, PLAN, fault, room_in, run, said, sampled
+from tally import ANY, BAD_LIMIT, BAD_RATE, NAMED_TWICE, PLAN, fault, room_in, run, said, sampled
 from worked import LOOP_APART, ONE_FULL
 
 # Three pages: the first alone and the first two take two batches, and all take three. With its idles in front the first has 22
@@ -35,8 +35,7 @@ def check_front(tally, room, words, told, sent, **left):
     file, *options = words
     done = run(["plan", file, "tx.bin", "cert.bin", *options], room)
     tally.check_done(f"front {words}", done, 0, told + b"verified\n" * ("--verify" in options))
-    found = sorted(run(["decode", "tx.bin"], room).stdout.splitlines(True))
-    tally.check(f"sent of {words}", found == sorted([HEADER, *sent]), found)
+    tally.check_same(f"sent of {words}", sorted(run(["decode", "tx.bin"], room).stdout.splitlines(True)), sorted([HEADER, *sent]))
     for name, pages in left.items():
         tally.check_same(f"{name} of {words}", (room / f"{name}.csv").read_bytes(), HEADER + b"".join(pages))
 
@@ -95,7 +94,7 @@ def try_refusals(tally, folder):
     emptied = {path.name for path in room.iterdir() if path.stat().st_size == 0}
     tally.check_done("a bad record behind the front", done, 1, b"", BAD_KIND, emptied >= {"t", "c"})
     done = run(["plan", "-", "-", "c", "--at-most", "2", "--rest", "r"], room, FILE)
-    tally.check("a front through pipes", done.returncode == 0 and done.stderr == counts_of(2, 2, 1), done)
+    tally.check_done("a front through pipes", done, 0, ANY, counts_of(2, 2, 1))
 
 
 def try_later(tally, folder):
@@ -228,8 +227,7 @@ def try_slots(tally, folder):
         for more in ([], ["--verbose"]):
             done = run(["report", file, *words.split(), *more], room)
             tally.check(f"no slot {file} {words} {more}", (done.returncode, done.stdout) == (1, b"") and done.stderr.startswith(told), done)
-            plan = run([*planned(file, words), *more], other)
-            tally.check(f"no plan {file} {words} {more}", (plan.returncode, plan.stderr) == (1, done.stderr), (plan, done))
+            tally.check_done(f"no plan {file} {words} {more}", run([*planned(file, words), *more], other), 1, ANY, done.stderr)
     # The rate bounds nothing here, and is judged last.
     for file, told in (("bad.csv", BAD_KIND), ("pages.csv", BAD_RATE)):
         tally.check_done(f"another rate, {file}", run(["report", file, "--at-most", "2", "--rate", "600"], room), 1, b"", told)

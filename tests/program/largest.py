@@ -11,8 +11,9 @@ import sizes
 import trees
 import worked
 from codewords import HEADER, IDLE, LARGEST, PREAMBLE, SYNC, TONE, address_word, codeword, items_of, letters, sent
+from edges import SHOWN
 from forms import due_of
-from tally import MEMORY, brief, fault, run
+from tally import ANY, MEMORY, Text, brief, fault, run
 
 PAGES = 20_000
 READ_ONLY = ["open", "--journal", "journal", "--read-only"]
@@ -46,13 +47,10 @@ def try_fronts(tally, folder):
         due = b"pages %d\nbatches %d\nleft %d\nverified\n" % (first, batches, pages - first)
         tally.check_done(f"a front of {first} of {pages} {kind}", done, 0, due)
         told = run(["report", "pages.csv", "--rate", "2400", "--at-most", str(batches)], folder)
-        airtime = -(-(576 + 544 * batches) * 1_000 // 2_400)
-        lines = told.stdout.splitlines()
-        holds = (told.returncode, lines[:1], lines[3:4]) == (0, [b"pages %d" % first], [b"batches %d" % batches])
-        holds = holds and lines[6:] == [b"airtime_ms %d" % airtime, b"left %d" % (pages - first)]
-        tally.check(f"a slot of {first} of {pages} {kind}", holds, brief(told))
-        left = (folder / "rest.csv").read_bytes() if (folder / "rest.csv").exists() else b""
-        tally.check(f"the other {pages - first} {kind}", left == HEADER + records(first, pages), len(left))
+        airtime, lines = -(-(576 + 544 * batches) * 1_000 // 2_400), told.stdout.splitlines()
+        due = [b"pages %d" % first, b"batches %d" % batches, b"airtime_ms %d" % airtime, b"left %d" % (pages - first)]
+        tally.check(f"a slot of {first} of {pages} {kind}", told.returncode == 0 and lines[:1] + lines[3:4] + lines[6:] == due, brief(told))
+        tally.check(f"the other {pages - first} {kind}", (folder / "rest.csv").read_bytes() == HEADER + records(first, pages))
         (folder / "front.csv").write_bytes(HEADER + records(0, first))
         (folder / "more.csv").write_bytes(HEADER + records(0, first + 1))
         for name, cert, least in (("front.csv", "cert.bin", batches), ("more.csv", "why.bin", more)):
@@ -83,8 +81,7 @@ def try_queues(tally, folder):
         lines = [b"airtime_ms %d" % airtime, b"left %d" % left, b"oversized %d" % (2 * len(aside))]
         tally.check(f"a slot of a queue of {pages} pages", done.returncode == 0 and done.stdout.splitlines()[6:] == lines, (brief(done), lines))
         for name, wanted in (("rest.csv", [*fitting[1:], *fitting]), ("over.csv", [*aside, *aside])):
-            found = (folder / name).read_bytes() if (folder / name).exists() else b""
-            tally.check(f"{name} of a queue of {pages} pages", found == b"".join([HEADER, *wanted]), len(found))
+            tally.check(f"{name} of a queue of {pages} pages", (folder / name).read_bytes() == b"".join([HEADER, *wanted]))
 
 
 def try_plans(tally, folder):
@@ -105,8 +102,7 @@ def try_plans(tally, folder):
             holds = (done.returncode, done.stderr, told[:2] + told[3:5]) == (0, b"", counts) and sorted(told[7:]) == frames
             tally.check(f"report {words[0]} of {pages} pages", holds, brief(done))
         if pages < PAGES:
-            done = run([*plan, "--expect", str(pages - 1)], folder)
-            tally.check(f"{pages} pages where one fewer is expected", done.returncode == 1 and not done.stdout, brief(done))
+            tally.check_done(f"{pages} pages where one fewer is expected", run([*plan, "--expect", str(pages - 1)], folder), 1, b"", ANY)
         with open(folder / "pages.csv", "rb") as file:
             done = run([], folder, stdin=file)
         tally.check_done(f"no words, {pages} pages", done, 0, b"pages %d\nbatches %d\n" % (pages, full))
@@ -118,9 +114,8 @@ def try_faults(tally, folder):
         (folder / "bad.csv").write_bytes(HEADER + texts(1, pages, letters) + b"0,alpha,%s\x00\n" % (b"a" * (letters - 1)))
         told = b"pocsag: record %d: bad character at %d\npocsag: page file bad.csv: line %d: " % (pages, letters - 1, pages + 1)
         for words in (["plan", "bad.csv", "tx.bin", "cert.bin"], ["report", "bad.csv", "--rate", "512"]):
-            done = run([*words, "--verbose"], folder)
-            holds = (done.returncode, done.stdout) == (1, b"") and done.stderr.startswith(told)
-            tally.check(f"{words[0]} --verbose of a fault in record {pages}", holds, brief(done))
+            noted = Text(lambda err: err.startswith(told))
+            tally.check_done(f"{words[0]} --verbose of a fault in record {pages}", run([*words, "--verbose"], folder), 1, b"", noted)
 
 
 # Pages for which the tree of the search has more than a million nodes, and pages for which that of the free search has 319: of each its
@@ -178,9 +173,9 @@ def try_certificates(tally, folder):
             (["--svg"], b"<svg", b"</svg>\n"),
         ):
             done = run(["explain", "pages.csv", "cert.bin", *words, "--verbose"], folder)
-            holds = (done.returncode, done.stderr) == (0, b"") and done.stdout.startswith(start) and done.stdout.endswith(end)
-            holds = holds and ("--depth" not in words or done.stdout.count(b"{" if "--json" in words else b"\n") > count)
-            tally.check(f"explain {' '.join(words) or 'alone'} of {count} nodes", holds, (brief(done), done.stdout[-100:]))
+            due = Text(lambda out: out.startswith(start) and out.endswith(end))
+            is_long = "--depth" not in words or done.stdout.count(b"{" if "--json" in words else b"\n") > count
+            tally.check_done(f"explain {' '.join(words) or 'alone'} of {count} nodes", done, 0, due, b"", is_long)
         tally.check_full(f"explain of {count} nodes to a full device", ["explain", "pages.csv", "cert.bin", "--depth", "300"], folder)
 
 
@@ -243,21 +238,17 @@ def try_shows(tally, folder):
         tx, count = repeated(pages, size)
         (folder / "tx.bin").write_bytes(tx)
         batches = len(tx) // 68 - 1
-        rows = {b"Aa" + 7 * b" aa": 1, b" aa aa" + 6 * b" aa": 86, b"aa aa aa aa a. .. .. ..": 1}
+        rows = {b"": batches + 2, b"Aa" + 7 * b" aa": count, b" aa aa" + 6 * b" aa": 86 * count, b"aa aa aa aa a. .. .. ..": count}
+        grid = Text(lambda out: rows == {row: out.count(row + b"\n") for row in rows})
         for words in (["--repair", "--verbose"], ["--capture", "--nth", "1"]):
-            done = run(["show", "tx.bin", *words], folder)
-            holds = done.returncode == 0 and done.stdout.count(b"\n") == batches + 2
-            holds = holds and all(done.stdout.count(row + b"\n") == count * times for row, times in rows.items())
-            tally.check(f"show {words[0]} of {size} bytes", holds, brief(done))
-        done = run(["show", "tx.bin", "--list"], folder)
+            tally.check_done(f"show {words[0]} of {size} bytes", run(["show", "tx.bin", *words], folder), 0, grid, ANY)
         first = b"batch,frame,slot,codewords,address,kind,message\n1,0,0,1401,8,alpha,%s\n89,1,2,1,9,tone1,\n" % (b"a" * 4_000)
-        holds = (done.returncode, done.stdout.count(b"\n")) == (0, 2 * count + 1) and done.stdout.startswith(first)
-        tally.check(f"show --list of {size} bytes", holds, brief(done))
+        places = Text(lambda out: out.startswith(first) and out.count(b"\n") == 2 * count + 1)
+        tally.check_done(f"show --list of {size} bytes", run(["show", "tx.bin", "--list"], folder), 0, places, ANY)
         drawn = 1_000 if size == LARGEST else batches
         done = run(["show", "tx.bin", "--svg", "--rows", f"{batches - drawn + 1}-{batches}"], folder)
-        holds = done.returncode == 0 and done.stdout.startswith(b"<svg") and done.stdout.endswith(b"</svg>\n")
-        holds = holds and done.stdout.count(b"a" * 4_000) >= drawn // 89
-        tally.check(f"show --svg --rows of {size} bytes", holds, (brief(done), done.stdout[-100:]))
+        drawing = Text(lambda out: out.startswith(b"<svg") and out.endswith(b"</svg>\n") and out.count(b"a" * 4_000) >= drawn // 89)
+        tally.check_done(f"show --svg --rows of {size} bytes", done, 0, drawing, ANY)
 
 
 # A batch that begins with a tone of frame 0 and is idle from there on.
@@ -272,12 +263,11 @@ def try_captures(tally, folder):
         (folder / "capture").write_bytes(b"\xaa" * (size - count * len(call)) + count * call)
         told = ["--verbose"] * (size < LARGEST)  # a line for each transmission
         for words in (["decode"], ["hear", "8"]):
-            done = run([*words, "--capture", "capture", *told], folder)
-            holds = (done.returncode, done.stdout) == (0, b"address,kind,message,state\n" + count * b"8,tone0,,whole\n")
-            tally.check(f"{words[0]} --capture of {count} calls", holds and done.stderr.count(b"\n") == count * len(told), brief(done))
+            done, due = run([*words, "--capture", "capture", *told], folder), b"address,kind,message,state\n" + count * b"8,tone0,,whole\n"
+            is_told = done.stderr.count(b"\n") == count * len(told)
+            tally.check_done(f"{words[0]} --capture of {count} calls", done, 0, due, ANY, is_told)
         done = run(["show", "--list", "--capture", "--nth", str(count), "capture", "--verbose"], folder)
-        shown = b"batch,frame,slot,codewords,address,kind,message\n1,0,0,1,8,tone0,\n"
-        tally.check(f"show --nth of {count} calls", (done.returncode, done.stdout) == (0, shown), brief(done))
+        tally.check_done(f"show --nth of {count} calls", done, 0, SHOWN, ANY)
     (folder / "capture").unlink()
 
 
@@ -286,8 +276,7 @@ def try_sounds(tally, folder):
     44 bytes, and behind the bits 255 ms of silence, which are 612 bits."""
     words = ["wav", "tx.bin", "--rate", "2400", "--samples", "2400", "--invert", "--preamble", "584", "--tail", "255", "--verbose"]
     (folder / "tx.bin").write_bytes(PREAMBLE + 20_000 * TONE_BATCH)
-    done, due = run(words, folder), 44 + 2 * (584 + 544 * 20_000 + 612)
-    tally.check("wav of 20000 batches", (done.returncode, len(done.stdout), done.stderr) == (0, due, b""), (brief(done), due))
+    tally.check_done("wav of 20000 batches", run(words, folder), 0, Text(lambda out: len(out) == 44 + 2 * (584 + 544 * 20_000 + 612)))
     (folder / "tx.bin").write_bytes(PREAMBLE + 3_947_578 * TONE_BATCH)
     tally.check_done("wav of 3947578 batches", run(words, folder, stdout=subprocess.DEVNULL), 0, None)
 
@@ -358,5 +347,4 @@ def try_journals(tally, folder):
 
 
 def try_table(tally, _):
-    missing = sizes.runs_of("tests/program/largest.py") - tally.names
-    tally.check("each run that tests/calls/largest.txt names was made", not missing, missing)
+    tally.check_none("each run that tests/calls/largest.txt names was made", sizes.runs_of("tests/program/largest.py") - tally.names)

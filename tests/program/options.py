@@ -9,7 +9,9 @@ from codewords import in_order
 from tally import TOP, fault, sampled
 from workspace import module_at
 
-ENDS = ([], ["--end", "open"], ["--end", "closed"], ["--end=closed"], ["--idle-last"], ["--end", "idle"])
+# The words for an end, with the end.
+ENDS = (([], "open"), (["--end", "open"], "open"), (["--end", "closed"], "closed"), (["--end=closed"], "closed"),
+        (["--idle-last"], "idle"), (["--end", "idle"], "idle"))  # fmt: skip
 LIMITS = ([], ["--limit", "100000"], ["--limit=1000000"], ["--limit", "1"])
 RATES = ("512", "1200", "2400")
 VERBOSE = ([], ["--verbose"])
@@ -37,11 +39,6 @@ ROUNDS = [
     [(7, 1), (15, 1)],
     *(FEWEST.random_round(source) for source in [random.Random(1986)] for _ in range(8)),
 ]
-
-
-def end_in(words):
-    """The end that the words ask for."""
-    return "idle" if "--idle-last" in words or "idle" in words else "closed" if any("closed" in word for word in words) else "open"
 
 
 class Due:
@@ -100,8 +97,8 @@ def combinations(*lists):
 
 def try_plan_options(tally, folder):
     """`plan` with each end, limit, `--always`, `--verify` and `--verbose`, and `report` of that plan at each rate."""
-    for pages, end, limit, always, verbose in combinations(ROUNDS, ENDS, LIMITS, ([], ["--always"]), VERBOSE):
-        due, asked = Due(pages, end_in(end)), " ".join([*end, *limit, *always, *verbose])
+    for pages, (end, named), limit, always, verbose in combinations(ROUNDS, ENDS, LIMITS, ([], ["--always"]), VERBOSE):
+        due, asked = Due(pages, named), " ".join([*end, *limit, *always, *verbose])
         (folder / "pages.csv").write_bytes(due.text)
         for verify in ([], ["--verify"]):
             planned = run(["plan", *end, "pages.csv", "tx.bin", *limit, "cert.bin", *always, *verify, *verbose], folder)
@@ -133,14 +130,12 @@ def try_open_options(tally, folder):
         for end in (b"", b",open", b",closed", b",idle"):
             due = Due(pages, end[1:].decode() or "open")
             done = run(["open", *words], folder, b"\n".join([*edits, b"plan,tx.bin,cert.bin" + end]) + b"\n")
-            told = b"\n".join([*counted, b"batches %d" % due.fewest]) + b"\n"
             name = f"open {' '.join(words)}: plan{end.decode()}"
-            tally.check_done(name, done, 0, told)
+            tally.check_done(name, done, 0, b"\n".join([*counted, b"batches %d\n" % due.fewest]))
             tally.check(f"{name}: files", due.are_written(folder, due.fewest, due.fewest), text)
 
 
 def try_input_options(tally, folder):
     for pages, verbose in combinations(ROUNDS, VERBOSE):
         due = Due(pages, "open")
-        told = b"pages %d\nbatches %d\n" % (len(pages), due.fewest)
-        tally.check_done(f"no words {verbose}", run(verbose, folder, due.text), 0, told)
+        tally.check_done(f"no words {verbose}", run(verbose, folder, due.text), 0, b"pages %d\nbatches %d\n" % (len(pages), due.fewest))

@@ -11,7 +11,7 @@ import options
 import usage
 import verbose
 from codewords import HEADER, HEADS, IDLE, ONES as MESSAGE, TONE, ZERO, flipped, transmission
-from tally import BAD_RATE, CANNOT_OPEN, CANNOT_WRITE, ENDS, NAMED_TWICE, PLAN, TOO_LARGE, fault, make_huge, run, sampled
+from tally import ANY, BAD_RATE, CANNOT_OPEN, CANNOT_WRITE, ENDS, NAMED_TWICE, PLAN, TOO_LARGE, Text, fault, make_huge, run, sampled
 from worked import BOTH_WAYS, EXACT, HARD, LONE_TONE, LONG_ALPHA, LOOP_APART, ONE_FULL, TIGHT, of_ones, shaped
 
 PARTS_OF = (usage, doors, edges, forms, fronts, options, verbose)
@@ -75,22 +75,17 @@ def check_round(tally, folder, name, end):
     batches = dict(zip(ENDS, fewest))[end]
     if batches is None:
         return
-    pages, tx, cert = folder / "pages.csv", folder / "tx.bin", folder / "cert.bin"
-    pages.write_bytes(HEADER + records)
+    (folder / "pages.csv").write_bytes(HEADER + records)
     lines = lines_of(name)
     tally.check_done(f"plan {name} {end}", run([*PLAN, *ENDS[end], "--verify"], folder), 0, told_of(len(lines), batches, "verified"))
-    wrote = tx.read_bytes()
+    wrote, certificate = (folder / "tx.bin").read_bytes(), (folder / "cert.bin").read_bytes()
     holds = len(wrote) == 72 + 68 * batches and (end != "open" or sent is None or wrote in sent)
     tally.check(f"transmission of {name} {end}", holds, wrote[:200].hex())
-    holds = {"open": True, "closed": wrote[-4] < 128, "idle": wrote[-4:] == IDLE}[end]
-    tally.check(f"last codeword of {name} {end}", holds, wrote[-4:])
+    tally.check(f"last codeword of {name} {end}", {"open": True, "closed": wrote[-4] < 128, "idle": wrote[-4:] == IDLE}[end], wrote[-4:])
     tally.check_done(f"check {name} {end}", run(["check", "pages.csv", "cert.bin"], folder), 0, shown_of(batches, end))
-    head = HEADS[end] + batches.to_bytes(4, "big")
-    tally.check(f"certificate of {name} {end}", cert.read_bytes().startswith(head), cert.read_bytes()[:20])
-    done = run(["decode", "tx.bin"], folder)
-    holds = done.returncode == 0 and done.stdout.startswith(HEADER)
-    holds = holds and sorted(done.stdout[len(HEADER) :].strip(b"\n").split(b"\n")) == sorted(lines)
-    tally.check(f"decode {name} {end}", holds, done.stdout[:300])
+    tally.check(f"certificate of {name} {end}", certificate.startswith(HEADS[end] + batches.to_bytes(4, "big")), certificate[:20])
+    listed = Text(lambda out: out.startswith(HEADER) and sorted(out[len(HEADER) :].strip(b"\n").split(b"\n")) == sorted(lines))
+    tally.check_done(f"decode {name} {end}", run(["decode", "tx.bin"], folder), 0, listed, ANY)
 
 
 def try_rounds(tally, folder):
@@ -101,9 +96,8 @@ def try_rounds(tally, folder):
         done = run([*PLAN, "--always", "--verify"], folder)
         tally.check_done(f"plan {name} --always", done, 0, told_of(len(lines_of(name)), batches, "verified"))
         if in_order:
-            done = run(["report", "pages.csv", "--rate", "1200"], folder)
-            wanted = [b"in_order %d" % in_order, b"batches %d" % batches]
-            tally.check(f"report {name}", done.returncode == 0 and done.stdout.split(b"\n")[2:4] == wanted, done)
+            counts = Text(lambda out: out.split(b"\n")[2:4] == [b"in_order %d" % in_order, b"batches %d" % batches])
+            tally.check_done(f"report {name}", run(["report", "pages.csv", "--rate", "1200"], folder), 0, counts, ANY)
 
 
 # The reports of the worked examples: words, what is printed or the fault, and the status.
@@ -136,9 +130,8 @@ def try_always(tally, folder):
     pages, plan = folder / "pages.csv", [*PLAN, "--always", "--verify"]
     for end, (name, shape, batches) in sampled(itertools.product(ENDS, HARD)):
         pages.write_bytes(HEADER + b"".join(shaped(shape)))
-        done = run([*PLAN, *ENDS[end]], folder)
-        refused = done.returncode == 1 and b"search limit reached" in done.stderr and done.stdout == b""
-        tally.check(f"{name} refused without --always, {end}", refused, done)
+        done, stopped = run([*PLAN, *ENDS[end]], folder), Text(lambda err: b"search limit reached" in err)
+        tally.check_done(f"{name} refused without --always, {end}", done, 1, b"", stopped)
         tally.check_done(f"{name} answered, {end}", run([*plan, *ENDS[end]], folder), 0, told_of(len(shape), batches, "verified"))
         done = run(["check", "pages.csv", "cert.bin"], folder)
         tally.check_done(f"{name} shown to be the fewest, {end}", done, 0, shown_of(batches, end))

@@ -9,10 +9,9 @@ import pathlib
 import re
 import shlex
 import shutil
-import subprocess
 
 import helped
-from tally import TOP, room_in, run, sampled
+from tally import TOP, call, room_in, run, sampled
 
 TEXTS = pathlib.Path(__file__).resolve().parent / "texts"
 VERSION = (TOP / "VERSION").read_text().split()[0]
@@ -58,7 +57,7 @@ def try_logic(tally, _folder):
     """What was proved is proved in a logic, whichever kit of it is in PATH."""
     if not shutil.which("rt"):
         return
-    toolchain = subprocess.run(["rt", "version"], capture_output=True, text=True, timeout=60).stdout
+    toolchain = call("rt", "version", text=True).stdout
     told = run(["--version"]).stdout.decode()
     _, logic, number = toolchain.partition(" logic ")
     tally.check("the version names the logic", number.strip() and told.endswith(logic + number), (told, toolchain))

@@ -4,7 +4,7 @@ system refused it, or the line and the text of the record that is refused."""
 import os
 
 from codewords import APART, HEADER, IDLE, PREAMBLE
-from tally import fault as told_of, run, sampled
+from tally import ANY, fault as told_of, run, sampled
 from worked import LOOP_APART
 
 LATE = HEADER + LOOP_APART
@@ -177,9 +177,7 @@ def try_verbose(tally, folder):
     link.symlink_to("tx.bin")
     for words, note in ((["link", "cert.bin"], "transmission link"), (["tx.bin", "/dev/null"], "certificate /dev/null")):
         plain, more = (run(["plan", "p.csv", *words, "--keep", *it], folder) for it in ([], ["--verbose"]))
-        told = more.stderr == plain.stderr + f"pocsag: {note}: no regular file\n".encode()
-        tally.check(f"--keep names {note}", told and plain.returncode == more.returncode == 2, more)
+        tally.check_done(f"--keep names {note}", more, 2, ANY, plain.stderr + told_of(f"{note}: no regular file"), plain.returncode == 2)
     link.unlink()
-    before = run(["--verbose", "plan", "none.csv", "t", "c"], folder)
     behind = run(["plan", "none.csv", "t", "c", "--verbose"], folder)
-    tally.check("--verbose before the command", before.stderr == behind.stderr and before.returncode == 3, before)
+    tally.check_done("--verbose before the command", run(["--verbose", "plan", "none.csv", "t", "c"], folder), 3, ANY, behind.stderr)
