@@ -11,7 +11,7 @@ import read_back
 import trees
 from codewords import APART, HEADER, IDLE, MESSAGE, ZERO, codeword, digits, in_order, transmission
 from sessions import edited, listed, listing
-from tally import CANNOT_OPEN, CANNOT_WRITE, ENDS, NAMED_TWICE, PROGRAM, TOP, fault
+from tally import ANY, CANNOT_OPEN, CANNOT_WRITE, ENDS, NAMED_TWICE, PROGRAM, TOP, call, fault
 
 HERE = pathlib.Path(__file__).resolve().parent
 TRIAL = TOP / "crates/pocsag_trial/out/pocsag_trial"
@@ -34,7 +34,7 @@ def marked(command, library, stdin, mark, **settings):
     """A run by the settings of refuse.c, and the marks that it wrote into the pipe of one of these."""
     reader, writer = os.pipe()
     environment = {**os.environ, "LD_PRELOAD": str(library), mark: str(writer), **settings}
-    done = subprocess.run(command, input=stdin, capture_output=True, env=environment, pass_fds=(writer,), timeout=60)
+    done = call(*command, input=stdin, env=environment, pass_fds=(writer,))
     os.close(writer)
     with open(reader, "rb") as marks:
         return done, marks.read()
@@ -207,8 +207,7 @@ def try_plan(tally, library, folder, name, page_file, count):
     tally.check(f"{name}: growths and reads", counts["ALLOC"] > 3 and counts["READ"] > 0, counts)
     prepare()
     short, _ = run(command, library, REFUSE_SHORT="1")
-    holds = short.returncode == 0 and (tx.read_bytes(), cert.read_bytes()) == (due, shown)
-    tally.check(f"{name} one byte at a time", holds, short)
+    tally.check_done(f"{name} one byte at a time", short, 0, ANY, ANY, (tx.read_bytes(), cert.read_bytes()) == (due, shown))
     return counts["WRITE"]
 
 
@@ -245,8 +244,7 @@ def try_printing(tally, library, folder, words, files, in_pieces=False, stdin=b"
     counts = all_refusals(command, library, stdin, judge)
     tally.check(f"{name}: calls of each kind", min(counts.values()) > 0, counts)
     tally.check(f"{name}: memory refused behind a part", ("ALLOC" in behind) == in_pieces, behind)
-    short, _ = run(command, library, stdin=stdin, REFUSE_SHORT="1")
-    tally.check(f"{name} one byte at a time", short.returncode == 0 and short.stdout == ample.stdout, short)
+    tally.check_done(f"{name} one byte at a time", run(command, library, stdin=stdin, REFUSE_SHORT="1")[0], 0, ample.stdout, ANY)
     return counts
 
 
@@ -300,8 +298,7 @@ def try_open(tally, library, folder):
     command = [str(PROGRAM), "open"]
     ample, _ = run(command, library, stdin=stdin)
     answers = ample.stdout.splitlines()
-    holds = Answers(edits).are(answers, None, ()) and (ample.returncode, ample.stderr) == (0, b"")
-    tally.check("open with ample memory", holds, ample)
+    tally.check("open with ample memory", Answers(edits).are(answers, None, ()) and (ample.returncode, ample.stderr) == (0, b""), ample)
     wanting = []
 
     def judge(kind, number, done):
@@ -320,8 +317,7 @@ def try_open(tally, library, folder):
     counts = all_refusals(command, library, stdin, judge)
     tally.check("open: calls of each kind", min(counts.values()) > 1, counts)
     tally.check("open: each word that takes memory lacked it", {b"add", b"list", b"plan"} <= set(wanting), wanting)
-    short, _ = run(command, library, stdin=stdin, REFUSE_SHORT="1")
-    tally.check("open one byte at a time", short.stdout == ample.stdout and short.returncode == 0, short)
+    tally.check_done("open one byte at a time", run(command, library, stdin=stdin, REFUSE_SHORT="1")[0], 0, ample.stdout, ANY)
 
 
 def try_open_pages(tally, library, folder):

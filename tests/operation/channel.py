@@ -7,7 +7,7 @@ import shutil
 import subprocess
 
 from codewords import rows_of
-from tally import PROGRAM, TOP, put_script, run, said
+from tally import PROGRAM, TOP, call, put_script, run, said
 
 COMMANDS = ("cp", "find", "flock", "head", "ls", "mv", "rm", "sync", "tail", "tr", "wc", "xargs")
 HEADER = "address,kind,message\n"
@@ -158,7 +158,7 @@ def pages_of(file):
 
 def can_trace():
     """Whether strace is installed, and may trace."""
-    return bool(shutil.which("strace")) and subprocess.run([*TRACE, "/dev/null", "true"], capture_output=True).returncode == 0
+    return bool(shutil.which("strace")) and call(*TRACE, "/dev/null", "true").returncode == 0
 
 
 def calls_of(channel, script, *words):

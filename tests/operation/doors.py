@@ -4,11 +4,10 @@ import itertools
 import os
 import shutil
 import stat
-import subprocess
 
 from codewords import APART, HEADER
-from tally import CANNOT_OPEN, CANNOT_WRITE, NAMED_TWICE, NO_OWNER, PLAN, PROGRAM
-from tally import as_nobody, fault, faulty, files_of, put, room_in, run
+from tally import ANY, CANNOT_OPEN, CANNOT_WRITE, NAMED_TWICE, NO_OWNER, PLAN, PROGRAM
+from tally import Text, as_nobody, call, fault, faulty, files_of, put, room_in, run
 
 TONE, BAD = HEADER + b"8,tone0,\n", HEADER + b"8,tone9,\n"
 OLD = (b"an older transmission", b"an older certificate")
@@ -33,7 +32,7 @@ def names(room):
 def shell(line, room, **more):
     """Runs a line of the shell, in which `pocsag` is the program."""
     script = f"pocsag() {{ '{PROGRAM}' \"$@\"; }}\n{line}"
-    return subprocess.run(["bash", "-c", script], cwd=room, capture_output=True, timeout=60, **more)
+    return call("bash", "-c", script, cwd=room, **more)
 
 
 # What is refused since the lines or the fault would stand in a file that it names. All files stay as they are.
@@ -62,18 +61,15 @@ def try_streams(tally, folder):
         (room / "o.bin").unlink(missing_ok=True)
         done = shell(f"set -o pipefail; pocsag {line}", room)
         left = files_of(room)
-        written = left.pop("o.bin", b"")
-        told = written if "2>" in line else done.stderr
-        holds = (done.returncode, done.stdout, told) == (1, b"", NAMED_TWICE) and left == before
-        tally.check(f"refused: {line}", holds and (written == b"" or "2>" in line), (done, written, names(room)))
+        written, told = left.pop("o.bin", b""), NAMED_TWICE if "2>" in line else b""
+        tally.check_done(f"refused: {line}", done, 1, b"", b"" if told else NAMED_TWICE, written == told and left == before)
     done = shell("pocsag plan pages.csv o.bin c --verbose > o.bin", room)
     tally.check("a hint at -", done.stderr.startswith(NAMED_TWICE) and b"'-' in place of TX" in done.stderr, done)
     done = shell("printf 'add,8,tone0,\\nplan,/dev/stdout,c\\nplan,o.bin,c\\n' | pocsag open > o.bin", room)
     told = (room / "o.bin").read_bytes()
     tally.check("a line plan", told == b"ok 1\n" + 2 * b"refused: the same file is named twice\n" and "c" not in names(room), (done, told))
     for line in ("plan pages.csv /dev/null c > /dev/null 2>&1", "plan pages.csv - c > o.bin", "plan pages.csv t c > lines", "plan - t c < pages.csv"):
-        done = shell(f"pocsag {line}", room)
-        tally.check(f"taken: {line}", done.returncode == 0, done)
+        tally.check_done(f"taken: {line}", shell(f"pocsag {line}", room), 0, ANY, ANY)
 
 
 def another_user(folder):
@@ -101,8 +97,8 @@ def try_rights(tally, folder):
         before = names(room)
         done = run([*PLAN, "--keep", "--verbose"], room, before=user)
         note = f"{name}: {os.strerror(1)} (os error 1)\n".encode()
-        holds = (done.returncode, done.stdout) == (3, b"") and done.stderr.startswith(NO_OWNER) and done.stderr.endswith(note)
-        tally.check(f"another's {name} stays", holds and stand(room) == OLD and names(room) == before, (done, names(room)))
+        told = Text(lambda err: err.startswith(NO_OWNER) and err.endswith(note))
+        tally.check_done(f"another's {name} stays", done, 3, b"", told, stand(room) == OLD and names(room) == before)
     room = fresh(folder, "unread")
     for name in (".", "tx.bin", "cert.bin"):
         os.chown(room / name, *NOBODY)
@@ -143,7 +139,7 @@ def try_file_size(tally, folder):
     room = fresh(folder, "file size")
     (room / "pages.csv").write_bytes(HEADER + b"".join(b"%d,numeric,12345\n" % k for k in range(2000)))
     done = shell("trap '' XFSZ; ulimit -f 1; pocsag plan pages.csv tx.bin cert.bin --always --keep", room)
-    tally.check("a limit on the size of files", (done.returncode, done.stderr) == (3, CANNOT_WRITE) and stand(room) == OLD, done)
+    tally.check_done("a limit on the size of files", done, 3, ANY, CANNOT_WRITE, stand(room) == OLD)
 
 
 # Page files with a misplaced quote, and how that is told.
@@ -184,8 +180,7 @@ def try_demands(tally, folder):
             due = (1, b"", fault(why)) if words or demand == ["--strict"] else (2, b"", done.stderr)
             tally.check_done(f"{words} {demand}: {why}", done, *due, stand(room) == left and not list(room.glob("*.new")))
         done = run([*plan, "--verbose"], room)
-        told = f": {why}\n".encode() in done.stderr or why.startswith(("record 0", "pages"))
-        tally.check(f"--verbose names it: {why}", told, done)
+        tally.check(f"--verbose names it: {why}", f": {why}\n".encode() in done.stderr or why.startswith(("record 0", "pages")), done)
     for demand, file in TAKEN:
         (room / "round.csv").write_bytes(file)
         for words in (plan, [*plan, "--keep", "--verify", "--always"], report, *([[]] if demand == ["--strict"] else [])):

@@ -354,7 +354,8 @@ def try_first(tally, folder):
     """`enqueue --first` adds a page before all others, whatever the end of the header's line."""
     channel = Channel(folder / "first", options="--at-most 9")
     queue = channel.folder / "queue.csv"
-    for before, after in ((HEADER, ""), (HEADER.strip(), ""), (HEADER + "7,tone0,\n8,tone0,", "7,tone0,\n8,tone0,"), (HEADER[:-1] + "\r\n7,tone0,\r\n", "7,tone0,\r\n")):
+    two = "7,tone0,\n8,tone0,"
+    for before, after in ((HEADER, ""), (HEADER.strip(), ""), (HEADER + two, two), (HEADER[:-1] + "\r\n7,tone0,\r\n", "7,tone0,\r\n")):
         queue.write_bytes(before.encode())
         queue.chmod(0o640)
         done = channel.run("enqueue", "--first", "9", "alpha", 'a "b"\nc')
@@ -371,9 +372,9 @@ def try_first(tally, folder):
     urgent = ("8", "numeric", "112")
     done = channel.run("enqueue", "--first", *urgent)
     channel.send()
-    is_good = channel.take()
-    tally.check("an urgent page is sent first", done == DONE and is_good and urgent in channel.slots[0], channel.told())
-    channel.added = [*sorted([urgent, *queued][: len(channel.slots[0])], key=lambda it: int(it[0])), *[urgent, *queued][len(channel.slots[0]) :]]
+    tally.check("an urgent page is sent first", channel.take() and done == DONE and urgent in channel.slots[0], channel.told())
+    count, pages = len(channel.slots[0]), [urgent, *queued]
+    channel.added = [*sorted(pages[:count], key=lambda it: int(it[0])), *pages[count:]]
     tally.check("and the others then", channel.is_balanced(), channel.told())
 
 

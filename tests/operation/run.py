@@ -19,8 +19,8 @@ import doors
 import turns
 from codewords import APART, HEADER
 from doors import OLD, TONE, fresh, names, stand
-from tally import CANNOT_OPEN, NAMED_TWICE, PLAN, PROGRAM, TOP
-from tally import at_terminal, faulty, put, put_script, room_in, run
+from tally import ANY, CANNOT_OPEN, CANNOT_WRITE, NAMED_TWICE, PLAN, PROGRAM, TOP
+from tally import at_terminal, call, fault, faulty, put, put_script, room_in, run
 from workspace import module_at
 
 PARTS_OF = (doors, turns)
@@ -52,16 +52,15 @@ def try_keep(tally, folder):
     tally.check_same("--keep keeps the rights", stat.S_IMODE((room / "tx.bin").stat().st_mode), 0o640)
     done = run(["plan", "pages.csv", "new.bin", "new.cert", "--keep"], room)
     made = (room / "new.bin").read_bytes(), (room / "new.cert").read_bytes()
-    tally.check("--keep makes new files", done.returncode == 0 and made == due, done)
+    tally.check_done("--keep makes new files", done, 0, ANY, ANY, made == due)
     (room / "link.bin").symlink_to("tx.bin")
     os.mkfifo(room / "fifo")
     for place in ("link.bin", "fifo", "/dev/null", "-"):
         for words in (["pages.csv", place, "cert.bin"], ["pages.csv", "tx.bin", place]):
             tally.check_usage(f"--keep wants a regular file: {words}", run(["plan", *words, "--keep"], room), b"error: --keep ", stand(room) == due)
     for words in (["pages.csv", "pages.csv", "c"], ["pages.csv", "./pages.csv", "c"], ["pages.csv", "a", "./a"], ["pages.csv", "a", "a"]):
-        done = run(["plan", *words, "--keep"], room)
-        holds = (done.returncode, done.stderr) == (1, NAMED_TWICE) and (room / "pages.csv").read_bytes() == TONE
-        tally.check(f"--keep and one file twice: {words}", holds and not list(room.glob("*.new")), (done, names(room)))
+        done, is_kept = run(["plan", *words, "--keep"], room), (room / "pages.csv").read_bytes() == TONE
+        tally.check_done(f"--keep and one file twice: {words}", done, 1, ANY, NAMED_TWICE, is_kept and not list(room.glob("*.new")))
 
 
 def try_keep_open(tally, folder):
@@ -82,8 +81,8 @@ def try_keep_open(tally, folder):
     for number in (1, 2) if shutil.which("strace") else ():
         room = fresh(folder, f"keep open {number}")
         done = run(["open", "--keep", "pages.csv"], room, b"plan,tx.bin,cert.bin\n", faulty("rename", f"error=EIO:when={number}"))
-        holds = done.stdout == b"refused: cannot write\n" and is_one_of(stand(room), OLD, due) and not list(room.glob("*.new"))
-        tally.check(f"open --keep where renaming {number} fails", holds, (done, stand(room)))
+        holds = is_one_of(stand(room), OLD, due) and not list(room.glob("*.new"))
+        tally.check_done(f"open --keep where renaming {number} fails", done, ANY, b"refused: cannot write\n", ANY, holds)
 
 
 def is_one_of(now, before, due):
@@ -107,10 +106,8 @@ def kill_often(tally, room, words, lines, kills):
     dues = [planned(room, file, f"due {n}") for n, file in enumerate(files)]
     (room / "pages.csv").write_bytes(files[0])
     start = time.monotonic()
-    subprocess.run(words, cwd=room, input=lines, check=True, capture_output=True)
-    longest = 1.3 * (time.monotonic() - start)
-    chance = random.Random(28)
-    ended = 0
+    call(*words, cwd=room, input=lines, check=True)
+    longest, chance, ended = 1.3 * (time.monotonic() - start), random.Random(28), 0
     for number in range(kills):
         before, due = stand(room), dues[number % 2]
         (room / "pages.csv").write_bytes(files[number % 2])
@@ -127,7 +124,7 @@ def kill_often(tally, room, words, lines, kills):
         process.stdin.close()
         tally.check(f"ended at a random moment, {words[1]} {number}", is_one_of(stand(room), before, due))
     tally.check(f"some of {words[1]} were ended", 0 < ended and (ended < kills or lines), ended)
-    subprocess.run(words, cwd=room, input=lines, check=True, capture_output=True)
+    call(*words, cwd=room, input=lines, check=True)
     tally.check(f"what they left is gone behind the next run of {words[1]}", not list(room.glob("*.pocsag.*")), names(room))
 
 
@@ -145,8 +142,7 @@ def try_single_calls(tally, folder):
                 reached = "INJECTED" in (room / "trace").read_text() or done.returncode < 0 or done.returncode == 137
                 now = stand(room)
                 tally.check(f"{what} at {call} {number}", is_one_of(now, OLD, due), (done, now))
-                is_done = done.returncode == 0
-                tally.check(f"its status at {what}, {call} {number}", not is_done or now == due, done)
+                tally.check(f"its status at {what}, {call} {number}", done.returncode or now == due, done)
                 shutil.rmtree(room)
                 if not reached:
                     break
@@ -187,8 +183,7 @@ def try_verify(tally, folder):
                   ["-", "tx.bin", "cert.bin"], ["pages.csv", "-", "cert.bin"], ["pages.csv", "tx.bin", "-"]):
         done = run(["plan", *words, "--verify"], room, TONE)
         tally.check_usage(f"--verify wants regular files: {words}", done, b"error: --verify ", stand(room) == OLD)
-    done = run(["plan", "none.csv", "tx.bin", "cert.bin", "--verify"], room)
-    tally.check_done("--verify of no file", done, 3, b"", CANNOT_OPEN)
+    tally.check_done("--verify of no file", run(["plan", "none.csv", "tx.bin", "cert.bin", "--verify"], room), 3, b"", CANNOT_OPEN)
 
 
 def try_pipes(tally, folder):
@@ -224,11 +219,10 @@ def try_pipes(tally, folder):
         got += piece
     tally.check("over one socket", got == due and process.wait(60) == 0 and process.stderr.read() == counts, got)
     script = f"'{PROGRAM}' plan - - d.bin < apart.csv 2>lines | '{PROGRAM}' decode - > listed && '{PROGRAM}' check - d.bin < listed"
-    done = subprocess.run(["sh", "-c", script], cwd=room, capture_output=True, timeout=60)
+    done = call("sh", "-c", script, cwd=room)
     tally.check("a pipeline", done.stdout == b"at least 3 batches\n" and (room / "lines").read_bytes() == counts, done)
     (room / "-").write_bytes(TONE)
-    done = run(["plan", "./-", "t.bin", "c.bin"], room)
-    tally.check("a file called -", done.stdout == b"pages 1\nbatches 1\n", done)
+    tally.check_done("a file called -", run(["plan", "./-", "t.bin", "c.bin"], room), 0, b"pages 1\nbatches 1\n")
 
 
 def try_terminal(tally, folder):
@@ -240,8 +234,7 @@ def try_terminal(tally, folder):
         return
     holds = (status, out) == (0, b"pages 1\nbatches 1\n") and err.startswith(b"reading a page file from standard input; ")
     tally.check("a bare pocsag at a terminal", holds and err.count(b"\n") == 1, (out, err))
-    done = run([], folder, TONE)
-    tally.check("and none at a pipe", done.stderr == b"", done)
+    tally.check_done("and none at a pipe", run([], folder, TONE), 0, b"pages 1\nbatches 1\n")
 
 
 # For the commands of the page that want other machines: `ssh` runs its command here, and `parallel` runs the command of
@@ -285,8 +278,7 @@ def try_page(tally, folder):
     for text in inis + crontabs:
         for line in re.findall(r"^(?:ExecStart=|(?:\S+ ){5})(.*)$", text, re.M):
             line = line.replace("/srv/paging", str(room)).replace("/usr/local", str(room / "usr"))
-            done = subprocess.run(["sh", "-c", line], cwd=room, env=environment, capture_output=True, timeout=60)
-            tally.check(f"unit: {line}", done.returncode == 0, done)
+            tally.check_done(f"unit: {line}", call("sh", "-c", line, cwd=room, env=environment), 0, ANY, ANY)
     for text in parts:
         tally.check("the part of next-slot that the page shows", text in (TOP / "examples/next-slot").read_text(), text)
 
@@ -301,16 +293,11 @@ def try_recipe(tally, folder):
         (room / f"channels/{number}.csv").write_bytes(APART)
     (room / "channels/57.csv").write_bytes(HEADER + b"8,tone0,\n9,alfa,Fire\n")
     (room / "channels/58.bin").mkdir()
-    done = subprocess.run(["bash", "-c", recipe[0]], cwd=room, env=environment, capture_output=True, text=True, timeout=110)
-    lines = sorted(done.stderr.splitlines())
-    wanted = [
-        "pocsag: cannot write",
-        "pocsag: page file channels/57.csv: line 3: 9,alfa,Fire",
-        "pocsag: record 2: unknown kind",
-        "pocsag: transmission channels/58.bin: Is a directory (os error 21)",
-    ]
-    tally.check("the recipe names the bad ones", done.returncode != 0 and lines == wanted, done.stderr)
-    made = sorted(path.name for path in (room / "channels").glob("*.cert") if path.name != "58.cert")
+    done = call("bash", "-c", recipe[0], cwd=room, env=environment)
+    wanted = CANNOT_WRITE + fault("page file channels/57.csv: line 3: 9,alfa,Fire") + fault("record 2: unknown kind")
+    wanted += fault("transmission channels/58.bin: Is a directory (os error 21)")
+    lines = sorted(done.stderr.splitlines(True))
+    tally.check("the recipe names the bad ones", done.returncode != 0 and lines == wanted.splitlines(True), done.stderr)
+    made = [path for path in (room / "channels").glob("*.cert") if path.name != "58.cert"]
     due, _ = planned(folder, APART, "due recipe")
-    holds = len(made) == 98 and all((room / "channels" / name.replace("cert", "bin")).read_bytes() == due for name in made)
-    tally.check("and plans the others", holds, made)
+    tally.check("and plans the others", [path.with_suffix(".bin").read_bytes() for path in made] == 98 * [due], made)

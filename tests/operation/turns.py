@@ -14,7 +14,7 @@ import time
 
 from codewords import HEADER
 from doors import NOBODY, RENAMES, another_user
-from tally import CANNOT_OPEN, CANNOT_WRITE, MEMORY, PROGRAM, fault, faulty, own_disk, room_in, run
+from tally import ANY, CANNOT_OPEN, CANNOT_WRITE, MEMORY, PROGRAM, Text, call, fault, faulty, own_disk, room_in, run
 
 PAIRS = 200
 CONTAINERS = 1000
@@ -98,11 +98,10 @@ def try_held(tally, folder):
         fcntl.flock(held, fcntl.LOCK_EX)
         start, told = time.monotonic(), CANNOT_WRITE + fault("certificate cert.bin: another run is putting its files there")
         done = run(plan(0, "--verbose"), room)
-        holds = 4 < time.monotonic() - start < 30 and stand(room) == dues[1] and left_in(room) == [lock.name]
-        tally.check_done("a lock that is held", done, 3, b"", told, holds)
-        done = run(["open", "0.csv", "--keep"], room, b"plan,tx.bin,cert.bin\nlist\n")
-        holds = done.stdout.startswith(b"refused: cannot write\n") and done.returncode == 0
-        tally.check("a lock that is held, of a round", holds and stand(room) == dues[1] and left_in(room) == [lock.name], (done, left_in(room)))
+        is_held = lambda: stand(room) == dues[1] and left_in(room) == [lock.name]
+        tally.check_done("a lock that is held", done, 3, b"", told, 4 < time.monotonic() - start < 30 and is_held())
+        done, refused = run(["open", "0.csv", "--keep"], room, b"plan,tx.bin,cert.bin\nlist\n"), b"refused: cannot write\n"
+        tally.check_done("a lock that is held, of a round", done, 0, Text(lambda out: out.startswith(refused)), ANY, is_held())
     for mode in (0o600, 0o444):
         lock.touch()
         lock.chmod(mode)
@@ -169,7 +168,7 @@ ALONE = ["unshare", "--pid", "--fork"]
 
 def try_containers(tally, folder):
     """Runs that have one process number, in two containers that share a folder."""
-    if not shutil.which(ALONE[0]) or subprocess.run([*ALONE, "true"], capture_output=True).returncode:
+    if not shutil.which(ALONE[0]) or call(*ALONE, "true").returncode:
         print("left out: containers, since we may not make any")
         return
     room, dues = fresh(folder, "containers")
