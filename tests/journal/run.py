@@ -17,7 +17,7 @@ import sessions
 import tally as shared
 from codewords import HEADER
 from sessions import listing
-from tally import CANNOT_OPEN, CANNOT_WRITE, IS_EMULATED, NO_OWNER, ONE_IN, PROGRAM, as_nobody, fault, faulty
+from tally import ANY, CANNOT_OPEN, CANNOT_WRITE, IS_EMULATED, NO_OWNER, ONE_IN, PROGRAM, as_nobody, fault, faulty
 from tally import files_of, own_disk, put, room_in, sampled, with_most_bytes
 
 FIRST_LINE = b"pocsag journal,1\n"
@@ -188,8 +188,7 @@ def try_lost_sectors(tally, place):
                 told = torn_line(len(text) - text[:low].rfind(b"\n") - 1, b"cut off") + read_line(whole - 1, whole - 1)
                 check_listed(tally, name, place, all_after(lines[: whole - 1]), told)
             else:
-                done = run(place, [b"list"])
-                tally.check_done(name, done, 1, b"", fault(BAD % (whole + 1)), (place / NAME).read_bytes() == held)
+                tally.check_done(name, run(place, [b"list"]), 1, b"", fault(BAD % (whole + 1)), (place / NAME).read_bytes() == held)
 
 
 def traced(folder, words, lines):
@@ -298,9 +297,8 @@ def try_harms(tally, folder):
             tally.check(f"harm {number}: before", session.ask(b"add,8,tone0,") == b"ok 1")
             harm(place / NAME)
             left = files_of(place)
-            found = session.close(b"add,16,tone0,\nadd,24,tone0,\n")
             due = read_line(0, 0) + told(MOVED, [f"journal {NAME}"] if more else [])
-            tally.check(f"harm {number} {more}", found == (3, b"", due), found)
+            tally.check_same(f"harm {number} {more}", session.close(b"add,16,tone0,\nadd,24,tone0,\n"), (3, b"", due))
             tally.check(f"harm {number} {more}: the files", files_of(place) == left, left)
 
 
@@ -485,8 +483,7 @@ def try_full_system(tally, folder):
             tally.check(name, 0 < answered < 40 and done.returncode == 3 and done.stderr.endswith(CANNOT_WRITE), done)
             held = (room / NAME).read_bytes()
             tally.check_done(f"{name}: no room to write it anew", run(room, [b"list"]), 3, b"", CANNOT_WRITE)
-            stays = (room / NAME).read_bytes() == held and not list(room.glob("*.new"))
-            tally.check(f"{name}: it stays", stays, os.listdir(room))
+            tally.check(f"{name}: it stays", (room / NAME).read_bytes() == held and not list(room.glob("*.new")), os.listdir(room))
             (room / "rest").unlink()
             found, err = listed(room)
             holds = found in (listing(all_after(lines[:answered])), listing(all_after(lines[: answered + 1])))
@@ -573,8 +570,7 @@ def try_announced(tally, place):
         (place / NAME).write_bytes(journal)
         due = b"reading a journal of %d bytes\n" % len(journal) * more
         for words in ([], ["--read-only"]):
-            done = run(place, [], *words, "--verbose")
-            tally.check(f"announced {count} {words}", (done.stderr, done.returncode) == (due + read_line(count, count), 0), done)
+            tally.check_done(f"announced {count} {words}", run(place, [], *words, "--verbose"), 0, ANY, due + read_line(count, count))
             tally.check(f"not announced {count} {words}", run(place, [], *words).stderr == read_line(count, count))
 
 
