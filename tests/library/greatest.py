@@ -111,5 +111,4 @@ def try_greatest(tally, library):
     airtime = 2**32 - 1
     most = (airtime * 2400 // 1000 - 576) // 544
     tally.check("airtime_batches of the longest time", attempt(call.airtime_batches, airtime, 2400) == most, most)
-    missing = sizes.runs_of("tests/library/greatest.py") - tally.names
-    tally.check("each run that tests/calls/largest.txt names was made", not missing, missing)
+    tally.check_none("each run that tests/calls/largest.txt names was made", sizes.runs_of("tests/library/greatest.py") - tally.names)

@@ -27,7 +27,7 @@ import workspace
 from prover import Room
 from answers import TOLD, WORDS, attempt, check_fault, is_same, program
 from codewords import HEADER, IDLE, TONE, changed, random_file, rows_of, transmission
-from tally import LIBRARY, TOP, call as run
+from tally import ANY, LIBRARY, TOP, call as run
 
 HERE = pathlib.Path(__file__).resolve().parent
 EXAMPLES = TOP / "clib/examples"
@@ -433,8 +433,7 @@ def try_examples(tally, library):
         ran = run(room / "plan_rs", ROUND, env=beside) if built.returncode == 0 else built
         tally.check("the example in Rust", ran.stdout == wanted, (built.stderr, ran))
         calls = ["rustc", "--edition", "2021", TOP / "bench/calls/main.rs", "-L", folder, "-l", "static=pocsag"]
-        built = run(*calls, "-o", room / "bench_calls")
-        tally.check("the benchmark of the calls is built", built.returncode == 0, built.stderr)
+        tally.check_done("the benchmark of the calls is built", run(*calls, "-o", room / "bench_calls"), 0, ANY, ANY)
 
 
 def try_page(tally, library):
@@ -512,8 +511,7 @@ def try_both(tally, one, other):
         address = source.randrange(2_100_000)
         mine, others = (all_answers(it, *given, address, end, always) for it in (one, other))
         wrong += [number] * (mine != others)
-    name = f"{ROUNDS_OF_BOTH} rounds and {CHANGED_OF_BOTH} changed files are answered alike by both libraries"
-    tally.check(name, not wrong, wrong[:5])
+    tally.check(f"{ROUNDS_OF_BOTH} rounds and {CHANGED_OF_BOTH} changed files are answered alike by both libraries", not wrong, wrong[:5])
 
 
 def try_other_compiler(tally, library):

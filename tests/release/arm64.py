@@ -5,14 +5,13 @@ Where the cross compiler of Debian or qemu-user is missing, it is left out.
 
 import re
 import shutil
-import subprocess
 import sys
 
 import hosts
 import lanes
 import make
 import products
-from tally import TOP, put_script, said
+from tally import TOP, call, put_script, said
 
 EMULATORS = {products.ARM: "qemu-aarch64", products.ARMHF: "qemu-arm"}
 SCRIPTS = ("program/run", "program/open", "journal/run", "sound/run", "vectors/run")
@@ -36,7 +35,7 @@ def emulated(folder, name, program, processor=products.ARM):
 
 def try_beside(tally, folder, program):
     """The commands of each host, beside the native program."""
-    run = lambda words, room, stdin: said(subprocess.run([str(program), *words], cwd=room, input=stdin, capture_output=True, timeout=300))
+    run = lambda words, room, stdin: said(call(program, *words, cwd=room, input=stdin))
     files = hosts.first_files(folder)
     for words, stdin in hosts.commands(files):
         hosts.check_same(tally, folder, run, files, words, stdin)
@@ -49,8 +48,8 @@ def try_library(tally, folder, archive, memory):
     wanted = re.search(r"```\n(pages 6\n.*?)```", (TOP / "docs/LIBRARY.md").read_text(), re.DOTALL)[1]
     for name, words in (("archive", [made / "libpocsag.a"]), ("shared library", [f"-L{made}", "-lpocsag", f"-Wl,-rpath,{made}"])):
         words = [products.ARM.compiler, "-Wall", "-Werror", TOP / "clib/examples/plan.c", f"-I{made}", *words, "-o", folder / name]
-        built = subprocess.run([str(it) for it in words], capture_output=True, text=True)
-        ran = subprocess.run([str(emulated(folder, "example", folder / name)), str(TOP / "examples/round.csv")], capture_output=True, text=True)
+        built = call(*words, text=True)
+        ran = call(emulated(folder, "example", folder / name), TOP / "examples/round.csv", text=True)
         tally.check(f"the example in C with the {name}", ran.stdout == wanted, (built.stderr, ran))
 
 

@@ -19,7 +19,7 @@ import packages
 import version
 from copies import Copy, User
 from packages import File
-from tally import LIBRARY, TOP, put_script
+from tally import ANY, LIBRARY, TOP, call, put_script
 from workspace import module_at
 
 ENDINGS = (".tar.xz", ".deb", ".whl")
@@ -58,8 +58,7 @@ def try_versions(tally, _):
     ]
     for path, text in places:
         tally.check(f"{path} has the version", text in (TOP / path).read_text(), text)
-    spelled = version.DEBIAN, version.PYTHON
-    tally.check("how packages spell it", spelled == (version.VERSION.replace("-rc.", "~rc"), python), spelled)
+    tally.check_same("how packages spell it", (version.DEBIAN, version.PYTHON), (version.VERSION.replace("-rc.", "~rc"), python))
     section = re.search(r"^## 1\.0\.0.*?(?=^## )", (TOP / "CHANGELOG.md").read_text(), re.M | re.S)
     tally.check("CHANGELOG's first section is short", section and section[0].count("\n") <= 41)
 
@@ -73,8 +72,7 @@ def try_kinds(tally, _):
         tally.check(f"{name} holds what was put into it", packages.read(name, made) == held)
         tally.check(f"{name} in another order", made == packages.write(name, dict(reversed(held.items())), version.SECONDS))
     tally.check("a wheel lists its files", packages.record(plain, "RECORD").data.count(b"sha256=") == 2)
-    gz = File(packages.zipped(b"text"))
-    tally.check("a compressed file is its content", packages.plain("b.gz", gz).data == b"text")
+    tally.check("a compressed file is its content", packages.plain("b.gz", File(packages.zipped(b"text"))).data == b"text")
 
 
 def renew_sums(copy):
@@ -317,7 +315,7 @@ def try_at_once(tally, copy):
 def installed(copy, *words, **environment):
     """A run of ./install without the toolchain."""
     command = [sys.executable, str(copy.top / "install"), *map(str, words)]
-    return subprocess.run(command, env={"PATH": "/usr/bin:/bin", **environment}, capture_output=True, text=True)
+    return call(*command, env={"PATH": "/usr/bin:/bin", **environment}, text=True)
 
 
 def try_installed(tally, copy):
@@ -383,11 +381,10 @@ def try_in_c(tally, copy):
 def try_wheel(tally, copy, folder):
     """Python installs the wheel and plans by it."""
     path, target = copy.package(".whl"), folder / "python"
-    has_pip = subprocess.run([sys.executable, "-m", "pip", "--version"], capture_output=True).returncode == 0
+    has_pip = call(sys.executable, "-m", "pip", "--version").returncode == 0
     if has_pip:
         words = [sys.executable, "-m", "pip", "install", "--quiet", "--no-index", "--no-deps", "--target", str(target), str(path)]
-        done = subprocess.run(words, capture_output=True, text=True)
-        tally.check("pip installs the wheel", done.returncode == 0, done)
+        tally.check_done("pip installs the wheel", call(*words, text=True), 0, ANY, ANY)
     else:
         shutil.unpack_archive(str(path), str(target), "zip")
     try_python(tally, copy, target, target / "pocsag/libpocsag.so.1")
@@ -403,7 +400,7 @@ def try_wheel(tally, copy, folder):
 def try_python(tally, copy, path, library):
     """Python plans by the package in a folder, and finds this library."""
     script = "import pocsag; p = pocsag.Pocsag(); print(p.plan(open('examples/round.csv', 'rb').read()).batches, pocsag.__version__, p.library._name)"
-    done = subprocess.run([sys.executable, "-c", script], cwd=copy.top, env={"PATH": "/usr/bin:/bin", "PYTHONPATH": str(path)}, capture_output=True, text=True)
+    done = call(sys.executable, "-c", script, cwd=copy.top, env={"PATH": "/usr/bin:/bin", "PYTHONPATH": str(path)}, text=True)
     tally.check("it plans by the library in it", done.stdout == f"2 {version.PYTHON} {library.resolve()}\n", done)
 
 
@@ -417,7 +414,7 @@ def try_tar(tally, copy, folder):
 
 def needs_of(path):
     """The greatest version of glibc that a program or a library asks for."""
-    told = subprocess.run(["readelf", "-V", str(path)], capture_output=True, text=True).stdout
+    told = call("readelf", "-V", path, text=True).stdout
     return max((tuple(map(int, it.split("."))) for it in re.findall(r"GLIBC_([\d.]+)", told)), default=(0,))
 
 
@@ -426,23 +423,21 @@ def try_debian(tally, copy, folder):
     path = copy.package(".deb")
     files = packages.read(path.name, path.read_bytes())
     documents = ("README.md", "LIBRARY.md", "examples/plan.c", "examples/plan.py", *["pocsag.html"] * bool(LIBRARY))  # what is packed here has no page
-    missing = [it for it in documents if f"usr/share/doc/pocsag/{it}" not in files]
-    tally.check("it has the papers, the page and the examples", not missing, missing)
+    tally.check_none("it has the papers, the page and the examples", [it for it in documents if f"usr/share/doc/pocsag/{it}" not in files])
     tally.check("its description has the three completions", "completions for bash, zsh and fish" in " ".join(files["DEBIAN/control"].data.decode().split()))
     if shutil.which("dpkg-deb"):
-        told = subprocess.run(["dpkg-deb", "--field", str(path)], capture_output=True, text=True).stdout
+        told = call("dpkg-deb", "--field", path, text=True).stdout
         tally.check("dpkg-deb reads it", f"Version: {version.DEBIAN}\n" in told and "Depends: libc6 (>= 2.34)\n" in told, told)
         subprocess.run(["dpkg-deb", "-R", str(path), str(folder / "deb")], check=True)
-        done = subprocess.run(["md5sum", "-c", "--quiet", "DEBIAN/md5sums"], cwd=folder / "deb", capture_output=True)
-        tally.check("its sums are right", done.returncode == 0, done)
-        done = subprocess.run([str(folder / "deb/usr/bin/pocsag"), "check", "examples/round.csv", "round.cert"], cwd=copy.top, capture_output=True)
+        tally.check_done("its sums are right", call("md5sum", "-c", "--quiet", "DEBIAN/md5sums", cwd=folder / "deb"), 0, ANY, ANY)
+        done = call(folder / "deb/usr/bin/pocsag", "check", "examples/round.csv", "round.cert", cwd=copy.top)
         tally.check("its program runs", done.stdout == b"at least 2 batches\n", done)
         if shutil.which("readelf"):
             (library,) = (folder / "deb/usr/lib").glob("*/libpocsag.so.1")
             tally.check("the C library that the program needs", needs_of(folder / "deb/usr/bin/pocsag") <= (2, 34))
             tally.check("and the library", needs_of(library) <= (2, 17), needs_of(library))
     if shutil.which("lintian"):
-        told = subprocess.run(["lintian", "--allow-root", "--fail-on", "none", str(path)], capture_output=True, text=True).stdout
+        told = call("lintian", "--allow-root", "--fail-on", "none", path, text=True).stdout
         tally.check("lintian finds no error", not re.search("^[EW]: ", told, re.M), told)
 
 

@@ -60,8 +60,7 @@ def try_theorems(tally, copy, folder):
     summary = told + error
     tally.check("coqchk", status == 0 and "Axioms:" in summary and "Pocsag" not in summary, summary)
     text = "".join((copy.folder / f"{it}.v").read_text() for it in MODULES)
-    words = re.findall(r"\b(?:Admitted|admit|Axiom|Parameter|Conjecture)\b", text)
-    tally.check("nothing taken without a proof", not words, words)
+    tally.check_none("nothing taken without a proof", re.findall(r"\b(?:Admitted|admit|Axiom|Parameter|Conjecture)\b", text))
 
 
 def due_of(row):
@@ -105,10 +104,6 @@ def two_pages_exchanged(source, sent):
     return transmission(words[:a] + words[b:after_b] + words[after_a:b] + words[a:after_a] + words[after_b:])
 
 
-def one_batch_more(source, sent):
-    return sent + SYNC + 16 * IDLE
-
-
 def a_page_lost(source, sent):
     """Idles in place of a page."""
     words = codewords_of(sent)
@@ -121,10 +116,11 @@ def a_bit_wrong(source, sent):
     return sent[:place] + bytes([sent[place] ^ 1 << source.randrange(8)]) + sent[place + 1:]
 
 
+ONE_MORE = SYNC + 16 * IDLE  # a batch of idles
 # Changed transmissions, each made from one that carries its round in the fewest batches.
 CHANGES = {
     "two pages exchanged": two_pages_exchanged,
-    "one batch more": one_batch_more,
+    "one batch more": lambda source, sent: sent + ONE_MORE,
     "a page lost": a_page_lost,
     "a bit wrong": a_bit_wrong,
     "a preamble of 71 bytes": lambda source, sent: sent[1:],
@@ -156,8 +152,7 @@ def try_plans(tally, copy, folder):
         (folder / "other.bin").write_bytes(other)
         found = copy.verify(folder, "pages.csv", "other.bin", "cert.bin")
         more = (1, f"{shown}batches {batches + 1}\n", "")
-        due = more if what == "one batch more" else (1, shown, ILLEGAL)
-        tally.check(what, found == due, f"{end} {pages} {other.hex()}: {found}")
+        tally.check(what, found == (more if what == "one batch more" else (1, shown, ILLEGAL)), f"{end} {pages} {other.hex()}: {found}")
         refused[what] = refused.get(what, 0) + 1
     tally.check("each change was tried", min(refused.get(it, 0) for it in CHANGES) >= 10, refused)
 
@@ -208,7 +203,7 @@ def try_kernel(tally, copy, folder):
     (folder / "pages.csv").write_bytes((TOP / "examples/loops-apart.csv").read_bytes())
     planned = run(PROGRAM, "plan", "pages.csv", "tx.bin", "cert.bin", folder=folder)
     sent = (folder / "tx.bin").read_bytes()
-    (folder / "other.bin").write_bytes(one_batch_more(None, sent))
+    (folder / "other.bin").write_bytes(sent + ONE_MORE)
     for name, due in ("tx.bin", 0), ("other.bin", 1):
         status, text, error = run(copy.folder / "kernel", "pages.csv", name, "cert.bin", folder=folder)
         (folder / "plan.v").write_text(text)
