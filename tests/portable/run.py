@@ -18,7 +18,7 @@ import arm64
 import packages
 import products
 import version
-from tally import LIBRARY, PROGRAM, TOP, as_nobody, put, put_script, said, samples
+from tally import ANY, LIBRARY, PROGRAM, TOP, Text, as_nobody, call, put, put_script, said, samples
 
 HERE = pathlib.Path(__file__).resolve().parent
 # The scripts that run the program, and of how many of their cases one is tried here: the host is not another in each. Those of
@@ -72,7 +72,7 @@ def prepared(room, name):
     folder.mkdir()
     folder.chmod(0o777)
     (folder / "p.csv").write_text("address,kind,message\n8,tone0,\n")
-    subprocess.run([str(PROGRAM), "plan", "p.csv", "t.bin", "c.cert"], cwd=folder, check=True, stdout=subprocess.DEVNULL)
+    call(PROGRAM, "plan", "p.csv", "t.bin", "c.cert", cwd=folder, check=True)
     return folder
 
 
@@ -80,7 +80,7 @@ def ran(script, program, folder):
     """What a script prints with a program, without the numbers of processes."""
     other = as_nobody(folder)
     environment = {**os.environ, "PROGRAM": str(program), "AS_OTHER": " ".join(other), "LC_ALL": "C", "TZ": "UTC"}
-    done = subprocess.run(["sh", "-c", PRELUDE + script], cwd=folder, env=environment, stdin=subprocess.DEVNULL, capture_output=True, timeout=300)
+    done = call("sh", "-c", PRELUDE + script, cwd=folder, env=environment, stdin=subprocess.DEVNULL)
     told = done.stdout + done.stderr
     return re.sub(rb"\.pocsag\.\d+", b".pocsag.N", told).decode("latin-1"), done.returncode
 
@@ -99,8 +99,8 @@ def try_cases(tally, room, program):
 
 
 def limited(limit, program, *words):
-    """A run within a limit of the shell."""
-    return subprocess.run(["sh", "-c", f'ulimit {limit}; exec "$@"', "sh", str(program), *words], capture_output=True, text=True, timeout=120)
+    """What a run within a limit of the shell ends with and prints."""
+    return said(call("sh", "-c", f'ulimit {limit}; exec "$@"', "sh", program, *words, text=True))
 
 
 def try_memory(tally, room, program):
@@ -108,9 +108,9 @@ def try_memory(tally, room, program):
     pages = room / "many.csv"
     pages.write_text("address,kind,message\n" + "".join(f"{k},alpha,{'x' * 500}\n" for k in range(16_000)))
     limits = (*range(12_000, 50_000, 2_000), 1_000_000)
-    found = [said(limited(f"-d {limit}", program, "report", "--rate", "1200", str(pages))) for limit in limits]
-    number, few = found.index(found[-1]), said(limited("-v 1000000", program, "--version"))
-    tally.check("too few addresses", few == OUT_OF_MEMORY, few)
+    found = [limited(f"-d {limit}", program, "report", "--rate", "1200", pages) for limit in limits]
+    number = found.index(found[-1])
+    tally.check_same("too few addresses", limited("-v 1000000", program, "--version"), OUT_OF_MEMORY)
     tally.check("what ample memory gives", found[-1][0] == 0 and found[-1][1].startswith("pages 16000\n"), found[-1])
     tally.check("enough is enough", found[number:] == [found[-1]] * (len(found) - number), found)
     tally.check("and less is told", number > 5 and found[:number] == [OUT_OF_MEMORY] * number, found)
@@ -122,7 +122,7 @@ def try_stack(tally, room, program):
     (folder / "deep").write_bytes(bytes.fromhex("504342310000000" + "1" + 299 * "01000001" + 300 * "03"))
     refused = 0
     for size in (48, 64, 96, 128, 192, 256, 512, 1024, 2048, 8192):
-        told = said(limited(f"-s {size}", program, "check", str(folder / "p.csv"), str(folder / "deep")))
+        told = limited(f"-s {size}", program, "check", folder / "p.csv", folder / "deep")
         tally.check(f"{size} KiB of stack", told == (1, "not shown\n", "") or size < 2048 and told == END_OF_STACK, told)
         refused += told == END_OF_STACK
     tally.check("the stack ended", refused > 0)
@@ -133,34 +133,32 @@ def try_out_of_range(tally, room, folder):
     stand_in = room / "stand_in"
     files = [HERE / "stand_in.c", folder / "host_posix.c", folder / "wasm-rt-impl.c"]
     for checked, settings in CHECKS.items():
-        subprocess.run(["cc", "-O1", *RUNTIME, *settings, f"-I{folder}", "-o", str(stand_in), *map(str, files)], check=True)
+        call("cc", "-O1", *RUNTIME, *settings, f"-I{folder}", "-o", stand_in, *files, check=True)
         for word in ("read", "write", "length", "path", "status", "folder", "time", "word", "stack", *(() if settings else ("load", "far"))):
-            done = subprocess.run([str(stand_in), word], capture_output=True, text=True, stdin=subprocess.DEVNULL)
-            tally.check(f"out of range, seen {checked}: {word}", said(done) == (END_OF_STACK if word == "stack" else OUT_OF_RANGE), done)
+            due = END_OF_STACK if word == "stack" else OUT_OF_RANGE
+            tally.check_done(f"out of range, seen {checked}: {word}", call(stand_in, word, text=True, stdin=subprocess.DEVNULL), *due)
 
 
 def try_check(tally, folder, name, emulator=""):
-    done = subprocess.run(["make", "-s", f"EMULATOR={emulator}", "check"], cwd=folder, capture_output=True, text=True)
-    tally.check(f"make check: {name}", done.returncode == 0 and done.stdout.endswith(" passed, 0 failed\n"), done)
+    done = call("make", "-s", f"EMULATOR={emulator}", "check", cwd=folder)
+    tally.check_done(f"make check: {name}", done, 0, Text(lambda out: out.endswith(b" passed, 0 failed\n")), ANY)
 
 
 def try_package(tally, folder):
     """`make check` and `make install` of the package, whose compiler warns of nothing in the host."""
-    in_folder = {"cwd": folder, "capture_output": True, "text": True}
     words = ["cc", "-std=c99", "-pedantic", "-Wall", "-Wextra", "-Wno-unused-parameter", "-Werror", "-fsyntax-only", *RUNTIME]
     for settings in CHECKS.values():
-        done = subprocess.run([*words, *settings, "host_posix.c"], **in_folder)
-        tally.check(f"the host is C99 without a warning {settings}", done.returncode == 0, done.stderr)
-    done = subprocess.run(["cc", "-fsyntax-only", "host_posix.c"], **in_folder)
-    tally.check("compiled otherwise it is refused", "compile it as the Makefile does" in done.stderr, done.stderr)
+        done = call(*words, *settings, "host_posix.c", cwd=folder)
+        tally.check_done(f"the host is C99 without a warning {settings}", done, 0, ANY, ANY)
+    done = call("cc", "-fsyntax-only", "host_posix.c", cwd=folder)
+    tally.check("compiled otherwise it is refused", b"compile it as the Makefile does" in done.stderr, done.stderr)
     try_check(tally, folder, "native")
-    done = subprocess.run(["make", "-s", "PREFIX=/usr", f"DESTDIR={folder}/there", "install"], **in_folder)
+    done = call("make", "-s", "PREFIX=/usr", f"DESTDIR={folder}/there", "install", cwd=folder)
     brought = [folder / "there/usr" / it for it in ("bin/pocsag", "share/man/man1/pocsag.1", "share/pocsag/examples/enqueue")]
-    tally.check("make install", done.returncode == 0 and all(it.is_file() for it in brought), done)
+    tally.check_done("make install", done, 0, ANY, ANY, all(it.is_file() for it in brought))
     wrong = put_script(folder / "wrong", '#!/bin/sh\n"$REAL" "$@" | sed "s/2/3/"\n')
-    environment = {**os.environ, "PROGRAM": str(wrong), "REAL": str(folder / "bin/pocsag")}
-    done = subprocess.run(["sh", "check.sh"], env=environment, **in_folder)
-    tally.check("which finds a wrong program", done.returncode == 1 and "FAILED loops apart" in done.stdout, done)
+    done = call("sh", "check.sh", cwd=folder, env={**os.environ, "PROGRAM": str(wrong), "REAL": f"{folder}/bin/pocsag"})
+    tally.check_done("which finds a wrong program", done, 1, Text(lambda out: b"FAILED loops apart" in out), ANY)
 
 
 def try_armhf(tally, room):

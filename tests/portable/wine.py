@@ -103,9 +103,8 @@ def try_names(tally, room, wine):
     for name in NAMES:
         told = wine.run(["plan", "--keep", "--", name, f"{name}.bin", f"{name}.cert"], folder)
         tally.check(f"the name {name}", told == PLANNED and (folder / f"{name}.bin").is_file(), told)
-        told = wine.run(["decode", "--verbose", f"no {name}"], folder)
-        due = CANNOT_OPEN + fault(f"transmission no {name}: No such file or directory (os error 2)")
-        tally.check(f"no file of the name {name}", told == (3, b"", due), told)
+        due = 3, b"", CANNOT_OPEN + fault(f"transmission no {name}: No such file or directory (os error 2)")
+        tally.check_same(f"no file of the name {name}", wine.run(["decode", "--verbose", f"no {name}"], folder), due)
     told = wine.run(["open"], folder, "add,8,tone0,\nplan,Äther.bin,folder\\Äther.cert,open\n".encode())
     made = (folder / "Äther.bin").is_file() and (folder / "folder/Äther.cert").is_file()
     tally.check("names in lines", told == (0, b"ok 1\nbatches 1\n", b"") and made, told)
@@ -133,9 +132,9 @@ def try_paths(tally, room, wine):
             tally.check(f"check {words[2][:60]}", told == (0, b"at least 2 batches\n", b""), told)
     told = wine.run(["plan", "folder\\pages.csv", "NUL", "folder\\a.cert"], folder)
     tally.check("the device NUL", told == PLANNED and not (folder / "NUL").exists(), told)
-    told = wine.run(["plan", "folder/pages.csv", "folder\\Pages.CSV", "a.cert", "--verbose"], folder)
-    due = NAMED_TWICE + fault("page file folder/pages.csv and transmission folder/Pages.CSV are one file")
-    tally.check("names that differ in case", told == (1, b"", due), told)
+    words = ["plan", "folder/pages.csv", "folder\\Pages.CSV", "a.cert", "--verbose"]
+    due = 1, b"", NAMED_TWICE + fault("page file folder/pages.csv and transmission folder/Pages.CSV are one file")
+    tally.check_same("names that differ in case", wine.run(words, folder), due)
 
 
 def try_journal(tally, room, wine):
@@ -243,10 +242,8 @@ def try_streams(tally, room, wine):
     os.close(write)
     with open("/dev/full", "wb") as full:
         told = wine.run([*report, "--verbose"], folder, stdout=full)
-        due = CANNOT_WRITE + fault("standard output: No space left on device (os error 28)")
-        tally.check("a full device", told == (3, b"", due), told)
-        told = wine.run(["plan", "none.csv", "a.bin", "a.cert"], folder, stderr=full)
-        tally.check("a full device for faults", told == (3, b"", b""), told)
+        tally.check("a full device", told == (3, b"", CANNOT_WRITE + fault("standard output: No space left on device (os error 28)")), told)
+        tally.check_same("a full device for faults", wine.run(["plan", "none.csv", "a.bin", "a.cert"], folder, stderr=full), (3, b"", b""))
     for stream, words, due in ((0, [], CANNOT_OPEN), (1, report, CANNOT_WRITE), (2, ["plan", "none.csv", "a.bin", "a.cert"], b"")):
         told = wine.run(words, folder, preexec_fn=lambda stream=stream: os.close(stream))
         tally.check(f"closed stream {stream}", told == (3, b"", due), told)

@@ -12,7 +12,7 @@ import arm64
 import hosts
 from codewords import HEADER
 from hosts import native
-from tally import CANNOT_OPEN, CANNOT_WRITE, NO_OWNER, PLAN, PROGRAM, TOO_LARGE, TOP
+from tally import CANNOT_OPEN, CANNOT_WRITE, NO_OWNER, PLAN, PROGRAM, TOO_LARGE, TOP, call
 from tally import as_nobody, at_terminal, fault, faulty, files_of, put, put_script, said
 
 TONE = HEADER + b"8,tone0,\n"
@@ -31,7 +31,7 @@ LINES = [
 
 
 def outcome(command, folder, stdin=b"", **how):
-    return said(subprocess.run(command, cwd=folder, input=stdin, capture_output=True, timeout=300, **how))
+    return said(call(*command, cwd=folder, input=stdin, **how))
 
 
 class Node:

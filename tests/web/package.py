@@ -8,7 +8,7 @@ import shutil
 import contents
 import packages
 import version
-from tally import TOP, call, put
+from tally import ANY, TOP, call, put
 
 PLANNED = 'import { plan, Pocsag, Fault } from "pocsag"; console.log(plan("address,kind,message\\n8,tone0,\\n").batches, typeof Pocsag, typeof Fault);'
 USE = (TOP / "tests/web/use.mts").read_text()
@@ -66,6 +66,5 @@ def try_package(tally, folder, room):
     """All of these, of the files that web/make.py made."""
     user = installed(tally, folder, room)
     (user / "planned.mjs").write_text(PLANNED)
-    done = run("node", "planned.mjs", cwd=user)
-    tally.check("a program imports it by its name", done.stdout == "1 function function\n", done)
+    tally.check_done("a program imports it by its name", run("node", "planned.mjs", cwd=user), 0, "1 function function\n", ANY)
     try_types(tally, user)

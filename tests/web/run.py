@@ -20,7 +20,7 @@ import tarfile
 import host
 import package
 from codewords import HEADER, changed, random_file
-from tally import LIBRARY, PROGRAM, TOP, call as run
+from tally import ANY, LIBRARY, PROGRAM, TOP, call as run
 from workspace import module_at
 
 HERE = pathlib.Path(__file__).resolve().parent
@@ -162,8 +162,7 @@ def try_made(tally, made):
     """Two builds in two folders give the same files."""
     other = made.room / "a folder of another name"
     for folder in (made.folder, other):
-        done = run(sys.executable, TOP / "web/make.py", folder)
-        tally.check(f"made in {folder.name}", done.returncode == 0, done)
+        tally.check_done(f"made in {folder.name}", run(sys.executable, TOP / "web/make.py", folder), 0, ANY, ANY)
     names = sorted(path.name for path in made.folder.iterdir())
     tally.check("the files that are made", names == sorted(["pocsag.wasm", "program.wasm", "pocsag.html", *made.web.COPIED]), names)
     for name in names:
