@@ -3,7 +3,8 @@
 use crate::given::{
     IDLE, LONE_TONE, ONES, PageRow, SECOND, Sent, TIGHT, cut, pages, tones, transmission, words,
 };
-use crate::{THREE_PAGES_TIGHT, round_of, same, tour_of};
+use crate::rounds::{self, BOTH_WAYS, CLOSED_MIXED, Ones, THREE_TONES, round_of};
+use crate::{same, tour_of};
 use pocsag_batch::{
     FirstFault, Slots, first_stream, in_order_batches, lay_in_order, lay_out, order_of, write,
     write_slots,
@@ -28,45 +29,42 @@ const LATE_TONE: Sent = (16, IDLE, &[(1, SECOND)]);
 
 // Rounds by address and number of items, with their codewords in file order. The last two, which are `closed-mixed` and
 // `closed-both-ways`, end in a message codeword.
-const IN_ORDER: &[(&[(u32, usize)], Sent)] = &[
+const IN_ORDER: &[(Ones, Sent)] = &[
     (
-        &[(5, 0), (13, 0), (21, 0)],
+        THREE_TONES,
         (32, IDLE, &[(10, 0), (11, SECOND), (26, 0x430b)]),
     ),
-    (&[(0, 5), (3, 9)], EXACT),
+    (rounds::EXACT, EXACT),
+    (CLOSED_MIXED, (32, ONES, &[(0, 0), (14, 0), (15, SECOND)])),
     (
-        &[(0, 13), (7, 0), (15, 16)],
-        (32, ONES, &[(0, 0), (14, 0), (15, SECOND)]),
-    ),
-    (
-        &[(0, 13), (7, 0), (15, 2), (1, 13)],
+        BOTH_WAYS,
         (32, ONES, &[(0, 0), (14, 0), (15, SECOND), (18, 0)]),
     ),
 ];
 
 // Rounds with a class that starts late, the batches and the end, and the codewords of the tour.
-const LAID: &[(&[(u32, usize)], Option<u8>, u32, End, Sent)] = &[
-    (&[(0, 5), (3, 9)], None, 1, End::Open, EXACT),
-    (&THREE_PAGES_TIGHT, None, 2, End::Open, TIGHT),
+const LAID: &[(Ones, Option<u8>, u32, End, Sent)] = &[
+    (rounds::EXACT, None, 1, End::Open, EXACT),
+    (rounds::TIGHT, None, 2, End::Open, TIGHT),
     (
-        &[(0, 13), (7, 0), (15, 16)],
+        CLOSED_MIXED,
         Some(135),
         2,
         End::Closed,
         (32, ONES, &[(0, 0), (14, SECOND), (31, 0)]),
     ),
-    (&[(8, 0)], None, 1, End::Open, LONE_TONE),
-    (&[(8, 0)], Some(1), 1, End::Open, LATE_TONE),
-    (&[(8, 0)], None, 1, End::Closed, LONE_TONE),
-    (&[(8, 0)], Some(128), 1, End::Closed, LATE_TONE),
-    (&[(8, 0)], None, 1, End::Idle, LONE_TONE),
+    (rounds::LONE_TONE, None, 1, End::Open, LONE_TONE),
+    (rounds::LONE_TONE, Some(1), 1, End::Open, LATE_TONE),
+    (rounds::LONE_TONE, None, 1, End::Closed, LONE_TONE),
+    (rounds::LONE_TONE, Some(128), 1, End::Closed, LATE_TONE),
+    (rounds::LONE_TONE, None, 1, End::Idle, LONE_TONE),
     (&[(7, 0)], None, 1, End::Idle, (16, IDLE, &[(14, 0)])),
 ];
 
 // Rounds with the batches of a tour, and the places of their pages in it.
-const ORDERS: &[(&[(u32, usize)], u32, &[u32])] = &[
-    (&[(0, 5), (3, 9)], 1, &[0, 1]),
-    (&THREE_PAGES_TIGHT, 2, &[0, 2, 1]),
+const ORDERS: &[(Ones, u32, &[u32])] = &[
+    (rounds::EXACT, 1, &[0, 1]),
+    (rounds::TIGHT, 2, &[0, 2, 1]),
 ];
 
 // The pages of `three-pages-tight` as they are sent.
@@ -139,7 +137,7 @@ fn orders_of_tours(rt: HostRuntime) -> Result<(), Fail> {
 #[test]
 fn bytes_of_a_tour(rt: HostRuntime) -> Result<(), Fail> {
     let alloc = rt.alloc();
-    let round = round_of(alloc, &THREE_PAGES_TIGHT)?;
+    let round = round_of(alloc, rounds::TIGHT)?;
     let steps = tour_of(alloc, &round, None, 2, End::Open)?;
     same!(rt; steps.len(), 3);
     let order = order_of(alloc, &round, steps.as_slice(), End::Open)?;
@@ -155,25 +153,15 @@ fn bytes_of_a_tour(rt: HostRuntime) -> Result<(), Fail> {
         same!(rt; write_slots(slots, &mut sink), Ok(()));
         same!(rt; sink.bytes(), due.as_slice());
     }
-    let told = decode(alloc, due.as_slice())?;
-    let due = pages(alloc, TIGHT_PAGES)?;
-    same!(rt; told.as_slice(), due.as_slice());
-    Ok(())
-}
-
-#[test]
-fn tours_on_failing_devices(rt: HostRuntime) -> Result<(), Fail> {
-    let alloc = rt.alloc();
-    let round = round_of(alloc, &THREE_PAGES_TIGHT)?;
-    let steps = tour_of(alloc, &round, None, 2, End::Open)?;
-    let order = order_of(alloc, &round, steps.as_slice(), End::Open)?;
-    let due = transmission(alloc, TIGHT)?;
     for place in 0..208u64 {
         let mut sink = MemorySink::<208>::new(64, place);
         let slots = Slots::new(&round, steps.as_slice(), order.as_slice());
         same!(rt; write_slots(slots, &mut sink), Err(WriteFault));
         same!(rt; sink.bytes(), cut(due.as_slice(), place as usize));
     }
+    let told = decode(alloc, due.as_slice())?;
+    let due = pages(alloc, TIGHT_PAGES)?;
+    same!(rt; told.as_slice(), due.as_slice());
     Ok(())
 }
 
@@ -181,7 +169,7 @@ fn tours_on_failing_devices(rt: HostRuntime) -> Result<(), Fail> {
 #[test]
 fn failing_writes(rt: HostRuntime) -> Result<(), Fail> {
     let alloc = rt.alloc();
-    let round = round_of(alloc, &[(8, 0)])?;
+    let round = round_of(alloc, rounds::LONE_TONE)?;
     let batches = lay_in_order(alloc, &round)?;
     same!(rt; batches.count(), 1);
     let due = transmission(alloc, LONE_TONE)?;

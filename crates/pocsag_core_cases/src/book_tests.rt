@@ -1,8 +1,11 @@
 //! Open rounds.
 
 use crate::given::{IDLE, LONE_TONE, PageRow, SECOND, Sent, page, transmission};
-use crate::{round_of, same};
-use pocsag_pages::{Page, PageFault, RoundFault};
+use crate::plan_tests::Streamed;
+use crate::rounds::{self, LOOPS_APART, Ones, round_of};
+use crate::same;
+use pocsag_pages::PageFault::{BadAddress, BadPayload, ReservedAddress};
+use pocsag_pages::{Page, RoundFault};
 use pocsag_plan::{AddFault, Book, BookFault, NotThere, OnLimit, PlanFault, Search, StreamFault};
 use pocsag_words::{End, MemorySink, OutOfMemory};
 use std::alloc::Global;
@@ -17,18 +20,9 @@ const ADDED: &[&[(PageRow, Option<AddFault>)]] = &[
         ((8, 0, &[]), Some(AddFault::DuplicateAddress)),
     ],
     &[
-        (
-            (2_097_152, 0, &[]),
-            Some(AddFault::Page(PageFault::BadAddress)),
-        ),
-        (
-            (2_007_664, 0, &[]),
-            Some(AddFault::Page(PageFault::ReservedAddress)),
-        ),
-        (
-            (8, 1, &[0x84c2a]),
-            Some(AddFault::Page(PageFault::BadPayload)),
-        ),
+        ((2_097_152, 0, &[]), Some(AddFault::Page(BadAddress))),
+        ((2_007_664, 0, &[]), Some(AddFault::Page(ReservedAddress))),
+        ((8, 1, &[0x84c2a]), Some(AddFault::Page(BadPayload))),
     ],
 ];
 
@@ -149,30 +143,24 @@ fn book_of(rt: &impl Abort, alloc: Global, pages: &[(u32, usize)]) -> Result<Boo
     Ok(book)
 }
 
-// Sends the book, and returns its batches and the bound.
-fn send(
-    book: &Book,
-    search: Search,
-    tx: &mut MemorySink<400>,
-    cert: &mut MemorySink<100>,
-) -> Result<(u32, u32), StreamFault> {
-    let sent = book.bounded_stream(tx, cert, search)?;
-    Ok((sent.plan.batches, sent.bound))
-}
-
-fn search(limit: u32, end: End, on_limit: OnLimit) -> Search {
-    Search {
+fn send(book: &Book, limit: u32, end: End, on_limit: OnLimit) -> Streamed {
+    let mut tx = MemorySink::<400>::new(64, u64::MAX);
+    let mut cert = MemorySink::<100>::new(64, u64::MAX);
+    let search = Search {
         limit,
         end,
         on_limit,
-    }
+    };
+    let sent = book.bounded_stream(&mut tx, &mut cert, search);
+    let answer = sent.map(|sent| (sent.plan.batches, sent.bound));
+    Streamed { answer, tx, cert }
 }
 
 // Rounds that are sent as one batch, with the end, what the certificate begins with, and the codewords, of which there may
 // be two choices: a tone starts early or late. A page of the last frame starts early, so that an idle stands behind it.
-const REOPENED: &[(&[(u32, usize)], End, &[u8], &[Sent])] = &[
+const REOPENED: &[(Ones, End, &[u8], &[Sent])] = &[
     (
-        &[(8, 0)],
+        rounds::LONE_TONE,
         End::Open,
         b"PCB2\0\0\0\0\x01\0",
         &[LONE_TONE, (16, IDLE, &[(1, SECOND)])],
@@ -198,62 +186,32 @@ fn is_sent(alloc: Global, bytes: &[u8], choices: &[Sent]) -> Result<bool, OutOfM
 #[test]
 fn rounds_reopened(rt: HostRuntime) -> Result<(), Fail> {
     for (pages, end, begins, choices) in REOPENED {
-        let mut tx = MemorySink::<400>::new(64, u64::MAX);
-        let mut cert = MemorySink::<100>::new(64, u64::MAX);
         let book = book_of(&rt, rt.alloc(), pages)?;
-        let sent = send(
-            &book,
-            search(100_000, *end, OnLimit::Fewest),
-            &mut tx,
-            &mut cert,
-        )?;
-        same!(rt; sent.0, 1, pages);
-        same!(rt; is_sent(rt.alloc(), tx.bytes(), choices)?, true, pages);
-        same!(rt; cert.bytes().starts_with(begins), true, pages);
+        let told = send(&book, 100_000, *end, OnLimit::Fewest);
+        same!(rt; told.answer.ok(), Some((1, 1)), pages);
+        same!(rt; is_sent(rt.alloc(), told.tx.bytes(), choices)?, true, pages);
+        same!(rt; told.cert.bytes().starts_with(begins), true, pages);
     }
     Ok(())
 }
 
-// Sends a book within so many nodes in any case, and returns its batches and the bound.
-fn answer(book: &Book, limit: u32) -> Result<(u32, u32), StreamFault> {
-    let mut tx = MemorySink::<400>::new(64, u64::MAX);
-    let mut cert = MemorySink::<100>::new(64, u64::MAX);
-    let wanted = search(limit, End::Open, OnLimit::Always);
-    send(book, wanted, &mut tx, &mut cert)
-}
-
 // A limit of no nodes is refused before the book is found to be empty.
 fn expect_no_pages(rt: &impl Abort, empty: &Book) {
-    assert!(rt;
-        matches!(
-            answer(empty, 1),
-            Err(StreamFault::Round(RoundFault::NoPages))
-        )
-    );
-    assert!(rt;
-        matches!(
-            answer(empty, 0),
-            Err(StreamFault::Plan(PlanFault::BadLimit))
-        )
-    );
+    let found = send(empty, 1, End::Open, OnLimit::Always).answer;
+    assert!(rt; matches!(found, Err(StreamFault::Round(RoundFault::NoPages))));
+    let refused = send(empty, 0, End::Open, OnLimit::Always).answer;
+    assert!(rt; matches!(refused, Err(StreamFault::Plan(PlanFault::BadLimit))));
     let none = empty.plan(0, End::Open);
     assert!(rt; matches!(none, Err(BookFault::Plan(PlanFault::BadLimit))));
 }
 
 #[test]
 fn loops_apart_within_one_batch(rt: HostRuntime) -> Result<(), Fail> {
-    let mut tx = MemorySink::<400>::new(64, u64::MAX);
-    let mut cert = MemorySink::<100>::new(64, u64::MAX);
-    let book = book_of(&rt, rt.alloc(), &[(0, 15), (3, 15)])?;
-    let sent = send(
-        &book,
-        search(1, End::Open, OnLimit::Always),
-        &mut tx,
-        &mut cert,
-    )?;
-    same!(rt; sent, (3, 2));
-    same!(rt; tx.bytes().len(), 72 + 3 * 68);
-    same!(rt; cert.bytes().starts_with(b"PCB2\0\0\0\0\x02\0"), true);
+    let book = book_of(&rt, rt.alloc(), LOOPS_APART)?;
+    let told = send(&book, 1, End::Open, OnLimit::Always);
+    same!(rt; told.answer.ok(), Some((3, 2)));
+    same!(rt; told.tx.bytes().len(), 72 + 3 * 68);
+    same!(rt; told.cert.bytes().starts_with(b"PCB2\0\0\0\0\x02\0"), true);
     expect_no_pages(&rt, &Book::new(rt.alloc()));
     Ok(())
 }

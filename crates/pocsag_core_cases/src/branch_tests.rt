@@ -1,7 +1,11 @@
 //! Worked examples of the search.
 
 use crate::given::tones;
-use crate::{has_page, round_of, same};
+use crate::rounds::{
+    BOTH_WAYS, CLOSED_MIXED, EXACT, LAST_FRAME, LONE_TONE, LONG, LOOP_APART, LOOPS_APART, Ones,
+    THREE_TONES, TIGHT, has_page, round_of,
+};
+use crate::same;
 use pocsag_branch::{FreeFault, SearchFault, fallback, search, search_freely};
 use pocsag_check::{check, check_open};
 use pocsag_pages::Round;
@@ -12,12 +16,8 @@ use std::alloc::Global;
 use std::process::Abort;
 use std::test::Fail;
 
-const LOOPS_APART: &[(u32, usize)] = &[(0, 15), (3, 15)];
-
-const BOTH_WAYS: &[(u32, usize)] = &[(0, 13), (7, 0), (15, 2), (1, 13)];
-
 // A tone for each slot of a batch.
-const SIXTEEN: &[(u32, usize)] = &[
+const SIXTEEN: Ones = &[
     (0, 0),
     (1, 0),
     (2, 0),
@@ -37,7 +37,7 @@ const SIXTEEN: &[(u32, usize)] = &[
 ];
 
 // Eight pages for which each tree of the promised shape has at least 354,623 nodes.
-const EIGHT: &[(u32, usize)] = &[
+const EIGHT: Ones = &[
     (5, 4),
     (8, 8),
     (20, 8),
@@ -49,34 +49,34 @@ const EIGHT: &[(u32, usize)] = &[
 ];
 
 // Four pages for which the first node of the free search has no tour with the fewest batches, and a later one has.
-const LATER: &[(u32, usize)] = &[(4, 3), (10, 0), (20, 24), (29, 14)];
+const LATER: Ones = &[(4, 3), (10, 0), (20, 24), (29, 14)];
 
 // Rounds by address and number of items, each with its end and its fewest batches.
-const FEWEST: &[(&[(u32, usize)], End, u32)] = &[
-    (&[(8, 0)], End::Open, 1),
-    (&[(8, 0)], End::Closed, 1),
+const FEWEST: &[(Ones, End, u32)] = &[
+    (LONE_TONE, End::Open, 1),
+    (LONE_TONE, End::Closed, 1),
     (&[(0, 1)], End::Open, 1),
     (&[(0, 15)], End::Open, 1),
-    (&[(3, 15)], End::Open, 2),
-    (&[(7, 49)], End::Open, 4),
-    (&[(7, 49)], End::Closed, 5),
+    (LOOP_APART, End::Open, 2),
+    (LONG, End::Open, 4),
+    (LONG, End::Closed, 5),
     (&[(0, 1400)], End::Open, 88),
-    (&[(5, 0), (13, 0), (21, 0)], End::Open, 2),
+    (THREE_TONES, End::Open, 2),
     (LOOPS_APART, End::Open, 3),
-    (&[(0, 5), (3, 9)], End::Open, 1),
-    (&[(0, 5), (3, 9)], End::Closed, 2),
-    (&[(0, 5), (3, 9), (11, 15)], End::Open, 2),
-    (&[(7, 1), (15, 1)], End::Open, 2),
-    (&[(0, 13), (7, 0), (15, 16)], End::Closed, 2),
+    (EXACT, End::Open, 1),
+    (EXACT, End::Closed, 2),
+    (TIGHT, End::Open, 2),
+    (LAST_FRAME, End::Open, 2),
+    (CLOSED_MIXED, End::Closed, 2),
     (BOTH_WAYS, End::Closed, 3),
     (BOTH_WAYS, End::Open, 2),
-    (&[(8, 0)], End::Idle, 1),
+    (LONE_TONE, End::Idle, 1),
     (&[(7, 0)], End::Idle, 1),
     (&[(0, 15)], End::Closed, 2),
     (&[(0, 15)], End::Idle, 2),
-    (&[(7, 49)], End::Idle, 5),
-    (&[(0, 5), (3, 9)], End::Idle, 2),
-    (&[(0, 13), (7, 0), (15, 16)], End::Idle, 3),
+    (LONG, End::Idle, 5),
+    (EXACT, End::Idle, 2),
+    (CLOSED_MIXED, End::Idle, 3),
     (BOTH_WAYS, End::Idle, 3),
     (SIXTEEN, End::Open, 1),
     (SIXTEEN, End::Closed, 1),
@@ -92,7 +92,7 @@ const FEWEST_OF_TONES: [(u32, End, u32); 4] = [
 ];
 
 // The same of the free search within so many nodes, with the most nodes that its tree has.
-const FREELY: [(&[(u32, usize)], u32, End, u32, u64); 7] = [
+const FREELY: [(Ones, u32, End, u32, u64); 7] = [
     (EIGHT, 1_000, End::Open, 9, 40),
     (LOOPS_APART, 100_000, End::Open, 3, 100_000),
     (BOTH_WAYS, 100_000, End::Closed, 3, 100_000),

@@ -1,31 +1,20 @@
 //! Worked examples of the checker.
 
-use crate::{round_of, same};
+use crate::rounds::{
+    BOTH_WAYS, EXACT, LONE_TONE, LONG, LOOP_APART, LOOPS_APART, Ones, TIGHT, round_of,
+};
+use crate::same;
+use crate::tree_tests::{split_by_200, splits};
 use pocsag_check::{accepts, check, check_open};
 use pocsag_slots::{all_limits, classes_of};
 use pocsag_tree::{Tree, read_certificate};
 use pocsag_words::{End, MemorySource};
 use std::test::Fail;
 
-const LONE_TONE: &[(u32, usize)] = &[(8, 0)];
-
-const LOOP_APART: &[(u32, usize)] = &[(3, 15)];
-
-// Two pages of one codeword more than fifteen, in frames 0 and 3.
-const LOOPS_APART: &[(u32, usize)] = &[(0, 15), (3, 15)];
-
-const LAST_FRAME: &[(u32, usize)] = &[(7, 15)];
-
-const TIGHT: &[(u32, usize)] = &[(0, 5), (3, 9), (11, 15)];
-
-const EXACT: &[(u32, usize)] = &[(0, 5), (3, 9)];
-
-const BOTH_WAYS: &[(u32, usize)] = &[(0, 13), (7, 0), (15, 2), (1, 13)];
-
-const LONG: &[(u32, usize)] = &[(7, 49)];
+const LAST_FRAME: Ones = &[(7, 15)];
 
 // Rounds with a certificate that is accepted for its own end.
-const ACCEPTED: &[(&[(u32, usize)], &[u8])] = &[
+const ACCEPTED: &[(Ones, &[u8])] = &[
     (LONE_TONE, b"PCB1\0\0\0\x01\0\0\x03"),
     (LONE_TONE, b"PCB2\0\0\0\0\x01\0\0\x03"),
     (LONE_TONE, b"PCB2\x01\0\0\0\x01\0\0\x03"),
@@ -62,7 +51,7 @@ const ACCEPTED: &[(&[(u32, usize)], &[u8])] = &[
 ];
 
 // Rounds with a certificate that is refused.
-const REFUSED: &[(&[(u32, usize)], &[u8])] = &[
+const REFUSED: &[(Ones, &[u8])] = &[
     (EXACT, b"PCB2\0\0\0\0\x02\x04\x01\0\xff\xff"),
     (EXACT, b"PCB2\x01\0\0\0\x02\x04\x02\0\xff\xff\0\xff\xff"),
     (BOTH_WAYS, b"PCB2\x01\0\0\0\x03\x04\x01\0\xff\xff"),
@@ -114,11 +103,7 @@ fn certificates(rt: HostRuntime) -> Result<(), Fail> {
         }
     }
     let round = round_of(alloc, LONE_TONE)?;
-    let mut deep = Vec::from_slice(alloc, b"PCB1\0\0\0\x01".as_slice())?;
-    for _ in 0..299 {
-        deep.extend_from_slice(b"\x01\0\0\x01".as_slice())?;
-    }
-    deep.resize(8 + 4 * 299 + 300, 3)?;
+    let deep = splits(alloc, 299, 300)?;
     let mut source = MemorySource::new(deep.as_slice(), 1, 100_000);
     let read = read_certificate(alloc, &mut source)?;
     assert!(rt; !check(&round, read.batches, &read.tree, read.end));
@@ -144,12 +129,7 @@ fn trees(rt: HostRuntime) -> Result<(), Fail> {
     }
     assert!(rt; !check(&round, 1, &Tree::Open, End::Open));
     assert!(rt; check_open(&round, 1, &Tree::Open, End::Open));
-    let split = Tree::Split {
-        class: 200,
-        m: 1,
-        below: Box::new(alloc, Tree::Overload(3))?,
-        from: Box::new(alloc, Tree::Overload(3))?,
-    };
+    let split = split_by_200(alloc)?;
     assert!(rt; !check(&round, 1, &split, End::Open));
     Ok(())
 }

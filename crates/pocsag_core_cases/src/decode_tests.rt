@@ -1,7 +1,7 @@
 //! The decoder and the listing.
 
 use crate::given::{
-    ACROSS, DIGITS, IDLE, LONE_TONE, ONES, PageRow, SECOND, SYNC, Sent, TIGHT, cut, pages,
+    ACROSS, DIGITS, IDLE, LONE_TONE, ONES, PageRow, SECOND, SYNC, Sent, TIGHT, cut, flip, pages,
     transmission,
 };
 use crate::same;
@@ -59,11 +59,6 @@ const DECODED: &[(Sent, usize, Wanted)] = &[
     ),
 ];
 
-// The bytes of `LONE_TONE`.
-fn lone_tone(alloc: Global) -> Result<Vec<u8>, OutOfMemory> {
-    transmission(alloc, LONE_TONE)
-}
-
 // Decodes bytes one by one, with an empty piece behind each.
 fn decode_by_byte(alloc: Global, bytes: &[u8]) -> Result<Vec<Page>, DecodeFault> {
     let mut decoder = Decoder::new(alloc);
@@ -110,10 +105,6 @@ fn expect_decoded(
     Ok(())
 }
 
-fn fault_of(alloc: Global, bytes: &[u8]) -> Option<DecodeFault> {
-    decode(alloc, bytes).err()
-}
-
 fn expect_cuts(rt: &impl Abort, alloc: Global, bytes: &[u8]) {
     same!(rt; bytes.len(), 208);
     for n in 0..208 {
@@ -123,7 +114,7 @@ fn expect_cuts(rt: &impl Abort, alloc: Global, bytes: &[u8]) {
             140 => None,
             _ => Some(DecodeFault::Truncated),
         };
-        same!(rt; fault_of(alloc, cut(bytes, n)), due, n);
+        same!(rt; decode(alloc, cut(bytes, n)).err(), due, n);
     }
 }
 
@@ -139,18 +130,6 @@ fn transmissions(rt: HostRuntime) -> Result<(), Fail> {
     Ok(())
 }
 
-fn fault_of_wrong_bit(
-    alloc: Global,
-    place: usize,
-    bit: u32,
-) -> Result<Option<DecodeFault>, OutOfMemory> {
-    let mut bytes = lone_tone(alloc)?;
-    if let Some(byte) = bytes.get_mut(place) {
-        *byte ^= 1u8 << bit % 8;
-    }
-    Ok(fault_of(alloc, bytes.as_slice()))
-}
-
 // One wrong bit in each byte of a transmission.
 #[test]
 fn wrong_bits(rt: HostRuntime) -> Result<(), Fail> {
@@ -163,7 +142,11 @@ fn wrong_bits(rt: HostRuntime) -> Result<(), Fail> {
         };
         // The synchronisation codeword is tried with its last bit wrong too.
         for bit in [place as u32 % 8, 0] {
-            same!(rt; fault_of_wrong_bit(alloc, place, bit)?, Some(due), place);
+            let mut bytes = transmission(alloc, LONE_TONE)?;
+            if let Some(byte) = bytes.get_mut(place) {
+                *byte ^= 1u8 << bit % 8;
+            }
+            same!(rt; decode(alloc, bytes.as_slice()).err(), Some(due), place);
         }
     }
     Ok(())
@@ -181,17 +164,6 @@ const REPAIRED: &[Repair] = &[
     (&[SYNC ^ IDLE ^ 1], 0, 0, Some(DecodeFault::NoSync(0))),
 ];
 
-// Makes these bits wrong in the words behind the preamble.
-fn flip(bytes: &mut [u8], wrong: &[u32]) {
-    for (place, bits) in wrong.iter().enumerate() {
-        for (byte, flipped) in bits.to_be_bytes().iter().enumerate() {
-            if let Some(sent) = bytes.get_mut(72 + 4 * place.min(100) + byte) {
-                *sent ^= *flipped;
-            }
-        }
-    }
-}
-
 // Repairs a lone tone with bits that are wrong, behind which are bytes that are no whole word.
 fn expect_repaired(
     rt: &impl Abort,
@@ -201,11 +173,11 @@ fn expect_repaired(
 ) -> Result<(), Fail> {
     let (wrong, words, bits, fault) = repair;
     let told = repair_all(bytes);
-    let found = (told.words, told.bits, fault_of(alloc, cut(bytes, 140)));
+    let found = (told.words, told.bits, decode(alloc, cut(bytes, 140)).err());
     same!(rt; found, (*words, *bits, *fault), wrong);
     same!(rt; bytes.ends_with(b"end"), true, wrong);
     if fault.is_none() {
-        let right = lone_tone(alloc)?;
+        let right = transmission(alloc, LONE_TONE)?;
         same!(rt; cut(bytes, 140), right.as_slice(), wrong);
     }
     Ok(())
@@ -215,7 +187,7 @@ fn expect_repaired(
 fn repairs(rt: HostRuntime) -> Result<(), Fail> {
     let alloc = rt.alloc();
     for repair in REPAIRED {
-        let mut bytes = lone_tone(alloc)?;
+        let mut bytes = transmission(alloc, LONE_TONE)?;
         flip(bytes.as_mut_slice(), repair.0);
         bytes.extend_from_slice(b"end")?;
         expect_repaired(&rt, alloc, bytes.as_mut_slice(), repair)?;
@@ -243,7 +215,7 @@ fn an_orphan_in_pieces(rt: HostRuntime) -> Result<(), Fail> {
 #[test]
 fn a_short_transmission_in_pieces(rt: HostRuntime) -> Result<(), Fail> {
     let alloc = rt.alloc();
-    let bytes = lone_tone(alloc)?;
+    let bytes = transmission(alloc, LONE_TONE)?;
     let short = cut(bytes.as_slice(), 139);
     let (first, second) = short.split_at(short.len().min(79));
     let mut decoder = Decoder::new(alloc);

@@ -1,6 +1,10 @@
 //! The text of every fault.
 
 use crate::same;
+use crate::texts::{
+    BAD_LIMIT, BAD_RATE, CUT_SHORT, IS_THERE, LIMIT_REACHED, NO_MEMORY, NO_PAGES, NO_READ,
+    NO_WRITE, TOO_LARGE,
+};
 use pocsag_batch::FirstFault;
 use pocsag_branch::{FallbackPlan, FreeFault, SearchFault, SearchLimit};
 use pocsag_decode::{DecodeFault, ListFault};
@@ -33,10 +37,10 @@ const TEXT_FAULTS: &[(TextFault, &str)] = &[
     (TextFault::EmptyMessage, "the message is empty"),
     (TextFault::BadCharacter(7), "bad character at 7"),
     (TextFault::TooLong, "the message is too long"),
-    (TextFault::OutOfMemory, "out of memory"),
+    (TextFault::OutOfMemory, NO_MEMORY),
 ];
 
-const FIELD_FAULTS: &[(FieldFault, &str)] = &[
+const FIELD_FAULTS: [(FieldFault, &str); 8] = [
     (FieldFault::BadAddress, "bad address"),
     (FieldFault::ReservedAddress, "reserved address"),
     (FieldFault::BadKind, "unknown kind"),
@@ -44,7 +48,7 @@ const FIELD_FAULTS: &[(FieldFault, &str)] = &[
     (FieldFault::EmptyMessage, "the message is empty"),
     (FieldFault::BadCharacter(7), "bad character at 7"),
     (FieldFault::TooLong, "the message is too long"),
-    (FieldFault::OutOfMemory, "out of memory"),
+    (FieldFault::OutOfMemory, NO_MEMORY),
 ];
 
 const PAGE_FAULTS: &[(PageFault, &str)] = &[
@@ -54,83 +58,52 @@ const PAGE_FAULTS: &[(PageFault, &str)] = &[
 ];
 
 const WHOLE_FAULTS: &[(WholeFault, &str)] = &[
-    (WholeFault::ReadFault, "cannot read or open a file"),
-    (WholeFault::TooLarge, "the file is too large"),
-    (WholeFault::OutOfMemory, "out of memory"),
+    (WholeFault::ReadFault, NO_READ),
+    (WholeFault::TooLarge, TOO_LARGE),
+    (WholeFault::OutOfMemory, NO_MEMORY),
 ];
 
+const BAD_HEADER: &str = "the header must be address,kind,message";
+
 const ROUND_FAULTS: &[(RoundFault, &str)] = &[
-    (RoundFault::ReadFault, "cannot read or open a file"),
-    (RoundFault::TooLarge, "the file is too large"),
-    (
-        RoundFault::BadHeader,
-        "the header must be address,kind,message",
-    ),
-    (
-        RoundFault::Record(9, RecordFault::FieldCount),
-        "record 9: three fields are wanted",
-    ),
-    (
-        RoundFault::Record(9, RecordFault::DuplicateAddress),
-        "record 9: the address is already there",
-    ),
+    (RoundFault::ReadFault, NO_READ),
+    (RoundFault::TooLarge, TOO_LARGE),
+    (RoundFault::BadHeader, BAD_HEADER),
     (
         RoundFault::Record(20_001, RecordFault::TooManyPages),
         "record 20001: too many pages",
     ),
-    (
-        RoundFault::Record(9, RecordFault::Page(PageFault::BadPayload)),
-        "record 9: bad payload",
-    ),
-    (RoundFault::NoPages, "there are no pages"),
-    (RoundFault::OutOfMemory, "out of memory"),
+    (RoundFault::NoPages, NO_PAGES),
+    (RoundFault::OutOfMemory, NO_MEMORY),
 ];
 
-// The faults of the fields of a record, as faults of a round.
-const RECORD_FAULTS: &[(RoundFault, &str)] = &[
-    (
-        RoundFault::Record(9, RecordFault::Field(FieldFault::BadAddress)),
-        "record 9: bad address",
-    ),
-    (
-        RoundFault::Record(9, RecordFault::Field(FieldFault::ReservedAddress)),
-        "record 9: reserved address",
-    ),
-    (
-        RoundFault::Record(9, RecordFault::Field(FieldFault::BadKind)),
-        "record 9: unknown kind",
-    ),
-    (
-        RoundFault::Record(9, RecordFault::Field(FieldFault::MessageForTone)),
-        "record 9: a tone page has no message",
-    ),
-    (
-        RoundFault::Record(9, RecordFault::Field(FieldFault::EmptyMessage)),
-        "record 9: the message is empty",
-    ),
-    (
-        RoundFault::Record(9, RecordFault::Field(FieldFault::BadCharacter(7))),
-        "record 9: bad character at 7",
-    ),
-    (
-        RoundFault::Record(9, RecordFault::Field(FieldFault::TooLong)),
-        "record 9: the message is too long",
-    ),
-    (
-        RoundFault::Record(9, RecordFault::Field(FieldFault::OutOfMemory)),
-        "record 9: out of memory",
-    ),
+// The faults of a record but those of its fields.
+const RECORD_FAULTS: &[(RecordFault, &str)] = &[
+    (RecordFault::FieldCount, "three fields are wanted"),
+    (RecordFault::DuplicateAddress, IS_THERE),
+    (RecordFault::Page(PageFault::BadPayload), "bad payload"),
 ];
+
+// The fault as one of record 9 of a page file.
+fn expect_record_text(rt: &impl Abort, alloc: Global, fault: RecordFault, text: &str) {
+    let due = format!(in alloc; "record 9: {text}").expect(rt, "memory");
+    expect_text(rt, alloc, &RoundFault::Record(9, fault), due.as_str());
+}
 
 #[test]
 fn pages_and_rounds(rt: HostRuntime) {
     let alloc = rt.alloc();
     expect_texts(&rt, alloc, TEXT_FAULTS);
-    expect_texts(&rt, alloc, FIELD_FAULTS);
+    expect_texts(&rt, alloc, &FIELD_FAULTS);
     expect_texts(&rt, alloc, PAGE_FAULTS);
     expect_texts(&rt, alloc, WHOLE_FAULTS);
     expect_texts(&rt, alloc, ROUND_FAULTS);
-    expect_texts(&rt, alloc, RECORD_FAULTS);
+    for (fault, text) in RECORD_FAULTS {
+        expect_record_text(&rt, alloc, *fault, text);
+    }
+    for (fault, text) in FIELD_FAULTS {
+        expect_record_text(&rt, alloc, RecordFault::Field(fault), text);
+    }
 }
 
 const DECODE_FAULTS: &[(DecodeFault, &str)] = &[
@@ -144,16 +117,16 @@ const DECODE_FAULTS: &[(DecodeFault, &str)] = &[
         DecodeFault::Orphan(1),
         "codeword 1: a message without an address",
     ),
-    (DecodeFault::Truncated, "the transmission is cut short"),
+    (DecodeFault::Truncated, CUT_SHORT),
     (DecodeFault::NoBatch, "the transmission has no batch"),
     (DecodeFault::TooMuch, "the transmission is too long"),
-    (DecodeFault::OutOfMemory, "out of memory"),
+    (DecodeFault::OutOfMemory, NO_MEMORY),
     (DecodeFault::Failed, "the decoder has stopped"),
 ];
 
 const LIST_FAULTS: &[(ListFault, &str)] = &[
-    (ListFault::WriteFault, "cannot write"),
-    (ListFault::OutOfMemory, "out of memory"),
+    (ListFault::WriteFault, NO_WRITE),
+    (ListFault::OutOfMemory, NO_MEMORY),
 ];
 
 const PAGER_FAULTS: &[(PagerFault, &str)] = &[
@@ -161,8 +134,8 @@ const PAGER_FAULTS: &[(PagerFault, &str)] = &[
     (PagerFault::ReservedAddress, "reserved address"),
     (PagerFault::ShortPreamble, "the preamble is too short"),
     (PagerFault::NoBatch, "the transmission has no batch"),
-    (PagerFault::Truncated, "the transmission is cut short"),
-    (PagerFault::OutOfMemory, "out of memory"),
+    (PagerFault::Truncated, CUT_SHORT),
+    (PagerFault::OutOfMemory, NO_MEMORY),
     (PagerFault::Failed, "the pager hears no more"),
 ];
 
@@ -171,29 +144,30 @@ const SHOW_FAULTS: &[(ShowFault, &str)] = &[
         ShowFault::Transmission(DecodeFault::Orphan(3)),
         "codeword 3: a message without an address",
     ),
-    (ShowFault::WriteFault, "cannot write"),
-    (ShowFault::OutOfMemory, "out of memory"),
+    (ShowFault::WriteFault, NO_WRITE),
+    (ShowFault::OutOfMemory, NO_MEMORY),
 ];
+
+const MALFORMED: &str = "the certificate is malformed";
+
+const TOO_MANY: &str = "the certificate has too many nodes";
 
 const CERTIFICATE_FAULTS: &[(CertificateFault, &str)] = &[
     (CertificateFault::NotCertificate, "not a certificate"),
     (CertificateFault::Version, "unknown certificate version"),
     (CertificateFault::Truncated, "the certificate is cut short"),
     (CertificateFault::Trailing, "bytes after the certificate"),
-    (CertificateFault::BadTag, "the certificate is malformed"),
-    (CertificateFault::BadField, "the certificate is malformed"),
+    (CertificateFault::BadTag, MALFORMED),
+    (CertificateFault::BadField, MALFORMED),
     (CertificateFault::TooDeep, "the certificate is too deep"),
-    (
-        CertificateFault::TooMany,
-        "the certificate has too many nodes",
-    ),
-    (CertificateFault::ReadFault, "cannot read or open a file"),
-    (CertificateFault::OutOfMemory, "out of memory"),
+    (CertificateFault::TooMany, TOO_MANY),
+    (CertificateFault::ReadFault, NO_READ),
+    (CertificateFault::OutOfMemory, NO_MEMORY),
 ];
 
 const TREE_WRITE_FAULTS: &[(TreeWriteFault, &str)] = &[
     (TreeWriteFault::BadTree, "the tree has no certificate"),
-    (TreeWriteFault::WriteFault, "cannot write"),
+    (TreeWriteFault::WriteFault, NO_WRITE),
 ];
 
 #[test]
@@ -206,23 +180,22 @@ fn transmissions_certificates_and_devices(rt: HostRuntime) {
     expect_texts(&rt, alloc, CERTIFICATE_FAULTS);
     expect_texts(&rt, alloc, TREE_WRITE_FAULTS);
     expect_text(&rt, alloc, &DeviceFault, "a device failed");
-    expect_text(&rt, alloc, &OutOfMemory, "out of memory");
-    expect_text(&rt, alloc, &WriteFault, "cannot write");
+    expect_text(&rt, alloc, &OutOfMemory, NO_MEMORY);
+    expect_text(&rt, alloc, &WriteFault, NO_WRITE);
 }
 
 const TOUR_FAULTS: &[(TourFault, &str)] = &[
     (TourFault::Apart(1), "the runs are apart"),
     (TourFault::Unclosed, "the tour cannot be closed"),
-    (TourFault::OutOfMemory, "out of memory"),
+    (TourFault::OutOfMemory, NO_MEMORY),
 ];
 
+const UNKNOWN_KIND: RoundFault = RoundFault::Record(9, RecordFault::Field(FieldFault::BadKind));
+
 const FIRST_FAULTS: &[(FirstFault, &str)] = &[
-    (
-        FirstFault::Round(RoundFault::Record(9, RecordFault::Field(FieldFault::BadKind))),
-        "record 9: unknown kind",
-    ),
-    (FirstFault::OutOfMemory, "out of memory"),
-    (FirstFault::WriteFault, "cannot write"),
+    (FirstFault::Round(UNKNOWN_KIND), "record 9: unknown kind"),
+    (FirstFault::OutOfMemory, NO_MEMORY),
+    (FirstFault::WriteFault, NO_WRITE),
 ];
 
 const ADD_FAULTS: &[(AddFault, &str)] = &[
@@ -232,23 +205,46 @@ const ADD_FAULTS: &[(AddFault, &str)] = &[
         "reserved address",
     ),
     (AddFault::Page(PageFault::BadPayload), "bad payload"),
-    (AddFault::DuplicateAddress, "the address is already there"),
+    (AddFault::DuplicateAddress, IS_THERE),
     (AddFault::Full, "too many pages"),
-    (AddFault::OutOfMemory, "out of memory"),
+    (AddFault::OutOfMemory, NO_MEMORY),
 ];
 
-const BAD_LIMIT: &str = "the limit must be 1 to 1000000";
-
-const LIMIT_REACHED: &str = "search limit reached: at least 2 batches, 3 would do";
-
 // A search that stopped.
-fn stopped() -> SearchLimit {
-    SearchLimit {
-        least: 2,
-        found: 3,
-        tree: Tree::Open,
-    }
-}
+const STOPPED: SearchLimit = SearchLimit {
+    least: 2,
+    found: 3,
+    tree: Tree::Open,
+};
+
+const REACHED: PlanFault = PlanFault::SearchLimit(STOPPED);
+
+const SEARCH_FAULTS: [(SearchFault, &str); 2] = [
+    (SearchFault::SearchLimit(STOPPED), LIMIT_REACHED),
+    (SearchFault::OutOfMemory, NO_MEMORY),
+];
+
+const PLAN_FAULTS: [(PlanFault, &str); 3] = [
+    (PlanFault::BadLimit, BAD_LIMIT),
+    (REACHED, LIMIT_REACHED),
+    (PlanFault::OutOfMemory, NO_MEMORY),
+];
+
+const STREAM_FAULTS: [(StreamFault, &str); 6] = [
+    (StreamFault::Plan(PlanFault::BadLimit), BAD_LIMIT),
+    (StreamFault::Round(UNKNOWN_KIND), "record 9: unknown kind"),
+    (StreamFault::Plan(REACHED), LIMIT_REACHED),
+    (StreamFault::Plan(PlanFault::OutOfMemory), NO_MEMORY),
+    (StreamFault::Transmission(WriteFault), NO_WRITE),
+    (StreamFault::Certificate(WriteFault), NO_WRITE),
+];
+
+const BOOK_FAULTS: [(BookFault, &str); 4] = [
+    (BookFault::Plan(PlanFault::BadLimit), BAD_LIMIT),
+    (BookFault::NoPages, NO_PAGES),
+    (BookFault::Plan(REACHED), LIMIT_REACHED),
+    (BookFault::Plan(PlanFault::OutOfMemory), NO_MEMORY),
+];
 
 // The free search stops with a plan to fall back to.
 fn free_stopped(alloc: Global) -> FreeFault {
@@ -261,7 +257,7 @@ fn free_stopped(alloc: Global) -> FreeFault {
             steps: Vec::new(alloc),
             tree: Tree::Open,
         },
-        stop: stopped(),
+        stop: STOPPED,
     }
 }
 
@@ -272,90 +268,25 @@ fn refused(alloc: Global) -> Refused {
         page: Page {
             address: 8,
             function: 0,
-            payload: Payload::from_vec(Vec::new(alloc)),
+            payload: Payload::empty(alloc),
         },
     }
-}
-
-fn expect_search_texts(rt: &impl Abort, alloc: Global) {
-    expect_text(
-        rt,
-        alloc,
-        &SearchFault::SearchLimit(stopped()),
-        LIMIT_REACHED,
-    );
-    expect_text(rt, alloc, &SearchFault::OutOfMemory, "out of memory");
-    expect_text(rt, alloc, &free_stopped(alloc), "search limit reached");
-    expect_text(rt, alloc, &FreeFault::OutOfMemory, "out of memory");
-}
-
-fn expect_plan_texts(rt: &impl Abort, alloc: Global) {
-    expect_text(rt, alloc, &PlanFault::BadLimit, BAD_LIMIT);
-    expect_text(rt, alloc, &PlanFault::SearchLimit(stopped()), LIMIT_REACHED);
-    expect_text(rt, alloc, &PlanFault::OutOfMemory, "out of memory");
-}
-
-fn expect_stream_texts(rt: &impl Abort, alloc: Global) {
-    let reached = PlanFault::SearchLimit(stopped());
-    let unknown = RoundFault::Record(9, RecordFault::Field(FieldFault::BadKind));
-    expect_text(
-        rt,
-        alloc,
-        &StreamFault::Plan(PlanFault::BadLimit),
-        BAD_LIMIT,
-    );
-    expect_text(
-        rt,
-        alloc,
-        &StreamFault::Round(unknown),
-        "record 9: unknown kind",
-    );
-    expect_text(rt, alloc, &StreamFault::Plan(reached), LIMIT_REACHED);
-    expect_text(
-        rt,
-        alloc,
-        &StreamFault::Plan(PlanFault::OutOfMemory),
-        "out of memory",
-    );
-    expect_text(
-        rt,
-        alloc,
-        &StreamFault::Transmission(WriteFault),
-        "cannot write",
-    );
-    expect_text(
-        rt,
-        alloc,
-        &StreamFault::Certificate(WriteFault),
-        "cannot write",
-    );
-}
-
-fn expect_book_texts(rt: &impl Abort, alloc: Global) {
-    let reached = PlanFault::SearchLimit(stopped());
-    expect_text(rt, alloc, &BookFault::Plan(PlanFault::BadLimit), BAD_LIMIT);
-    expect_text(rt, alloc, &BookFault::NoPages, "there are no pages");
-    expect_text(rt, alloc, &BookFault::Plan(reached), LIMIT_REACHED);
-    expect_text(
-        rt,
-        alloc,
-        &BookFault::Plan(PlanFault::OutOfMemory),
-        "out of memory",
-    );
 }
 
 #[test]
 fn plans_and_edits(rt: HostRuntime) {
     let alloc = rt.alloc();
     expect_texts(&rt, alloc, TOUR_FAULTS);
-    expect_search_texts(&rt, alloc);
+    expect_texts(&rt, alloc, &SEARCH_FAULTS);
+    expect_text(&rt, alloc, &free_stopped(alloc), "search limit reached");
+    expect_text(&rt, alloc, &FreeFault::OutOfMemory, NO_MEMORY);
     expect_text(&rt, alloc, &ChooseFault::Overload(1), "the slots overflow");
     expect_texts(&rt, alloc, FIRST_FAULTS);
-    expect_plan_texts(&rt, alloc);
-    expect_stream_texts(&rt, alloc);
+    expect_texts(&rt, alloc, &PLAN_FAULTS);
+    expect_texts(&rt, alloc, &STREAM_FAULTS);
     expect_texts(&rt, alloc, ADD_FAULTS);
-    expect_book_texts(&rt, alloc);
-    expect_text(&rt, alloc, &BadRate, "the rate must be 512, 1200 or 2400");
+    expect_texts(&rt, alloc, &BOOK_FAULTS);
+    expect_text(&rt, alloc, &BadRate, BAD_RATE);
     expect_text(&rt, alloc, &NotThere, "no such page");
     expect_text(&rt, alloc, &refused(alloc), "too many pages");
 }

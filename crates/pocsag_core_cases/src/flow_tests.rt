@@ -1,7 +1,11 @@
 //! Worked examples of choices of starts.
 
 use crate::given::tones;
-use crate::{round_of, same};
+use crate::rounds::{
+    BOTH_WAYS, CLOSED_MIXED, EXACT, LAST_FRAME, LONE_TONE, LONG, LOOP_APART, LOOPS_APART, Ones,
+    THREE_TONES, TIGHT, round_of,
+};
+use crate::same;
 use pocsag_flow::{ChooseFault, choose, choose_from};
 use pocsag_pages::Round;
 use pocsag_slots::{Choice, all_limits, classes_of, loads};
@@ -11,19 +15,19 @@ use std::test::Fail;
 
 // Rounds by address and number of items, each with the least number of batches for which there is a choice,
 // for both ends.
-const LEAST: &[(&str, &[(u32, usize)], u32)] = &[
-    ("lone-tone", &[(8, 0)], 1),
+const LEAST: &[(&str, Ones, u32)] = &[
+    ("lone-tone", LONE_TONE, 1),
     ("five-digits", &[(0, 1)], 1),
     ("one-full-batch", &[(0, 15)], 1),
-    ("loop-apart", &[(3, 15)], 1),
-    ("two-numeric-exact, closed-exact", &[(0, 5), (3, 9)], 1),
-    ("three-tones-one-frame", &[(5, 0), (13, 0), (21, 0)], 2),
-    ("loops-apart", &[(0, 15), (3, 15)], 2),
-    ("three-pages-tight", &[(0, 5), (3, 9), (11, 15)], 2),
-    ("two-in-last-frame", &[(7, 1), (15, 1)], 2),
-    ("closed-mixed", &[(0, 13), (7, 0), (15, 16)], 2),
-    ("closed-both-ways", &[(0, 13), (7, 0), (15, 2), (1, 13)], 2),
-    ("long-numeric", &[(7, 49)], 4),
+    ("loop-apart", LOOP_APART, 1),
+    ("two-numeric-exact, closed-exact", EXACT, 1),
+    ("three-tones-one-frame", THREE_TONES, 2),
+    ("loops-apart", LOOPS_APART, 2),
+    ("three-pages-tight", TIGHT, 2),
+    ("two-in-last-frame", LAST_FRAME, 2),
+    ("closed-mixed", CLOSED_MIXED, 2),
+    ("closed-both-ways", BOTH_WAYS, 2),
+    ("long-numeric", LONG, 4),
     ("long-alpha", &[(0, 1400)], 88),
 ];
 
@@ -55,15 +59,13 @@ fn least_numbers(rt: HostRuntime) -> Result<(), Fail> {
 #[test]
 fn choices(rt: HostRuntime) -> Result<(), Fail> {
     let late = Choice { early: [0; 136] };
-    let three_tones: &[(u32, usize)] = &[(5, 0), (13, 0), (21, 0)];
-    let last_frame: &[(u32, usize)] = &[(7, 1), (15, 1)];
-    for (pages, set) in [(three_tones, 0x0C00), (last_frame, 0x8000)] {
+    for (pages, set) in [(THREE_TONES, 0x0C00), (LAST_FRAME, 0x8000)] {
         let classes = classes_of(&round_of(rt.alloc(), pages)?, End::Open);
         let answer = choose(&classes, &all_limits(&classes, 1));
         same!(rt; answer, Err(ChooseFault::Overload(set)));
     }
-    let full_batch: &[(u32, usize)] = &[(0, 15)];
-    for (pages, batches) in [(full_batch, 1), (last_frame, 2)] {
+    let full_batch: Ones = &[(0, 15)];
+    for (pages, batches) in [(full_batch, 1), (LAST_FRAME, 2)] {
         let classes = classes_of(&round_of(rt.alloc(), pages)?, End::Open);
         let limits = all_limits(&classes, batches);
         same!(rt; choose_from(&classes, &limits, &late).is_ok(), true, pages);

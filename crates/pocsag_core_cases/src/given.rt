@@ -60,6 +60,31 @@ pub fn page_file(alloc: Global, records: &[(&str, usize)]) -> Result<Vec<u8>, Ou
     Ok(file)
 }
 
+/// The header of a page file, and behind it these bytes and so many digits 1.
+pub fn file_of(alloc: Global, records: &[u8], ones: usize) -> Result<Vec<u8>, OutOfMemory> {
+    let mut file = Vec::from_slice(alloc, b"address,kind,message\n".as_slice())?;
+    file.extend_from_slice(records)?;
+    let len = file.len().saturating_add(ones);
+    file.resize(len, b'1')?;
+    Ok(file)
+}
+
+/// A page file of so many pages of this kind and message, at addresses from 0 on that are so far apart.
+pub fn many_records(
+    alloc: Global,
+    count: u32,
+    apart: u32,
+    page: &[u8],
+) -> Result<Vec<u8>, OutOfMemory> {
+    let mut file = file_of(alloc, b"", 0)?;
+    for place in 0..count {
+        let address = place.saturating_mul(apart);
+        file.extend_from_slice(format!(in alloc; "{address},")?.as_bytes())?;
+        file.extend_from_slice(page)?;
+    }
+    Ok(file)
+}
+
 pub fn round_of_file(alloc: Global, records: &[(&str, usize)]) -> Result<Round, RoundFault> {
     let file = page_file(alloc, records)?;
     let mut source = MemorySource::new(file.as_slice(), 64, u64::MAX);
@@ -89,23 +114,43 @@ pub fn words(alloc: Global, sent: Sent) -> Result<Vec<u32>, OutOfMemory> {
     Ok(words)
 }
 
-/// The bytes of the preamble and of batches of these codewords.
-pub fn bytes_of(alloc: Global, words: &[u32]) -> Result<Vec<u8>, OutOfMemory> {
-    let mut bytes = vec![in alloc; 0xaa; 72]?;
+/// The bytes of batches of these codewords, which follow those that are there.
+pub fn put_batches(bytes: &mut Vec<u8>, words: &[u32]) -> Result<(), OutOfMemory> {
     for (place, word) in words.iter().enumerate() {
         if place % 16 == 0 {
             bytes.extend_from_slice(SYNC.to_be_bytes().as_slice())?;
         }
         bytes.extend_from_slice(word.to_be_bytes().as_slice())?;
     }
+    Ok(())
+}
+
+/// The bytes of batches of these codewords, without a preamble.
+pub fn batches(alloc: Global, sent: Sent) -> Result<Vec<u8>, OutOfMemory> {
+    let mut bytes = Vec::new(alloc);
+    put_batches(&mut bytes, words(alloc, sent)?.as_slice())?;
     Ok(bytes)
 }
 
+/// The bytes of the preamble and of batches of these codewords.
 pub fn transmission(alloc: Global, sent: Sent) -> Result<Vec<u8>, OutOfMemory> {
-    bytes_of(alloc, words(alloc, sent)?.as_slice())
+    let mut bytes = vec![in alloc; 0xaa; 72]?;
+    put_batches(&mut bytes, words(alloc, sent)?.as_slice())?;
+    Ok(bytes)
 }
 
 /// The first so many bytes.
 pub fn cut(bytes: &[u8], len: usize) -> &[u8] {
     &bytes[..len.min(bytes.len())]
+}
+
+/// Makes these bits wrong in the words behind the preamble.
+pub fn flip(bytes: &mut [u8], wrong: &[u32]) {
+    for (place, bits) in wrong.iter().enumerate() {
+        for (byte, flipped) in bits.to_be_bytes().iter().enumerate() {
+            if let Some(sent) = bytes.get_mut(72 + 4 * place.min(100) + byte) {
+                *sent ^= *flipped;
+            }
+        }
+    }
 }

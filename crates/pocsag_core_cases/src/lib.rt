@@ -27,13 +27,14 @@ mod pager_tests;
 mod plan_tests;
 #[cfg(test)]
 mod readme;
-mod rounds;
+pub mod rounds;
 #[cfg(test)]
 mod show_tests;
 #[cfg(test)]
 mod slots_tests;
 #[cfg(test)]
 mod text_tests;
+pub mod texts;
 #[cfg(test)]
 mod tour_tests;
 mod tours;
@@ -42,5 +43,4 @@ mod tree_tests;
 #[cfg(test)]
 mod word_tests;
 
-pub use rounds::{THREE_PAGES_TIGHT, has_page, ones, round_of};
 pub use tours::{NoTour, tour_of};

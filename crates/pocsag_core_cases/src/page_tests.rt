@@ -2,8 +2,14 @@
 
 ghost use Rattle.std.specs.Prelude.{◌≤◌};
 
-use crate::given::{PageRow, page, pages, tones};
-use crate::{THREE_PAGES_TIGHT, round_of, same};
+use crate::given::{PageRow, file_of, many_records, page, pages, tones};
+use crate::rounds::{self, round_of};
+use crate::same;
+use pocsag_pages::FieldFault::{
+    BadAddress, BadCharacter, BadKind, EmptyMessage, MessageForTone, ReservedAddress, TooLong,
+};
+use pocsag_pages::RecordFault::{DuplicateAddress, Field, FieldCount};
+use pocsag_pages::RoundFault::{BadHeader, NoPages, Record};
 use pocsag_pages::{
     FieldFault, Page, PageFault, Payload, RecordFault, Round, RoundFault, WholeFault,
     is_reserved_address, only_row, page_fault, page_of_fields, preamble_len, read_round,
@@ -32,62 +38,30 @@ const READ: &[(&[u8], &[PageRow])] = &[
 
 // What stands behind the header, how many digits 1 follow, and the fault of the file.
 const REFUSED: &[(&[u8], usize, RoundFault)] = &[
-    (b"", 0, RoundFault::NoPages),
-    (
-        b"2007664,tone0,\n",
-        0,
-        RoundFault::Record(1, RecordFault::Field(FieldFault::ReservedAddress)),
-    ),
-    (
-        b"2097152,tone0,\n",
-        0,
-        RoundFault::Record(1, RecordFault::Field(FieldFault::BadAddress)),
-    ),
-    (
-        b"7,Tone0,\n",
-        0,
-        RoundFault::Record(1, RecordFault::Field(FieldFault::BadKind)),
-    ),
-    (
-        b"7,tone1,x\n",
-        0,
-        RoundFault::Record(1, RecordFault::Field(FieldFault::MessageForTone)),
-    ),
-    (
-        b"7,alpha,\n",
-        0,
-        RoundFault::Record(1, RecordFault::Field(FieldFault::EmptyMessage)),
-    ),
-    (
-        b"7,numeric,12a\n",
-        0,
-        RoundFault::Record(1, RecordFault::Field(FieldFault::BadCharacter(2))),
-    ),
-    (
-        b"7,numeric,",
-        4_001,
-        RoundFault::Record(1, RecordFault::Field(FieldFault::TooLong)),
-    ),
+    (b"", 0, NoPages),
+    (b"2007664,tone0,\n", 0, Record(1, Field(ReservedAddress))),
+    (b"2097152,tone0,\n", 0, Record(1, Field(BadAddress))),
+    (b"7,Tone0,\n", 0, Record(1, Field(BadKind))),
+    (b"7,tone1,x\n", 0, Record(1, Field(MessageForTone))),
+    (b"7,alpha,\n", 0, Record(1, Field(EmptyMessage))),
+    (b"7,numeric,12a\n", 0, Record(1, Field(BadCharacter(2)))),
+    (b"7,numeric,", 4_001, Record(1, Field(TooLong))),
     (
         b"\n8,tone0,\n\r\n\n9,tone9,\n",
         0,
-        RoundFault::Record(2, RecordFault::Field(FieldFault::BadKind)),
+        Record(2, Field(BadKind)),
     ),
     (
         b"8,tone0,\n0000008,tone1,\n",
         0,
-        RoundFault::Record(2, RecordFault::DuplicateAddress),
+        Record(2, DuplicateAddress),
     ),
     (
         b"8,tone0,\n16,tone0,\n8,tone1,\n",
         0,
-        RoundFault::Record(3, RecordFault::DuplicateAddress),
+        Record(3, DuplicateAddress),
     ),
-    (
-        b"7,tone0\n",
-        0,
-        RoundFault::Record(1, RecordFault::FieldCount),
-    ),
+    (b"7,tone0\n", 0, Record(1, FieldCount)),
 ];
 
 // Without the header.
@@ -106,15 +80,6 @@ fn joined(
     bytes.resize(len, byte)?;
     bytes.extend_from_slice(behind)?;
     Ok(bytes)
-}
-
-// The header with these bytes and so many digits 1 behind it.
-fn file_of(alloc: Global, records: &[u8], ones: usize) -> Result<Vec<u8>, OutOfMemory> {
-    let mut file = Vec::from_slice(alloc, b"address,kind,message\n")?;
-    file.extend_from_slice(records)?;
-    let len = file.len().saturating_add(ones);
-    file.resize(len, b'1')?;
-    Ok(file)
 }
 
 // The round of a file that is read by so many bytes, from a device that lasts for so many.
@@ -177,35 +142,29 @@ fn page_files_that_cannot_be_read(rt: HostRuntime) {
 
 // What stands before more commas than are few, and the fault of the file.
 const BEFORE_COMMAS: &[(&[u8], RoundFault)] = &[
-    (b"", RoundFault::BadHeader),
-    (b"address,kind,message", RoundFault::BadHeader),
-    (
-        b"address,kind,message\n",
-        RoundFault::Record(1, RecordFault::FieldCount),
-    ),
-    (
-        b"address,kind,message\n8,tone0,\n",
-        RoundFault::Record(2, RecordFault::FieldCount),
-    ),
+    (b"", BadHeader),
+    (b"address,kind,message", BadHeader),
+    (b"address,kind,message\n", Record(1, FieldCount)),
+    (b"address,kind,message\n8,tone0,\n", Record(2, FieldCount)),
     (
         b"\xef\xbb\xbf\"address\",kind,message\r\n8,tone0,\r",
-        RoundFault::Record(2, RecordFault::FieldCount),
+        Record(2, FieldCount),
     ),
     (
         b"address,kind,message\n8,alpha,\"a\nb, \"\",,,\"\"\"\n",
-        RoundFault::Record(2, RecordFault::FieldCount),
+        Record(2, FieldCount),
     ),
     (
         b"address,kind,message\n8,alpha,\"a, \"\"",
-        RoundFault::Record(1, RecordFault::Field(FieldFault::TooLong)),
+        Record(1, Field(TooLong)),
     ),
     (
         b"address,kind,message\n8,alpha,\"a\"b",
-        RoundFault::Record(1, RecordFault::FieldCount),
+        Record(1, FieldCount),
     ),
     (
         b"address,kind,message\n\"8,,,\n\",tone0,\n",
-        RoundFault::Record(1, RecordFault::Field(FieldFault::BadAddress)),
+        Record(1, Field(BadAddress)),
     ),
 ];
 
@@ -253,18 +212,9 @@ fn records_too_wide(rt: HostRuntime) {
     }
 }
 
-// The records of so many tones.
-fn tone_records(alloc: Global, count: u32) -> Result<Vec<u8>, OutOfMemory> {
-    let mut records = Vec::new(alloc);
-    for address in 0..count {
-        records.extend_from_slice(format!(in alloc; "{address},tone0,\n")?.as_bytes())?;
-    }
-    Ok(records)
-}
-
 fn read_tones(alloc: Global, count: u32) -> Result<Round, RoundFault> {
-    let records = tone_records(alloc, count)?;
-    read_records(alloc, records.as_slice(), 0)
+    let file = many_records(alloc, count, 1, b"tone0,\n")?;
+    read_file(alloc, file.as_slice(), 7, u64::MAX)
 }
 
 fn round_of_tones(alloc: Global, count: u32) -> Result<Round, RoundFault> {
@@ -301,18 +251,13 @@ const FIELDS: &[(&[u8], &[u8], &[u8], Result<PageRow, FieldFault>)] = &[
         b"ABC",
         Ok((2_097_151, 3, &[0x82870, 0x80000])),
     ),
-    (b"2097152", b"nones", b"-", Err(FieldFault::BadAddress)),
-    (b"2007664", b"nones", b"-", Err(FieldFault::ReservedAddress)),
-    (b"0000007", b"Tone0", b"-", Err(FieldFault::BadKind)),
-    (b"0000007", b"tone1", b"-", Err(FieldFault::MessageForTone)),
-    (
-        b"0000007",
-        b"alpha",
-        b"\x00",
-        Err(FieldFault::BadCharacter(0)),
-    ),
-    (b"7", b"alpha", b"", Err(FieldFault::EmptyMessage)),
-    (b"7", b"numeric", &[b'1'; 4_001], Err(FieldFault::TooLong)),
+    (b"2097152", b"nones", b"-", Err(BadAddress)),
+    (b"2007664", b"nones", b"-", Err(ReservedAddress)),
+    (b"0000007", b"Tone0", b"-", Err(BadKind)),
+    (b"0000007", b"tone1", b"-", Err(MessageForTone)),
+    (b"0000007", b"alpha", b"\x00", Err(BadCharacter(0))),
+    (b"7", b"alpha", b"", Err(EmptyMessage)),
+    (b"7", b"numeric", &[b'1'; 4_001], Err(TooLong)),
 ];
 
 // Pages with their fault.
@@ -383,7 +328,7 @@ fn leading_bytes(rt: HostRuntime) {
     }
 }
 
-// The pages of `THREE_PAGES_TIGHT`.
+// The pages of `three-pages-tight`.
 const TIGHT: &[PageRow] = &[
     (0, 0, &[0x88888; 5]),
     (3, 0, &[0x88888; 9]),
@@ -405,11 +350,7 @@ fn round_of_rows(alloc: Global, rows: &[PageRow]) -> Result<Round, RoundFault> {
 #[test]
 fn rounds_of_pages(rt: HostRuntime) {
     let alloc = rt.alloc();
-    expect_pages(
-        &rt,
-        round_of(alloc, &THREE_PAGES_TIGHT),
-        pages(alloc, TIGHT),
-    );
+    expect_pages(&rt, round_of(alloc, rounds::TIGHT), pages(alloc, TIGHT));
     let fault = RoundFault::Record(4, RecordFault::DuplicateAddress);
     same!(rt; round_of_rows(alloc, TWICE).err(), Some(fault));
     same!(rt; round_of_rows(alloc, &[]).err(), Some(RoundFault::NoPages));
@@ -441,21 +382,11 @@ fn copies_and_payloads(rt: HostRuntime) {
     same!(rt; Payload::empty(alloc), none);
 }
 
-// A page file of pages of 4,000 commas each, at so many addresses that are multiples of 8.
-fn comma_file(alloc: Global, count: u32) -> Result<Vec<u8>, OutOfMemory> {
-    let mut file = Vec::from_slice(alloc, b"address,kind,message\n")?;
-    for number in 0..count {
-        let address = number.saturating_mul(8);
-        file.extend_from_slice(format!(in alloc; "{address},alpha,\"")?.as_bytes())?;
-        file.extend_from_slice(&[b','; 4_000])?;
-        file.extend_from_slice(b"\"\n")?;
-    }
-    Ok(file)
-}
-
+// Pages of 4,000 commas each.
 #[test]
 fn pages_beyond_a_front(rt: HostRuntime) {
-    let file = comma_file(rt.alloc(), 1_100).expect(&rt, "memory");
+    let page = joined(rt.alloc(), b"alpha,\"", b',', 4_000, b"\"\n").expect(&rt, "memory");
+    let file = many_records(rt.alloc(), 1_100, 8, page.as_slice()).expect(&rt, "memory");
     let round = read_file(rt.alloc(), file.as_slice(), 65_536, u64::MAX).expect(&rt, "a round");
     assert!(rt; round.pages().len() == 1_100);
     same!(rt; round.pages()[1_099].address, 8_792);

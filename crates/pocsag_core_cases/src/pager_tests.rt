@@ -1,7 +1,8 @@
 //! The simulated pager.
 
 use crate::given::{
-    ACROSS, DIGITS, IDLE, LONE_TONE, PageRow, SECOND, SYNC, Sent, cut, page, pages, transmission,
+    ACROSS, DIGITS, IDLE, LONE_TONE, PageRow, SECOND, SYNC, Sent, cut, flip, page, pages,
+    transmission,
 };
 use crate::same;
 use pocsag_pager::{Pager, PagerFault, hear_all};
@@ -62,14 +63,7 @@ fn transmissions(rt: HostRuntime) -> Result<(), Fail> {
     let alloc = rt.alloc();
     for (sent, wrong, address, wanted) in HEARD {
         let mut bytes = transmission(alloc, *sent)?;
-        for (place, bits) in wrong.iter().enumerate() {
-            for (byte, flipped) in bits.to_be_bytes().iter().enumerate() {
-                let at = 72 + 4 * place.min(100) + byte;
-                if at < bytes.len() {
-                    bytes[at] ^= *flipped;
-                }
-            }
-        }
+        flip(bytes.as_mut_slice(), wrong);
         let shown = hear_all(alloc, bytes.as_slice(), *address)?;
         let due = pages(alloc, wanted)?;
         same!(rt; shown.as_slice(), due.as_slice(), (sent, address));

@@ -25,7 +25,7 @@ const THREE_TIGHT: Records = &[("0,numeric,", 25), ("3,numeric,", 45), ("11,nume
 // Rounds with their codewords, and by end the fewest batches and those in file order.
 const PLANNED: &[(Records, u32, &[(End, u32, u32)])] = &[
     (
-        &[("8,tone0,", 0)],
+        ONE_TONE,
         1,
         &[(End::Open, 1, 1), (End::Closed, 1, 1), (End::Idle, 1, 1)],
     ),
@@ -34,21 +34,13 @@ const PLANNED: &[(Records, u32, &[(End, u32, u32)])] = &[
         3,
         &[(End::Open, 2, 2)],
     ),
+    (LOOPS_APART, 32, &[(End::Open, 3, 3)]),
     (
-        &[("0,numeric,", 75), ("3,numeric,", 75)],
-        32,
-        &[(End::Open, 3, 3)],
-    ),
-    (
-        &[("0,numeric,", 25), ("3,numeric,", 45)],
+        EXACT,
         16,
         &[(End::Open, 1, 1), (End::Closed, 2, 1), (End::Idle, 2, 1)],
     ),
-    (
-        &[("0,numeric,", 25), ("3,numeric,", 45), ("11,numeric,", 75)],
-        32,
-        &[(End::Open, 2, 3)],
-    ),
+    (THREE_TIGHT, 32, &[(End::Open, 2, 3)]),
     (
         &[("7,numeric,12345", 0), ("15,numeric,12345", 0)],
         4,
@@ -79,7 +71,7 @@ const PLANNED: &[(Records, u32, &[(End, u32, u32)])] = &[
 // Rounds with a limit of nodes within which `plan` refuses, and the batches and the bound of the plan that is
 // never refused.
 const LIMITED: &[(Records, u32, u32, u32)] = &[
-    (&[("0,numeric,", 75), ("3,numeric,", 75)], 1, 3, 2),
+    (LOOPS_APART, 1, 3, 2),
     // Each tree of the promised shape has at least 354,623 nodes.
     (
         &[
@@ -198,32 +190,17 @@ const AIRTIMES: &[(u32, Option<u64>)] = &[
 const REPORT: &str =
     "pages 3\ncodewords 32\nin_order 3\nbatches 2\nidles 0\nbits 1664\nairtime_ms 1387\n";
 
-fn is_bad_limit(alloc: Global, round: &Round, limit: u32) -> bool {
-    match bounded_plan(alloc, round, always(limit, End::Open)) {
-        Err(PlanFault::BadLimit) => true,
-        _ => false,
-    }
-}
-
-fn airtime(alloc: Global, round: &Round, rate: u32) -> Result<Option<u64>, PlanFault> {
-    let plan = plan(alloc, round, 100_000, End::Open)?;
-    match report(&plan, rate) {
-        Ok(report) => Ok(Some(report.airtime_ms)),
-        Err(BadRate) => Ok(None),
-    }
-}
-
-fn report_text(alloc: Global, round: &Round) -> Result<String, Fail> {
-    let plan = plan(alloc, round, 100_000, End::Open)?;
-    let report = report(&plan, 1200)?;
-    Ok(format!(in alloc; "{report}")?)
-}
-
 fn expect_reports(rt: &impl Abort, alloc: Global, tight: &Round) -> Result<(), Fail> {
+    let plan = plan(alloc, tight, 100_000, End::Open)?;
     for (rate, due) in AIRTIMES {
-        same!(rt; airtime(alloc, tight, *rate)?, *due, rate);
+        let airtime = match report(&plan, *rate) {
+            Ok(report) => Some(report.airtime_ms),
+            Err(BadRate) => None,
+        };
+        same!(rt; airtime, *due, rate);
     }
-    let text = report_text(alloc, tight)?;
+    let report = report(&plan, 1200)?;
+    let text = format!(in alloc; "{report}")?;
     same!(rt; text.as_str(), REPORT);
     Ok(())
 }
@@ -232,7 +209,9 @@ fn expect_answers(rt: &impl Abort, alloc: Global) -> Result<(), Fail> {
     let round = round_of_file(alloc, LOOPS_APART)?;
     for (limit, due) in ANSWERS {
         same!(rt; answer(alloc, &round, *limit), Ok(*due), limit);
-        same!(rt; is_bad_limit(alloc, &round, *limit), due.is_none(), limit);
+        let bounded = bounded_plan(alloc, &round, always(*limit, End::Open));
+        let is_bad = matches!(bounded, Err(PlanFault::BadLimit));
+        same!(rt; is_bad, due.is_none(), limit);
     }
     Ok(())
 }
@@ -268,10 +247,10 @@ const AMPLE: Way = Way {
 
 // What was answered, the batches and the bound, and what was written.
 #[derive(Drop)]
-struct Streamed {
-    answer: Result<(u32, u32), StreamFault>,
-    tx: MemorySink<400>,
-    cert: MemorySink<100>,
+pub(crate) struct Streamed {
+    pub(crate) answer: Result<(u32, u32), StreamFault>,
+    pub(crate) tx: MemorySink<400>,
+    pub(crate) cert: MemorySink<100>,
 }
 
 fn stream(alloc: Global, records: Records, way: Way) -> Result<Streamed, OutOfMemory> {
@@ -302,12 +281,6 @@ type StreamCase = (Records, Way, u32, u32, Option<Sent>);
 
 const EXACT_SENT: Sent = (16, ONES, &[(0, 0), (6, 0)]);
 
-fn expect_sent(rt: &impl Abort, alloc: Global, bytes: &[u8], sent: Sent) -> Result<(), Fail> {
-    let due = transmission(alloc, sent)?;
-    same!(rt; bytes, due.as_slice(), sent);
-    Ok(())
-}
-
 // The batches of a certificate, and whether it proves that the round takes so many.
 fn certified(alloc: Global, bytes: &[u8], records: Records) -> Result<(u32, bool), Fail> {
     let read = read_certificate(alloc, &mut MemorySource::new(bytes, 7, u64::MAX))?;
@@ -316,30 +289,22 @@ fn certified(alloc: Global, bytes: &[u8], records: Records) -> Result<(u32, bool
     Ok((read.batches, is_proved))
 }
 
-fn expect_streamed(
-    rt: &impl Abort,
-    alloc: Global,
-    streamed: &Streamed,
-    case: &StreamCase,
-) -> Result<(), Fail> {
-    let (records, _, batches, bound, sent) = case;
+fn expect_streamed(rt: &impl Abort, alloc: Global, case: &StreamCase) -> Result<(), Fail> {
+    let (records, way, batches, bound, sent) = case;
+    let streamed = stream(alloc, records, *way)?;
     let told = match &streamed.answer {
         Ok(told) => Some(*told),
         Err(_) => None,
     };
+    let bytes = streamed.tx.bytes();
     same!(rt; told, Some((*batches, *bound)), records);
-    same!(rt; streamed.tx.bytes().len(), 72 + 68 * *batches as usize, records);
+    same!(rt; bytes.len(), 72 + 68 * *batches as usize, records);
     let certified = certified(alloc, streamed.cert.bytes(), records)?;
     same!(rt; certified, (*bound, true), records);
-    match sent {
-        Some(sent) => expect_sent(rt, alloc, streamed.tx.bytes(), *sent),
-        None => Ok(()),
+    if let Some(sent) = sent {
+        same!(rt; bytes, transmission(alloc, *sent)?.as_slice(), sent);
     }
-}
-
-fn expect_case(rt: &impl Abort, alloc: Global, case: &StreamCase) -> Result<(), Fail> {
-    let streamed = stream(alloc, case.0, case.1)?;
-    expect_streamed(rt, alloc, &streamed, case)
+    Ok(())
 }
 
 #[test]
@@ -351,15 +316,15 @@ fn streams(rt: HostRuntime) -> Result<(), Fail> {
             is_always,
             ..AMPLE
         };
-        expect_case(&rt, alloc, &(EXACT, way, 1, 1, Some(EXACT_SENT)))?;
-        expect_case(&rt, alloc, &(THREE_TIGHT, way, 2, 2, Some(TIGHT)))?;
+        expect_streamed(&rt, alloc, &(EXACT, way, 1, 1, Some(EXACT_SENT)))?;
+        expect_streamed(&rt, alloc, &(THREE_TIGHT, way, 2, 2, Some(TIGHT)))?;
     }
     let way = Way {
         limit: 1,
         is_always: true,
         ..in_steps(9)
     };
-    expect_case(&rt, alloc, &(LOOPS_APART, way, 3, 2, None))
+    expect_streamed(&rt, alloc, &(LOOPS_APART, way, 3, 2, None))
 }
 
 fn expect_unwritten(rt: &impl Abort, alloc: Global, limit: u32, read: u64) -> Result<(), Fail> {
@@ -386,58 +351,46 @@ fn streams_that_write_nothing(rt: HostRuntime) -> Result<(), Fail> {
     expect_unwritten(&rt, alloc, 100_000, 20)
 }
 
-// Streams one tone to a transmission that fails after so many bytes.
-fn expect_cut_transmission(
-    rt: &impl Abort,
-    alloc: Global,
-    whole: &[u8],
-    k: usize,
-) -> Result<(), Fail> {
-    let way = Way {
-        sent: k as u64,
-        ..in_steps(5)
-    };
+// Streams one tone to a transmission or a certificate that fails after so many bytes.
+fn expect_cut(rt: &impl Abort, alloc: Global, whole: &Streamed, way: Way) -> Result<(), Fail> {
     let told = stream(alloc, ONE_TONE, way)?;
-    same!(rt; matches!(told.answer, Err(StreamFault::Transmission(_))), true, k);
-    same!(rt; (told.tx.bytes(), told.cert.bytes().is_empty()), (cut(whole, k), true));
+    let (is_due, certified) = match told.answer {
+        Err(StreamFault::Transmission(_)) => (way.sent < 140, 0),
+        Err(StreamFault::Certificate(_)) => (way.sent >= 140, way.certified as usize),
+        _ => (false, 0),
+    };
+    same!(rt; is_due, true, (way.sent, way.certified));
+    same!(rt; told.tx.bytes(), cut(whole.tx.bytes(), way.sent as usize));
+    same!(rt; told.cert.bytes(), cut(whole.cert.bytes(), certified));
     Ok(())
 }
 
 #[test]
-fn streams_that_fail_in_the_transmission(rt: HostRuntime) -> Result<(), Fail> {
+fn streams_that_fail(rt: HostRuntime) -> Result<(), Fail> {
     let alloc = rt.alloc();
     let whole = stream(alloc, ONE_TONE, AMPLE)?;
     same!(rt; whole.tx.bytes().len(), 140);
-    for k in 0..140 {
-        expect_cut_transmission(&rt, alloc, whole.tx.bytes(), k)?;
+    for sent in 0..140 {
+        expect_cut(
+            &rt,
+            alloc,
+            &whole,
+            Way {
+                sent,
+                ..in_steps(5)
+            },
+        )?;
     }
-    Ok(())
-}
-
-// Streams one tone to a certificate that fails after so many bytes.
-fn expect_cut_certificate(
-    rt: &impl Abort,
-    alloc: Global,
-    whole: &Streamed,
-    k: usize,
-) -> Result<(), Fail> {
-    let way = Way {
-        certified: k as u64,
-        ..in_steps(5)
-    };
-    let told = stream(alloc, ONE_TONE, way)?;
-    same!(rt; matches!(told.answer, Err(StreamFault::Certificate(_))), true, k);
-    let written = (told.tx.bytes(), told.cert.bytes());
-    same!(rt; written, (whole.tx.bytes(), cut(whole.cert.bytes(), k)));
-    Ok(())
-}
-
-#[test]
-fn streams_that_fail_in_the_certificate(rt: HostRuntime) -> Result<(), Fail> {
-    let alloc = rt.alloc();
-    let whole = stream(alloc, ONE_TONE, AMPLE)?;
-    for k in 0..whole.cert.bytes().len() {
-        expect_cut_certificate(&rt, alloc, &whole, k)?;
+    for certified in 0..whole.cert.bytes().len() as u64 {
+        expect_cut(
+            &rt,
+            alloc,
+            &whole,
+            Way {
+                certified,
+                ..in_steps(5)
+            },
+        )?;
     }
     Ok(())
 }

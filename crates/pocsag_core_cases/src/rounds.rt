@@ -6,8 +6,33 @@ use pocsag_slots::{CLASSES, Classes};
 use pocsag_words::OutOfMemory;
 use std::alloc::Global;
 
-/// A round that fills two batches, by address and number of items.
-pub const THREE_PAGES_TIGHT: [(u32, usize); 3] = [(0, 5), (3, 9), (11, 15)];
+/// The pages of a round, whose items are all `11111`, by address and number of items.
+pub type Ones = &'static [(u32, usize)];
+
+pub const LONE_TONE: Ones = &[(8, 0)];
+
+pub const THREE_TONES: Ones = &[(5, 0), (13, 0), (21, 0)];
+
+pub const LOOP_APART: Ones = &[(3, 15)];
+
+/// Two pages that go round once each and meet nowhere.
+pub const LOOPS_APART: Ones = &[(0, 15), (3, 15)];
+
+/// `two-numeric-exact`, which fills one batch.
+pub const EXACT: Ones = &[(0, 5), (3, 9)];
+
+/// `three-pages-tight`, which fills two batches.
+pub const TIGHT: Ones = &[(0, 5), (3, 9), (11, 15)];
+
+pub const LAST_FRAME: Ones = &[(7, 1), (15, 1)];
+
+pub const CLOSED_MIXED: Ones = &[(0, 13), (7, 0), (15, 16)];
+
+/// `closed-both-ways`.
+pub const BOTH_WAYS: Ones = &[(0, 13), (7, 0), (15, 2), (1, 13)];
+
+/// `long-numeric`.
+pub const LONG: Ones = &[(7, 49)];
 
 /// A page of function 0 whose items are all `11111`.
 pub fn ones(alloc: Global, address: u32, count: usize) -> Result<Page, OutOfMemory> {

@@ -99,31 +99,14 @@ const SHOWN: &[(Form, Sent, usize, usize, &[u8])] = &[
     (Form::List, PLACED, 0, 5, PLACED_LIST),
 ];
 
-const TRUNCATED: ShowFault = ShowFault::Transmission(DecodeFault::Truncated);
-
 // The first so many bytes of codewords, of which nothing is shown.
-const REFUSED: &[(Form, Sent, usize, ShowFault)] = &[
-    (Form::Text, LONE_TONE, 139, TRUNCATED),
-    (
-        Form::Text,
-        LONE_TONE,
-        72,
-        ShowFault::Transmission(DecodeFault::NoBatch),
-    ),
-    (
-        Form::Text,
-        LONE_TONE,
-        71,
-        ShowFault::Transmission(DecodeFault::ShortPreamble),
-    ),
-    (
-        Form::Text,
-        ORPHAN,
-        140,
-        ShowFault::Transmission(DecodeFault::Orphan(1)),
-    ),
-    (Form::List, LONE_TONE, 139, TRUNCATED),
-    (Form::Drawing, LONE_TONE, 139, TRUNCATED),
+const REFUSED: &[(Form, Sent, usize, DecodeFault)] = &[
+    (Form::Text, LONE_TONE, 139, DecodeFault::Truncated),
+    (Form::Text, LONE_TONE, 72, DecodeFault::NoBatch),
+    (Form::Text, LONE_TONE, 71, DecodeFault::ShortPreamble),
+    (Form::Text, ORPHAN, 140, DecodeFault::Orphan(1)),
+    (Form::List, LONE_TONE, 139, DecodeFault::Truncated),
+    (Form::Drawing, LONE_TONE, 139, DecodeFault::Truncated),
 ];
 
 #[test]
@@ -146,7 +129,7 @@ fn transmissions_that_are_refused(rt: HostRuntime) -> Result<(), Fail> {
         let bytes = transmission(alloc, *sent)?;
         let mut sink = MemorySink::<512>::new(512, 512);
         let told = show(alloc, *form, cut(bytes.as_slice(), *len), &mut sink);
-        same!(rt; told, Some(*fault), (form, len));
+        same!(rt; told, Some(ShowFault::Transmission(*fault)), (form, len));
         same!(rt; sink.bytes().is_empty(), true, (form, len));
     }
     Ok(())

@@ -1,6 +1,7 @@
 //! Worked examples of classes, ways and loads.
 
-use crate::{round_of, same};
+use crate::rounds::{CLOSED_MIXED, LOOPS_APART, Ones, THREE_TONES, TIGHT, round_of};
+use crate::same;
 use pocsag_slots::{
     Choice, Way, all_limits, classes_of, closing_ways, ending_ways, holds, is_certain, least_load,
     loads, narrow, overloads, size, ways, with_member,
@@ -8,16 +9,8 @@ use pocsag_slots::{
 use pocsag_words::End;
 use std::test::Fail;
 
-const THREE_TONES: &[(u32, usize)] = &[(5, 0), (13, 0), (21, 0)];
-
-const LOOPS_APART: &[(u32, usize)] = &[(0, 15), (3, 15)];
-
-const TIGHT: &[(u32, usize)] = &[(0, 5), (3, 9), (11, 15)];
-
-const CLOSED_MIXED: &[(u32, usize)] = &[(0, 13), (7, 0), (15, 16)];
-
 // Rounds with an end, a class, how many pages it has and how often they go round.
-const COUNTS: &[(&[(u32, usize)], End, usize, u32, u32)] = &[
+const COUNTS: &[(Ones, End, usize, u32, u32)] = &[
     (THREE_TONES, End::Open, 81, 3, 0),
     (THREE_TONES, End::Open, 133, 0, 0),
     (THREE_TONES, End::Closed, 81, 0, 0),
@@ -32,7 +25,7 @@ const COUNTS: &[(&[(u32, usize)], End, usize, u32, u32)] = &[
 ];
 
 // Rounds with the ways across a set in two batches.
-const WAYS: &[(&[(u32, usize)], u16, &[Way])] = &[
+const WAYS: &[(Ones, u16, &[Way])] = &[
     (LOOPS_APART, 0x0001, &[Way::IdleIn(0), Way::IdleIn(15)]),
     (
         TIGHT,

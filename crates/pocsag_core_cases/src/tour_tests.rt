@@ -1,27 +1,24 @@
 //! Worked examples of tours.
 
+use crate::rounds::{CLOSED_MIXED, EXACT, LAST_FRAME, LOOP_APART, LOOPS_APART, Ones, round_of};
 use crate::tours::carries;
-use crate::{NoTour, round_of, same, tour_of};
+use crate::{NoTour, same, tour_of};
 use pocsag_slots::{Choice, Step, classes_of};
 use pocsag_tour::{TourFault, has_run_outside, reached, tour};
 use pocsag_words::End;
 use std::test::Fail;
 
-const EXACT: &[(u32, usize)] = &[(0, 5), (3, 9)];
-
 fn run(class: u8, early: bool) -> Step {
     Step::Run { class, early }
 }
 
-const CLOSED_MIXED: &[(u32, usize)] = &[(0, 13), (7, 0), (15, 16)];
-
 // A round with a class that starts late, the batches and the end, and the steps of the tour.
-type TourCase<'s> = (&'static [(u32, usize)], Option<u8>, u32, End, &'s [Step]);
+type TourCase<'s> = (Ones, Option<u8>, u32, End, &'s [Step]);
 
 // The same of rounds for which there is no tour, and why.
-const REFUSED: &[(&[(u32, usize)], Option<u8>, u32, End, TourFault)] = &[
-    (&[(3, 15)], None, 1, End::Open, TourFault::Apart(1)),
-    (&[(3, 15)], Some(48), 1, End::Open, TourFault::Apart(1)),
+const REFUSED: &[(Ones, Option<u8>, u32, End, TourFault)] = &[
+    (LOOP_APART, None, 1, End::Open, TourFault::Apart(1)),
+    (LOOP_APART, Some(48), 1, End::Open, TourFault::Apart(1)),
     (EXACT, None, 1, End::Closed, TourFault::Unclosed),
     (EXACT, None, 1, End::Idle, TourFault::Unclosed),
     (&[(7, 0)], Some(113), 1, End::Idle, TourFault::Unclosed),
@@ -54,16 +51,16 @@ fn tours(rt: HostRuntime) -> Result<(), Fail> {
 
 // How many of two pages of two codewords in frame 7, which are of class 114, start early, with how many idles stand before
 // each page in two batches, and whether it starts early.
-const LAST_FRAME: [(u32, [(usize, bool); 2]); 2] = [
+const STARTS: [(u32, [(usize, bool); 2]); 2] = [
     (2, [(14, true), (14, true)]),
     (1, [(15, false), (13, true)]),
 ];
 
 #[test]
 fn starts_in_the_last_frame(rt: HostRuntime) -> Result<(), Fail> {
-    let round = round_of(rt.alloc(), &[(7, 1), (15, 1)])?;
+    let round = round_of(rt.alloc(), LAST_FRAME)?;
     let classes = classes_of(&round, End::Open);
-    for (count, wanted) in LAST_FRAME {
+    for (count, wanted) in STARTS {
         let mut early = classes.count;
         if early[114] > count {
             early[114] = count;
@@ -82,15 +79,15 @@ fn starts_in_the_last_frame(rt: HostRuntime) -> Result<(), Fail> {
 }
 
 // Rounds of two pages with the batches and the boundaries that are reached when all start early.
-const REACHED: [(&[(u32, usize)], u32, u16); 3] = [
-    (&[(0, 15), (3, 15)], 2, 0x0001),
+const REACHED: [(Ones, u32, u16); 3] = [
+    (LOOPS_APART, 2, 0x0001),
     (EXACT, 1, 0x0041),
     (EXACT, 2, 0xFFFF),
 ];
 
 #[test]
 fn runs_outside_and_boundaries(rt: HostRuntime) -> Result<(), Fail> {
-    let classes = classes_of(&round_of(rt.alloc(), &[(3, 15)])?, End::Open);
+    let classes = classes_of(&round_of(rt.alloc(), LOOP_APART)?, End::Open);
     let all = Choice {
         early: classes.count,
     };

@@ -1,6 +1,9 @@
 //! Certificates, read and written.
 
 use crate::same;
+use pocsag_tree::CertificateFault::{
+    BadField, BadTag, NotCertificate, Trailing, Truncated, Version,
+};
 use pocsag_tree::{
     CertificateFault, Tree, TreeWriteFault, depth, nodes, read_certificate, write_certificate,
 };
@@ -17,77 +20,44 @@ const APART_AGAIN: &[u8] = b"PCB2\0\0\0\0\x03\x02\0\x01\x30\0\x02\0\0\x01\0\x80\
 const APART_WITH_IDLE: &[u8] = b"PCB4\0\0\0\x03\x02\0\x01\x30\0\x02\0\0\x01\0\x80\0";
 
 const REFUSED: &[(&[u8], CertificateFault)] = &[
-    (b"\0", CertificateFault::NotCertificate),
-    (b"PCB3", CertificateFault::Version),
-    (b"PCB5", CertificateFault::Version),
-    (b"PCB1\0\0\0\x01\x07", CertificateFault::BadTag),
-    (b"PCB1\0\0\0\x01\0\0\0", CertificateFault::BadField),
-    (b"PCB1", CertificateFault::Truncated),
-    (b"PCB1\0\0\0\0", CertificateFault::BadField),
-    (b"PCB1\0\0\0\x01\x01\0\0\0", CertificateFault::BadField),
-    (
-        b"PCB1\0\0\0\x01\x02\0\x01\0\0\0",
-        CertificateFault::BadField,
-    ),
-    (
-        b"PCB1\0\0\0\x01\x02\0\x01\0\0\x01",
-        CertificateFault::BadField,
-    ),
-    (
-        b"PCB1\0\0\0\x01\x02\0\x01\0\x01\x11",
-        CertificateFault::BadField,
-    ),
+    (b"\0", NotCertificate),
+    (b"PCB3", Version),
+    (b"PCB5", Version),
+    (b"PCB1\0\0\0\x01\x07", BadTag),
+    (b"PCB1\0\0\0\x01\0\0\0", BadField),
+    (b"PCB1", Truncated),
+    (b"PCB1\0\0\0\0", BadField),
+    (b"PCB1\0\0\0\x01\x01\0\0\0", BadField),
+    (b"PCB1\0\0\0\x01\x02\0\x01\0\0\0", BadField),
+    (b"PCB1\0\0\0\x01\x02\0\x01\0\0\x01", BadField),
+    (b"PCB1\0\0\0\x01\x02\0\x01\0\x01\x11", BadField),
     // Fields out of range.
-    (
-        b"PCB2\0\0\0\0\x01\x01\0\x4e\x21",
-        CertificateFault::BadField,
-    ),
-    (b"PCB1\0\0\0\x01\x01\0\x07\xd1", CertificateFault::BadField),
-    (b"PCB1\0\0\0\x01\x04", CertificateFault::BadTag),
-    (b"PCB2\x02", CertificateFault::BadField),
-    (b"PCB2", CertificateFault::Truncated),
-    (
-        b"PCB2\x02\0\0\0\x02\x04\x01\0\xff\xff",
-        CertificateFault::BadField,
-    ),
-    (
-        b"PCB2\x01\0\0\0\x02\x04\0\0\xff\xff",
-        CertificateFault::BadField,
-    ),
-    (
-        b"PCB2\x01\0\0\0\x02\x04\x03\0\xff\xff",
-        CertificateFault::BadField,
-    ),
+    (b"PCB2\0\0\0\0\x01\x01\0\x4e\x21", BadField),
+    (b"PCB1\0\0\0\x01\x01\0\x07\xd1", BadField),
+    (b"PCB1\0\0\0\x01\x04", BadTag),
+    (b"PCB2\x02", BadField),
+    (b"PCB2", Truncated),
+    (b"PCB2\x02\0\0\0\x02\x04\x01\0\xff\xff", BadField),
+    (b"PCB2\x01\0\0\0\x02\x04\0\0\xff\xff", BadField),
+    (b"PCB2\x01\0\0\0\x02\x04\x03\0\xff\xff", BadField),
     (
         b"PCB1\0\0\0\x03\x02\0\x01\x30\0\x02\0\0\x01\0\x80\0\0",
-        CertificateFault::Trailing,
+        Trailing,
     ),
     // The greatest fields, and one more.
-    (b"PCB2\0\0\0\0\x01\x01\x87", CertificateFault::Truncated),
-    (b"PCB2\0\0\0\0\x01\x01\x88", CertificateFault::BadField),
-    (
-        b"PCB1\0\0\0\x01\x01\x7f\x07\xd0",
-        CertificateFault::Truncated,
-    ),
-    (b"PCB1\0\0\0\x01\x01\x80", CertificateFault::BadField),
-    (
-        b"PCB2\0\0\0\0\x01\x02\0\x01\0\x01\x20",
-        CertificateFault::Truncated,
-    ),
-    (
-        b"PCB2\0\0\0\0\x01\x02\0\x01\0\x01\x21",
-        CertificateFault::BadField,
-    ),
-    (
-        b"PCB1\0\0\0\x01\x02\0\x01\0\x01\x10",
-        CertificateFault::Truncated,
-    ),
-    (b"PCB2\0\0\0\0\x01\x05", CertificateFault::BadTag),
-    (b"PCB4\0\0\0\0", CertificateFault::BadField),
-    (b"PCB4\0\0\0\x01\x01\x87", CertificateFault::Truncated),
-    (b"PCB4\0\0\0\x01\x01\x88", CertificateFault::BadField),
-    (b"PCB4\0\0\0\x01\x05", CertificateFault::BadTag),
-    (b"PCB4\0\0\0\x01\0\0\x03\0", CertificateFault::Trailing),
+    (b"PCB2\0\0\0\0\x01\x01\x87", Truncated),
+    (b"PCB2\0\0\0\0\x01\x01\x88", BadField),
+    (b"PCB1\0\0\0\x01\x01\x7f\x07\xd0", Truncated),
+    (b"PCB1\0\0\0\x01\x01\x80", BadField),
+    (b"PCB2\0\0\0\0\x01\x02\0\x01\0\x01\x20", Truncated),
+    (b"PCB2\0\0\0\0\x01\x02\0\x01\0\x01\x21", BadField),
+    (b"PCB1\0\0\0\x01\x02\0\x01\0\x01\x10", Truncated),
+    (b"PCB2\0\0\0\0\x01\x05", BadTag),
+    (b"PCB4\0\0\0\0", BadField),
+    (b"PCB4\0\0\0\x01\x01\x87", Truncated),
+    (b"PCB4\0\0\0\x01\x01\x88", BadField),
+    (b"PCB4\0\0\0\x01\x05", BadTag),
+    (b"PCB4\0\0\0\x01\0\0\x03\0", Trailing),
 ];
 
 // Certificates, and what is written of them.
@@ -175,15 +145,19 @@ fn failing_writes(rt: HostRuntime) -> Result<(), Fail> {
     Ok(())
 }
 
-#[test]
-fn trees_that_have_no_certificate(rt: HostRuntime) -> Result<(), Fail> {
-    let alloc = rt.alloc();
-    let split = Tree::Split {
+// A split by a class that there is not.
+pub(crate) fn split_by_200(alloc: Global) -> Result<Tree, OutOfMemory> {
+    Ok(Tree::Split {
         class: 200,
         m: 1,
         below: Box::new(alloc, Tree::Overload(3))?,
         from: Box::new(alloc, Tree::Overload(3))?,
-    };
+    })
+}
+
+#[test]
+fn trees_that_have_no_certificate(rt: HostRuntime) -> Result<(), Fail> {
+    let split = split_by_200(rt.alloc())?;
     for (batches, tree) in [(1, Tree::Overload(0)), (0, Tree::Open), (1, split)] {
         let mut sink = MemorySink::<64>::new(64, u64::MAX);
         let written = write_certificate(End::Open, batches, &tree, &mut sink);
@@ -194,7 +168,7 @@ fn trees_that_have_no_certificate(rt: HostRuntime) -> Result<(), Fail> {
 }
 
 // So many splits, one below the other, and so many leaves.
-fn splits(alloc: Global, count: usize, leaves: usize) -> Result<Vec<u8>, OutOfMemory> {
+pub(crate) fn splits(alloc: Global, count: usize, leaves: usize) -> Result<Vec<u8>, OutOfMemory> {
     let mut bytes = Vec::from_slice(alloc, b"PCB1\0\0\0\x01".as_slice())?;
     for _ in 0..count {
         bytes.extend_from_slice(b"\x01\0\0\x01".as_slice())?;

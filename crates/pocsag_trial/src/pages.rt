@@ -1,5 +1,5 @@
 use crate::line::{Line, show};
-use pocsag_core_cases::{THREE_PAGES_TIGHT, ones, round_of};
+use pocsag_core_cases::rounds::{TIGHT, ones, round_of};
 use pocsag_pages::{Page, Payload, Round, RoundFault, WholeFault, read_round, read_whole};
 use pocsag_words::{MemorySource, OutOfMemory};
 use std::alloc::Global;
@@ -66,7 +66,7 @@ fn round_of_open_round(alloc: Global, line: &mut Line) -> Result<(), OutOfMemory
 }
 
 fn round_of_tight_pages(alloc: Global, line: &mut Line) -> Result<(), OutOfMemory> {
-    show_round(round_of(alloc, &THREE_PAGES_TIGHT), line)
+    show_round(round_of(alloc, TIGHT), line)
 }
 
 pub fn show_all<R: AllocGlobal + Print>(rt: &R) -> io::Result<()> {

@@ -2,7 +2,7 @@
 
 use crate::line::{Line, show};
 use crate::pages::{FOUR_PAGES, example};
-use pocsag_core_cases::{THREE_PAGES_TIGHT, ones};
+use pocsag_core_cases::rounds::{TIGHT, ones};
 use pocsag_pages::{Round, RoundFault};
 use pocsag_plan::{
     AddFault, Book, BookFault, BoundedPlan, OnLimit, Plan, PlanFault, Search, StreamFault,
@@ -133,7 +133,7 @@ fn show_stream_always(
 }
 
 fn show_book_of_tight(alloc: Global, line: &mut Line) -> Result<(), OutOfMemory> {
-    let round = example(alloc, &THREE_PAGES_TIGHT)?;
+    let round = example(alloc, TIGHT)?;
     let book = Book::of_round(alloc, &round)?;
     line.put_pages(book.pages());
     Ok(())
@@ -249,7 +249,7 @@ fn show_plans<R: AllocGlobal + Print>(rt: &R) -> io::Result<()> {
     show(
         rt,
         "plan of three-pages-tight",
-        |alloc, line| show_plan(alloc, &THREE_PAGES_TIGHT, line),
+        |alloc, line| show_plan(alloc, TIGHT, line),
     )?;
     show(
         rt,

@@ -5,7 +5,7 @@ use crate::line::{Line, show};
 use crate::pages::{FOUR_PAGES, example};
 use pocsag_branch::{FallbackPlan, Found, FreeFault, SearchFault, fallback, search, search_freely};
 use pocsag_check::{check, check_open};
-use pocsag_core_cases::{THREE_PAGES_TIGHT, has_page};
+use pocsag_core_cases::rounds::{TIGHT, has_page};
 use pocsag_pages::Round;
 use pocsag_slots::classes_of;
 use pocsag_tree::nodes;
@@ -122,13 +122,7 @@ fn show_fallback(
 
 fn show_searches<R: AllocGlobal + Print>(rt: &R) -> io::Result<()> {
     show(rt, "search of three-pages-tight", |alloc, line| {
-        put_search(
-            alloc,
-            &example(alloc, &THREE_PAGES_TIGHT)?,
-            LIMIT,
-            End::Open,
-            line,
-        )
+        put_search(alloc, &example(alloc, TIGHT)?, LIMIT, End::Open, line)
     })?;
     show(rt, "search of loops-apart, closed", |alloc, line| {
         put_search(
@@ -152,7 +146,7 @@ fn show_searches<R: AllocGlobal + Print>(rt: &R) -> io::Result<()> {
 
 fn show_free_searches<R: AllocGlobal + Print>(rt: &R) -> io::Result<()> {
     show(rt, "search_freely of three-pages-tight", |alloc, line| {
-        put_free_search(alloc, &example(alloc, &THREE_PAGES_TIGHT)?, LIMIT, line)
+        put_free_search(alloc, &example(alloc, TIGHT)?, LIMIT, line)
     })?;
     show(rt, "search_freely of four pages", |alloc, line| {
         put_free_search(alloc, &example(alloc, &FOUR_PAGES)?, LIMIT, line)

@@ -1,7 +1,8 @@
 use crate::line::{Line, show};
 use crate::pages::example;
 use pocsag_batch::{lay_out, order_of};
-use pocsag_core_cases::{NoTour, THREE_PAGES_TIGHT, tour_of};
+use pocsag_core_cases::rounds::TIGHT;
+use pocsag_core_cases::{NoTour, tour_of};
 use pocsag_tour::TourFault;
 use pocsag_words::{End, OutOfMemory};
 use std::alloc::Global;
@@ -36,7 +37,7 @@ fn show_tour(
 
 // The order of the tour of the pages, and their layout.
 fn lay_out_tight_pages(alloc: Global, line: &mut Line) -> Result<(), OutOfMemory> {
-    let round = example(alloc, &THREE_PAGES_TIGHT)?;
+    let round = example(alloc, TIGHT)?;
     let steps = match tour_of(alloc, &round, None, 2, End::Open) {
         Ok(steps) => steps,
         Err(fault) => return show_no_tour(fault, line),
