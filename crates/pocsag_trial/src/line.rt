@@ -1,3 +1,5 @@
+ghost use Rattle.std.specs.Prelude.{◌≡◌, IfOk, IfSome, Ok};
+
 use arrayvec::ArrayString;
 use pocsag_pages::Page;
 use pocsag_slots::Step;
@@ -19,12 +21,30 @@ impl Line {
         }
     }
 
-    pub fn as_str(&self) -> &str {
-        self.text.as_str()
-    }
-
     pub fn put<D: Display + Drop>(&mut self, part: D) {
         let _ = write!(self.text, " {part}");
+    }
+
+    /// What a call answered, or none where it had a fault, whose text is put. Want of memory, which all faults tell by the same
+    /// text, is handed on.
+    pub fn take<T, F: Display + Drop>(
+        &mut self,
+        answer: Result<T, F>,
+    ) -> Result<Option<T>, OutOfMemory>
+        ensures { IfOk result (λ taken. IfSome taken (λ value. answer ≡ Ok value)) }
+    {
+        match answer {
+            Ok(value) => Ok(Some(value)),
+            Err(fault) => {
+                let mut text = ArrayString::<100>::new();
+                let _ = write!(text, "{fault}");
+                if text.as_str() == "out of memory" {
+                    return Err(OutOfMemory);
+                }
+                self.put(text.as_str());
+                Ok(None)
+            }
+        }
     }
 
     pub fn put_items(&mut self, items: &[u32]) {
@@ -46,8 +66,8 @@ impl Line {
         }
     }
 
-    pub fn put_set(&mut self, set: u16) {
-        let _ = write!(self.text, " {set:04X}");
+    pub fn put_apart(&mut self, set: u16) {
+        let _ = write!(self.text, " apart {set:04X}");
     }
 
     pub fn put_places(&mut self, places: &[u32]) {
@@ -82,10 +102,11 @@ impl Line {
     }
 }
 
-/// Makes a call and prints its line: its name, and what it wrote or that memory was wanting.
+/// Makes a call on an example and prints its line: both names, and what it wrote or that memory was wanting.
 pub fn show<R: AllocGlobal + Print, F: FnOnce(Global, &mut Line) -> Result<(), OutOfMemory>>(
     rt: &R,
     name: &str,
+    example: &str,
     call: F,
 ) -> io::Result<()>
     requires { F.IsAlwaysCallable call }
@@ -93,9 +114,9 @@ pub fn show<R: AllocGlobal + Print, F: FnOnce(Global, &mut Line) -> Result<(), O
     let mut line = Line::new();
     match call(rt.alloc(), &mut line) {
         Ok(()) => {
-            let text = line.as_str();
-            println!(rt; "{name}:{text}")
+            let text = line.text.as_str();
+            println!(rt; "{name} of {example}:{text}")
         }
-        Err(OutOfMemory) => println!(rt; "{name}: out of memory"),
+        Err(OutOfMemory) => println!(rt; "{name} of {example}: out of memory"),
     }
 }

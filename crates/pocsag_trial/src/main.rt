@@ -3,18 +3,14 @@
 //! its answer, or that memory was wanting. The tests run it with each growth refused in turn. With a byte
 //! on standard input it makes them at the largest sizes that their limits allow.
 
-mod certificates;
-mod kept;
 mod large;
+mod layouts;
 mod line;
 mod long_file;
-mod packs;
 mod pages;
 mod plans;
 mod receivers;
-mod rounds;
 mod searches;
-mod tours;
 
 use std::io;
 use std::io::Read;
@@ -31,11 +27,9 @@ fn main(rt: HostRuntime) -> io::Result<()> {
     if is_asked(&rt) {
         return large::show_all(&rt);
     }
-    packs::show_all(&rt)?;
     pages::show_all(&rt)?;
-    rounds::show_all(&rt)?;
-    tours::show_all(&rt)?;
-    certificates::show_all(&rt)?;
+    layouts::show_all(&rt)?;
+    searches::show_certificate(&rt)?;
     receivers::show_all(&rt)?;
     searches::show_all(&rt)?;
     plans::show_all(&rt)

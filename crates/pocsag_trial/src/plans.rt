@@ -2,11 +2,12 @@
 
 use crate::line::{Line, show};
 use crate::pages::{FOUR_PAGES, example};
-use pocsag_core_cases::rounds::{TIGHT, ones};
-use pocsag_pages::{Round, RoundFault};
+use pocsag_core_cases::given::{PageRow, pages};
+use pocsag_core_cases::rounds::{Ones, TIGHT, ones};
+use pocsag_pages::{Page, Round, RoundFault};
 use pocsag_plan::{
-    AddFault, Book, BookFault, BoundedPlan, OnLimit, Plan, PlanFault, Search, StreamFault,
-    bounded_plan, plan, plan_stream, plan_stream_always,
+    AddFault, Book, BoundedPlan, OnLimit, Plan, Search, StreamFault, bounded_plan, plan,
+    plan_stream, plan_stream_always,
 };
 use pocsag_slots::Classes;
 use pocsag_words::{End, MemorySink, MemorySource, OutOfMemory};
@@ -29,6 +30,11 @@ const CLOSED_BOTH_WAYS: &[u8] = b"address,kind,message\n\
     15,numeric,1111111111\n\
     1,numeric,11111111111111111111111111111111111111111111111111111111111111111\n";
 
+// Tones of open rounds.
+const OPEN_ROUND: &[PageRow] = &[(8, 0, &[]), (16, 0, &[])];
+
+const KEPT_TABLE: &[PageRow] = &[(5, 0, &[]), (13, 0, &[]), (21, 0, &[])];
+
 /// The counts of a plan.
 pub fn put_counts(plan: &Plan, line: &mut Line) {
     line.put(plan.pages);
@@ -37,26 +43,16 @@ pub fn put_counts(plan: &Plan, line: &mut Line) {
     line.put(plan.batches);
 }
 
-fn show_plan(alloc: Global, pages: &[(u32, usize)], line: &mut Line) -> Result<(), OutOfMemory> {
+fn put_plan(alloc: Global, pages: Ones, line: &mut Line) -> Result<(), OutOfMemory> {
     let round = example(alloc, pages)?;
-    match plan(alloc, &round, LIMIT, End::Open) {
-        Ok(plan) => {
-            put_counts(&plan, line);
-            line.put_places(plan.order.as_slice());
-        }
-        Err(PlanFault::OutOfMemory) => return Err(OutOfMemory),
-        Err(fault) => line.put(fault),
+    if let Some(plan) = line.take(plan(alloc, &round, LIMIT, End::Open))? {
+        put_counts(&plan, line);
+        line.put_places(plan.order.as_slice());
     }
     Ok(())
 }
 
-// The bound of a plan, and then its counts.
-fn put_bounded(bounded: &BoundedPlan, line: &mut Line) {
-    line.put(bounded.bound);
-    put_counts(&bounded.plan, line);
-}
-
-/// What the plan that is never refused answers for the round, with the open end.
+/// What the plan that is never refused answers for the round, with the open end: its bound, and then its counts.
 pub fn put_always(
     alloc: Global,
     round: &Round,
@@ -68,75 +64,78 @@ pub fn put_always(
         end: End::Open,
         on_limit: OnLimit::Always,
     };
-    match bounded_plan(alloc, round, search) {
-        Ok(bounded) => put_bounded(&bounded, line),
-        Err(PlanFault::OutOfMemory) => return Err(OutOfMemory),
-        Err(fault) => line.put(fault),
+    if let Some(bounded) = line.take(bounded_plan(alloc, round, search))? {
+        line.put(bounded.bound);
+        put_counts(&bounded.plan, line);
     }
     Ok(())
 }
 
-// What a stream answers, and behind it all that was written, which has to be nothing where memory is wanting.
-fn put_stream(
-    answer: Result<Plan, StreamFault>,
-    tx: &MemorySink<300>,
-    cert: &MemorySink<40>,
-    line: &mut Line,
-) {
-    match answer {
-        Ok(plan) => put_counts(&plan, line),
-        Err(StreamFault::Round(RoundFault::OutOfMemory)) => line.put("out of memory in the round"),
-        Err(fault) => line.put(fault),
-    }
-    line.put_bytes(cert.bytes());
-    line.put_bytes(tx.bytes());
+// The outputs of a stream.
+#[derive(Drop)]
+struct Outputs {
+    tx: MemorySink<300>,
+    cert: MemorySink<40>,
 }
 
-fn show_stream(alloc: Global, pages: &[u8], end: End, line: &mut Line) -> Result<(), OutOfMemory> {
-    let mut source = MemorySource::new(pages, 50, 1000);
-    let mut tx = MemorySink::<300>::new(64, 1000);
-    let mut cert = MemorySink::<40>::new(7, 1000);
-    let answer = plan_stream(alloc, &mut source, &mut tx, &mut cert, LIMIT, end);
-    put_stream(answer, &tx, &cert, line);
-    Ok(())
-}
-
-// The same of a stream that no round is refused, with the bound before the counts.
-fn put_bounded_stream(
-    answer: Result<BoundedPlan, StreamFault>,
-    tx: &MemorySink<300>,
-    cert: &MemorySink<40>,
-    line: &mut Line,
-) {
-    let answer = match answer {
-        Ok(bounded) => {
-            line.put(bounded.bound);
-            Ok(bounded.plan)
+impl Outputs {
+    fn new() -> Outputs {
+        Outputs {
+            tx: MemorySink::new(64, 1000),
+            cert: MemorySink::new(7, 1000),
         }
-        Err(fault) => Err(fault),
-    };
-    put_stream(answer, tx, cert, line);
+    }
+
+    // What a stream answers, its bound first, if it has one, and behind it all that was written, which has to be nothing where
+    // memory is wanting.
+    fn put(&self, answer: Result<(Option<u32>, Plan), StreamFault>, line: &mut Line) {
+        match answer {
+            Ok((bound, plan)) => {
+                if let Some(bound) = bound {
+                    line.put(bound);
+                }
+                put_counts(&plan, line);
+            }
+            Err(StreamFault::Round(RoundFault::OutOfMemory)) => {
+                line.put("out of memory in the round");
+            }
+            Err(fault) => line.put(fault),
+        }
+        line.put_bytes(self.cert.bytes());
+        line.put_bytes(self.tx.bytes());
+    }
 }
 
-fn show_stream_always(
-    alloc: Global,
-    pages: &[u8],
-    limit: u32,
-    line: &mut Line,
-) -> Result<(), OutOfMemory> {
-    let mut source = MemorySource::new(pages, 50, 1000);
-    let mut tx = MemorySink::<300>::new(64, 1000);
-    let mut cert = MemorySink::<40>::new(7, 1000);
-    let answer = plan_stream_always(alloc, &mut source, &mut tx, &mut cert, limit, End::Open);
-    put_bounded_stream(answer, &tx, &cert, line);
-    Ok(())
+// The bound of a plan, and the plan.
+fn with_bound(bounded: BoundedPlan) -> (Option<u32>, Plan) {
+    (Some(bounded.bound), bounded.plan)
 }
 
-fn show_book_of_tight(alloc: Global, line: &mut Line) -> Result<(), OutOfMemory> {
-    let round = example(alloc, TIGHT)?;
-    let book = Book::of_round(alloc, &round)?;
-    line.put_pages(book.pages());
-    Ok(())
+// A stream of a page file with an end.
+const STREAMS: [(&str, &[u8], End); 4] = [
+    ("two-numeric-exact", TWO_NUMERIC, End::Open),
+    ("loops-apart", LOOPS_APART, End::Open),
+    ("closed-both-ways", CLOSED_BOTH_WAYS, End::Closed),
+    (
+        "closed-both-ways with an idle last",
+        CLOSED_BOTH_WAYS,
+        End::Idle,
+    ),
+];
+
+fn put_stream(alloc: Global, file: &[u8], end: End, line: &mut Line) {
+    let mut source = MemorySource::new(file, 50, 1000);
+    let mut to = Outputs::new();
+    let answer = plan_stream(alloc, &mut source, &mut to.tx, &mut to.cert, LIMIT, end);
+    to.put(answer.map(|plan| (None, plan)), line);
+}
+
+fn put_stream_always(alloc: Global, limit: u32, line: &mut Line) {
+    let mut source = MemorySource::new(LOOPS_APART, 50, 1000);
+    let mut to = Outputs::new();
+    let (tx, cert) = (&mut to.tx, &mut to.cert);
+    let answer = plan_stream_always(alloc, &mut source, tx, cert, limit, End::Open);
+    to.put(answer.map(with_bound), line);
 }
 
 // Adds a tone. Where memory is wanting, the book and its tables have to be as they were, and the page that
@@ -176,7 +175,7 @@ fn tables_of(book: &Book) -> (usize, Classes, Classes) {
     )
 }
 
-fn show_added(alloc: Global, line: &mut Line) -> Result<(), OutOfMemory> {
+fn put_added(alloc: Global, line: &mut Line) -> Result<(), OutOfMemory> {
     let mut book = Book::new(alloc);
     for address in [8, 16, 8] {
         add_tone(alloc, &mut book, address, line)?;
@@ -185,11 +184,11 @@ fn show_added(alloc: Global, line: &mut Line) -> Result<(), OutOfMemory> {
     Ok(())
 }
 
-// A book of tones for these addresses.
-fn tones(alloc: Global, addresses: &[u32]) -> Result<Book, OutOfMemory> {
+/// An open round of these pages.
+pub fn book_of(alloc: Global, pages: Vec<Page>) -> Result<Book, OutOfMemory> {
     let mut book = Book::new(alloc);
-    for address in addresses {
-        if book.add(ones(alloc, *address, 0)?).is_err() {
+    for page in pages {
+        if book.add(page).is_err() {
             return Err(OutOfMemory);
         }
     }
@@ -198,17 +197,15 @@ fn tones(alloc: Global, addresses: &[u32]) -> Result<Book, OutOfMemory> {
 
 /// What the plan of the open round answers.
 pub fn put_book_plan(book: &Book, end: End, line: &mut Line) -> Result<(), OutOfMemory> {
-    match book.plan(LIMIT, end) {
-        Ok(plan) => put_counts(&plan, line),
-        Err(BookFault::Plan(PlanFault::OutOfMemory)) => return Err(OutOfMemory),
-        Err(fault) => line.put(fault),
+    if let Some(plan) = line.take(book.plan(LIMIT, end))? {
+        put_counts(&plan, line);
     }
     Ok(())
 }
 
 // The plan of what is left after the first page was cancelled, and of what is left then.
-fn show_open_round(alloc: Global, line: &mut Line) -> Result<(), OutOfMemory> {
-    let mut book = tones(alloc, &[8, 16])?;
+fn put_open_round(alloc: Global, line: &mut Line) -> Result<(), OutOfMemory> {
+    let mut book = book_of(alloc, pages(alloc, OPEN_ROUND)?)?;
     for address in [8, 16] {
         line.put(book.cancel(address).is_ok());
         put_book_plan(&book, End::Open, line)?;
@@ -216,8 +213,8 @@ fn show_open_round(alloc: Global, line: &mut Line) -> Result<(), OutOfMemory> {
     Ok(())
 }
 
-fn show_kept_table(alloc: Global, line: &mut Line) -> Result<(), OutOfMemory> {
-    let mut book = tones(alloc, &[5, 13, 21])?;
+fn put_kept_table(alloc: Global, line: &mut Line) -> Result<(), OutOfMemory> {
+    let mut book = book_of(alloc, pages(alloc, KEPT_TABLE)?)?;
     line.put(book.classes(End::Open).count[81]);
     line.put(book.classes(End::Closed).count[133]);
     put_book_plan(&book, End::Open, line)?;
@@ -226,88 +223,79 @@ fn show_kept_table(alloc: Global, line: &mut Line) -> Result<(), OutOfMemory> {
     put_book_plan(&book, End::Closed, line)
 }
 
-fn show_kept_stream(
+fn put_kept_stream(
     alloc: Global,
     end: End,
     on_limit: OnLimit,
     line: &mut Line,
 ) -> Result<(), OutOfMemory> {
-    let book = tones(alloc, &[5, 13, 21])?;
-    let mut tx = MemorySink::<300>::new(64, 1000);
-    let mut cert = MemorySink::<40>::new(7, 1000);
+    let book = book_of(alloc, pages(alloc, KEPT_TABLE)?)?;
+    let mut to = Outputs::new();
     let search = Search {
         limit: LIMIT,
         end,
         on_limit,
     };
-    let answer = book.bounded_stream(&mut tx, &mut cert, search);
-    put_bounded_stream(answer, &tx, &cert, line);
+    let answer = book.bounded_stream(&mut to.tx, &mut to.cert, search);
+    to.put(answer.map(with_bound), line);
     Ok(())
 }
 
 fn show_plans<R: AllocGlobal + Print>(rt: &R) -> io::Result<()> {
-    show(
-        rt,
-        "plan of three-pages-tight",
-        |alloc, line| show_plan(alloc, TIGHT, line),
-    )?;
-    show(
-        rt,
-        "plan of four pages",
-        |alloc, line| show_plan(alloc, &FOUR_PAGES, line),
-    )?;
-    show(rt, "bounded_plan of four pages, always", |alloc, line| {
-        put_always(alloc, &example(alloc, &FOUR_PAGES)?, LIMIT, line)
+    show(rt, "plan", "three-pages-tight", |alloc, line| {
+        put_plan(alloc, TIGHT, line)
     })?;
     show(
         rt,
-        "bounded_plan of four pages to 1 node, always",
-        |alloc, line| { put_always(alloc, &example(alloc, &FOUR_PAGES)?, 1, line) },
-    )
+        "plan",
+        "four pages",
+        |alloc, line| put_plan(alloc, FOUR_PAGES, line),
+    )?;
+    for (name, limit) in [
+        ("four pages, always", LIMIT),
+        ("four pages to 1 node, always", 1),
+    ] {
+        show(rt, "bounded_plan", name, |alloc, line| {
+            put_always(alloc, &example(alloc, FOUR_PAGES)?, limit, line)
+        })?;
+    }
+    Ok(())
 }
 
 fn show_streams<R: AllocGlobal + Print>(rt: &R) -> io::Result<()> {
-    show(rt, "plan_stream of two-numeric-exact", |alloc, line| {
-        show_stream(alloc, TWO_NUMERIC, End::Open, line)
-    })?;
-    show(rt, "plan_stream of loops-apart", |alloc, line| {
-        show_stream(alloc, LOOPS_APART, End::Open, line)
-    })?;
-    show(rt, "plan_stream of closed-both-ways", |alloc, line| {
-        show_stream(alloc, CLOSED_BOTH_WAYS, End::Closed, line)
-    })?;
-    show(
-        rt,
-        "plan_stream of closed-both-ways with an idle last",
-        |alloc, line| { show_stream(alloc, CLOSED_BOTH_WAYS, End::Idle, line) },
-    )?;
-    show(rt, "plan_stream_always of loops-apart", |alloc, line| {
-        show_stream_always(alloc, LOOPS_APART, LIMIT, line)
-    })?;
-    show(
-        rt,
-        "plan_stream_always of loops-apart to 1 node",
-        |alloc, line| { show_stream_always(alloc, LOOPS_APART, 1, line) },
-    )
+    for (name, file, end) in STREAMS {
+        show(rt, "plan_stream", name, |alloc, line| {
+            put_stream(alloc, file, end, line);
+            Ok(())
+        })?;
+    }
+    for (name, limit) in [("loops-apart", LIMIT), ("loops-apart to 1 node", 1)] {
+        show(rt, "plan_stream_always", name, |alloc, line| {
+            put_stream_always(alloc, limit, line);
+            Ok(())
+        })?;
+    }
+    Ok(())
 }
 
 fn show_open_rounds<R: AllocGlobal + Print>(rt: &R) -> io::Result<()> {
-    show(
-        rt,
-        "Book::of_round of three-pages-tight",
-        show_book_of_tight,
-    )?;
-    show(rt, "Book::add of open-round", show_added)?;
-    show(rt, "Book::plan of open-round", show_open_round)?;
-    show(rt, "Book::plan of kept-table", show_kept_table)?;
-    show(rt, "Book::bounded_stream of kept-table", |alloc, line| {
-        show_kept_stream(alloc, End::Closed, OnLimit::Fewest, line)
+    show(rt, "Book::of_round", "three-pages-tight", |alloc, line| {
+        let round = example(alloc, TIGHT)?;
+        line.put_pages(Book::of_round(alloc, &round)?.pages());
+        Ok(())
     })?;
-    show(
-        rt,
-        "Book::bounded_stream of kept-table, always",
-        |alloc, line| { show_kept_stream(alloc, End::Open, OnLimit::Always, line) },
-    )
+    show(rt, "Book::add", "open-round", put_added)?;
+    show(rt, "Book::plan", "open-round", put_open_round)?;
+    show(rt, "Book::plan", "kept-table", put_kept_table)?;
+    for (name, end, on_limit) in [
+        ("kept-table", End::Closed, OnLimit::Fewest),
+        ("kept-table, always", End::Open, OnLimit::Always),
+    ] {
+        show(rt, "Book::bounded_stream", name, |alloc, line| {
+            put_kept_stream(alloc, end, on_limit, line)
+        })?;
+    }
+    Ok(())
 }
 
 pub fn show_all<R: AllocGlobal + Print>(rt: &R) -> io::Result<()> {

@@ -1,84 +1,46 @@
+//! Transmissions that are decoded, listed and heard.
+
 use crate::line::{Line, show};
+use pocsag_core_cases::given::{ACROSS, DIGITS, IDLE, ONES, SECOND, SYNC, Sent, transmission};
 use pocsag_decode::{DecodeFault, Decoder, ListFault, decode, list};
 use pocsag_pager::{Pager, PagerFault, hear_all};
-use pocsag_pages::{Page, SYNC_WORD};
+use pocsag_pages::Page;
 use pocsag_words::{MemorySink, OutOfMemory};
 use std::alloc::Global;
+use std::fmt::Display;
 use std::io;
 
-pub const IDLE: u32 = 0x7a89_c197;
-
-/// The bytes of two batches of these codewords.
-pub fn two_batches(words: &[u32; 32]) -> [u8; 208] {
-    let mut bytes = [0xaa; 208];
-    for batch in 0..2 {
-        let start = 72 + 68 * batch;
-        bytes[start..start + 4].copy_from_slice(&SYNC_WORD.to_be_bytes());
-        for slot in 0..16 {
-            let at = start + 4 + 4 * slot;
-            bytes[at..at + 4].copy_from_slice(&words[16 * batch + slot].to_be_bytes());
-        }
-    }
-    bytes
-}
-
-// One page, 12345 for address 7, across two batches.
-fn page_across_batches() -> [u8; 208] {
-    let mut words = [IDLE; 32];
-    words[15] = 0;
-    words[16] = 0xc261_572c;
-    two_batches(&words)
-}
-
-fn show_decoded(
-    decoded: Result<Vec<Page>, DecodeFault>,
+// The pages that were decoded or heard.
+fn put_pages<F: Display + Drop>(
+    pages: Result<Vec<Page>, F>,
     line: &mut Line,
 ) -> Result<(), OutOfMemory> {
-    match decoded {
-        Ok(pages) => line.put_pages(pages.as_slice()),
-        Err(DecodeFault::OutOfMemory) => return Err(OutOfMemory),
-        Err(fault) => line.put(fault),
+    if let Some(pages) = line.take(pages)? {
+        line.put_pages(pages.as_slice());
     }
     Ok(())
 }
 
-fn decode_whole(alloc: Global, line: &mut Line) -> Result<(), OutOfMemory> {
-    show_decoded(decode(alloc, page_across_batches().as_slice()), line)
-}
-
 // Feeds one byte after the other; after a fault the decoder answers `Failed`.
-fn decode_bytes(alloc: Global, line: &mut Line) -> Result<(), OutOfMemory> {
+fn feed_bytes(alloc: Global, bytes: &[u8], line: &mut Line) -> Result<(), OutOfMemory> {
     let mut decoder = Decoder::new(alloc);
-    for byte in page_across_batches() {
-        match decoder.feed(&[byte]) {
-            Ok(()) => {}
-            Err(DecodeFault::OutOfMemory) => {
-                return if decoder.feed(&[]) == Err(DecodeFault::Failed) {
-                    Err(OutOfMemory)
-                } else {
-                    line.put("not failed");
-                    Ok(())
-                };
-            }
-            Err(fault) => line.put(fault),
+    for byte in bytes {
+        if line.take(decoder.feed(&[*byte])).is_err() {
+            return if decoder.feed(&[]) == Err(DecodeFault::Failed) {
+                Err(OutOfMemory)
+            } else {
+                line.put("not failed");
+                Ok(())
+            };
         }
     }
-    show_decoded(decoder.finish(), line)
-}
-
-fn list_decoded(alloc: Global, line: &mut Line) -> Result<(), OutOfMemory> {
-    show_list(alloc, page_across_batches().as_slice(), line)
+    put_pages(decoder.finish(), line)
 }
 
 // The listing of the pages of a transmission.
-fn show_list(alloc: Global, bytes: &[u8], line: &mut Line) -> Result<(), OutOfMemory> {
-    let pages = match decode(alloc, bytes) {
-        Ok(pages) => pages,
-        Err(DecodeFault::OutOfMemory) => return Err(OutOfMemory),
-        Err(fault) => {
-            line.put(fault);
-            return Ok(());
-        }
+fn put_listing(alloc: Global, bytes: &[u8], line: &mut Line) -> Result<(), OutOfMemory> {
+    let Some(pages) = line.take(decode(alloc, bytes))? else {
+        return Ok(());
     };
     let mut sink = MemorySink::<100>::new(7, 1000);
     match list(alloc, pages.as_slice(), &mut sink) {
@@ -89,107 +51,109 @@ fn show_list(alloc: Global, bytes: &[u8], line: &mut Line) -> Result<(), OutOfMe
     Ok(())
 }
 
-fn hear_whole(alloc: Global, line: &mut Line) -> Result<(), OutOfMemory> {
-    show_heard(hear_all(alloc, page_across_batches().as_slice(), 7), line)
-}
-
-/// `wrong-bit-in-idle`: one tone, with two wrong bits in the idle behind it.
-fn hear_damaged(alloc: Global, line: &mut Line) -> Result<(), OutOfMemory> {
-    let mut words = [IDLE; 32];
-    words[0] = TONE;
-    words[1] = 0x7a89_c194;
-    let bytes = two_batches(&words);
-    let (first, _second) = bytes.as_slice().split_at(140);
-    show_heard(hear_all(alloc, first, 8), line)
-}
-
-fn show_heard(heard: Result<Vec<Page>, PagerFault>, line: &mut Line) -> Result<(), OutOfMemory> {
-    match heard {
-        Ok(pages) => line.put_pages(pages.as_slice()),
-        Err(PagerFault::OutOfMemory) => return Err(OutOfMemory),
-        Err(fault) => line.put(fault),
-    }
-    Ok(())
-}
-
-// Two batches of idles and of these codewords by place, and what is asked of them.
+// What is called with a transmission; the pager is that of an address.
 #[derive(Clone, Copy)]
-struct Received {
-    name: &'static str,
-    words: &'static [(usize, u32)],
-    // The address of a pager, or none where the pages are listed.
-    pager: Option<u32>,
+enum Call {
+    Decode,
+    Feed,
+    List,
+    Hear(u32),
 }
 
-// The address codewords of addresses 8 to 15, by function.
-const TONE: u32 = 0x26ec;
+impl Call {
+    fn name(self) -> &'static str {
+        match self {
+            Call::Decode => "decode",
+            Call::Feed => "feed and finish",
+            Call::List => "list",
+            Call::Hear(_) => "hear_all",
+        }
+    }
+}
 
+// The address codewords of addresses 8 to 15 with functions 1 to 3.
 const DATA1: u32 = 0x283f;
 
 const DATA2: u32 = 0x359a;
 
 const ALPHA: u32 = 0x3b49;
 
-// The message codewords of `12345` and of `11111`.
-const DIGITS: u32 = 0xc261_572c;
+// One tone, with two wrong bits in the idle behind it.
+const WRONG_IDLE: Sent = (16, IDLE, &[(0, SECOND), (1, 0x7a89_c194)]);
 
-const ONES: u32 = 0xc444_47b9;
+const THREE_PAGES: Sent = (
+    32,
+    IDLE,
+    &[
+        (0, SECOND),
+        (1, SECOND),
+        (16, SECOND),
+        (17, ONES),
+        (18, ONES),
+        (19, ONES),
+    ],
+);
 
-const RECEIVED: [Received; 5] = [
-    Received {
-        name: "hear_all of three pages to one address",
-        words: &[
-            (0, TONE),
-            (1, TONE),
-            (16, TONE),
-            (17, ONES),
-            (18, ONES),
-            (19, ONES),
-        ],
-        pager: Some(8),
-    },
-    Received {
-        name: "hear_all of four pages to one address",
-        words: &[
-            (0, TONE),
-            (1, TONE),
-            (15, DATA1),
-            (16, TONE),
-            (17, TONE),
-            (18, ONES),
-            (19, ONES),
-        ],
-        pager: Some(8),
-    },
-    Received {
-        name: "hear_all of a page of function 3",
-        words: &[(0, ALPHA), (1, 0xc143_87b8), (2, 0xc000_04dc)],
-        pager: Some(8),
-    },
-    Received {
-        name: "list of data1 and data2",
-        words: &[(0, DATA1), (1, DIGITS), (2, ONES), (4, DATA2), (5, DIGITS)],
-        pager: None,
-    },
-    Received {
-        name: "list of data2 behind three tones",
-        words: &[(0, TONE), (2, TONE), (4, TONE), (6, DATA2), (7, DIGITS)],
-        pager: None,
-    },
+const FOUR_PAGES: Sent = (
+    32,
+    IDLE,
+    &[
+        (0, SECOND),
+        (1, SECOND),
+        (15, DATA1),
+        (16, SECOND),
+        (17, SECOND),
+        (18, ONES),
+        (19, ONES),
+    ],
+);
+
+const LETTERS: Sent = (32, IDLE, &[(0, ALPHA), (1, 0xc143_87b8), (2, 0xc000_04dc)]);
+
+const DATA: Sent = (
+    32,
+    IDLE,
+    &[(0, DATA1), (1, DIGITS), (2, ONES), (4, DATA2), (5, DIGITS)],
+);
+
+const TONES_AND_DATA: Sent = (
+    32,
+    IDLE,
+    &[
+        (0, SECOND),
+        (2, SECOND),
+        (4, SECOND),
+        (6, DATA2),
+        (7, DIGITS),
+    ],
+);
+
+// Calls with their examples.
+type Received = &'static [(Call, &'static str, Sent)];
+
+const RECEIVED: Received = &[
+    (Call::Decode, "page-across-batches", ACROSS),
+    (Call::Feed, "page-across-batches", ACROSS),
+    (Call::List, "page-across-batches", ACROSS),
+    (Call::Hear(7), "page-across-batches", ACROSS),
+    (Call::Hear(8), "wrong-bit-in-idle", WRONG_IDLE),
 ];
 
-// What is received of the codewords.
-fn receive(alloc: Global, received: &Received, line: &mut Line) -> Result<(), OutOfMemory> {
-    let mut words = [IDLE; 32];
-    for (place, word) in received.words {
-        if *place < 32 {
-            words[*place] = *word;
-        }
-    }
-    let bytes = two_batches(&words);
-    match received.pager {
-        Some(address) => show_heard(hear_all(alloc, &bytes, address), line),
-        None => show_list(alloc, &bytes, line),
+const RECEIVED_LAST: Received = &[
+    (Call::Hear(8), "three pages to one address", THREE_PAGES),
+    (Call::Hear(8), "four pages to one address", FOUR_PAGES),
+    (Call::Hear(8), "a page of function 3", LETTERS),
+    (Call::List, "data1 and data2", DATA),
+    (Call::List, "data2 behind three tones", TONES_AND_DATA),
+];
+
+fn receive(alloc: Global, call: Call, sent: Sent, line: &mut Line) -> Result<(), OutOfMemory> {
+    let bytes = transmission(alloc, sent)?;
+    match call {
+        Call::Decode => put_pages(decode(alloc, bytes.as_slice()), line),
+        Call::Feed => feed_bytes(alloc, bytes.as_slice(), line),
+        Call::List => put_listing(alloc, bytes.as_slice(), line),
+        Call::Hear(address) => put_pages(hear_all(alloc, bytes.as_slice(), address), line),
     }
 }
 
@@ -201,17 +165,13 @@ fn put_heard(heard: Option<Page>, line: &mut Line) {
 
 // Hears one word after the other; after want of memory the pager answers `Failed`.
 fn hear_words(alloc: Global, line: &mut Line) -> Result<(), OutOfMemory> {
-    let mut pager = match Pager::new(alloc, 8) {
-        Ok(pager) => pager,
-        Err(fault) => {
-            line.put(fault);
-            return Ok(());
-        }
+    let Some(mut pager) = line.take(Pager::new(alloc, 8))? else {
+        return Ok(());
     };
-    for word in [SYNC_WORD, 0x26ec, 0xc261_572c, 0x7a89_c194, IDLE, IDLE] {
-        match pager.hear(word) {
-            Ok(heard) => put_heard(heard, line),
-            Err(PagerFault::OutOfMemory) => {
+    for word in [SYNC, SECOND, DIGITS, 0x7a89_c194, IDLE, IDLE] {
+        match line.take(pager.hear(word)) {
+            Ok(heard) => put_heard(heard.flatten(), line),
+            Err(OutOfMemory) => {
                 return match pager.end() {
                     Err(PagerFault::Failed) => Err(OutOfMemory),
                     _ => {
@@ -220,7 +180,6 @@ fn hear_words(alloc: Global, line: &mut Line) -> Result<(), OutOfMemory> {
                     }
                 };
             }
-            Err(fault) => line.put(fault),
         }
     }
     if let Ok(heard) = pager.end() {
@@ -229,19 +188,20 @@ fn hear_words(alloc: Global, line: &mut Line) -> Result<(), OutOfMemory> {
     Ok(())
 }
 
-pub fn show_all<R: AllocGlobal + Print>(rt: &R) -> io::Result<()> {
-    show(rt, "decode of page-across-batches", decode_whole)?;
-    show(rt, "feed and finish of page-across-batches", decode_bytes)?;
-    show(rt, "list of page-across-batches", list_decoded)?;
-    show(rt, "hear_all of page-across-batches", hear_whole)?;
-    show(rt, "hear_all of wrong-bit-in-idle", hear_damaged)?;
-    show(rt, "hear and end of wrong-bit-in-idle", hear_words)?;
-    for received in &RECEIVED {
+fn show_received<R: AllocGlobal + Print>(rt: &R, received: Received) -> io::Result<()> {
+    for (call, example, sent) in received {
         show(
             rt,
-            received.name,
-            |alloc, line| receive(alloc, received, line),
+            call.name(),
+            example,
+            |alloc, line| receive(alloc, *call, *sent, line),
         )?;
     }
     Ok(())
+}
+
+pub fn show_all<R: AllocGlobal + Print>(rt: &R) -> io::Result<()> {
+    show_received(rt, RECEIVED)?;
+    show(rt, "hear and end", "wrong-bit-in-idle", hear_words)?;
+    show_received(rt, RECEIVED_LAST)
 }

@@ -1,25 +1,42 @@
-//! Searches on worked examples and on rounds whose trees are large.
-ghost use Rattle.pocsag_branch.specs.Found.{IsNodeLimit};
+//! Certificates, and searches on worked examples and on rounds whose trees are large.
+
+ghost use Rattle.std.specs.Prelude.{IsTrue};
+ghost use Rattle.pocsag_branch.specs.Found.{HasPage, IsNodeLimit};
 
 use crate::line::{Line, show};
 use crate::pages::{FOUR_PAGES, example};
 use pocsag_branch::{FallbackPlan, Found, FreeFault, SearchFault, fallback, search, search_freely};
 use pocsag_check::{check, check_open};
-use pocsag_core_cases::rounds::{TIGHT, has_page};
+use pocsag_core_cases::rounds::{LOOPS_APART, Ones, TIGHT, has_page};
 use pocsag_pages::Round;
-use pocsag_slots::classes_of;
-use pocsag_tree::nodes;
-use pocsag_words::{End, OutOfMemory};
+use pocsag_slots::{Classes, classes_of};
+use pocsag_tree::{depth, nodes, read_certificate, write_certificate};
+use pocsag_words::{End, MemorySink, MemorySource, OutOfMemory};
 use std::alloc::Global;
 use std::io;
 
 const LIMIT: u32 = 100_000;
 
-// Two pages that go round once each and meet nowhere.
-const LOOPS_APART: [(u32, usize); 2] = [(0, 15), (3, 15)];
+// The certificate of `LOOPS_APART` in its first version.
+const CERTIFICATE: &[u8; 20] =
+    b"PCB1\x00\x00\x00\x03\x02\x00\x01\x30\x00\x02\x00\x00\x01\x00\x80\x00";
+
+fn read_loops_apart(alloc: Global, line: &mut Line) -> Result<(), OutOfMemory> {
+    let mut source = MemorySource::new(CERTIFICATE, 1, 1000);
+    if let Some(read) = line.take(read_certificate(alloc, &mut source))? {
+        let mut sink = MemorySink::<100>::new(3, 1000);
+        line.put(read.batches);
+        line.put(nodes(&read.tree));
+        line.put(depth(&read.tree));
+        if write_certificate(read.end, read.batches, &read.tree, &mut sink).is_ok() {
+            line.put_bytes(sink.bytes());
+        }
+    }
+    Ok(())
+}
 
 // Pages for which each tree of the search's shape has at least 354,623 nodes.
-const EIGHT_PAGES: [(u32, usize); 8] = [
+const EIGHT_PAGES: Ones = &[
     (5, 4),
     (0, 8),
     (4, 8),
@@ -38,6 +55,14 @@ fn put_found(round: &Round, found: &Found, end: End, line: &mut Line) {
     line.put(check(round, found.batches, &found.tree, end));
 }
 
+// Whether a round of these classes is searched within so many nodes.
+fn is_searched(classes: &Classes, limit: u32) -> bool
+    ensures pages { IsTrue result → HasPage classes.now }
+    ensures limit { IsTrue result → IsNodeLimit limit }
+{
+    0 < limit && limit <= 1_000_000 && has_page(classes)
+}
+
 /// What the search answers for the round.
 pub fn put_search(
     alloc: Global,
@@ -45,12 +70,10 @@ pub fn put_search(
     limit: u32,
     end: End,
     line: &mut Line,
-) -> Result<(), OutOfMemory>
-    requires { IsNodeLimit limit }
-{
+) -> Result<(), OutOfMemory> {
     let classes = classes_of(round, end);
-    if !has_page(&classes) {
-        line.put("no pages");
+    if !is_searched(&classes, limit) {
+        line.put("no search");
         return Ok(());
     }
     match search(alloc, &classes, limit, end) {
@@ -81,12 +104,10 @@ pub fn put_free_search(
     round: &Round,
     limit: u32,
     line: &mut Line,
-) -> Result<(), OutOfMemory>
-    requires { IsNodeLimit limit }
-{
+) -> Result<(), OutOfMemory> {
     let classes = classes_of(round, End::Open);
-    if !has_page(&classes) {
-        line.put("no pages");
+    if !is_searched(&classes, limit) {
+        line.put("no search");
         return Ok(());
     }
     match search_freely(alloc, &classes, limit, End::Open) {
@@ -102,71 +123,48 @@ pub fn put_free_search(
     Ok(())
 }
 
-fn show_fallback(
-    alloc: Global,
-    pages: &[(u32, usize)],
-    line: &mut Line,
-) -> Result<(), OutOfMemory> {
-    let round = example(alloc, pages)?;
+fn fall_back(alloc: Global, line: &mut Line) -> Result<(), OutOfMemory> {
+    let round = example(alloc, LOOPS_APART)?;
     let classes = classes_of(&round, End::Open);
     if !has_page(&classes) {
         line.put("no pages");
         return Ok(());
     }
-    match fallback(alloc, &classes, End::Open) {
-        Ok(fallback) => put_fallback(&round, &fallback, line),
-        Err(_) => return Err(OutOfMemory),
-    }
+    put_fallback(&round, &fallback(alloc, &classes, End::Open)?, line);
     Ok(())
 }
 
-fn show_searches<R: AllocGlobal + Print>(rt: &R) -> io::Result<()> {
-    show(rt, "search of three-pages-tight", |alloc, line| {
-        put_search(alloc, &example(alloc, TIGHT)?, LIMIT, End::Open, line)
-    })?;
-    show(rt, "search of loops-apart, closed", |alloc, line| {
-        put_search(
-            alloc,
-            &example(alloc, &LOOPS_APART)?,
-            LIMIT,
-            End::Closed,
-            line,
-        )
-    })?;
-    show(rt, "search of four pages", |alloc, line| {
-        put_search(alloc, &example(alloc, &FOUR_PAGES)?, LIMIT, End::Open, line)
-    })?;
-    show(rt, "search of loops-apart to 2 nodes", |alloc, line| {
-        put_search(alloc, &example(alloc, &LOOPS_APART)?, 2, End::Open, line)
-    })?;
-    show(rt, "search of eight pages to 300 nodes", |alloc, line| {
-        put_search(alloc, &example(alloc, &EIGHT_PAGES)?, 300, End::Open, line)
-    })
-}
+// A search for the fewest batches: its round, its limit of nodes and its end.
+const SEARCHES: [(&str, Ones, u32, End); 5] = [
+    ("three-pages-tight", TIGHT, LIMIT, End::Open),
+    ("loops-apart, closed", LOOPS_APART, LIMIT, End::Closed),
+    ("four pages", FOUR_PAGES, LIMIT, End::Open),
+    ("loops-apart to 2 nodes", LOOPS_APART, 2, End::Open),
+    ("eight pages to 300 nodes", EIGHT_PAGES, 300, End::Open),
+];
 
-fn show_free_searches<R: AllocGlobal + Print>(rt: &R) -> io::Result<()> {
-    show(rt, "search_freely of three-pages-tight", |alloc, line| {
-        put_free_search(alloc, &example(alloc, TIGHT)?, LIMIT, line)
-    })?;
-    show(rt, "search_freely of four pages", |alloc, line| {
-        put_free_search(alloc, &example(alloc, &FOUR_PAGES)?, LIMIT, line)
-    })?;
-    show(rt, "search_freely of eight pages", |alloc, line| {
-        put_free_search(alloc, &example(alloc, &EIGHT_PAGES)?, LIMIT, line)
-    })?;
-    show(
-        rt,
-        "search_freely of loops-apart to 1 node",
-        |alloc, line| { put_free_search(alloc, &example(alloc, &LOOPS_APART)?, 1, line) },
-    )?;
-    show(
-        rt,
-        "fallback of loops-apart",
-        |alloc, line| show_fallback(alloc, &LOOPS_APART, line),
-    )
+// The same of the free search, with the open end.
+const FREE_SEARCHES: [(&str, Ones, u32); 4] = [
+    ("three-pages-tight", TIGHT, LIMIT),
+    ("four pages", FOUR_PAGES, LIMIT),
+    ("eight pages", EIGHT_PAGES, LIMIT),
+    ("loops-apart to 1 node", LOOPS_APART, 1),
+];
+
+pub fn show_certificate<R: AllocGlobal + Print>(rt: &R) -> io::Result<()> {
+    show(rt, "read_certificate", "loops-apart", read_loops_apart)
 }
 
 pub fn show_all<R: AllocGlobal + Print>(rt: &R) -> io::Result<()> {
-    show_searches(rt)?;
-    show_free_searches(rt)
+    for (name, pages, limit, end) in SEARCHES {
+        show(rt, "search", name, |alloc, line| {
+            put_search(alloc, &example(alloc, pages)?, limit, end, line)
+        })?;
+    }
+    for (name, pages, limit) in FREE_SEARCHES {
+        show(rt, "search_freely", name, |alloc, line| {
+            put_free_search(alloc, &example(alloc, pages)?, limit, line)
+        })?;
+    }
+    show(rt, "fallback", "loops-apart", fall_back)
 }
