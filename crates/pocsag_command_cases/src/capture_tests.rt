@@ -1,74 +1,86 @@
 //! `decode`, `hear` and `show` of captures that are worked out by hand: a tone, inverted and one bit late, and one behind a
 //! synchronisation codeword that cannot be recognised; and calls that are cut.
 
+use crate::outputs::errors;
 use crate::same;
 use pocsag_capture::{CaptureFault, Polarity, Reception, ReceptionStats};
-use pocsag_core_cases::given::cut;
+use pocsag_core_cases::given::{IDLE, LONE_TONE, SECOND, Sent, batches, cut};
 use pocsag_receiver::{
     CaptureListing, CaptureOptions, CaptureView, ListForm, ReceiverFault, run_list_capture,
     run_show_capture,
 };
-use pocsag_shell::ErrorStream;
 use pocsag_show::{Rows, View};
 use pocsag_words::{MemorySink, SliceSource};
 use std::alloc::{AllocError, Global};
 use std::process::Abort;
+use std::test::Fail;
 
-type Errors = ErrorStream<ReceiverFault, MemorySink<100>>;
-
-fn errors() -> Errors {
-    ErrorStream::new(MemorySink::new(1, 1000))
-}
-
-// Lists all pages of a capture or those for one address, as JSON or not, and compares what is written. What was heard is answered.
-fn expect_listing(
-    rt: &impl Abort,
+// Lists the pages of a capture, or those for one address, in a form, where the writer fails behind what the sink takes. Returns the
+// exit status, and how each transmission was received.
+fn list_capture<const N: usize>(
     alloc: Global,
     capture: &[u8],
-    listing: (Option<u32>, bool),
-    due: &str,
-) -> Vec<ReceptionStats> {
-    let (only, is_json) = listing;
-    let form = if is_json {
-        ListForm::Json([false; 3])
-    } else {
-        ListForm::Listing
-    };
-    let picking = CaptureOptions { only, form };
+    picking: CaptureOptions,
+    out: &mut MemorySink<N>,
+) -> (u8, Vec<ReceptionStats>) {
     let mut asked = CaptureListing {
         picking,
         heard: Vec::new(alloc),
     };
-    let mut out = MemorySink::<4000>::new(1000, 4000);
     let tx = &mut SliceSource::new(capture);
-    let status = run_list_capture(alloc, &mut asked, tx, &mut out, &mut errors());
-    same!(rt; status, 0);
-    same!(rt; out.bytes(), due.as_bytes());
-    asked.heard
+    let status = run_list_capture(alloc, &mut asked, tx, out, &mut errors());
+    (status, asked.heard)
 }
 
-const LISTED: (Option<u32>, bool) = (None, false);
+// Compares what is written of a capture. What was heard is answered.
+fn expect_listing(
+    rt: &impl Abort,
+    alloc: Global,
+    capture: &[u8],
+    picking: CaptureOptions,
+    due: &str,
+) -> Vec<ReceptionStats> {
+    let mut out = MemorySink::<4000>::new(1000, 4000);
+    let (status, heard) = list_capture(alloc, capture, picking, &mut out);
+    same!(rt; status, 0);
+    same!(rt; out.bytes(), due.as_bytes());
+    heard
+}
+
+const ALL_LISTED: CaptureOptions = CaptureOptions {
+    only: None,
+    form: ListForm::Listing,
+};
+
+const ALL_IN_JSON: CaptureOptions = CaptureOptions {
+    only: None,
+    form: ListForm::Json([false; 3]),
+};
 
 const WHOLE_TONE: &str = "address,kind,message,state\n8,tone0,,whole\n";
 
+// The bytes of batches without a preamble.
+fn received(rt: &impl Abort, alloc: Global, sent: Sent) -> Vec<u8> {
+    batches(alloc, sent).expect(rt, "memory")
+}
+
 // A one, and then a batch with a tone of address 8 in its first codeword, each bit as the other.
-fn late_tone() -> [u8; 69] {
+fn late_tone(rt: &impl Abort, alloc: Global) -> [u8; 69] {
     let mut capture = [0xff; 69];
-    for place in 0..68 {
-        let sent = match place {
-            0..=7 => [0x7c, 0xd2, 0x15, 0xd8, 0x00, 0x00, 0x26, 0xec][place],
-            _ => [0x7a, 0x89, 0xc1, 0x97][place % 4],
-        };
-        let received: u8 = 255 - sent;
-        capture[place] = capture[place] / 128 * 128 + received / 2;
-        capture[place + 1] = received % 2 * 128 + 127;
+    for (place, byte) in received(rt, alloc, LONE_TONE).iter().enumerate() {
+        if place < 68 {
+            let received = 255 - *byte;
+            capture[place] = capture[place] / 128 * 128 + received / 2;
+            capture[place + 1] = received % 2 * 128 + 127;
+        }
     }
     capture
 }
 
 #[test]
 fn a_late_tone_is_captured(rt: HostRuntime) {
-    let capture = late_tone();
+    let alloc = rt.alloc();
+    let capture = late_tone(&rt, alloc);
     let due = ReceptionStats {
         reception: Reception {
             bit: 1,
@@ -82,19 +94,26 @@ fn a_late_tone_is_captured(rt: HostRuntime) {
         lost: 0,
         cut: 0,
     };
-    let alloc = rt.alloc();
-    let heard = expect_listing(&rt, alloc, &capture, LISTED, WHOLE_TONE);
+    let heard = expect_listing(&rt, alloc, &capture, ALL_LISTED, WHOLE_TONE);
     same!(rt; heard.as_slice(), [due].as_slice());
     let none = "address,kind,message,state\n";
-    expect_listing(&rt, alloc, &capture, (Some(16), false), none);
+    let others = CaptureOptions {
+        only: Some(16),
+        ..ALL_LISTED
+    };
+    expect_listing(&rt, alloc, &capture, others, none);
     let line =
         "{\"address\":8,\"function\":0,\"kind\":\"tone0\",\"message\":\"\",\"state\":\"whole\",\"transmission\":1,\"inverted\":true,\"bit\":1}\n";
-    expect_listing(&rt, alloc, &capture, (Some(8), true), line);
+    let its_own = CaptureOptions {
+        only: Some(8),
+        ..ALL_IN_JSON
+    };
+    expect_listing(&rt, alloc, &capture, its_own, line);
 }
 
 #[test]
 fn a_captured_tone_is_shown(rt: HostRuntime) {
-    let capture = late_tone();
+    let capture = late_tone(&rt, rt.alloc());
     let mut err = errors();
     for (nth, status) in [(1, 0), (2, 1)] {
         let mut grid = MemorySink::<4000>::new(1000, 4000);
@@ -115,22 +134,16 @@ fn a_captured_tone_is_shown(rt: HostRuntime) {
 }
 
 // Three batches with a tone of address 8 in the first codeword of the third; the second begins with zeros.
-fn bridged_tone() -> [u8; 204] {
-    let mut capture = [0; 204];
-    for place in 0..204 {
-        capture[place] = match (place / 68, place % 68) {
-            (1, 0..=3) => 0,
-            (_, 0..=3) => [0x7c, 0xd2, 0x15, 0xd8][place % 4],
-            (2, 4..=7) => [0x00, 0x00, 0x26, 0xec][place % 4],
-            _ => [0x7a, 0x89, 0xc1, 0x97][place % 4],
-        };
-    }
-    capture
-}
+const BRIDGED: Sent = (48, IDLE, &[(32, SECOND)]);
 
 #[test]
 fn a_bridged_tone_is_captured(rt: HostRuntime) {
-    let capture = bridged_tone();
+    let mut capture = received(&rt, rt.alloc(), BRIDGED);
+    for place in 68..72 {
+        if let Some(byte) = capture.get_mut(place) {
+            *byte = 0;
+        }
+    }
     let due = ReceptionStats {
         reception: Reception {
             bit: 0,
@@ -144,49 +157,35 @@ fn a_bridged_tone_is_captured(rt: HostRuntime) {
         lost: 1,
         cut: 0,
     };
-    let heard = expect_listing(&rt, rt.alloc(), &capture, LISTED, WHOLE_TONE);
+    let heard = expect_listing(&rt, rt.alloc(), capture.as_slice(), ALL_LISTED, WHOLE_TONE);
     same!(rt; heard.as_slice(), [due].as_slice());
 }
 
 // A batch with a tone of address 8, directly before a word past repair, one of address 9, and one of address 15 in its last
 // codeword.
-fn cut_tones() -> [u8; 68] {
-    let mut capture = [0; 68];
-    for place in 0..68 {
-        capture[place] = match place {
-            0..=3 => [0x7c, 0xd2, 0x15, 0xd8][place],
-            8..=11 | 16..=19 | 64..=67 => [0x00, 0x00, 0x26, 0xec][place % 4],
-            12..=15 => [0x00, 0x00, 0x00, 0x0b][place % 4],
-            _ => [0x7a, 0x89, 0xc1, 0x97][place % 4],
-        };
-    }
-    capture
-}
+const CUT: Sent = (
+    16,
+    IDLE,
+    &[(1, SECOND), (2, 0x0000_000B), (3, SECOND), (15, SECOND)],
+);
 
 #[test]
 fn tones_are_cut(rt: HostRuntime) {
+    let capture = received(&rt, rt.alloc(), CUT);
     let due = "address,kind,message,state\n8,tone0,,cut\n9,tone0,,whole\n15,tone0,,cut\n";
-    expect_listing(&rt, rt.alloc(), &cut_tones(), LISTED, due);
+    expect_listing(&rt, rt.alloc(), capture.as_slice(), ALL_LISTED, due);
 }
-
-// The bytes of a capture of many batches.
-const MANY: usize = 4_080;
 
 // Sixty batches with a tone in each codeword, of addresses 8 to 15, two of each in turn.
-fn many_tones() -> [u8; MANY] {
-    let mut capture = [0; MANY];
-    for place in 0..MANY {
-        capture[place] = match place % 68 {
-            0..=3 => [0x7c, 0xd2, 0x15, 0xd8][place % 4],
-            _ => [0x00, 0x00, 0x26, 0xec][place % 4],
-        };
-    }
-    capture
-}
+const MANY: Sent = (960, SECOND, &[]);
 
 // Their lines of JSON, behind two receptions of a lone tone: that of the transmission with this number, which begins at this bit.
-fn lines_of_many(alloc: Global, number: u32, bit: u64) -> Result<Vec<u8>, AllocError> {
-    let mut lines = Vec::new(alloc);
+fn put_lines_of_many(
+    lines: &mut Vec<u8>,
+    alloc: Global,
+    number: u32,
+    bit: u64,
+) -> Result<(), AllocError> {
     for tone in 0..960 {
         let address = 8 + tone / 2 % 8;
         let state = if tone == 959 { "cut" } else { "whole" };
@@ -195,73 +194,43 @@ fn lines_of_many(alloc: Global, number: u32, bit: u64) -> Result<Vec<u8>, AllocE
         )?;
         lines.extend_from_slice(line.as_bytes())?;
     }
-    Ok(lines)
-}
-
-// Lists the pages of a capture as JSON, where the writer fails behind so many bytes: the exit status, what is written, and of how
-// many transmissions it is reported how they were received.
-fn list_in_json(alloc: Global, capture: &[u8], fails_at: u64) -> (u8, MemorySink<200_000>, usize) {
-    let mut asked = CaptureListing {
-        picking: CaptureOptions {
-            only: None,
-            form: ListForm::Json([false; 3]),
-        },
-        heard: Vec::new(alloc),
-    };
-    let mut out = MemorySink::new(50_000, fails_at);
-    let tx = &mut SliceSource::new(capture);
-    let status = run_list_capture(alloc, &mut asked, tx, &mut out, &mut errors());
-    (status, out, asked.heard.len())
+    Ok(())
 }
 
 // A text longer than what waits before it is written: all of it, and a part where a write is refused.
 #[test]
 fn many_tones_are_listed_as_they_are_read(rt: HostRuntime) {
-    let capture = many_tones();
     let alloc = rt.alloc();
-    let due = lines_of_many(alloc, 1, 0).expect(&rt, "memory");
+    let capture = received(&rt, alloc, MANY);
+    let mut due = Vec::new(alloc);
+    put_lines_of_many(&mut due, alloc, 1, 0).expect(&rt, "memory");
     let due = due.as_slice();
-    let (status, out, heard) = list_in_json(alloc, &capture, 200_000);
-    same!(rt; status, 0);
-    same!(rt; out.bytes(), due);
-    same!(rt; heard, 1);
-    for fails_at in [0, 1, 50_000, 65_535, 65_536, 65_700, 100_000] {
-        let (status, out, heard) = list_in_json(alloc, &capture, fails_at as u64);
-        same!(rt; status, 3, fails_at);
+    for fails_at in [200_000, 0, 1, 50_000, 65_535, 65_536, 65_700, 100_000] {
+        let mut out = MemorySink::<200_000>::new(50_000, fails_at as u64);
+        let (status, heard) = list_capture(alloc, capture.as_slice(), ALL_IN_JSON, &mut out);
+        same!(rt; status, if fails_at < due.len() { 3 } else { 0 }, fails_at);
         same!(rt; out.bytes(), cut(due, fails_at), fails_at);
-        same!(rt; heard, 1, fails_at);
+        same!(rt; heard.len(), 1, fails_at);
     }
 }
 
 // Two transmissions, of which the first is longer than what waits: the pages of the second stand behind those of the first, and
 // how both were received is reported also where the writer fails in the first.
 #[test]
-fn pages_of_the_second_transmission_stand_behind(rt: HostRuntime) {
+fn pages_of_the_second_transmission_stand_behind(rt: HostRuntime) -> Result<(), Fail> {
     let alloc = rt.alloc();
-    let mut capture = Vec::from_slice(alloc, &many_tones()).expect(&rt, "memory");
-    capture
-        .extend_from_slice(&[0xff; 150])
-        .expect(&rt, "memory");
-    capture
-        .extend_from_slice(&many_tones())
-        .expect(&rt, "memory");
-    let mut due = lines_of_many(alloc, 1, 0).expect(&rt, "memory");
-    let second = lines_of_many(alloc, 2, 33_840).expect(&rt, "memory");
-    due.extend_from_slice(second.as_slice())
-        .expect(&rt, "memory");
-    let (status, out, heard) = list_in_json(alloc, capture.as_slice(), 65_000);
-    same!(rt; (status, heard), (3, 2));
-    same!(rt; out.bytes(), cut(due.as_slice(), 65_000));
-    let mut asked = CaptureListing {
-        picking: CaptureOptions {
-            only: None,
-            form: ListForm::Json([false; 3]),
-        },
-        heard: Vec::new(alloc),
-    };
-    let mut all = MemorySink::<400_000>::new(400_000, 400_000);
-    let tx = &mut SliceSource::new(capture.as_slice());
-    let status = run_list_capture(alloc, &mut asked, tx, &mut all, &mut errors());
-    same!(rt; status, 0);
-    same!(rt; all.bytes(), due.as_slice());
+    let many = received(&rt, alloc, MANY);
+    let mut capture = Vec::from_slice(alloc, many.as_slice())?;
+    capture.extend_from_slice(&[0xff; 150])?;
+    capture.extend_from_slice(many.as_slice())?;
+    let mut due = Vec::new(alloc);
+    put_lines_of_many(&mut due, alloc, 1, 0)?;
+    put_lines_of_many(&mut due, alloc, 2, 33_840)?;
+    for (step, fails_at, due_status) in [(50_000, 65_000, 3), (400_000, 400_000, 0)] {
+        let mut out = MemorySink::<400_000>::new(step, fails_at as u64);
+        let (status, heard) = list_capture(alloc, capture.as_slice(), ALL_IN_JSON, &mut out);
+        same!(rt; (status, heard.len()), (due_status, 2));
+        same!(rt; out.bytes(), cut(due.as_slice(), fails_at));
+    }
+    Ok(())
 }

@@ -1,5 +1,6 @@
 //! The commands of a paging centre over memory: what each reports, what it leaves, and its exit status.
 
+use crate::outputs::errors;
 use crate::same;
 use pocsag_centre::{
     CentreFault, FrontAsked, FrontFiles, PlanFiles, ReportAsked, WrittenFront, expected_file,
@@ -76,13 +77,7 @@ const TO_THREE: Search = Search {
 struct Printed {
     status: u8,
     out: MemorySink<500>,
-    err: Errors,
-}
-
-type Errors = ErrorStream<CentreFault, MemorySink<100>>;
-
-fn errors() -> Errors {
-    ErrorStream::new(MemorySink::new(1, 1000))
+    err: ErrorStream<CentreFault, MemorySink<100>>,
 }
 
 // The same of a plan, and what its two files took.
@@ -310,25 +305,6 @@ const IDLE_BATCH: &str = "at least 1 batches with an idle last\n";
 // A command, and its status with what it reports.
 type ReadCase = (Command, (u8, &'static str, &'static str));
 
-// Plans a round and runs commands that read what was written beside a page file.
-fn expect_read(
-    rt: &impl Abort,
-    alloc: Global,
-    planned: (&[u8], Search),
-    file: &[u8],
-    cases: &[ReadCase],
-) {
-    let (planned_file, search) = planned;
-    let planned = plan(alloc, search, planned_file, SOUND);
-    same!(rt; planned.told.status, 0);
-    for (command, (status, out, err)) in cases {
-        let told = run(alloc, *command, file, &planned);
-        same!(rt; told.status, *status);
-        same!(rt; told.out.bytes(), out.as_bytes());
-        same!(rt; told.err.stream().bytes(), err.as_bytes());
-    }
-}
-
 // A page file and how it is planned; the page file that the commands are given, and what they report.
 type PlannedCase = (&'static [u8], Search, &'static [u8], &'static [ReadCase]);
 
@@ -435,17 +411,25 @@ const ROUNDS_READ: &[PlannedCase] = &[
     ),
 ];
 
-#[test]
-fn a_planned_tone_is_read(rt: HostRuntime) {
-    for (planned, search, file, cases) in TONES_READ {
-        expect_read(&rt, rt.alloc(), (*planned, *search), file, cases);
+// Plans a round and runs commands that read what was written beside a page file.
+fn expect_read(rt: &impl Abort, alloc: Global, case: &PlannedCase) {
+    let (planned_file, search, file, cases) = *case;
+    let planned = plan(alloc, search, planned_file, SOUND);
+    same!(rt; planned.told.status, 0);
+    for (command, (status, out, err)) in cases {
+        let told = run(alloc, *command, file, &planned);
+        same!(rt; told.status, *status);
+        same!(rt; told.out.bytes(), out.as_bytes());
+        same!(rt; told.err.stream().bytes(), err.as_bytes());
     }
 }
 
 #[test]
 fn what_was_planned_is_read(rt: HostRuntime) {
-    for (planned, search, file, cases) in ROUNDS_READ {
-        expect_read(&rt, rt.alloc(), (*planned, *search), file, cases);
+    for cases in [TONES_READ, ROUNDS_READ] {
+        for case in cases {
+            expect_read(&rt, rt.alloc(), case);
+        }
     }
 }
 
@@ -494,20 +478,13 @@ fn lent_plan(
 
 // A source that lends its bytes is judged where it stands, and the outputs are those of one that is read piece by piece.
 #[test]
-fn lent_files_are_planned(rt: HostRuntime) {
+fn lent_files_are_planned_and_verified(rt: HostRuntime) {
     for (file, search, sent, lines) in LENT {
         let (tx, cert) = lent_plan(&rt, rt.alloc(), file, *search, lines.as_bytes());
         let read = plan(rt.alloc(), *search, file, SOUND);
         same!(rt; tx.len(), *sent);
         same!(rt; tx.as_slice(), read.tx.bytes());
         same!(rt; cert.as_slice(), read.cert.bytes());
-    }
-}
-
-#[test]
-fn lent_plans_are_verified(rt: HostRuntime) {
-    for (file, search, _, lines) in LENT {
-        let (tx, cert) = lent_plan(&rt, rt.alloc(), file, *search, lines.as_bytes());
         let mut back = PlanFiles {
             pages: SliceSource::new(file),
             tx: SliceSource::new(tx.as_slice()),
@@ -545,12 +522,13 @@ fn cut_files_are_read_to_the_cut(rt: HostRuntime) -> Result<(), Fail> {
     Ok(())
 }
 
-// A front that is asked for: the batches, what is reported, the length of the transmission, whether no page is left, and the
-// status and the output of a plan of the pages that are left.
-type FrontCase = (u32, &'static str, usize, bool, u8, &'static str);
-
-fn front_files<P: Drop>(alloc: Global, pages: P) -> FrontFiles<P, GrowingSink> {
-    FrontFiles {
+// What a front reported, and its files.
+fn front<P: Source + Drop>(
+    alloc: Global,
+    asked: FrontAsked,
+    pages: P,
+) -> (Printed, FrontFiles<P, GrowingSink>) {
+    let mut files = FrontFiles {
         pages,
         tx: GrowingSink::new(alloc),
         cert: GrowingSink::new(alloc),
@@ -558,7 +536,10 @@ fn front_files<P: Drop>(alloc: Global, pages: P) -> FrontFiles<P, GrowingSink> {
         aside: GrowingSink::new(alloc),
         why: GrowingSink::new(alloc),
         count: 0,
-    }
+    };
+    let (mut out, mut err) = (MemorySink::<500>::new(1, 1000), errors());
+    let status = run_front(alloc, asked, &mut files, &mut out, &mut err);
+    (Printed { status, out, err }, files)
 }
 
 const fn front_of(batches: u32) -> FrontAsked {
@@ -570,6 +551,10 @@ const fn front_of(batches: u32) -> FrontAsked {
         search: OPEN,
     }
 }
+
+// A front that is asked for: the batches, what is reported, the length of the transmission, whether no page is left, and the
+// status and the output of a plan of the pages that are left.
+type FrontCase = (u32, &'static str, usize, bool, u8, &'static str);
 
 const FRONTS: &[FrontCase] = &[
     (
@@ -583,47 +568,52 @@ const FRONTS: &[FrontCase] = &[
     (3, "pages 2\nbatches 3\nleft 0\n", 72 + 3 * 68, true, 1, ""),
 ];
 
-// The pages that are left.
-fn expect_front(rt: &impl Abort, alloc: Global, case: &FrontCase) -> Vec<u8> {
-    let (batches, lines, sent, is_all, _, _) = *case;
-    let mut files = front_files(alloc, SliceSource::new(LOOPS_APART));
-    let (mut out, mut err) = (MemorySink::<500>::new(1, 1000), errors());
-    let done = run_front(alloc, front_of(batches), &mut files, &mut out, &mut err);
-    same!(rt; done, 0);
-    same!(rt; files.aside.into_bytes().len(), 0);
-    same!(rt; out.bytes(), lines.as_bytes());
-    same!(rt; files.tx.into_bytes().len(), sent);
-    same!(rt; files.why.into_bytes().is_empty(), is_all);
-    files.rest.into_bytes()
-}
-
 // The first page of `loops-apart` alone takes a batch, and both take three. Sixteen codewords from slot 6 on end in a second
 // batch.
 #[test]
 fn fronts_are_written(rt: HostRuntime) {
-    for case in FRONTS {
-        let rest = expect_front(&rt, rt.alloc(), case);
-        let (_, _, _, _, status, second) = *case;
+    for (batches, lines, sent, is_all, status, second) in FRONTS {
+        let pages = SliceSource::new(LOOPS_APART);
+        let (told, files) = front(rt.alloc(), front_of(*batches), pages);
+        same!(rt; told.status, 0);
+        same!(rt; told.out.bytes(), lines.as_bytes());
+        same!(rt; files.tx.into_bytes().len(), *sent);
+        same!(rt; files.aside.into_bytes().len(), 0);
+        same!(rt; files.why.into_bytes().is_empty(), *is_all);
+        let rest = files.rest.into_bytes();
         let mut left = SliceSource::new(rest.as_slice());
-        let (mut told, mut err) = (MemorySink::<100>::new(1, 1000), errors());
-        let done = run_input(rt.alloc(), &mut left, &mut told, &mut err);
-        same!(rt; done, status);
-        same!(rt; told.bytes(), second.as_bytes());
+        let (mut out, mut err) = (MemorySink::<100>::new(1, 1000), errors());
+        same!(rt; run_input(rt.alloc(), &mut left, &mut out, &mut err), *status);
+        same!(rt; out.bytes(), second.as_bytes());
     }
 }
 
+// A front of another number of pages than is expected is refused before the first of them is judged, and then one without
+// room for the first.
 #[test]
-fn a_front_without_room_is_refused(rt: HostRuntime) -> Result<(), Fail> {
-    let alloc = rt.alloc();
-    let mut files = front_files(alloc, SliceSource::new(LOOPS_APART));
-    let (mut out, mut err) = (MemorySink::<500>::new(1, 1000), errors());
-    let done = run_front(alloc, front_of(0), &mut files, &mut out, &mut err);
-    same!(rt; done, 1);
-    let due = b"pocsag: page 1 needs 1 batches\n".as_slice();
-    same!(rt; err.stream().bytes(), due);
-    same!(rt; files.tx.into_bytes().len(), 0);
-    same!(rt; files.rest.into_bytes().len(), 0);
-    Ok(())
+fn fronts_are_refused(rt: HostRuntime) {
+    let counted = FrontAsked {
+        expect: Some(3),
+        ..front_of(0)
+    };
+    for (asked, fault, line) in [
+        (
+            counted,
+            CentreFault::Unexpected(2, 3),
+            "pocsag: pages 2, where 3 were expected\n",
+        ),
+        (
+            front_of(0),
+            CentreFault::FirstPage(1),
+            "pocsag: page 1 needs 1 batches\n",
+        ),
+    ] {
+        let (told, files) = front(rt.alloc(), asked, SliceSource::new(LOOPS_APART));
+        same!(rt; (told.status, told.err.fault()), (1, Some(fault)));
+        same!(rt; told.err.stream().bytes(), line.as_bytes());
+        same!(rt; files.tx.into_bytes().len(), 0);
+        same!(rt; files.rest.into_bytes().len(), 0);
+    }
 }
 
 // Two pages for one address: the first is sent, and the second waits.
@@ -632,23 +622,21 @@ const QUEUE: &[u8] = b"address,kind,message\n8,tone0,\n8,tone1,\n16,tone2,\n";
 #[test]
 fn later_pages_wait(rt: HostRuntime) -> Result<(), Fail> {
     let alloc = rt.alloc();
-    let queue = LoadedFile::new(alloc, QUEUE.to_vec(alloc)?, false);
-    let mut files = front_files(alloc, queue);
     let asked = FrontAsked {
         may_wait: true,
         expect: Some(3),
         ..front_of(9)
     };
-    let (mut out, mut err) = (MemorySink::<500>::new(1, 1000), errors());
-    let done = run_front(alloc, asked, &mut files, &mut out, &mut err);
-    same!(rt; done, 0);
-    same!(rt; out.bytes(), b"pages 2\nbatches 1\nleft 1\n".as_slice());
+    let queue = LoadedFile::new(alloc, QUEUE.to_vec(alloc)?, false);
+    let (told, files) = front(alloc, asked, queue);
+    same!(rt; told.status, 0);
+    same!(rt; told.out.bytes(), b"pages 2\nbatches 1\nleft 1\n".as_slice());
     let rest = b"address,kind,message\n8,tone1,\n".as_slice();
     same!(rt; files.rest.into_bytes().as_slice(), rest);
+    let (tx, cert) = (files.tx.into_bytes(), files.cert.into_bytes());
     let again = CentreFault::Round(RoundFault::Record(2, RecordFault::DuplicateAddress));
     same!(rt; expected_file(alloc, true, QUEUE, 3), Ok(()));
     same!(rt; expected_file(alloc, false, QUEUE, 3), Err(again));
-    let (tx, cert) = (files.tx.into_bytes(), files.cert.into_bytes());
     for (count, status) in [(2, 0), (1, 1), (0, 1), (3, 0)] {
         let mut back = PlanFiles {
             pages: SliceSource::new(QUEUE),
@@ -657,55 +645,43 @@ fn later_pages_wait(rt: HostRuntime) -> Result<(), Fail> {
         };
         let sent = WrittenFront { asked, count };
         let (mut out, mut err) = (MemorySink::<500>::new(1, 1000), errors());
-        let done = run_verify_front(alloc, sent, &mut back, &mut out, &mut err);
-        same!(rt; done, status, count);
+        let told = run_verify_front(alloc, sent, &mut back, &mut out, &mut err);
+        same!(rt; told, status, count);
     }
     Ok(())
 }
 
-// A front of another number of pages than is expected is refused before the first of them is judged.
-#[test]
-fn fronts_are_counted(rt: HostRuntime) -> Result<(), Fail> {
-    let alloc = rt.alloc();
-    let mut files = front_files(alloc, SliceSource::new(LOOPS_APART));
-    let asked = FrontAsked {
-        expect: Some(3),
-        ..front_of(0)
-    };
-    let (mut out, mut err) = (MemorySink::<500>::new(1, 1000), errors());
-    let done = run_front(alloc, asked, &mut files, &mut out, &mut err);
-    same!(rt; done, 1);
-    same!(rt; err.fault(), Some(CentreFault::Unexpected(2, 3)));
-    same!(rt; files.rest.into_bytes().len(), 0);
-    Ok(())
-}
+// The batches of a front that sets pages aside, its status, what it reports, and the pages that are set aside. A page that starts
+// in the last frame and has three codewords does not end in its batch.
+const OVERSIZED: &[(u32, u8, &str, &str)] = &[
+    (
+        1,
+        0,
+        "pages 1\nbatches 1\nleft 0\noversized 1\n",
+        "address,kind,message\n15,numeric,1234567890\n",
+    ),
+    (
+        2,
+        0,
+        "pages 2\nbatches 2\nleft 0\noversized 0\n",
+        "address,kind,message\n",
+    ),
+    (0, 1, "", ""),
+];
 
-// A page that starts in the last frame and has three codewords does not end in its batch.
 #[test]
-fn oversized_pages_are_set_aside(rt: HostRuntime) -> Result<(), Fail> {
-    let alloc = rt.alloc();
+fn oversized_pages_are_set_aside(rt: HostRuntime) {
     let file = b"address,kind,message\n15,numeric,1234567890\n8,tone0,\n".as_slice();
-    let aside = b"address,kind,message\n15,numeric,1234567890\n".as_slice();
-    let header = b"address,kind,message\n".as_slice();
-    let one = b"pages 1\nbatches 1\nleft 0\noversized 1\n".as_slice();
-    let all = b"pages 2\nbatches 2\nleft 0\noversized 0\n".as_slice();
-    for (batches, status, lines, due) in [
-        (1, 0, one, aside),
-        (2, 0, all, header),
-        (0, 1, b"".as_slice(), b"".as_slice()),
-    ] {
-        let mut files = front_files(alloc, SliceSource::new(file));
+    for (batches, status, lines, due) in OVERSIZED {
         let asked = FrontAsked {
             sets_aside: true,
-            ..front_of(batches)
+            ..front_of(*batches)
         };
-        let (mut out, mut err) = (MemorySink::<500>::new(1, 1000), errors());
-        let done = run_front(alloc, asked, &mut files, &mut out, &mut err);
-        same!(rt; done, status, batches);
-        same!(rt; out.bytes(), lines);
-        same!(rt; files.aside.into_bytes().as_slice(), due);
+        let (told, files) = front(rt.alloc(), asked, SliceSource::new(file));
+        same!(rt; told.status, *status, batches);
+        same!(rt; told.out.bytes(), lines.as_bytes());
+        same!(rt; files.aside.into_bytes().as_slice(), due.as_bytes());
     }
-    Ok(())
 }
 
 // What `--strict` and `--expect` refuse.

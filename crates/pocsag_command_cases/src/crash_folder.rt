@@ -134,12 +134,9 @@ impl CrashFolder {
 
     // Whether the second run has a name.
     fn is_taken(&self, path: &String) -> bool {
-        for name in &self.others {
-            if name.as_str() == path.as_str() {
-                return true;
-            }
-        }
-        false
+        self.others
+            .iter()
+            .any(|name| name.as_str() == path.as_str())
     }
 
     // A copy of what stands at a path, if one is given.

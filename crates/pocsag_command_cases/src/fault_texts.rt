@@ -3,6 +3,10 @@
 use crate::same;
 use pocsag_capture::CaptureFault;
 use pocsag_centre::CentreFault;
+use pocsag_core_cases::texts::{
+    BAD_LIMIT, BAD_RATE, CUT_SHORT, IS_THERE, LIMIT_REACHED, NO_MEMORY, NO_PAGES, NO_READ,
+    NO_WRITE, TOO_LARGE,
+};
 use pocsag_decode::DecodeFault;
 use pocsag_findings::ExplanationFault;
 use pocsag_journal::JournalFault;
@@ -27,14 +31,12 @@ fn expect_texts<D: Display>(rt: &impl Abort, alloc: Global, rows: &[(D, &str)]) 
     }
 }
 
-// The line that reports each refusal.
-fn expect_lines(rt: &impl Abort, alloc: Global, rows: &[(Refusal, &str)]) {
-    for (why, text) in rows {
-        let line = format!(in alloc; "refused: {text}\n").expect(rt, "memory");
-        let mut told = MemorySink::<200>::new(200, u64::MAX);
-        assert!(rt; refuse(*why, &mut told).is_ok());
-        same!(rt; told.bytes(), line.as_bytes());
-    }
+// The line that reports a refusal.
+fn expect_line(rt: &impl Abort, alloc: Global, why: Refusal, text: &str) {
+    let line = format!(in alloc; "refused: {text}\n").expect(rt, "memory");
+    let mut told = MemorySink::<200>::new(200, u64::MAX);
+    assert!(rt; refuse(why, &mut told).is_ok());
+    same!(rt; told.bytes(), line.as_bytes());
 }
 
 // The texts of what was refused, of status 1, and of what failed, of status 3.
@@ -52,70 +54,46 @@ fn expect_failures<F: Failure>(
     }
 }
 
-const NO_MEMORY: &str = "out of memory";
-
-const NO_READ: &str = "cannot read or open a file";
-
-const NO_WRITE: &str = "cannot write";
-
 const TWICE: &str = "the same file is named twice";
 
-const TOO_LARGE: &str = "the file is too large";
+const UNKNOWN_KIND: &str = "record 9: unknown kind";
 
-const NO_PAGES: &str = "there are no pages";
+const UNEXPECTED: &str = "pages 2, where 3 were expected";
 
-const CUT_SHORT: &str = "the transmission is cut short";
-
-const BAD_RATE: &str = "the rate must be 512, 1200 or 2400";
-
-const LIMIT_REACHED: &str = "search limit reached: at least 2 batches, 3 would do";
+const UNCLOSED: &str = "record 9: the quote in line 11 is not closed";
 
 const EXPLANATION_FAULTS: [(ExplanationFault, &str); 2] = [
     (ExplanationFault::WriteFault, NO_WRITE),
     (ExplanationFault::OutOfMemory, NO_MEMORY),
 ];
 
-// The faults of the fields of a record, each with its text.
-const FIELD_FAULTS: [(FieldFault, &str); 8] = [
-    (FieldFault::BadAddress, "bad address"),
-    (FieldFault::ReservedAddress, "reserved address"),
-    (FieldFault::BadKind, "unknown kind"),
-    (FieldFault::MessageForTone, "a tone page has no message"),
-    (FieldFault::EmptyMessage, "the message is empty"),
-    (FieldFault::BadCharacter(7), "bad character at 7"),
-    (FieldFault::TooLong, "the message is too long"),
-    (FieldFault::OutOfMemory, NO_MEMORY),
+// The fault of a record of a page file.
+const BAD_KIND: RoundFault = RoundFault::Record(9, RecordFault::Field(FieldFault::BadKind));
+
+const NO_OWNER: &str = "the new file cannot be given the owner, group and mode of the old one";
+
+const REFUSED_FILES: [(FileFault, &str); 2] = [
+    (FileFault::EqualPaths, TWICE),
+    (FileFault::TooLarge, TOO_LARGE),
 ];
 
-// The fault of a record of a page file.
-fn bad_kind() -> RoundFault {
-    RoundFault::Record(9, RecordFault::Field(FieldFault::BadKind))
-}
+const FAILED_FILES: [(FileFault, &str); 4] = [
+    (FileFault::Device, NO_READ),
+    (FileFault::Write, NO_WRITE),
+    (FileFault::Owner, NO_OWNER),
+    (FileFault::OutOfMemory, NO_MEMORY),
+];
 
 #[test]
 fn files(rt: HostRuntime) {
-    let owner = "the new file cannot be given the owner, group and mode of the old one";
-    let refused = [
-        (FileFault::EqualPaths, TWICE),
-        (FileFault::TooLarge, TOO_LARGE),
-    ];
-    let failed = [
-        (FileFault::Device, NO_READ),
-        (FileFault::Write, NO_WRITE),
-        (FileFault::Owner, owner),
-        (FileFault::OutOfMemory, NO_MEMORY),
-    ];
-    expect_failures(&rt, rt.alloc(), &refused, &failed);
+    expect_failures(&rt, rt.alloc(), &REFUSED_FILES, &FAILED_FILES);
 }
 
 #[test]
 fn quotes(rt: HostRuntime) {
     let (number, line) = (9, 11);
     let faults = [
-        (
-            QuoteFault::Unclosed { number, line },
-            "record 9: the quote in line 11 is not closed",
-        ),
+        (QuoteFault::Unclosed { number, line }, UNCLOSED),
         (
             QuoteFault::Inside { number, line },
             "record 9: the quote in line 11 stands inside a field that begins without one",
@@ -136,17 +114,11 @@ fn centre(rt: HostRuntime) {
     };
     let refused = [
         (CentreFault::File(FileFault::EqualPaths), TWICE),
-        (CentreFault::Round(bad_kind()), "record 9: unknown kind"),
+        (CentreFault::Round(BAD_KIND), UNKNOWN_KIND),
         (CentreFault::Round(RoundFault::TooLarge), TOO_LARGE),
-        (
-            CentreFault::Quotes(quote),
-            "record 9: the quote in line 11 is not closed",
-        ),
-        (
-            CentreFault::Unexpected(2, 3),
-            "pages 2, where 3 were expected",
-        ),
-        (CentreFault::BadLimit, "the limit must be 1 to 1000000"),
+        (CentreFault::Quotes(quote), UNCLOSED),
+        (CentreFault::Unexpected(2, 3), UNEXPECTED),
+        (CentreFault::BadLimit, BAD_LIMIT),
         (CentreFault::SearchLimit(2, 3), LIMIT_REACHED),
         (CentreFault::FirstPage(2), "page 1 needs 2 batches"),
         (CentreFault::BadRate, BAD_RATE),
@@ -279,15 +251,12 @@ fn journals(rt: HostRuntime) {
 fn open_rounds(rt: HostRuntime) {
     let refused = [
         (OpenFault::File(FileFault::EqualPaths), TWICE),
-        (OpenFault::Round(bad_kind()), "record 9: unknown kind"),
+        (OpenFault::Round(BAD_KIND), UNKNOWN_KIND),
         (
             OpenFault::Quotes(QuoteFault::Unclosed { number: 1, line: 2 }),
             "record 1: the quote in line 2 is not closed",
         ),
-        (
-            OpenFault::Unexpected(2, 3),
-            "pages 2, where 3 were expected",
-        ),
+        (OpenFault::Unexpected(2, 3), UNEXPECTED),
         (
             OpenFault::HeldByAnother,
             "another program holds the journal",
@@ -322,50 +291,63 @@ fn open_rounds(rt: HostRuntime) {
     expect_failures(&rt, rt.alloc(), &refused, &failed);
 }
 
+const FIELD_FAULTS: [(FieldFault, &str); 8] = [
+    (FieldFault::BadAddress, "bad address"),
+    (FieldFault::ReservedAddress, "reserved address"),
+    (FieldFault::BadKind, "unknown kind"),
+    (FieldFault::MessageForTone, "a tone page has no message"),
+    (FieldFault::EmptyMessage, "the message is empty"),
+    (FieldFault::BadCharacter(7), "bad character at 7"),
+    (FieldFault::TooLong, "the message is too long"),
+    (FieldFault::OutOfMemory, NO_MEMORY),
+];
+
+const UNDONE: [(UndoneFault, &str); 4] = [
+    (UndoneFault::NoPages, NO_PAGES),
+    (
+        UndoneFault::SearchLimit { least: 2, found: 3 },
+        LIMIT_REACHED,
+    ),
+    (UndoneFault::FirstPage(2), "page 1 needs 2 batches"),
+    (UndoneFault::OutOfMemory, NO_MEMORY),
+];
+
+const REFUSALS: [(Refusal, &str); 8] = [
+    (Refusal::Unknown, "unknown edit"),
+    (Refusal::InQuotes, "the line ends inside quotes"),
+    (Refusal::StrayQuote, "a quote is out of place"),
+    (
+        Refusal::Add(AddFault::Page(PageFault::BadPayload)),
+        "bad payload",
+    ),
+    (Refusal::Add(AddFault::DuplicateAddress), IS_THERE),
+    (Refusal::Add(AddFault::Full), "too many pages"),
+    (Refusal::Add(AddFault::OutOfMemory), NO_MEMORY),
+    (Refusal::Cancel(NotThere), "no such page"),
+];
+
+fn expect_undone(rt: &impl Abort, alloc: Global, fault: UndoneFault, text: &str) {
+    expect_texts(rt, alloc, &[(fault, text)]);
+    expect_line(rt, alloc, Refusal::Undone(fault), text);
+}
+
 #[test]
 fn refusals(rt: HostRuntime) {
     let alloc = rt.alloc();
-    let undone = [
-        (UndoneFault::File(FileFault::EqualPaths), TWICE),
-        (UndoneFault::File(FileFault::Device), NO_READ),
-        (UndoneFault::File(FileFault::Write), NO_WRITE),
-        (
-            UndoneFault::File(FileFault::Owner),
-            "the new file cannot be given the owner, group and mode of the old one",
-        ),
-        (UndoneFault::File(FileFault::TooLarge), TOO_LARGE),
-        (UndoneFault::File(FileFault::OutOfMemory), NO_MEMORY),
-        (UndoneFault::NoPages, NO_PAGES),
-        (
-            UndoneFault::SearchLimit { least: 2, found: 3 },
-            LIMIT_REACHED,
-        ),
-        (UndoneFault::FirstPage(2), "page 1 needs 2 batches"),
-        (UndoneFault::OutOfMemory, NO_MEMORY),
-    ];
-    expect_texts(&rt, alloc, &undone);
     expect_texts(&rt, alloc, &EXPLANATION_FAULTS);
-    for (fault, text) in undone {
-        expect_lines(&rt, alloc, &[(Refusal::Undone(fault), text)]);
+    for (fault, text) in UNDONE {
+        expect_undone(&rt, alloc, fault, text);
+    }
+    for (fault, text) in REFUSED_FILES {
+        expect_undone(&rt, alloc, UndoneFault::File(fault), text);
+    }
+    for (fault, text) in FAILED_FILES {
+        expect_undone(&rt, alloc, UndoneFault::File(fault), text);
     }
     for (fault, text) in FIELD_FAULTS {
-        expect_lines(&rt, alloc, &[(Refusal::Field(fault), text)]);
+        expect_line(&rt, alloc, Refusal::Field(fault), text);
     }
-    let others = [
-        (Refusal::Unknown, "unknown edit"),
-        (Refusal::InQuotes, "the line ends inside quotes"),
-        (Refusal::StrayQuote, "a quote is out of place"),
-        (
-            Refusal::Add(AddFault::Page(PageFault::BadPayload)),
-            "bad payload",
-        ),
-        (
-            Refusal::Add(AddFault::DuplicateAddress),
-            "the address is already there",
-        ),
-        (Refusal::Add(AddFault::Full), "too many pages"),
-        (Refusal::Add(AddFault::OutOfMemory), NO_MEMORY),
-        (Refusal::Cancel(NotThere), "no such page"),
-    ];
-    expect_lines(&rt, alloc, &others);
+    for (why, text) in REFUSALS {
+        expect_line(&rt, alloc, why, text);
+    }
 }

@@ -1,56 +1,18 @@
 //! Journals on disks in memory: what they hold once an edit is answered, whichever call fails, and what reading them
 //! gives.
 
-ghost use Rattle.std.specs.Prelude.{◌≡◌, ◌≤◌, [], ◌∷◌, ◌++◌, length, None, IfErr, IfOk, OnOk, Some};
-ghost use Rattle.pocsag_words.specs.MemorySink.{taken_of};
-ghost use Rattle.pocsag_open.specs.Plans.{failed_plan, no_names, no_plans, placed_plan};
-
 use crate::crash_disk::CrashDisk;
+use crate::outputs::OutputFolder;
 use crate::same;
 use pocsag_core_cases::given::{Records, round_of_file};
 use pocsag_journal::{Journal, JournalFault, Replayed, first_line, read_journal, text_of_pages};
-use pocsag_open::{KeptRound, KeptStreams, OpenFault, OutputStore, PlanSettings, open_kept};
+use pocsag_open::{KeptRound, KeptStreams, OpenFault, PlanSettings, open_kept};
 use pocsag_plan::{Book, OnLimit};
-use pocsag_shell::{FileFault, Outputs};
+use pocsag_shell::FileFault;
 use pocsag_words::{MemorySink, MemorySource};
 use std::alloc::Global;
 use std::process::Abort;
 use std::test::Fail;
-
-// A folder in which no file can be made.
-#[derive(Drop)]
-struct NoFolder;
-
-impl OutputStore for NoFolder {
-    type Output = MemorySink<1>;
-
-    ghost is_known = { ⊥ };
-
-    ghost placed = { λ _. no_plans };
-
-    ghost made_for = { λ _. no_names };
-
-    fn make(&mut self, _tx: &str, _cert: &str) -> Result<Outputs<MemorySink<1>>, FileFault> {
-        Err(FileFault::Device)
-    }
-
-    fn put(
-        &mut self,
-        tx: &str,
-        cert: &str,
-        outputs: Outputs<MemorySink<1>>,
-    ) -> Result<(), FileFault>
-        ensures placed { ⊥ → no_names ≡ Some (tx.now, cert.now) → OnOk result (no_plans ≡
-            no_plans ++ placed_plan tx.now cert.now (taken_of outputs.tx, taken_of outputs.cert) ∷ []) }
-        ensures failed { ⊥ → IfErr result (λ fault. no_plans ≡
-            no_plans ++ failed_plan tx.now cert.now fault ∷ []) }
-        ensures none_left { ⊥ → no_names ≡ Some (tx.now, cert.now) → no_names ≡ None }
-    {
-        Ok(())
-    }
-
-    fn leave<'n>(&mut self, _tx: &'n str, _cert: &'n str) {}
-}
 
 // What a round leaves: its answers, its disk, and how it ended.
 #[derive(Drop)]
@@ -63,7 +25,7 @@ struct Left {
 // Keeps a round on the disk, from what it holds on.
 fn keep(alloc: Global, disk: CrashDisk, lines: &[u8]) -> Left {
     let settings = &mut PlanSettings {
-        store: NoFolder,
+        store: OutputFolder { makes: false },
         on_limit: OnLimit::Fewest,
     };
     let mut round = KeptRound {
@@ -288,29 +250,19 @@ const ANEW: &[(Records, Result<&str, JournalFault>)] = &[
     ),
 ];
 
-fn expect_anew(
-    rt: &impl Abort,
-    alloc: Global,
-    book: &Book,
-    due: &Result<&str, JournalFault>,
-) -> Result<(), Fail> {
-    match text_of_pages(alloc, book.pages()) {
-        Ok(text) => {
-            let (front, lines) = text.as_slice().split_at(first_line().len());
-            same!(rt; front, first_line());
-            same!(rt; Some(lines), due.ok().map(|it| it.as_bytes()));
-        }
-        Err(fault) => same!(rt; Some(fault), due.err()),
-    }
-    Ok(())
-}
-
 #[test]
 fn journals_are_written_anew(rt: HostRuntime) -> Result<(), Fail> {
     let alloc = rt.alloc();
     for (records, due) in ANEW {
         let book = Book::of_round(alloc, &round_of_file(alloc, records)?)?;
-        expect_anew(&rt, alloc, &book, due)?;
+        match text_of_pages(alloc, book.pages()) {
+            Ok(text) => {
+                let (front, lines) = text.as_slice().split_at(first_line().len());
+                same!(rt; front, first_line());
+                same!(rt; Some(lines), due.ok().map(|it| it.as_bytes()));
+            }
+            Err(fault) => same!(rt; Some(fault), due.err()),
+        }
     }
     Ok(())
 }
@@ -460,58 +412,44 @@ fn cut_last<R: Abort>(
     Ok(())
 }
 
-// Cuts each edit that is accepted after these, and adds the runs with it to the longer ones.
+// Cuts this edit after these, if it is accepted, and adds the run with it to the longer ones.
 fn cut_next<R: Abort>(
     rt: &R,
     alloc: Global,
     before: &Edited,
+    (edit, line): (usize, &str),
     longer: &mut Vec<Edited>,
 ) -> Result<(), Fail> {
-    for (edit, line) in EDITS.iter().enumerate() {
-        if let Some(pages) = after(alloc, before.pages.as_slice(), edit)? {
-            cut_last(rt, alloc, before, line, pages.as_slice())?;
-            let mut lines = before.lines.clone()?;
-            lines.push_str(line)?;
-            let edits = before.edits.saturating_add(1);
-            longer.push(Edited {
-                lines,
-                pages,
-                edits,
-            })?;
-        }
+    if let Some(pages) = after(alloc, before.pages.as_slice(), edit)? {
+        cut_last(rt, alloc, before, line, pages.as_slice())?;
+        let mut lines = before.lines.clone()?;
+        lines.push_str(line)?;
+        let edits = before.edits.saturating_add(1);
+        longer.push(Edited {
+            lines,
+            pages,
+            edits,
+        })?;
     }
     Ok(())
 }
 
-// The run of this edit alone, by which one page is there.
-fn first_run(alloc: Global, line: &str, address: u32) -> Result<Edited, Fail> {
-    let mut lines = String::new(alloc);
-    lines.push_str(line)?;
-    let mut pages = Vec::new(alloc);
-    pages.push(address)?;
-    let edits = 1;
-    Ok(Edited {
-        lines,
-        pages,
-        edits,
-    })
-}
-
-// Every run of up to six of the edits that begins with this line, by which one page is there. The last edit of each is cut at each
-// write: the next start reads the pages after the edits that were answered, or after that one more, whatever a crash left.
-fn cut_runs<R: Abort>(rt: &R, alloc: Global, line: &str, address: u32) -> Result<(), Fail> {
+// Every run of up to six of the edits that begins with this one. The last edit of each is cut at each write: the next start reads
+// the pages after the edits that were answered, or after that one more, whatever a crash left.
+fn cut_runs<R: Abort>(rt: &R, alloc: Global, first: (usize, &str)) -> Result<(), Fail> {
     let none = Edited {
         lines: String::new(alloc),
         pages: Vec::new(alloc),
         edits: 0,
     };
-    cut_last(rt, alloc, &none, line, &[address])?;
     let mut runs = Vec::new(alloc);
-    runs.push(first_run(alloc, line, address)?)?;
+    cut_next(rt, alloc, &none, first, &mut runs)?;
     for _ in 0..5 {
         let mut longer = Vec::new(alloc);
         for before in &runs {
-            cut_next(rt, alloc, before, &mut longer)?;
+            for (edit, line) in EDITS.iter().enumerate() {
+                cut_next(rt, alloc, before, (edit, *line), &mut longer)?;
+            }
         }
         runs = longer;
     }
@@ -520,10 +458,10 @@ fn cut_runs<R: Abort>(rt: &R, alloc: Global, line: &str, address: u32) -> Result
 
 #[test]
 fn cut_edits_survive(rt: HostRuntime) -> Result<(), Fail> {
-    cut_runs(&rt, rt.alloc(), "add,8,tone0,\n", 8)
+    cut_runs(&rt, rt.alloc(), (0, EDITS[0]))
 }
 
 #[test]
 fn cut_edits_of_another_page_survive(rt: HostRuntime) -> Result<(), Fail> {
-    cut_runs(&rt, rt.alloc(), "add,16,tone0,\n", 16)
+    cut_runs(&rt, rt.alloc(), (1, EDITS[1]))
 }

@@ -18,6 +18,8 @@ mod journal_tests;
 #[cfg(test)]
 mod open_tests;
 #[cfg(test)]
+mod outputs;
+#[cfg(test)]
 mod receiver_tests;
 #[cfg(test)]
 mod shell_tests;

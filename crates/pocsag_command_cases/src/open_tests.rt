@@ -1,13 +1,10 @@
 //! Open rounds over memory: what answers each line, and the exit status.
 
-ghost use Rattle.std.specs.Prelude.{◌≡◌, [], ◌∷◌, ◌++◌, None, IfErr, OnOk, Some};
-ghost use Rattle.pocsag_words.specs.MemorySink.{taken_of};
-ghost use Rattle.pocsag_open.specs.Plans.{failed_plan, no_names, no_plans, placed_plan};
-
+use crate::outputs::OutputFolder;
 use crate::same;
-use pocsag_open::{LINE_LIMIT, OutputStore, PlanSettings, run_open, run_open_pages};
+use pocsag_open::{LINE_LIMIT, PlanSettings, run_open, run_open_pages};
 use pocsag_plan::OnLimit;
-use pocsag_shell::{Failure, FileFault, Outputs, print_fault};
+use pocsag_shell::{Failure, print_fault};
 use pocsag_words::{MemorySink, MemorySource};
 use std::alloc::Global;
 use std::process::Abort;
@@ -16,61 +13,6 @@ use std::test::Fail;
 const PAGES: &[u8] = b"address,kind,message\n8,tone0,\n16,numeric,12\n";
 
 const TWICE: &[u8] = b"address,kind,message\n8,tone0,\n8,tone0,\n";
-
-// A folder where `full` takes nothing, `none` cannot be made, `there` cannot be put in its place, and any other name is a file.
-#[derive(Drop)]
-struct Folder;
-
-fn sink_at(path: &str) -> Result<MemorySink<1000>, FileFault> {
-    match path {
-        "none" => Err(FileFault::Device),
-        "full" => Ok(MemorySink::new(5, 0)),
-        _ => Ok(MemorySink::new(5, 1000)),
-    }
-}
-
-impl OutputStore for Folder {
-    type Output = MemorySink<1000>;
-
-    ghost is_known = { ⊥ };
-
-    ghost placed = { λ _. no_plans };
-
-    ghost made_for = { λ _. no_names };
-
-    fn make(&mut self, tx: &str, cert: &str) -> Result<Outputs<MemorySink<1000>>, FileFault> {
-        if tx == cert {
-            return Err(FileFault::EqualPaths);
-        }
-        Ok(Outputs {
-            tx: sink_at(tx)?,
-            cert: sink_at(cert)?,
-        })
-    }
-
-    // What is written is a transmission of whole batches behind its preamble, and a certificate of its version.
-    fn put(
-        &mut self,
-        tx: &str,
-        cert: &str,
-        outputs: Outputs<MemorySink<1000>>,
-    ) -> Result<(), FileFault>
-        ensures placed { ⊥ → no_names ≡ Some (tx.now, cert.now) → OnOk result (no_plans ≡
-            no_plans ++ placed_plan tx.now cert.now (taken_of outputs.tx, taken_of outputs.cert) ∷ []) }
-        ensures failed { ⊥ → IfErr result (λ fault. no_plans ≡
-            no_plans ++ failed_plan tx.now cert.now fault ∷ []) }
-        ensures none_left { ⊥ → no_names ≡ Some (tx.now, cert.now) → no_names ≡ None }
-    {
-        let sent = outputs.tx.bytes().len();
-        let is_whole = sent > 72 && (sent - 72) % 68 == 0;
-        if tx == "there" || !is_whole || !outputs.cert.bytes().starts_with(b"PCB") {
-            return Err(FileFault::Write);
-        }
-        Ok(())
-    }
-
-    fn leave<'n>(&mut self, _tx: &'n str, _cert: &'n str) {}
-}
 
 // The page file of an open round, if there is one, and after how many bytes it, the input and the output fail.
 #[derive(Clone, Copy)]
@@ -112,7 +54,7 @@ fn assert_answers<R: Abort>(
     due: (u8, &[u8], &[u8]),
 ) -> Result<(), Fail> {
     let settings = &mut PlanSettings {
-        store: Folder,
+        store: OutputFolder { makes: true },
         on_limit: beginning.on_limit,
     };
     let mut input = MemorySource::new(lines, 7, beginning.asked);
@@ -276,24 +218,17 @@ const ROUNDS: &[(Beginning, Lines)] = &[
     (ALWAYS, AFTER_PAGES),
 ];
 
-// The lines, and their answers.
-fn parted(alloc: Global, cases: Lines) -> Result<(Vec<u8>, Vec<u8>), Fail> {
-    let mut lines = Vec::new(alloc);
-    let mut answers = Vec::new(alloc);
-    for (line, answer) in cases {
-        lines.extend_from_slice(line.as_bytes())?;
-        lines.push(b'\n')?;
-        answers.extend_from_slice(answer.as_bytes())?;
-        answers.push(b'\n')?;
-    }
-    Ok((lines, answers))
-}
-
 #[test]
 fn lines_are_answered_one_by_one(rt: HostRuntime) -> Result<(), Fail> {
     let alloc = rt.alloc();
     for (beginning, cases) in ROUNDS {
-        let (lines, answers) = parted(alloc, cases)?;
+        let (mut lines, mut answers) = (Vec::new(alloc), Vec::new(alloc));
+        for (line, answer) in *cases {
+            lines.extend_from_slice(line.as_bytes())?;
+            lines.push(b'\n')?;
+            answers.extend_from_slice(answer.as_bytes())?;
+            answers.push(b'\n')?;
+        }
         let due = (0, answers.as_slice(), b"".as_slice());
         assert_answers(&rt, alloc, *beginning, lines.as_slice(), due)?;
     }

@@ -1,8 +1,9 @@
 //! The commands for transmissions and `explain`, over memory: what each reports, and its exit status.
 
+use crate::outputs::errors;
 use crate::same;
 use pocsag_centre::{ExplainFiles, run_explain};
-use pocsag_core_cases::given::{SECOND, SYNC, cut};
+use pocsag_core_cases::given::{SECOND, cut, flip, transmission};
 use pocsag_decode::Repaired;
 use pocsag_findings::Format;
 use pocsag_plan::plan_stream;
@@ -59,7 +60,7 @@ enum Command {
 // that the transmission is cut to, and after how many bytes its reader and standard output fail.
 #[derive(Clone, Copy)]
 struct Faults {
-    flipped: [u8; 3],
+    flipped: [u32; 3],
     len: usize,
     tx: u64,
     out: u64,
@@ -93,35 +94,18 @@ const NO_ROWS: &str = "pocsag: rows 3-7: the transmission has 1 batch\n";
 
 const NO_SYNC: &str = "pocsag: batch 0: no synchronisation codeword\n";
 
-// What a command reported.
-#[derive(Drop)]
-struct Printed {
+// What a command reported is what is due.
+fn expect_told<F: Failure + Drop>(
+    rt: &impl Abort,
     status: u8,
-    out: MemorySink<400>,
-    line: [u8; 100],
-    length: usize,
-}
-
-// The stream of a command, and the line that it took.
-fn errors<F: Failure + Drop>() -> ErrorStream<F, MemorySink<100>> {
-    ErrorStream::new(MemorySink::new(1, 1000))
-}
-
-fn outcome<F: Failure + Drop>(
-    status: u8,
-    out: MemorySink<400>,
+    out: &MemorySink<400>,
     err: &ErrorStream<F, MemorySink<100>>,
-) -> Printed {
-    let mut line = [0; 100];
-    let taken = err.stream().bytes();
-    let length = taken.len().min(100);
-    line[..length].copy_from_slice(&taken[..length]);
-    Printed {
-        status,
-        out,
-        line,
-        length,
-    }
+    case: &Case,
+) {
+    let (_, _, due, printed, line) = *case;
+    same!(rt; status, due);
+    same!(rt; out.bytes(), printed.as_bytes());
+    same!(rt; err.stream().bytes(), line.as_bytes());
 }
 
 // The transmission and the certificate of a lone tone.
@@ -135,53 +119,8 @@ fn planned(rt: &impl Abort, alloc: Global) -> (Vec<u8>, Vec<u8>) {
 // The bytes with what is wrong with them.
 fn spoiled(alloc: Global, sent: &[u8], faults: Faults) -> Result<Vec<u8>, Fail> {
     let mut bytes = Vec::from_slice(alloc, &sent[..faults.len.min(sent.len())])?;
-    for (place, flipped) in faults.flipped.iter().enumerate() {
-        if let Some(byte) = bytes.get_mut(75 + 4 * place) {
-            *byte ^= *flipped;
-        }
-    }
+    flip(bytes.as_mut_slice(), &faults.flipped);
     Ok(bytes)
-}
-
-// Runs a command on the plan of a lone tone.
-fn run(rt: &impl Abort, alloc: Global, command: Command, faults: Faults) -> Result<Printed, Fail> {
-    let (sent, certificate) = planned(rt, alloc);
-    let bytes = spoiled(alloc, sent.as_slice(), faults)?;
-    let mut tx = MemorySource::new(bytes.as_slice(), 4, faults.tx);
-    let mut out = MemorySink::<400>::new(7, faults.out);
-    if let Command::Explain = command {
-        let mut files = ExplainFiles {
-            pages: MemorySource::new(LONE_TONE, 4, 1000),
-            cert: MemorySource::new(certificate.as_slice(), 4, faults.tx),
-        };
-        let mut err = errors();
-        let status = run_explain(alloc, Format::Lines(3), &mut files, &mut out, &mut err);
-        return Ok(outcome(status, out, &err));
-    }
-    let mut err = errors();
-    let status = match command {
-        Command::Decode { form, repair } => {
-            let repairing = Repairing::new(repair);
-            let mut decoding = Decoding { form, repairing };
-            run_decode(alloc, &mut decoding, &mut tx, &mut out, &mut err)
-        }
-        Command::Show(picture, repair) => {
-            let view = match picture {
-                Picture::Places => View::Places,
-                Picture::Grid => View::Grid(Rows::all()),
-                Picture::Behind => View::Grid(Rows::new(3, 7).expect(rt, "rows")),
-            };
-            let repairing = Repairing::new(repair);
-            let mut showing = Showing { view, repairing };
-            run_show(alloc, &mut showing, &mut tx, &mut out, &mut err)
-        }
-        Command::Hear(form, address) => {
-            let hearing = Hearing { form, address };
-            run_hear(alloc, hearing, &mut tx, &mut out, &mut err)
-        }
-        Command::Explain => 255,
-    };
-    Ok(outcome(status, out, &err))
 }
 
 const DECODE: Command = Command::Decode {
@@ -245,12 +184,50 @@ const CASES: &[Case] = &[
     (Command::Explain, UNWRITTEN, 3, "at le", NO_WRITE),
 ];
 
+fn expect_explained(rt: &impl Abort, alloc: Global, certificate: &[u8], case: &Case) {
+    let (_, faults, _, _, _) = *case;
+    let mut files = ExplainFiles {
+        pages: MemorySource::new(LONE_TONE, 4, 1000),
+        cert: MemorySource::new(certificate, 4, faults.tx),
+    };
+    let (mut out, mut err) = (MemorySink::<400>::new(7, faults.out), errors());
+    let status = run_explain(alloc, Format::Lines(3), &mut files, &mut out, &mut err);
+    expect_told(rt, status, &out, &err, case);
+}
+
+// Runs a command on the plan of a lone tone.
 fn expect_case(rt: &impl Abort, alloc: Global, case: &Case) -> Result<(), Fail> {
-    let (command, faults, status, out, err) = *case;
-    let told = run(rt, alloc, command, faults)?;
-    same!(rt; told.status, status);
-    same!(rt; told.out.bytes(), out.as_bytes());
-    same!(rt; told.line.get(..told.length), Some(err.as_bytes()));
+    let (command, faults, _, _, _) = *case;
+    let (sent, certificate) = planned(rt, alloc);
+    let bytes = spoiled(alloc, sent.as_slice(), faults)?;
+    let mut tx = MemorySource::new(bytes.as_slice(), 4, faults.tx);
+    let (mut out, mut err) = (MemorySink::<400>::new(7, faults.out), errors());
+    let status = match command {
+        Command::Decode { form, repair } => {
+            let repairing = Repairing::new(repair);
+            let mut decoding = Decoding { form, repairing };
+            run_decode(alloc, &mut decoding, &mut tx, &mut out, &mut err)
+        }
+        Command::Show(picture, repair) => {
+            let view = match picture {
+                Picture::Places => View::Places,
+                Picture::Grid => View::Grid(Rows::all()),
+                Picture::Behind => View::Grid(Rows::new(3, 7).expect(rt, "rows")),
+            };
+            let repairing = Repairing::new(repair);
+            let mut showing = Showing { view, repairing };
+            run_show(alloc, &mut showing, &mut tx, &mut out, &mut err)
+        }
+        Command::Hear(form, address) => {
+            let hearing = Hearing { form, address };
+            run_hear(alloc, hearing, &mut tx, &mut out, &mut err)
+        }
+        Command::Explain => {
+            expect_explained(rt, alloc, certificate.as_slice(), case);
+            return Ok(());
+        }
+    };
+    expect_told(rt, status, &out, &err, case);
     Ok(())
 }
 
@@ -304,20 +281,16 @@ fn expect_pieces(rt: &impl Abort, alloc: Global, form: ListForm, sent: &[u8], te
 #[test]
 fn long_texts_are_written_in_pieces(rt: HostRuntime) -> Result<(), Fail> {
     let alloc = rt.alloc();
-    let mut sent = vec![in alloc; 0xaa; 72]?;
+    let sent = transmission(alloc, (1_280, SECOND, &[]))?;
     let (mut lines, mut records) = (Vec::new(alloc), Vec::new(alloc));
     records.extend_from_slice(b"address,kind,message\n")?;
-    for _ in 0..80 {
-        sent.extend_from_slice(&SYNC.to_be_bytes())?;
-        for slot in 0..16 {
-            sent.extend_from_slice(&SECOND.to_be_bytes())?;
-            let address = 8 + slot / 2;
-            let line = format!(in alloc;
-                "{{\"address\":{address},\"function\":0,\"kind\":\"tone0\",\"message\":\"\"}}\n"
-            )?;
-            lines.extend_from_slice(line.as_bytes())?;
-            records.extend_from_slice(format!(in alloc; "{address},tone0,\n")?.as_bytes())?;
-        }
+    for tone in 0..1_280 {
+        let address = 8 + tone / 2 % 8;
+        let line = format!(in alloc;
+            "{{\"address\":{address},\"function\":0,\"kind\":\"tone0\",\"message\":\"\"}}\n"
+        )?;
+        lines.extend_from_slice(line.as_bytes())?;
+        records.extend_from_slice(format!(in alloc; "{address},tone0,\n")?.as_bytes())?;
     }
     let (json, texts) = (ListForm::Json([false; 3]), ListForm::Texts([true; 3]));
     expect_pieces(&rt, alloc, json, sent.as_slice(), lines.as_slice());

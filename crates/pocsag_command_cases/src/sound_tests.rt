@@ -1,27 +1,13 @@
 //! `wav` over memory: the header and samples of a lone tone, worked out by hand, and its faults.
 
 use crate::same;
+use pocsag_core_cases::given::{LONE_TONE, transmission};
 use pocsag_shell::{ErrorStream, Failure};
 use pocsag_sound::{Keying, SoundFault, run_wav};
 use pocsag_words::{MemorySink, MemorySource};
 use std::alloc::Global;
 use std::process::Abort;
 use std::test::Fail;
-
-// A preamble of 576 bits and a batch with a tone in its first codeword.
-fn lone_tone() -> [u8; 140] {
-    let mut sent = [0xaa; 140];
-    for place in 72..140 {
-        sent[place] = [0x7a, 0x89, 0xc1, 0x97][place % 4];
-    }
-    for (place, byte) in [0x7c, 0xd2, 0x15, 0xd8, 0x00, 0x00, 0x26, 0xec]
-        .iter()
-        .enumerate()
-    {
-        sent[72 + place] = *byte;
-    }
-    sent
-}
 
 // 2,400 samples a second: 36 + 3,328 and 3,328 bytes for 576 + 544 + 544 bits.
 const HEADER: [u8; 44] = [
@@ -49,8 +35,8 @@ fn keyed(
     is_inverted: bool,
     most: u64,
 ) -> (Option<SoundFault>, MemorySink<4000>) {
-    let sent = lone_tone();
-    let mut tx = MemorySource::new(&sent, 50, 1000);
+    let sent = transmission(alloc, LONE_TONE).expect(rt, "memory");
+    let mut tx = MemorySource::new(sent.as_slice(), 50, 1000);
     let mut out = MemorySink::<4000>::new(1000, most);
     let keying = Keying::new(2400, 2400, None, tail, is_inverted)
         .ok()

@@ -184,12 +184,12 @@ fn expect_pairs(rt: &impl Abort, folder: &CrashFolder, since: usize, pairs: &[Pa
     }
 }
 
-// So many calls are served, and then so many refused; or the second run takes its steps.
-#[derive(Drop)]
-struct Trouble {
-    serves: u64,
-    refuses: u64,
-    steps: Vec<OtherStep>,
+// A folder that serves so many calls, and then refuses so many.
+fn failing(alloc: Global, serves: u64, refuses: u64) -> CrashFolder {
+    let mut folder = CrashFolder::new(alloc);
+    folder.serves = serves;
+    folder.refuses = refuses;
+    folder
 }
 
 // How putting two files ended, the folder, and how many changes were on the disk before.
@@ -204,14 +204,10 @@ struct Put {
 fn put_new<R: Files<File = File> + Abort>(
     rt: &R,
     alloc: Global,
-    trouble: Trouble,
+    mut folder: CrashFolder,
 ) -> Result<Put, Fail> {
-    let mut folder = CrashFolder::new(alloc);
     folder.add("cert", b"old certificate")?;
     folder.add("tx", b"old transmission")?;
-    folder.serves = trouble.serves;
-    folder.refuses = trouble.refuses;
-    folder.steps = trouble.steps;
     let begun = folder.changes.len();
     let files = [
         staged(rt, alloc, Role::Certificate, "cert"),
@@ -258,12 +254,7 @@ fn files_are_put_whichever_call_fails(rt: HostRuntime) -> Result<(), Fail> {
     let alloc = rt.alloc();
     for serves in 0..9 {
         for refuses in [1, 2, u64::MAX] {
-            let trouble = Trouble {
-                serves,
-                refuses,
-                steps: Vec::new(alloc),
-            };
-            let put = put_new(&rt, alloc, trouble)?;
+            let put = put_new(&rt, alloc, failing(alloc, serves, refuses))?;
             same!(rt; put.done.is_ok(), serves >= 6);
             expect_put(&rt, &put, refuses == 1);
             if serves >= 6 {
@@ -276,6 +267,20 @@ fn files_are_put_whichever_call_fails(rt: HostRuntime) -> Result<(), Fail> {
 
 // What the second run may take.
 const TAKEN: [&str; 6] = ["cert", "tx", "cert.new", "cert.old", "tx.old", "other"];
+
+// The second run takes this name after so many steps, and gives it back after so many more.
+fn steps_with(alloc: Global, name: &str, before: u64, keeps: u64) -> Result<Vec<OtherStep>, Fail> {
+    let mut steps = Vec::new(alloc);
+    steps.push(OtherStep::Remove(String::from_str(alloc, name)?))?;
+    for _ in 0..keeps {
+        steps.push(OtherStep::Remove(String::from_str(alloc, "none")?))?;
+    }
+    steps.push(OtherStep::Take(String::from_str(alloc, name)?))?;
+    for _ in 0..before {
+        steps.push(OtherStep::Remove(String::from_str(alloc, "none")?))?;
+    }
+    Ok(steps)
+}
 
 // The second run takes a name before one of the calls, and gives it back before a later one, or never.
 #[test]
@@ -292,21 +297,9 @@ fn files_are_put_beside_a_second_run(rt: HostRuntime) -> Result<(), Fail> {
             (5, 9),
             (6, 9),
         ] {
-            let mut steps = Vec::new(alloc);
-            steps.push(OtherStep::Remove(String::from_str(alloc, name)?))?;
-            for _ in 0..keeps {
-                steps.push(OtherStep::Remove(String::from_str(alloc, "none")?))?;
-            }
-            steps.push(OtherStep::Take(String::from_str(alloc, name)?))?;
-            for _ in 0..before {
-                steps.push(OtherStep::Remove(String::from_str(alloc, "none")?))?;
-            }
-            let trouble = Trouble {
-                serves: u64::MAX,
-                refuses: 0,
-                steps,
-            };
-            let put = put_new(&rt, alloc, trouble)?;
+            let mut folder = CrashFolder::new(alloc);
+            folder.steps = steps_with(alloc, name, before, keeps)?;
+            let put = put_new(&rt, alloc, folder)?;
             expect_put(&rt, &put, keeps == 0);
             if name == "other" {
                 same!(rt; put.done.is_ok(), true);
@@ -335,11 +328,8 @@ fn open_round<R: Files<File = File> + Abort>(
     serves: u64,
     refuses: u64,
 ) -> Round {
-    let mut folder = CrashFolder::new(alloc);
-    folder.serves = serves;
-    folder.refuses = refuses;
     let mut settings = PlanSettings {
-        store: CrashStore::new(rt, alloc, folder),
+        store: CrashStore::new(rt, alloc, failing(alloc, serves, refuses)),
         on_limit: OnLimit::Fewest,
     };
     let mut input = MemorySource::new(lines, 7, u64::MAX);
