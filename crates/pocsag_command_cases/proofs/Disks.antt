@@ -36,6 +36,12 @@ pub record IsAppended (text later : Text) (front : List ℕ) : Type 0 where
   pub begun : later.begun.items ≡ text.begun.items
   pub lines : later.lines.items ≡ text.lines.items ++ front
 
+-- no byte more is synchronised once a front was written
+pub synced_before : (text later : Text) (front : List ℕ) (all synced unsynced : ℕ) → IsAppended text later front →
+    all ≡ lines_length later → synced ≡ lines_length text - unsynced → lines_length later - (all - synced) ≡ lines_length text - unsynced
+synced_before text later front all synced unsynced more is_all is_synced =
+    omega (arith, ap length more.lines, length-append text.lines.items front, is_all, is_synced)
+
 front_appended : (text later : Text) (front : List ℕ) (n : ℕ) → IsAppended text later front →
     text_front later n ≡ text_front text n ++ take (n - lines_length text) front
 front_appended text later front n is =

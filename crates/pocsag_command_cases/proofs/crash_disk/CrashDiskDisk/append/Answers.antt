@@ -1,5 +1,5 @@
 use Rattle.pocsag_command_cases.proofs.Prelude.{◌≡◌, ℕ, ◌-◌, List, [], take, length, arith, refl, sym, ap, ◌∙◌, append-nil, length-append, lines_length, Text}
-use Rattle.pocsag_command_cases.proofs.Disks.{IsAppended, elapses_appended, leaves_torn, took_part}
+use Rattle.pocsag_command_cases.proofs.Disks.{IsAppended, elapses_appended, leaves_torn, synced_before, took_part}
 use Rattle.pocsag_command_cases.proofs.crash_disk.CrashDiskDisk.append.Goals as goal
 
 pub returns-in_default-clause-crash : goal.returns-in_default-clause-crash
@@ -26,17 +26,8 @@ returns-then-front-line-clause-crash c = λ is_known.
     let later : Text = record { begun = c.args.self.now.text.begun; lines = c.extend_from_slice.new.self } in
     let front : List ℕ = take c.min.result c.args.line.now in
     let more : IsAppended text later front = record { begun = refl; lines = c.in-Ok.ensures.items } in
-    let same : lines_length later - (c.len-2.result - c.saturating_sub-synced.result) ≡ lines_length text - c.args.self.now.unsynced =
-    omega (
-      arith,
-      ap length c.in-Ok.ensures.items,
-      length-append text.lines.items front,
-      c.len-2.ensures,
-      later.lines.ok.0,
-      c.saturating_sub-synced.ensures,
-      c.len.ensures,
-      text.lines.ok.0,
-    ) in
+    let same = synced_before text later front c.len-2.result c.saturating_sub-synced.result c.args.self.now.unsynced more
+    (omega (arith, c.len-2.ensures, later.lines.ok.0)) (omega (arith, c.saturating_sub-synced.ensures, c.len.ensures, text.lines.ok.0)) in
     leaves_torn text later c.args.line.now front c.min.result _ _ more refl same
 
 pub returns-then-front-line-clause-time : goal.returns-then-front-line-clause-time
@@ -45,17 +36,8 @@ returns-then-front-line-clause-time c = λ is_known.
     let later : Text = record { begun = c.args.self.now.text.begun; lines = c.extend_from_slice.new.self } in
     let front : List ℕ = take c.min.result c.args.line.now in
     let more : IsAppended text later front = record { begun = refl; lines = c.in-Ok.ensures.items } in
-    let same : lines_length later - (c.len-2.result - c.saturating_sub-synced.result) ≡ lines_length text - c.args.self.now.unsynced =
-    omega (
-      arith,
-      ap length c.in-Ok.ensures.items,
-      length-append text.lines.items front,
-      c.len-2.ensures,
-      later.lines.ok.0,
-      c.saturating_sub-synced.ensures,
-      c.len.ensures,
-      text.lines.ok.0,
-    ) in
+    let same = synced_before text later front c.len-2.result c.saturating_sub-synced.result c.args.self.now.unsynced more
+    (omega (arith, c.len-2.ensures, later.lines.ok.0)) (omega (arith, c.saturating_sub-synced.ensures, c.len.ensures, text.lines.ok.0)) in
     elapses_appended c.args.self.now.past.items text later front _ _ more (omega arith) same
 
 pub returns-clause-crash : goal.returns-clause-crash
@@ -64,17 +46,8 @@ returns-clause-crash c = λ is_known.
     let later : Text = record { begun = c.args.self.now.text.begun; lines = c.extend_from_slice.new.self } in
     let front : List ℕ = take c.min.result c.args.line.now in
     let more : IsAppended text later front = record { begun = refl; lines = c.in-Ok.ensures.items } in
-    let same : lines_length later - (c.len-2.result - c.saturating_sub-synced.result) ≡ lines_length text - c.args.self.now.unsynced =
-    omega (
-      arith,
-      ap length c.in-Ok.ensures.items,
-      length-append text.lines.items front,
-      c.len-2.ensures,
-      later.lines.ok.0,
-      c.saturating_sub-synced.ensures,
-      c.len.ensures,
-      text.lines.ok.0,
-    ) in
+    let same = synced_before text later front c.len-2.result c.saturating_sub-synced.result c.args.self.now.unsynced more
+    (omega (arith, c.len-2.ensures, later.lines.ok.0)) (omega (arith, c.saturating_sub-synced.ensures, c.len.ensures, text.lines.ok.0)) in
     leaves_torn text later c.args.line.now front c.min.result _ _ more refl same
 
 pub returns-clause-time : goal.returns-clause-time
@@ -83,17 +56,8 @@ returns-clause-time c = λ is_known.
     let later : Text = record { begun = c.args.self.now.text.begun; lines = c.extend_from_slice.new.self } in
     let front : List ℕ = take c.min.result c.args.line.now in
     let more : IsAppended text later front = record { begun = refl; lines = c.in-Ok.ensures.items } in
-    let same : lines_length later - (c.len-2.result - c.saturating_sub-synced.result) ≡ lines_length text - c.args.self.now.unsynced =
-    omega (
-      arith,
-      ap length c.in-Ok.ensures.items,
-      length-append text.lines.items front,
-      c.len-2.ensures,
-      later.lines.ok.0,
-      c.saturating_sub-synced.ensures,
-      c.len.ensures,
-      text.lines.ok.0,
-    ) in
+    let same = synced_before text later front c.len-2.result c.saturating_sub-synced.result c.args.self.now.unsynced more
+    (omega (arith, c.len-2.ensures, later.lines.ok.0)) (omega (arith, c.saturating_sub-synced.ensures, c.len.ensures, text.lines.ok.0)) in
     elapses_appended c.args.self.now.past.items text later front _ _ more (omega arith) same
 
 pub returns-then-front-line-clause-delivers : goal.returns-then-front-line-clause-delivers
