@@ -52,6 +52,11 @@ class Windows:
         return subprocess.Popen(["wine", str(exe or self.exe), *words], cwd=folder, env=self.system, **streams)
 
     def run(self, words, folder, stdin=b"", **how):
+        """What the program did. Where Wine itself failed, with a status and no word, which the program never does, it is tried once more."""
+        found = ended(self.start(words, folder, **how), stdin)
+        if found != (1, b"", b""):
+            return found
+        print(f"Wine did not run the program: {words}")
         return ended(self.start(words, folder, **how), stdin)
 
 
