@@ -85,10 +85,6 @@ def deb_package(processor, files, page=None):
     }
 
 
-def tar_package(processor, files):
-    return f"pocsag-{version.VERSION}-linux-{processor.name}.tar.xz", files
-
-
 LICENSES = ("LICENSE-APACHE", "LICENSE-MIT")
 ABOUT = f"""Metadata-Version: 2.4
 Name: pocsag
@@ -130,7 +126,8 @@ def wheel_package(processor, files):
 def of_processor(processor, page):
     """What the packages for a processor hold, by their names."""
     files = tree(processor)
-    return dict([tar_package(processor, files), deb_package(processor, files, page), wheel_package(processor, files)])
+    archive = f"pocsag-{version.VERSION}-linux-{processor.name}.tar.xz", files
+    return dict([archive, deb_package(processor, files, page), wheel_package(processor, files)])
 
 
 def of_armhf():
@@ -194,7 +191,7 @@ def code_of(name, made):
     if name in BY_MODULE:
         return dict.fromkeys(BY_MODULE[name], [])
     (library,) = (files["lib/libpocsag.a"] for name, files in made.items() if name.endswith(".tar.xz"))
-    parts = [*objects.members(library.data)]
+    parts = [data for _, data in objects.members(library.data)]
     found = {it: parts for it in ("libpocsag.a", "libpocsag.so", make.SONAME)} | {it: [] for it in FOLLOWING}
     return found | ({"pocsag": [products.cross_compiled()[0].read_bytes()]} if name == ARM.name else {})
 

@@ -12,12 +12,12 @@ LEAST = 32  # shorter code is not looked for
 
 
 def members(archive):
-    """The objects of an archive."""
+    """The names and the bytes of what an archive holds, but for the list of its names."""
     at = 8
     while at < len(archive):
         size = int(archive[at + 48 : at + 58])
-        if not archive.startswith(b"/", at):  # the list of its names
-            yield archive[at + 60 : at + 60 + size]
+        if not archive.startswith(b"/", at):
+            yield archive[at : at + 16].decode().strip(), archive[at + 60 : at + 60 + size]
         at += 60 + size + size % 2
 
 

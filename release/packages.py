@@ -11,6 +11,8 @@ import tarfile
 import time
 import zipfile
 
+import objects
+
 
 @dataclasses.dataclass(frozen=True)
 class File:
@@ -37,44 +39,24 @@ def plain(name, file):
     return file
 
 
-def folders(names):
-    """The folders of the files, each behind the one that it is in."""
-    return sorted({str(it) for name in names for it in pathlib.PurePosixPath(name).parents} - {"."})
-
-
-def compressed(data):
-    return lzma.compress(data, preset=6 | lzma.PRESET_EXTREME)
-
-
-def tar(files, top, seconds, pack=compressed):
-    """The files below a folder, as tar writes them, compressed by xz or by gzip."""
+def tar(files, top, seconds, is_gzip=False):
+    """The files below a folder, as tar writes them behind the folders that they are in, compressed by xz or by gzip."""
     out = io.BytesIO()
     with tarfile.open(fileobj=out, mode="w", format=tarfile.USTAR_FORMAT) as archive:
-
-        def add(name, kind, rights, data=b"", link=""):
-            member = tarfile.TarInfo(top + name)
-            member.type, member.mode, member.size, member.linkname, member.mtime = kind, rights, len(data), link, seconds
+        folders = {str(it) for name in files for it in pathlib.PurePosixPath(name).parents} - {"."}
+        for name, file in [*sorted(dict.fromkeys(folders, File(b"", 0o755)).items()), *sorted(files.items())]:
+            member, data = tarfile.TarInfo(top + name), b"" if file.link else file.data
+            member.type = tarfile.DIRTYPE if name in folders else tarfile.SYMTYPE if file.link else tarfile.REGTYPE
+            member.mode, member.size, member.linkname, member.mtime = file.rights, len(data), file.link, seconds
             archive.addfile(member, io.BytesIO(data))
-
-        for name in folders(files):
-            add(name, tarfile.DIRTYPE, 0o755)
-        for name, file in sorted(files.items()):
-            if file.link:
-                add(name, tarfile.SYMTYPE, 0o777, link=file.link)
-            else:
-                add(name, tarfile.REGTYPE, file.rights, file.data)
-    return pack(out.getvalue())
+    return zipped(out.getvalue()) if is_gzip else lzma.compress(out.getvalue(), preset=6 | lzma.PRESET_EXTREME)
 
 
 def untarred(data, top):
     """The files of a compressed tar file, by their names below the folder."""
-    found = {}
     with tarfile.open(fileobj=io.BytesIO(data)) as archive:
-        for member in archive:
-            if not member.isdir():
-                rights = 0o777 if member.issym() else member.mode
-                found[member.name.removeprefix(top)] = File(archive.extractfile(member).read(), rights, member.linkname)
-    return found
+        held = [(it.name.removeprefix(top), it, 0o777 if it.issym() else it.mode) for it in archive if not it.isdir()]
+        return {name: File(archive.extractfile(it).read(), rights, it.linkname) for name, it, rights in held}
 
 
 def deb(files, seconds):
@@ -89,14 +71,8 @@ def deb(files, seconds):
 
 
 def undeb(data):
-    found, at = {}, 8
-    while at < len(data):
-        name, size = data[at : at + 16].decode().strip(), int(data[at + 48 : at + 58])
-        if name.endswith(".tar.xz"):
-            held = untarred(data[at + 60 : at + 60 + size], "./")
-            found.update({f"DEBIAN/{it}": file for it, file in held.items()} if name.startswith("control") else held)
-        at += 60 + size + size % 2
-    return found
+    _, control, others = (untarred(held, "./") if name.endswith(".tar.xz") else {} for name, held in objects.members(data))
+    return others | {f"DEBIAN/{name}": file for name, file in control.items()}
 
 
 def zip_file(files, seconds):
@@ -108,11 +84,6 @@ def zip_file(files, seconds):
             member.create_system, member.external_attr = 3, (0o100000 | file.rights) << 16
             archive.writestr(member, file.data, zipfile.ZIP_DEFLATED, 9)
     return out.getvalue()
-
-
-def unzipped(data):
-    with zipfile.ZipFile(io.BytesIO(data)) as archive:
-        return {it.filename: File(archive.read(it), it.external_attr >> 16 & 0o777) for it in archive.infolist()}
 
 
 def record(files, name):
@@ -135,10 +106,8 @@ def write(name, files, seconds):
         return deb(files, seconds)
     if name.endswith((".whl", ".zip")):
         return zip_file(files, seconds)
-    if name.endswith(".tar.xz"):
-        return tar(files, top_of(name), seconds)
-    if name.endswith(".tgz"):
-        return tar(files, top_of(name), seconds, zipped)
+    if name.endswith((".tar.xz", ".tgz")):
+        return tar(files, top_of(name), seconds, name.endswith(".tgz"))
     return files[name].data
 
 
@@ -147,7 +116,8 @@ def read(name, data):
     if name.endswith(".deb"):
         return undeb(data)
     if name.endswith((".whl", ".zip")):
-        return unzipped(data)
+        with zipfile.ZipFile(io.BytesIO(data)) as archive:
+            return {it.filename: File(archive.read(it), it.external_attr >> 16 & 0o777) for it in archive.infolist()}
     if name.endswith((".tar.xz", ".tgz")):
         return untarred(data, top_of(name))
     return {name: File(data)}
