@@ -7,6 +7,9 @@ use Rattle.pocsag_slots.proofs.LimitLemmas.{all_ordered}
 use Rattle.pocsag_tree.specs.declared.shape.Tree.TheOpen as layer
 use Rattle.pocsag_tree.specs.declared.shape.Tree.TheFolds.{fold-roll-Tree}
 use Rattle.pocsag_check.proofs.Bounds.{bounded}
+use Rattle.pocsag_tree.specs.declared.shape.Tree.{Tree}
+use Rattle.pocsag_branch.specs.Found.{IsWithinOne}
+use Rattle.pocsag_branch.specs.declared.answer.Found.{Found}
 use Rattle.pocsag_branch.proofs.OpenWays.{closing_ways_fall}
 
 -- at most 288 questions are open
@@ -275,3 +278,22 @@ pub root_closing : (k : Classes) (end : End) (b : ℕ) → 0 < b →
 root_closing k end b some =
     let last : slice_index (replicate 16 b) 15 ≡ b = get_or-replicate 16 15 b 0 (omega arith) in
     closing_ways_fall k end b (limits_of_all k b) (all_node_limits k b) some (omega arith) (λ closed. omega arith)
+
+-- a tour of one batch more than the least, with a tree for so many batches or for the least
+unfoldable pub more_within : (k : Classes) (end : End) (limit least bound : ℕ) (found : Found) (tree : Tree) → IsLeast k least →
+    found.batches ≡ least + 1 → IsChoice k (slice_index found.choice.early) →
+    IsTour k end (slice_index found.choice.early) found.batches found.steps.items → found.tree ≡ tree → least ≤ bound → bound ≤ least + 1 →
+    IsAccepted false k end bound (bound_tree_of tree) → closed_nodes (bound_tree_of tree) ≤ limit → IsWithinOne k end limit bound found
+more_within k end limit least bound found tree is_least batches choice tour same low high accepted few =
+    record {
+      least = least;
+      is_least = is_least;
+      or_one_more = inr batches;
+      choice = choice;
+      tour = tour;
+      bounded = tree_bound k end bound (bound_tree_of tree) accepted;
+      at_least = omega arith;
+      within_one = omega arith;
+      accepted = rw same accepted;
+      few = rw same few;
+    }

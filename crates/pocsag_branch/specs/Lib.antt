@@ -1,7 +1,6 @@
 pub mod Examined
 pub mod Found
 pub mod FreeNode
-pub mod Freely
 pub mod Improvements
 pub mod Marks
 pub mod Shape

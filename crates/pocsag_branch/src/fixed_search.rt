@@ -5,7 +5,7 @@ use crate::answer::Found;
 use crate::fault::{SearchFault, SearchLimit};
 use crate::fixed_root::fixed_tree;
 use crate::least::least_of;
-use crate::outcome::{found_at_least, tour_of_one_more};
+use crate::outcome::{found_at_least, found_one_more};
 use crate::task::{Stop, Task};
 use crate::unfinished::is_unfinished;
 use pocsag_slots::Classes;
@@ -44,13 +44,8 @@ pub fn search(
                     tree,
                 }));
             }
-            let steps = tour_of_one_more(alloc, classes, &least.choice, least.batches, end)?;
-            Ok(Found {
-                batches: least.batches + 1,
-                choice: least.choice,
-                steps,
-                tree,
-            })
+            let found = found_one_more(alloc, classes, &least, tree, end)?;
+            Ok(found)
         }
         Err(Stop::Met(answer)) => Ok(found_at_least(
             classes,

@@ -1,23 +1,23 @@
-ghost use Rattle.std.specs.Prelude.{IfErr, IfOk};
-ghost use Rattle.pocsag_branch.specs.Found.{HasPage, IsNodeLimit};
-ghost use Rattle.pocsag_branch.specs.Freely.{IsFoundFreely, IsFreeFault, IsNearlyFewest};
+ghost use Rattle.std.specs.Prelude.{IfOk, IfSome};
+ghost use Rattle.pocsag_tree.specs.Views.{bound_tree_of};
+ghost use Rattle.pocsag_branch.specs.Found.{HasPage, IsNodeLimit, IsTightOrStopped, IsWithinOne};
+ghost use Rattle.pocsag_branch.specs.Shape.{IsOneOverload};
 
-use crate::answer::Found;
+use crate::answer::Outcome;
 use crate::fault::SearchFault;
 use crate::fixed_search::search;
 use crate::free_root::free_tree;
 use crate::least::least_of;
-use crate::outcome::{found_at_least, tour_of_one_more};
+use crate::outcome::{found_at_least, found_one_more};
 use crate::task::{Stop, Task};
-use crate::within_one::{FallbackPlan, FreeFault};
 use pocsag_slots::Classes;
 use pocsag_tree::Tree;
-use pocsag_words::End;
-use std::alloc::{AllocError, Global};
+use pocsag_words::{End, OutOfMemory};
+use std::alloc::Global;
 
-/// Returns what `search` returns, with a tree whose shape is not promised, and mostly with far fewer nodes. If this
-/// many nodes, 1 to 1,000,000, do not decide it, `search` runs with as many. If these do not decide it either,
-/// `SearchLimit` holds a transmission of one batch more than is refuted, and what `search` returns.
+/// Finds what `search` finds, with a tree whose shape is not promised, and mostly with far fewer nodes. If this
+/// many nodes, 1 to 1,000,000, do not decide it, `search` runs with as many. If these do not decide it either, it
+/// leaves a transmission of one batch more than is refuted, and what `search` returns.
 ///
 /// It goes at most 289 nodes deep.
 pub fn search_freely(
@@ -25,11 +25,15 @@ pub fn search_freely(
     classes: &Classes,
     node_limit: u32,
     end: End,
-) -> Result<Found, FreeFault>
+) -> Result<Outcome, OutOfMemory>
     requires pages { HasPage classes.now }
     requires limit { IsNodeLimit node_limit }
-    ensures found { IfOk result (IsFoundFreely classes.now end node_limit) }
-    ensures fault { IfErr result (IsFreeFault classes.now end node_limit) }
+    ensures within { IfOk result (λ outcome.
+        IsWithinOne classes.now end node_limit outcome.bound outcome.found) }
+    ensures stopped { IfOk result (λ outcome.
+        IsTightOrStopped classes.now end node_limit outcome.bound outcome.found.batches outcome.stopped) }
+    ensures one_node { IfOk result (λ outcome. IfSome outcome.stopped (λ _.
+        IsOneOverload classes.now outcome.bound (bound_tree_of outcome.found.tree))) }
 {
     let least = least_of(classes);
     let task = Task {
@@ -41,22 +45,17 @@ pub fn search_freely(
     };
     match free_tree(alloc, classes, task) {
         Ok(tree) => {
-            let steps = tour_of_one_more(alloc, classes, &least.choice, least.batches, end)?;
-            Ok(Found {
-                batches: least.batches + 1,
-                choice: least.choice,
-                steps,
-                tree,
-            })
+            let found = found_one_more(alloc, classes, &least, tree, end)?;
+            Ok(Outcome::from(found))
         }
-        Err(Stop::Met(answer)) => Ok(found_at_least(
+        Err(Stop::Met(answer)) => Ok(Outcome::from(found_at_least(
             classes,
             task,
             least.set,
             Box::into_inner(answer),
-        )),
+        ))),
         Err(Stop::Limit) => found_or_near(alloc, classes, node_limit, end),
-        Err(Stop::OutOfMemory) => Err(FreeFault::OutOfMemory),
+        Err(Stop::OutOfMemory) => Err(OutOfMemory),
     }
 }
 
@@ -66,33 +65,28 @@ fn found_or_near(
     classes: &Classes,
     node_limit: u32,
     end: End,
-) -> Result<Found, FreeFault>
+) -> Result<Outcome, OutOfMemory>
     requires pages { HasPage classes.now }
     requires limit { IsNodeLimit node_limit }
-    ensures found { IfOk result (IsFoundFreely classes.now end node_limit) }
-    ensures fault { IfErr result (IsFreeFault classes.now end node_limit) }
+    ensures within { IfOk result (λ outcome.
+        IsWithinOne classes.now end node_limit outcome.bound outcome.found) }
+    ensures stopped { IfOk result (λ outcome.
+        IsTightOrStopped classes.now end node_limit outcome.bound outcome.found.batches outcome.stopped) }
+    ensures one_node { IfOk result (λ outcome. IfSome outcome.stopped (λ _.
+        IsOneOverload classes.now outcome.bound (bound_tree_of outcome.found.tree))) }
 {
     match search(alloc, classes, node_limit, end) {
-        Ok(found) => Ok(found),
+        Ok(found) => Ok(Outcome::from(found)),
         Err(SearchFault::SearchLimit(stop)) => {
-            let fallback = fallback(alloc, classes, end)?;
-            Err(FreeFault::SearchLimit { fallback, stop })
+            let least = least_of(classes);
+            let tree = Tree::Overload(least.set);
+            let found = found_one_more(alloc, classes, &least, tree, end)?;
+            Ok(Outcome {
+                found,
+                bound: least.batches,
+                stopped: Some(stop),
+            })
         }
-        Err(SearchFault::OutOfMemory) => Err(FreeFault::OutOfMemory),
+        Err(SearchFault::OutOfMemory) => Err(OutOfMemory),
     }
-}
-
-/// A transmission of at most one batch more than the fewest, without a search.
-pub fn fallback(alloc: Global, classes: &Classes, end: End) -> Result<FallbackPlan, AllocError>
-    requires { HasPage classes.now }
-    ensures { IfOk result (IsNearlyFewest classes.now end) }
-{
-    let least = least_of(classes);
-    let steps = tour_of_one_more(alloc, classes, &least.choice, least.batches, end)?;
-    Ok(FallbackPlan {
-        least: least.batches,
-        choice: least.choice,
-        steps,
-        tree: Tree::Overload(least.set),
-    })
 }

@@ -21,11 +21,9 @@ mod smaller_cuts;
 mod task;
 mod unfinished;
 mod usable_ways;
-mod within_one;
 
-pub use answer::Found;
+pub use answer::{Found, Outcome};
 pub use fault::{SearchFault, SearchLimit};
 pub use fixed_search::search;
-pub use free_search::{fallback, search_freely};
+pub use free_search::search_freely;
 pub use least::least_certificate;
-pub use within_one::{FallbackPlan, FreeFault};

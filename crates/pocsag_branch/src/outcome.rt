@@ -1,13 +1,14 @@
-ghost use Rattle.std.specs.Prelude.{◌+◌, ◌≤◌, IfOk, slice_index};
-ghost use Rattle.pocsag_slots.specs.Loads.{IsAdmitted, IsLeast, limits_of_all};
+ghost use Rattle.std.specs.Prelude.{◌≡◌, ◌+◌, ◌≤◌, IfOk, slice_index};
+ghost use Rattle.pocsag_slots.specs.Loads.{IsAdmitted, IsChoice, IsLeast, limits_of_all};
 ghost use Rattle.pocsag_slots.specs.Tours.{IsTour};
 ghost use Rattle.pocsag_branch.specs.Examined.{greatest_least, IsAnswer};
 ghost use Rattle.pocsag_branch.specs.Found.{IsFound};
 ghost use Rattle.pocsag_branch.specs.Shape.{RefusesOneLess};
 
 use crate::answer::Found;
+use crate::least::Least;
 use crate::task::{Answer, Task};
-use pocsag_slots::{Choice, Classes, Step};
+use pocsag_slots::Classes;
 use pocsag_tour::{TourFault, tour};
 use pocsag_tree::Tree;
 use pocsag_words::End;
@@ -28,21 +29,31 @@ pub(crate) fn found_at_least(classes: &Classes, task: Task, set: u16, answer: An
     }
 }
 
-// The tour of a choice that is admitted with so many batches, with one batch more: each slot has an idle
-// then.
-pub(crate) fn tour_of_one_more(
+// A tour of one batch more than the least, with which each slot has an idle, beside a tree.
+pub(crate) fn found_one_more(
     alloc: Global,
     classes: &Classes,
-    choice: &Choice,
-    batches: u32,
+    least: &Least,
+    tree: Tree,
     end: End,
-) -> Result<Vec<Step>, AllocError>
-    requires admitted { IsAdmitted classes.now (limits_of_all classes.now batches) (slice_index choice.now.early) }
-    requires small { batches ≤ greatest_least }
-    ensures { IfOk result (λ steps. IsTour classes.now end (slice_index choice.now.early) (batches + 1) steps.items) }
+) -> Result<Found, AllocError>
+    requires admitted { IsAdmitted classes.now (limits_of_all classes.now least.now.batches)
+        (slice_index least.now.choice.early) }
+    requires small { least.now.batches ≤ greatest_least }
+    ensures batches { IfOk result (λ found. found.batches ≡ least.now.batches + 1) }
+    ensures choice { IfOk result (λ found. IsChoice classes.now (slice_index found.choice.early)) }
+    ensures tour { IfOk result (λ found.
+        IsTour classes.now end (slice_index found.choice.early) found.batches found.steps.items) }
+    ensures tree { IfOk result (λ found. found.tree ≡ tree) }
 {
-    match tour(alloc, classes, choice, batches + 1, end) {
-        Ok(steps) => Ok(steps),
+    let batches = least.batches + 1;
+    match tour(alloc, classes, &least.choice, batches, end) {
+        Ok(steps) => Ok(Found {
+            batches,
+            choice: least.choice,
+            steps,
+            tree,
+        }),
         Err(TourFault::OutOfMemory) => Err(AllocError),
         Err(TourFault::Apart(_)) => unreachable!(),
         Err(TourFault::Unclosed) => unreachable!(),

@@ -6,7 +6,7 @@ use crate::rounds::{
     THREE_TONES, TIGHT, has_page, round_of,
 };
 use crate::same;
-use pocsag_branch::{FreeFault, SearchFault, fallback, search, search_freely};
+use pocsag_branch::{Outcome, SearchFault, search, search_freely};
 use pocsag_check::{check, check_open};
 use pocsag_pages::Round;
 use pocsag_slots::classes_of;
@@ -127,8 +127,8 @@ fn fewest_batches(rt: HostRuntime) -> Result<(), Fail> {
         let round = round_of(alloc, pages)?;
         let classes = classes_of(&round, end);
         assert!(rt; has_page(&classes) && 0 < limit && limit <= 1_000_000);
-        let found = search_freely(alloc, &classes, limit, end)?;
-        same!(rt; found.batches, batches, pages);
+        let Outcome { found, bound, .. } = search_freely(alloc, &classes, limit, end)?;
+        same!(rt; (found.batches, bound), (batches, batches), pages);
         same!(rt; check(&round, batches, &found.tree, end), true, pages);
         same!(rt; check(&round, batches.saturating_add(1), &found.tree, end), false, pages);
         same!(rt; nodes(&found.tree) <= most, true, pages);
@@ -159,22 +159,18 @@ fn node_limits_of_the_free_search(rt: HostRuntime) -> Result<(), Fail> {
     let round = round_of(alloc, LOOPS_APART)?;
     let classes = classes_of(&round, End::Open);
     assert!(rt; has_page(&classes));
-    let Err(
-        FreeFault::SearchLimit {
-            fallback: found,
-            stop,
-        },
-    ) = search_freely(alloc, &classes, 1, End::Open)
-    else {
+    let Outcome {
+        found,
+        bound,
+        stopped,
+    } = search_freely(alloc, &classes, 1, End::Open)?;
+    let Some(stop) = stopped else {
         panic!(rt; "the limit is not reached freely");
     };
-    same!(rt; found.least, 2);
+    same!(rt; (bound, found.batches), (2, 3));
     same!(rt; check(&round, 2, &found.tree, End::Open), true);
     same!(rt; found.steps.len(), 2 + 16);
     same!(rt; (stop.least, stop.found, nodes(&stop.tree)), (2, 3, 1));
     same!(rt; check_open(&round, 3, &stop.tree, End::Open), true);
-    let at_once = fallback(alloc, &classes, End::Open)?;
-    same!(rt; at_once.least, 2);
-    same!(rt; at_once.steps.as_slice(), found.steps.as_slice());
     Ok(())
 }

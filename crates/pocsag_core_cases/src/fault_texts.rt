@@ -6,14 +6,13 @@ use crate::texts::{
     NO_WRITE, TOO_LARGE,
 };
 use pocsag_batch::FirstFault;
-use pocsag_branch::{FallbackPlan, FreeFault, SearchFault, SearchLimit};
+use pocsag_branch::{SearchFault, SearchLimit};
 use pocsag_decode::{DecodeFault, ListFault};
 use pocsag_flow::ChooseFault;
 use pocsag_pager::PagerFault;
 use pocsag_pages::{FieldFault, Page, PageFault, Payload, RecordFault, RoundFault, WholeFault};
 use pocsag_plan::{AddFault, BadRate, BookFault, NotThere, PlanFault, Refused, StreamFault};
 use pocsag_show::ShowFault;
-use pocsag_slots::{CLASSES, Choice};
 use pocsag_text::TextFault;
 use pocsag_tour::TourFault;
 use pocsag_tree::{CertificateFault, Tree, TreeWriteFault};
@@ -246,21 +245,6 @@ const BOOK_FAULTS: [(BookFault, &str); 4] = [
     (BookFault::Plan(PlanFault::OutOfMemory), NO_MEMORY),
 ];
 
-// The free search stops with a plan to fall back to.
-fn free_stopped(alloc: Global) -> FreeFault {
-    FreeFault::SearchLimit {
-        fallback: FallbackPlan {
-            least: 2,
-            choice: Choice {
-                early: [0; CLASSES],
-            },
-            steps: Vec::new(alloc),
-            tree: Tree::Open,
-        },
-        stop: STOPPED,
-    }
-}
-
 // A page that was not added.
 fn refused(alloc: Global) -> Refused {
     Refused {
@@ -278,8 +262,6 @@ fn plans_and_edits(rt: HostRuntime) {
     let alloc = rt.alloc();
     expect_texts(&rt, alloc, TOUR_FAULTS);
     expect_texts(&rt, alloc, &SEARCH_FAULTS);
-    expect_text(&rt, alloc, &free_stopped(alloc), "search limit reached");
-    expect_text(&rt, alloc, &FreeFault::OutOfMemory, NO_MEMORY);
     expect_text(&rt, alloc, &ChooseFault::Overload(1), "the slots overflow");
     expect_texts(&rt, alloc, FIRST_FAULTS);
     expect_texts(&rt, alloc, &PLAN_FAULTS);

@@ -2,23 +2,12 @@
 use Rattle.pocsag_plan.proofs.Prelude.{◌≡◌, ℕ, ◌*◌, ◌<◌, ◌≤◌, List, sum_by, arith, inl, inr, slice_index, subst, End, Page, IsRound, IsLegalList, page_length, apart_pages, Classes, AreClassesOf, IsChoice, IsLeast, IsTourFor, all_nodes, closed_nodes, bound_tree_of, SearchLimit, IsNodeLimit, IsWithinOne}
 use Rattle.pocsag_slots.proofs.LoadLemmas.{load_few}
 use Rattle.pocsag_branch.specs.declared.answer.Found.{Found}
-use Rattle.pocsag_branch.specs.declared.within_one.FallbackPlan.{FallbackPlan}
-use Rattle.pocsag_branch.specs.declared.within_one.FreeFault.{FreeFault}
-use Rattle.pocsag_branch.specs.declared.within_one.FreeFault.TheVariants.{SearchLimit as AtLimit}
-use Rattle.pocsag_branch.specs.Freely.{IsFreeFault, IsNearlyFewest}
 use Rattle.pocsag_plan.proofs.Rooms.{room}
 
 -- no choice loads a slot above 1,760,000, so the least is no more
 pub least_few : (k : Classes) (least : ℕ) (choice : ℕ → ℕ) → IsLeast k least → IsChoice k choice → least ≤ 1760000
 least_few k least choice is among =
     is.least 1760000 (record { choice = choice; among = among; loads = λ slot h. load_few k choice slot h among })
-
--- the bound that the free search leaves at its limit
-pub fallback_few : (k : Classes) (end : End) (limit : ℕ) (e : FreeFault) (fallback : FallbackPlan) (stop : SearchLimit) → e ≡ AtLimit fallback stop →
-    IsFreeFault k end limit e → fallback.least ≤ 1760000
-fallback_few k end limit e fallback stop same said =
-    let is : IsNearlyFewest k end fallback = (subst (IsFreeFault k end limit) same said).0 in
-    least_few k fallback.least (slice_index fallback.choice.early) is.is_least is.choice
 
 -- What is known of a tour that is within one batch of its bound.
 module _ (k : Classes) (end : End) (limit bound : ℕ) (found : Found) (is : IsWithinOne k end limit bound found) where

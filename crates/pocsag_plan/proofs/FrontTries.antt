@@ -8,7 +8,7 @@ use Rattle.pocsag_check.specs.Acceptance.{IsAccepted}
 use Rattle.pocsag_plan.specs.declared.fault.NoFront.TheVariants as front
 use Rattle.pocsag_plan.specs.declared.fault.PlanFault.TheVariants as planning
 use Rattle.pocsag_plan.specs.declared.front.FrontCut.{FrontCut}
-use Rattle.pocsag_plan.specs.declared.outcome.Outcome.{Outcome}
+use Rattle.pocsag_branch.specs.declared.answer.Outcome.{Outcome}
 use Rattle.pocsag_plan.specs.declared.attempt.FrontBounds.{FrontBounds}
 use Rattle.pocsag_plan.proofs.Completed.{some_batch}
 use Rattle.pocsag_plan.proofs.Counted.{has_page}

@@ -1,7 +1,7 @@
 -- What several proofs of the crate import, passed on to all of them.
 pub use Rattle.pocsag_batch.proofs.PageLists.{good_at}
 pub use Rattle.pocsag_batch.specs.Placement.{HavePlaces, IsOrder, laid_by}
-pub use Rattle.pocsag_branch.specs.Found.{HasPage, IsBound, IsLimit, IsNodeLimit, IsSearchFault}
+pub use Rattle.pocsag_branch.specs.Found.{HasPage, IsBound, IsLimit, IsNodeLimit, IsSearchFault, IsTightOrStopped, IsWithinOne}
 pub use Rattle.pocsag_branch.specs.declared.fault.SearchLimit.{SearchLimit}
 pub use Rattle.pocsag_check.proofs.Spelled.{accepted_closed, accepted_text}
 pub use Rattle.pocsag_pages.proofs.FirstPages.{first_round, good_last}
@@ -22,7 +22,7 @@ unfoldable pub use Rattle.pocsag_plan.specs.Reports.{first_lines, last_lines, li
 pub use Rattle.pocsag_plan.specs.Reports.{AreMostWithin}
 pub use Rattle.pocsag_plan.specs.Streams.{ExplainsStream, HasFrontHeadline, HasHeadline, HeadlineOf, IsCertificate, IsOfRound, IsSearchLimit, IsTransmission, IsUnsent, Writes, WritesAllOf, WritesBounded, WritesCertificatePartOf, WritesInTurn, WritesPartOf}
 pub use Rattle.pocsag_plan.specs.Tallies.{CanGain, CanLose}
-pub use Rattle.pocsag_plan.specs.Within.{IsOutcome, IsOutcomeFault, IsOutcomeFor, IsTightOrStopped, IsWithinOne}
+pub use Rattle.pocsag_plan.specs.Within.{IsOutcome, IsOutcomeFault, IsOutcomeFor}
 pub use Rattle.pocsag_plan.specs.declared.answer.Plan.{Plan}
 pub use Rattle.pocsag_plan.specs.declared.fault.PlanFault.{PlanFault}
 pub use Rattle.pocsag_plan.specs.declared.search.OnLimit.{OnLimit}

@@ -16,7 +16,7 @@ use Rattle.pocsag_plan.specs.declared.attempt.FrontBounds.{FrontBounds}
 use Rattle.pocsag_plan.specs.declared.fault.PlanFault.{PlanFault}
 use Rattle.pocsag_plan.specs.declared.fault.PlanFault.TheVariants as planning
 use Rattle.pocsag_plan.specs.declared.front.FrontCut.{FrontCut}
-use Rattle.pocsag_plan.specs.declared.outcome.Outcome.{Outcome}
+use Rattle.pocsag_branch.specs.declared.answer.Outcome.{Outcome}
 use Rattle.pocsag_plan.specs.declared.search.OnLimit.TheVariants.{Always}
 use Rattle.pocsag_plan.specs.declared.search.Search.{Search}
 use Rattle.pocsag_plan.specs.Within.{IsOutcome, IsOutcomeFor}

@@ -8,9 +8,9 @@ ghost use Rattle.pocsag_plan.specs.declared.search.Search.{Search};
 ghost use Rattle.pocsag_plan.specs.Within.{IsOutcomeFault};
 
 use crate::fault::PlanFault;
-use crate::outcome::{Outcome, outcome_of};
+use crate::outcome::outcome_of;
 use crate::search::Search;
-use pocsag_branch::least_certificate;
+use pocsag_branch::{Outcome, least_certificate};
 use pocsag_slots::Classes;
 use pocsag_tree::Certificate;
 use std::alloc::Global;

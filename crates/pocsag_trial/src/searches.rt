@@ -5,7 +5,7 @@ ghost use Rattle.pocsag_branch.specs.Found.{HasPage, IsNodeLimit};
 
 use crate::line::{Line, show};
 use crate::pages::{FOUR_PAGES, example};
-use pocsag_branch::{FallbackPlan, Found, FreeFault, SearchFault, fallback, search, search_freely};
+use pocsag_branch::{Found, Outcome, SearchFault, search, search_freely};
 use pocsag_check::{check, check_open};
 use pocsag_core_cases::rounds::{LOOPS_APART, Ones, TIGHT, has_page};
 use pocsag_pages::Round;
@@ -47,12 +47,12 @@ const EIGHT_PAGES: Ones = &[
     (9, 14),
 ];
 
-// The batches, how many steps and nodes there are, and whether the checker accepts the tree for the batches.
-fn put_found(round: &Round, found: &Found, end: End, line: &mut Line) {
-    line.put(found.batches);
+// The fewest batches that are shown, how many steps and nodes there are, and whether the checker accepts the tree for them.
+fn put_found(round: &Round, found: &Found, bound: u32, end: End, line: &mut Line) {
+    line.put(bound);
     line.put(found.steps.len());
     line.put(nodes(&found.tree));
-    line.put(check(round, found.batches, &found.tree, end));
+    line.put(check(round, bound, &found.tree, end));
 }
 
 // Whether a round of these classes is searched within so many nodes.
@@ -77,7 +77,7 @@ pub fn put_search(
         return Ok(());
     }
     match search(alloc, &classes, limit, end) {
-        Ok(found) => put_found(round, &found, end, line),
+        Ok(found) => put_found(round, &found, found.batches, end, line),
         Err(SearchFault::SearchLimit(stop)) => {
             line.put(stop.least);
             line.put(stop.found);
@@ -87,15 +87,6 @@ pub fn put_search(
         Err(SearchFault::OutOfMemory) => return Err(OutOfMemory),
     }
     Ok(())
-}
-
-// The fewest batches that are shown, how many steps and nodes there are, and whether the checker accepts the
-// tree for them.
-fn put_fallback(round: &Round, fallback: &FallbackPlan, line: &mut Line) {
-    line.put(fallback.least);
-    line.put(fallback.steps.len());
-    line.put(nodes(&fallback.tree));
-    line.put(check(round, fallback.least, &fallback.tree, End::Open));
 }
 
 /// What the free search answers for the round, with the open end.
@@ -110,27 +101,20 @@ pub fn put_free_search(
         line.put("no search");
         return Ok(());
     }
-    match search_freely(alloc, &classes, limit, End::Open) {
-        Ok(found) => put_found(round, &found, End::Open, line),
-        Err(FreeFault::SearchLimit { fallback, stop }) => {
+    let Outcome {
+        found,
+        bound,
+        stopped,
+    } = search_freely(alloc, &classes, limit, End::Open)?;
+    match stopped {
+        None => put_found(round, &found, bound, End::Open, line),
+        Some(stop) => {
             line.put("near");
-            put_fallback(round, &fallback, line);
+            put_found(round, &found, bound, End::Open, line);
             line.put(nodes(&stop.tree));
             line.put(check_open(round, stop.found, &stop.tree, End::Open));
         }
-        Err(FreeFault::OutOfMemory) => return Err(OutOfMemory),
     }
-    Ok(())
-}
-
-fn fall_back(alloc: Global, line: &mut Line) -> Result<(), OutOfMemory> {
-    let round = example(alloc, LOOPS_APART)?;
-    let classes = classes_of(&round, End::Open);
-    if !has_page(&classes) {
-        line.put("no pages");
-        return Ok(());
-    }
-    put_fallback(&round, &fallback(alloc, &classes, End::Open)?, line);
     Ok(())
 }
 
@@ -166,5 +150,5 @@ pub fn show_all<R: AllocGlobal + Print>(rt: &R) -> io::Result<()> {
             put_free_search(alloc, &example(alloc, pages)?, limit, line)
         })?;
     }
-    show(rt, "fallback", "loops-apart", fall_back)
+    Ok(())
 }

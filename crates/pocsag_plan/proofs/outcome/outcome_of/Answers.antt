@@ -10,20 +10,9 @@ returns-in_err-found-in-Fewest-clause-fault c =
 pub returns-in_ok-found-in-Fewest-clause-outcome : goal.returns-in_ok-found-in-Fewest-clause-outcome
 returns-in_ok-found-in-Fewest-clause-outcome c =
     let found = c.in_ok-found-in-Fewest.ensures.found in
-    record {
-      within = record {
-        least = found.least;
-        is_least = found.is_least;
-        or_one_more = found.or_one_more;
-        choice = found.choice;
-        tour = found.tour;
-        bounded = found.bound;
-        at_least = omega arith;
-        within_one = omega arith;
-        accepted = found.accepted;
-        few = found.few;
-      };
+    rw c.from.ensures (record {
+      within = found.within;
       stopped = record { tight = refl; at_limit = tt };
       fewest = λ _. refl;
       shaped = λ _. found.shaped;
-    }
+    })
