@@ -1,6 +1,7 @@
 -- Receptions that are extracted one behind the other.
-use Rattle.pocsag_capture.proofs.Prelude.{◌≡◌, ℕ, ◌+◌, ◌-◌, ◌*◌, ◌<◌, ◌≤◌, List, [], ◌∷◌, ◌++◌, length, map, Bool, refl, sym, ap, subst, ◌∙◌, arith, eq-eqb, AllZip, le-leb, le-ltb, lt-leb, lt-ltb, append-nil, flat_map_more, map-append, all_zipped_more, body_bytes, as_sent, word_on, AreExtracted, count_cut, IsExtract, PutsExtract, PutsExtracts, all_batches, batches_in_front, own_word, received_word, sent_at, AreInStep, cut_by, Polarity, ReceptionStats, Reception, WordCorrector}
-use Rattle.pocsag_capture.proofs.CorrectedWords.{IsCorrecting, begun_batch, count_more, first_words, last_end}
+use Rattle.pocsag_capture.proofs.Prelude.{◌≡◌, ℕ, ◌+◌, ◌-◌, ◌*◌, ◌<◌, ◌≤◌, List, [], ◌∷◌, ◌++◌, length, map, Bool, refl, sym, ap, subst, ◌∙◌, arith, eq-eqb, AllZip, option_to_list, le-leb, le-ltb, lt-leb, lt-ltb, append-nil, flat_map_more, map-append, all_zipped_more, body_bytes, as_sent, word_on, AreExtracted, count_cut, IsExtract, PutsExtract, PutsExtracts, all_batches, batches_in_front, own_word, received_word, sent_at, AreInStep, cut_by, Polarity, ReceptionStats, Reception, WordCorrector}
+use Rattle.pocsag_capture.proofs.CorrectedWords.{begun_batch, last_end}
+use Rattle.pocsag_capture.proofs.PagesLeft.{HasLeft, IsWalking, extracted_from_start, none_corrected, received_none}
 
 -- ---- a word of a reception
 
@@ -29,28 +30,25 @@ word_unread bits r place none no_front =
 
 -- ---- all words of a reception
 
-abbrev pub extract_of : (bits : List ℕ) (h : ReceptionStats) (s : WordCorrector) (place : ℕ) (f : IsCorrecting bits h.reception place h.steady s)
-    → place ≡ 17 * all_batches h.reception → AreInStep bits h.reception h.steady → h.corrected ≡ s.corrected → h.lost ≡ s.lost
-    → h.cut ≡ s.cut + cut_by (last_end s.is_open) → IsExtract bits h f.codewords
-extract_of bits h s place f all steady corrected lost cut = record {
-  are = f.are;
-  long = omega (arith, f.long);
-  steady = steady;
-  extracted = subst (λ (n : ℕ). AreExtracted (first_words bits h.reception n) f.codewords (16 * h.steady) h.corrected h.lost h.cut) all (record {
-    mended = f.mended;
-    each = f.each;
-    kinds = sym (simp append-nil at (f.kinds []));
-    bits = corrected ∙ f.wrong;
-    beyond = lost ∙ f.beyond;
-    cuts = cut ∙ ap (λ (n : ℕ). n + cut_by (last_end s.is_open)) f.cuts ∙ sym (count_more f.ended (last_end s.is_open))
-        ∙ ap (λ (l : List Bool). count_cut l) (sym (simp append-nil at (f.ends [])));
-  });
-}
+abbrev pub extract_of : (bits : List ℕ) (h : ReceptionStats) (s : WordCorrector) (place : ℕ)
+    (f : IsWalking bits h.reception h.steady 0 none_corrected place s) → place ≡ 17 * all_batches h.reception
+    → AreInStep bits h.reception h.steady → h.corrected ≡ s.corrected → h.lost ≡ s.lost → h.cut ≡ s.cut + cut_by (last_end s.is_open)
+    → IsExtract bits h f.taken
+extract_of bits h s place f all steady corrected lost cut =
+    let at_end = received_none bits h.reception place h.steady s h all refl refl corrected lost cut in
+    let whole = subst (λ (l : List ℕ). HasLeft bits h.reception h.steady 0 none_corrected l h) (append-nil f.taken)
+    (f.left [] h ([], option_to_list (last_end s.is_open), at_end)) in
+    record {
+      are = f.are;
+      long = omega (arith, f.long, all);
+      steady = steady;
+      extracted = extracted_from_start bits h.reception h.steady whole.0 f.taken whole.1 h whole.2;
+    }
 
 -- the bytes so far: those of the codewords, and of a batch that has none yet
 pub record IsExtracting (bits : List ℕ) (r : Reception) (place steady : ℕ) (s : WordCorrector) (before now : List ℕ) : Type 0 where
-  pub correcting : IsCorrecting bits r place steady s
-  pub bytes : now ≡ before ++ (body_bytes correcting.codewords ++ begun_batch place)
+  pub walking : IsWalking bits r steady 0 none_corrected place s
+  pub bytes : now ≡ before ++ (body_bytes walking.taken ++ begun_batch place)
 
 -- ---- one reception behind the other
 

@@ -1,5 +1,5 @@
 -- What is left of a reception, before and behind each word.
-use Rattle.pocsag_capture.proofs.Prelude.{◌≡◌, ◌≢◌, ℕ, suc, ◌+◌, ◌-◌, ◌*◌, ◌%◌, ◌<◌, ◌≤◌, Bool, true, false, List, [], ◌∷◌, ◌++◌, map, Option, Some, None, bit_xor, count_ones, refl, sym, ap, ap₂, subst, ◌∙◌, arith, eq-eqb, if◌then◌else◌, IfNone, IfSome, IsTrue, is_some, nat_le, option_to_list, AllZip, range_with_len, ne_eqb, append-nil, Kind, Idle, Address, Message, Page, sync_word, unsynced, pages_from, plain_reads, ends_open, stays_open, without_orphan, codewords_before, IsMended, said, AreCaptured, without_orphans, AreExtracted, count_cut, cuts_from, far_words, lost_synchronisations, near_errors, synchronisation_errors, lost_words, mended_errors, AreCutsOf, IsCapturedTransmission, IsReceivedFrom, handed_cuts, words_from, all_batches, received, received_word, AreInStep, CountsSync, TakesWord, cut_by, end_by, is_lost, WordCorrector, Reception, ReceptionStats}
+use Rattle.pocsag_capture.proofs.Prelude.{◌≡◌, ◌≢◌, ℕ, suc, ◌+◌, ◌-◌, ◌*◌, ◌%◌, ◌<◌, ◌≤◌, All, IsCodeword, All-nil, All-push, append_assoc, length, length-append, Bool, true, false, List, [], ◌∷◌, ◌++◌, map, Option, Some, None, bit_xor, count_ones, refl, sym, ap, ap₂, subst, ◌∙◌, arith, eq-eqb, if◌then◌else◌, IfNone, IfSome, IsTrue, is_some, nat_le, option_to_list, AllZip, range_with_len, ne_eqb, append-nil, Kind, Idle, Address, Message, Page, sync_word, unsynced, pages_from, plain_reads, ends_open, stays_open, without_orphan, codewords_before, IsMended, said, AreCaptured, without_orphans, AreExtracted, count_cut, cuts_from, far_words, lost_synchronisations, near_errors, synchronisation_errors, lost_words, mended_errors, AreCutsOf, IsCapturedTransmission, IsReceivedFrom, handed_cuts, words_from, all_batches, received, received_word, AreInStep, CountsSync, TakesWord, cut_by, end_by, is_lost, WordCorrector, Reception, ReceptionStats}
 use Rattle.pocsag_capture.specs.declared.captured_pages.CapturedPage.{CapturedPage}
 use Rattle.pocsag_capture.specs.declared.corrector.CorrectedWord.{CorrectedWord}
 use Rattle.pocsag_capture.proofs.CorrectedWords.{cuts_step, far_few, few_cut, few_lost_of, few_mended, last_end, near_few, same_step}
@@ -138,35 +138,44 @@ received_none bits r place steady s heard all reception in_step corrected lost c
 
 -- ---- all is left
 
+-- no word was corrected
+abbrev pub none_corrected : WordCorrector
+none_corrected = record { is_open = false; corrected = 0; lost = 0; cut = 0 }
+
+abbrev pub extracted_from_start : (bits : List ℕ) (r : Reception) (steady : ℕ) (mended : List (Option ℕ)) (codewords : List ℕ) (cuts : List Bool)
+    (heard : ReceptionStats) → IsReceivedFrom bits r steady 0 none_corrected mended codewords cuts heard
+    → AreExtracted (received bits r) codewords (16 * steady) heard.corrected heard.lost heard.cut
+extracted_from_start bits r steady mended codewords cuts heard f =
+    let whole : 17 * all_batches r - 0 ≡ 17 * all_batches r = omega arith in
+    let words : words_from bits r 0 ≡ received bits r = ap (λ (n : ℕ). map (received_word bits r) (range_with_len 0 n)) whole in
+    let counted : heard.cut ≡ count_cut cuts = omega (arith, f.cut) in
+    record {
+      mended = mended;
+      each = subst (λ (l : List ℕ). AllZip IsMended (unsynced 0 l) mended) words f.each;
+      kinds = f.kinds;
+      bits = omega (arith, f.bits_wrong, ap (λ (l : List ℕ). synchronisation_errors 0 l + mended_errors (unsynced 0 l) mended) words);
+      beyond = omega (arith, f.beyond, ap (λ (l : List ℕ). lost_synchronisations 0 l + lost_words mended) words);
+      cuts = counted ∙ ap count_cut f.states;
+    }
+
 pub captured_from_start : (bits : List ℕ) (r : Reception) (number steady place : ℕ) (s : WordCorrector) (mended : List (Option ℕ)) (codewords : List ℕ)
-    (ps : List Page) (cuts : List Bool) (heard : ReceptionStats) → AreInStep bits r steady → place ≡ 0
-    → s ≡ (record { is_open = false; corrected = 0; lost = 0; cut = 0 })
+    (ps : List Page) (cuts : List Bool) (heard : ReceptionStats) → AreInStep bits r steady → place ≡ 0 → s ≡ none_corrected
     → IsReceivedFrom bits r steady place s mended codewords cuts heard → ps ≡ pages_from 0 (without_orphans false (map said mended))
     → IsCapturedTransmission bits (record { number = number; heard = heard; pages = ps; cuts = cuts }) × (heard.reception ≡ r)
 captured_from_start bits r number steady place s mended codewords ps cuts heard steps first begun g pages =
     let f = subst (λ (c : WordCorrector). IsReceivedFrom bits r steady 0 c mended codewords cuts heard) begun
     (subst (λ (n : ℕ). IsReceivedFrom bits r steady n s mended codewords cuts heard) first g) in
-    let whole : 17 * all_batches r - 0 ≡ 17 * all_batches r = omega arith in
-    let words : words_from bits r 0 ≡ received bits r = ap (λ (n : ℕ). map (received_word bits r) (range_with_len 0 n)) whole in
-    let each = subst (λ (l : List ℕ). AllZip IsMended (unsynced 0 l) mended) words f.each in
-    let counted : heard.cut ≡ count_cut cuts = omega (arith, f.cut) in
+    let extracted = extracted_from_start bits r steady mended codewords cuts heard f in
     let here : IsCaptured bits r steady ps cuts heard = record {
       pages = record {
         mended = mended;
-        each = each;
+        each = extracted.each;
         holds = plain_reads (without_orphans false (map said mended)) 0 ps (keeps_no_orphan false (map said mended)) pages;
       };
-      states = record { mended = mended; each = each; holds = f.states };
+      states = record { mended = mended; each = extracted.each; holds = f.states };
       steps = steps;
       codewords = codewords;
-      extracted = record {
-        mended = mended;
-        each = each;
-        kinds = f.kinds;
-        bits = omega (arith, f.bits_wrong, ap (λ (l : List ℕ). synchronisation_errors 0 l + mended_errors (unsynced 0 l) mended) words);
-        beyond = omega (arith, f.beyond, ap (λ (l : List ℕ). lost_synchronisations 0 l + lost_words mended) words);
-        cuts = counted ∙ ap count_cut f.states;
-      };
+      extracted = extracted;
     } in
     let told = subst (λ (n : ℕ). IsCaptured bits heard.reception n ps cuts heard) (sym f.in_step)
     (subst (λ (q : Reception). IsCaptured bits q steady ps cuts heard) (sym f.reception) here) in (
@@ -250,11 +259,11 @@ fewer_left n false closed_too (Some c) same shut = absurd (cc same)
 
 -- ---- the words that are left, without their pages
 
-abbrev pub HasLeft : (bits : List ℕ) (r : Reception) (steady place : ℕ) (s : WordCorrector) (heard : ReceptionStats) → Type 0
-HasLeft bits r steady place s heard =
-    (mended : List (Option ℕ)) × (codewords : List ℕ) × (cuts : List Bool) × IsReceivedFrom bits r steady place s mended codewords cuts heard
+abbrev pub HasLeft : (bits : List ℕ) (r : Reception) (steady place : ℕ) (s : WordCorrector) (codewords : List ℕ) (heard : ReceptionStats) → Type 0
+HasLeft bits r steady place s codewords heard =
+    (mended : List (Option ℕ)) × (cuts : List Bool) × IsReceivedFrom bits r steady place s mended codewords cuts heard
 
--- some words more were corrected
+-- some words more were corrected, to these codewords
 pub record IsWalking (bits : List ℕ) (r : Reception) (steady first : ℕ) (begun : WordCorrector) (place : ℕ) (s : WordCorrector) : Type 0 where
   pub later : first ≤ place
   pub still : place ≡ first → s ≡ begun
@@ -262,7 +271,11 @@ pub record IsWalking (bits : List ℕ) (r : Reception) (steady first : ℕ) (beg
   pub few_lost : s.lost ≤ place
   pub few_cut : s.cut ≤ place + 1
   pub few_before : IsTrue s.is_open → s.cut ≤ place
-  pub left : (heard : ReceptionStats) → HasLeft bits r steady place s heard → HasLeft bits r steady first begun heard
+  pub taken : List ℕ
+  pub are : All IsCodeword taken
+  pub long : length taken + codewords_before first ≡ codewords_before place
+  pub left : (codewords : List ℕ) (heard : ReceptionStats) → HasLeft bits r steady place s codewords heard
+      → HasLeft bits r steady first begun (taken ++ codewords) heard
 
 abbrev pub walks_none : (bits : List ℕ) (r : Reception) (steady first : ℕ) (s : WordCorrector) → s.corrected ≤ 32 * first → s.lost ≤ first
     → s.cut ≤ first + 1 → (IsTrue s.is_open → s.cut ≤ first) → IsWalking bits r steady first s first s
@@ -273,41 +286,51 @@ walks_none bits r steady first s few_bits few_lost few_cut few_before = record {
   few_lost = few_lost;
   few_cut = few_cut;
   few_before = few_before;
-  left = λ heard g. g;
+  taken = [];
+  are = All-nil IsCodeword;
+  long = omega arith;
+  left = λ codewords heard g. g;
 }
 
-pub walks_on : (bits : List ℕ) (r : Reception) (steady first : ℕ) (begun : WordCorrector) (place w : ℕ) (s t : WordCorrector) (o : Option CorrectedWord)
+abbrev pub walks_on : (bits : List ℕ) (r : Reception) (steady first : ℕ) (begun : WordCorrector) (place w : ℕ) (s t : WordCorrector) (o : Option CorrectedWord)
     → w ≡ received_word bits r place → place < 17 * all_batches r → IfNone o (place % 17 ≡ 0) → IfSome o (λ _. 0 < place % 17) → IfNone o (CountsSync s t w)
     → IfSome o (λ c. TakesWord s t (nat_le (17 * steady) place) w c.codeword c.ended)
     → IsWalking bits r steady first begun place s → IsWalking bits r steady first begun (place + 1) t
-walks_on bits r steady first begun place w s t None is some sync inside counted taken f = record {
+walks_on bits r steady first begun place w s t None is some sync inside counted takes f = record {
   later = omega (arith, f.later);
   still = λ same. absurd (omega (arith, same, f.later));
   few_bits = omega (arith, counted.bits, near_few (count_ones (bit_xor sync_word w)), f.few_bits);
   few_lost = omega (arith, counted.beyond, far_few (count_ones (bit_xor sync_word w)), f.few_lost);
   few_cut = omega (arith, counted.cuts, f.few_cut);
   few_before = λ _. omega (arith, counted.cuts, f.few_cut);
-  left = λ heard g. f.left heard (
+  taken = f.taken;
+  are = f.are;
+  long = omega (arith, f.long, sync);
+  left = λ codewords heard g. f.left codewords heard (
     g.0,
     g.1,
-    g.2,
     received_sync bits r place w steady s t is some sync counted.bits counted.open_page counted.beyond counted.cuts g.0
-        g.1 g.2 heard g.3,
+        codewords g.1 heard g.2,
   );
 }
-walks_on bits r steady first begun place w s t (Some c) is some sync inside counted taken f = record {
+walks_on bits r steady first begun place w s t (Some c) is some sync inside counted takes f = record {
   later = omega (arith, f.later);
   still = λ same. absurd (omega (arith, same, f.later));
-  few_bits = few_bits_behind s t _ w c.codeword place c.ended taken f.few_bits;
-  few_lost = few_lost_behind s t _ w c.codeword place c.ended taken f.few_lost;
-  few_cut = omega (arith, few_cut_behind s t _ w c.codeword place c.ended taken f.few_cut f.few_before);
-  few_before = λ _. few_cut_behind s t _ w c.codeword place c.ended taken f.few_cut f.few_before;
-  left = λ heard g. f.left heard (
-    taken.mended ∷ g.0,
-    c.codeword ∷ g.1,
-    option_to_list c.ended ++ g.2,
-    received_codeword bits r place w steady s t is some c.codeword _ c.ended (λ zero. absurd (omega (arith, inside, zero))) refl taken g.0 g.1 g.2 heard g.3,
-  );
+  few_bits = few_bits_behind s t _ w c.codeword place c.ended takes f.few_bits;
+  few_lost = few_lost_behind s t _ w c.codeword place c.ended takes f.few_lost;
+  few_cut = omega (arith, few_cut_behind s t _ w c.codeword place c.ended takes f.few_cut f.few_before);
+  few_before = λ _. few_cut_behind s t _ w c.codeword place c.ended takes f.few_cut f.few_before;
+  taken = f.taken ++ c.codeword ∷ [];
+  are = All-push IsCodeword f.taken c.codeword f.are takes.is_codeword;
+  long = omega (arith, f.long, inside, length-append f.taken (c.codeword ∷ []));
+  left = λ codewords heard g.
+      subst (λ (l : List ℕ). HasLeft bits r steady first begun l heard) (sym (append_assoc f.taken (c.codeword ∷ []) codewords))
+      (f.left (c.codeword ∷ codewords) heard (
+        takes.mended ∷ g.0,
+        option_to_list c.ended ++ g.1,
+        received_codeword bits r place w steady s t is some c.codeword _ c.ended (λ zero. absurd (omega (arith, inside, zero))) refl takes g.0 codewords
+            g.1 heard g.2,
+      ));
 }
 
 -- where no word was left

@@ -22,9 +22,9 @@ returns c =
     let at_end = received_none (capture_bits walk.capture.now) walk.reception c.loop-place.place _ c.loop-place.corrector _ (omega (arith, c.requires.can.within)) refl refl (ap (λ (s : WordCorrector). s.corrected) last)
     (ap (λ (s : WordCorrector). s.lost) last)
     (ap (λ (s : WordCorrector). s.cut) last ∙ ap (λ (e : Option Bool). c.loop-place.corrector.cut + cut_by e) c.close.ensures.ended) in
-    let h = f.left _ ([], [], _, at_end) in
+    let h = f.left [] _ ([], _, at_end) in
     record {
-      ends = (_, h.2, record { mended = h.0; codewords = h.1; received = h.3; pages = refl });
+      ends = (_, h.1, record { mended = h.0; codewords = _; received = h.2; pages = refl });
       over = λ over.
           let place : c.loop-place.place ≡ walk.place = omega (arith, c.requires.can.within, over.all) in
           record {
