@@ -1,5 +1,5 @@
 -- What a writer took of a listing that is written in pieces.
-use Rattle.pocsag_decode.proofs.Prelude.{◌≡◌, ℕ, ◌+◌, ◌<◌, ◌≤◌, List, [], ◌++◌, length, take, Result, sym, ap, ◌∙◌, append_assoc, arith, append-nil, take-append-le, take-length, OnErr, TookPrefix}
+use Rattle.pocsag_decode.proofs.Prelude.{◌≡◌, ℕ, ◌+◌, ◌<◌, ◌≤◌, List, ◌++◌, length, take, Result, sym, ap, ◌∙◌, append_assoc, arith, take-append-le, take-length, OnErr, TookPrefix}
 use Rattle.std.proofs.Common.{Ok, Err}
 use Rattle.std.proofs.Common.{length-append, length-take}
 
@@ -17,11 +17,6 @@ took_on before now after piece rest due grown same took =
       ap (take (length after)) (same ∙ sym (append_assoc now piece rest)) ∙ take-append-le (length after) (now ++ piece) rest short
           ∙ took.1,
     )
-
-pub took_last : (before now after piece due : List ℕ) → length before ≤ length now → before ++ due ≡ now ++ piece
-    → TookPrefix now after piece → TookPrefix before after due
-took_last before now after piece due grown same =
-    took_on before now after piece [] due grown (same ∙ ap (λ (l : List ℕ). now ++ l) (sym (append-nil piece)))
 
 -- what was taken is not all, if some of it waits
 pub some_left : (before now waits rest due : List ℕ) → before ++ due ≡ now ++ (waits ++ rest) → 0 < length waits

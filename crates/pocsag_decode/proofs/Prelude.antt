@@ -5,7 +5,6 @@ pub use Rattle.pocsag_decode.specs.Faults.{HasFault, HasFaultOfEnd, HasFaultTher
 pub use Rattle.pocsag_decode.specs.Intake.{IsTaking, IsWantingOrBad}
 pub use Rattle.pocsag_decode.specs.Judgements.{AreFine, JudgesMore}
 pub use Rattle.pocsag_decode.specs.Lines.{IsReady, text_in}
-pub use Rattle.pocsag_decode.specs.Listers.{CanList, rows_of_pages, still_listed}
 unfoldable pub use Rattle.pocsag_decode.specs.Listing.{kind_field, listing, message_field}
 pub use Rattle.pocsag_decode.specs.Listing.{header, hex_digits, record_of}
 pub use Rattle.pocsag_decode.specs.OpenPages.{closed, resumed}

@@ -96,7 +96,7 @@ codewords_are X T s =
     ap (λ (Y : List ℕ). unsynced 0 (words_of Y)) after
     ∙ (ap (unsynced 0) (words_again (synced 0 T) (synced_small 0 T s.codewords)) ∙ unsynced_synced T 0 0 (omega arith) (omega arith))
 
-read_pages : (X : List ℕ) (ps : List Page) → ReadsAs X ps → ps ≡ pages_from 0 (map kind_of (codewords_in X))
+pub read_pages : (X : List ℕ) (ps : List Page) → ReadsAs X ps → ps ≡ pages_from 0 (map kind_of (codewords_in X))
 read_pages X ps r =
     (reads_plainly r.reads).pages ∙ ap (λ (T : List ℕ). pages_from 0 (map kind_of T)) (sym (codewords_are X r.codewords r.sent))
 

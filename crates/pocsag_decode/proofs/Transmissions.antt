@@ -1,9 +1,9 @@
 -- Bytes with no fault are sent from codewords that read as their pages.
-use Rattle.pocsag_decode.proofs.Prelude.{◌≡◌, ◌≢◌, ℕ, ◌+◌, ◌*◌, ◌/◌, ◌%◌, ◌^◌, ◌<◌, ◌≤◌, Bool, not, List, [], ◌∷◌, ◌++◌, length, map, replicate, slice_index, Option, Some, IsTrue, All, refl, sym, ap, ap₂, ◌∙◌, subst, inl, inr, arith, append_assoc, to_be_bytes, w32, flat_map, get_or-append_seam, cases_eq, cases_lt, lt-ltb, le-ltb, eq-eqb, ne_eqb, append-nil, length-append, length_push, nil_from_length, All-nil, All-cons, All-head, All-tail, All-map, All-weaker, All-drop, IsCodeword, kind_of, IsInRange, Kind, Idle, Address, Message, Page, codewords_in, sync_word, synced, unsynced, leading, after_preamble, Sent, HasNoOrphan, items_of, pages_from, plain_reads, OpenPage, unfinished, words, ReadsAs, resumed, closed, IsListable, is_message, is_idle, may_follow, MayStandAt, AllMayStand, unsynced_count}
+use Rattle.pocsag_decode.proofs.Prelude.{◌≡◌, ◌≢◌, ℕ, ◌+◌, ◌*◌, ◌/◌, ◌%◌, ◌^◌, ◌<◌, ◌≤◌, Bool, not, List, [], ◌∷◌, ◌++◌, length, map, replicate, slice_index, Option, Some, IsTrue, All, refl, sym, ap, ap₂, ◌∙◌, subst, inl, inr, arith, append_assoc, to_be_bytes, w32, flat_map, get_or-append_seam, cases_eq, cases_lt, lt-ltb, le-ltb, eq-eqb, ne_eqb, append-nil, length-append, length_push, nil_from_length, All-nil, All-cons, All-head, All-tail, All-map, All-weaker, All-drop, IsCodeword, kind_of, IsInRange, Kind, Idle, Address, Message, Page, codewords_in, sync_word, synced, unsynced, leading, after_preamble, Sent, HasNoOrphan, items_of, pages_from, plain_reads, OpenPage, unfinished, words, ReadsAs, resumed, closed, IsListable, is_message, is_idle, may_follow, MayStandAt, AllMayStand, unsynced_count, words_of, words_small}
 use Rattle.std.proofs.Common.{None}
 use Rattle.pocsag_decode.proofs.Preambles.{parts}
 use Rattle.pocsag_decode.proofs.WordByWord.{may_sync, may_codeword, may_kept}
-use Rattle.pocsag_decode.proofs.Words.{bytes_count, bytes_split, unfinished_short}
+use Rattle.pocsag_decode.proofs.Words.{bytes_count, bytes_split, each_small, unfinished_short}
 
 -- the words so far, of which the next is w
 module _ (before : List ℕ) (w : ℕ) (ws : List ℕ) (good : AllMayStand (before ++ w ∷ ws)) where
@@ -183,10 +183,20 @@ pages_listable (Address high function ∷ ks) i h =
     (pages_listable ks (i + 1) rest)
 pages_listable (Message bits ∷ ks) i h = pages_listable ks (i + 1) (All-tail IsInRange (Message bits) ks h)
 
-pub codewords_listable : (T : List ℕ) → All IsCodeword T → All IsListable (pages_from 0 (map kind_of T))
-codewords_listable T are =
-    pages_listable (map kind_of T) 0
-    (All-map IsInRange kind_of T (All-weaker IsCodeword (λ w. IsInRange (kind_of w)) (λ w c. kind_fits w c.fits) T are))
+unsynced_each : (P : ℕ → Type 0) (j : ℕ) (ws : List ℕ) → All P ws → All P (unsynced j ws)
+unsynced_each P j [] h = All-nil P
+unsynced_each P j (w ∷ ws) h =
+    let rest : All P (unsynced (j + 1) ws) = unsynced_each P (j + 1) ws (All-tail P w ws h) in
+    elim (cases_eq (j % 17) 0) [
+      | inl e ↦ rw (eq-eqb _ _ e) rest
+      | inr n ↦ rw (ne_eqb _ _ n) (All-cons P w (unsynced (j + 1) ws) (All-head P w ws h) rest)
+    ]
 
-pub whole_listable : (X : List ℕ) → IsWhole X → (ps : List Page) → ps ≡ pages_from 0 (map kind_of (codewords_in X)) → All IsListable ps
-whole_listable X h ps e = subst (All IsListable) (sym e) (codewords_listable (codewords_in X) (are_codewords X h))
+pub bytes_listable : (X : List ℕ) → All (λ b. b < 256) X → All IsListable (pages_from 0 (map kind_of (codewords_in X)))
+bytes_listable X small =
+    let Y = after_preamble X in
+    let numbers = words_small Y (each_small Y (All-drop (λ b. b < 256) (leading X) X small)) in
+    pages_listable (map kind_of (codewords_in X)) 0
+    (All-map IsInRange kind_of (codewords_in X)
+    (All-weaker (λ w. w < 2 ^ 32) (λ w. IsInRange (kind_of w)) kind_fits (codewords_in X)
+    (unsynced_each (λ w. w < 2 ^ 32) 0 (words_of Y) numbers)))

@@ -3,7 +3,6 @@ pub mod Intake
 pub mod Judgements
 pub mod Lines
 pub mod ListedFields
-pub mod Listers
 pub mod Listing
 pub mod OpenPages
 pub mod PageReaders

@@ -24,9 +24,6 @@ const PIECE: usize = 1_048_576;
 // The numeric characters that a message codeword holds.
 const ITEM_CHARACTERS: usize = 5;
 
-// The most items whose room is kept.
-const KEPT_ITEMS: usize = 4_096;
-
 fn hex_digit(digit: u32) -> u8
     requires { digit < 16 }
     ensures { result ≡ hex_digit digit }
@@ -152,35 +149,24 @@ fn put_page(
     put_record(writer, address.as_bytes(), kind, message.as_slice())
 }
 
-// Writes the record of a page that is not needed any more, and gives the room of its items.
+// Writes the record of a page, whose items are let go before: a long message and its record do not stand beside them.
 pub(crate) fn put_spent(
     alloc: Global,
     writer: &mut Writer<Vec<u8>>,
     page: Page,
-) -> Result<Vec<u32>, AllocError>
+) -> Result<(), AllocError>
     requires ready { IsReady writer.old }
     requires listable { IsListable page }
-    ensures row { PutsRow result writer.old writer.new (record_of page) }
-    ensures empty { IfOk result (λ room. room.items ≡ []) }
+    ensures { PutsRow result writer.old writer.new (record_of page) }
 {
-    let Page {
-        address,
-        function,
-        payload,
-    } = page;
-    let mut items = payload.into_vec();
-    let kind = kind_of_page(function, items.as_slice());
-    let Ok(message) = message_of(alloc, function, items.as_slice()) else {
+    let address = format!(in alloc; "{}", page.address)?;
+    let items = page.payload.as_slice();
+    let kind = kind_of_page(page.function, items);
+    let Ok(message) = message_of(alloc, page.function, items) else {
         return Err(AllocError);
     };
-    // Much room is not kept, so that a long message and its record do not stand beside it.
-    if items.len() > KEPT_ITEMS {
-        items = Vec::new(alloc);
-    }
-    items.clear();
-    let address = format!(in alloc; "{}", address)?;
-    put_record(writer, address.as_bytes(), kind, message.as_slice())?;
-    Ok(items)
+    drop(page);
+    put_record(writer, address.as_bytes(), kind, message.as_slice())
 }
 
 // A writer with the record of the names.

@@ -6,14 +6,12 @@ ghost use Rattle.pocsag_pages.specs.Listable.{IsListable};
 ghost use Rattle.pocsag_decode.specs.Faults.{ReadsAs};
 ghost use Rattle.pocsag_decode.specs.PageReaders.{pages_left};
 
+use crate::judge::WORDS;
 use crate::open_page::OpenPage;
 use pocsag_pages::{Page, preamble_len};
-use pocsag_words::{BATCH_WORDS, kind_of_number};
+use pocsag_words::{IDLE_WORD, kind_of_number};
 use std::alloc::{AllocError, Global};
 use std::vec;
-
-// The words of a batch, its synchronisation codeword among them.
-const WORDS: usize = BATCH_WORDS as usize;
 
 /// What hands out pages one after the other.
 pub trait PageSource {
@@ -42,11 +40,12 @@ pub struct PageReader<'a> {
 }
 
 impl<'a> PageReader<'a> {
-    /// A reader of the pages that the bytes of a transmission read as, which takes no memory. Of bytes that have a fault nothing is
-    /// promised: `judge_bytes` finds it before.
+    /// A reader of the pages that the bytes of a transmission read as, which takes no memory. Of bytes that have a fault, which
+    /// `judge_bytes` finds before, no more is promised than that their pages can be listed.
     pub fn new(alloc: Global, bytes: &'a [u8]) -> PageReader<'a>
         ensures left { (pages : List Page) → ReadsAs bytes.now pages → pages_left result ≡ pages }
         ensures listable { (pages : List Page) → ReadsAs bytes.now pages → All IsListable pages }
+        ensures any { All IsListable (pages_left result) }
     {
         let (_, rest) = bytes.split_at(preamble_len(bytes));
         let (words, _) = rest.as_chunks::<4>();
@@ -68,8 +67,13 @@ impl<'a> PageSource for PageReader<'a> {
             if place % WORDS == 0 {
                 continue;
             }
+            let number = u32::from_be_bytes(self.words[place]);
+            // Idle batches are passed quickly.
+            if number == IDLE_WORD && self.current.is_none() {
+                continue;
+            }
             let frame = (place % WORDS - 1) as u32 / 2;
-            let kind = kind_of_number(u32::from_be_bytes(self.words[place]));
+            let kind = kind_of_number(number);
             let taken = OpenPage::take_kind(self.alloc, &mut self.current, frame, kind);
             // No page ends at nearly every codeword, and then nothing is copied.
             let Ok(None) = taken else {

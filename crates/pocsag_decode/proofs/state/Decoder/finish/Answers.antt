@@ -1,7 +1,7 @@
-use Rattle.pocsag_decode.proofs.Prelude.{ℕ, ◌%◌, map, inr, sym, ap, ◌∙◌, arith, kind_of, codewords_in}
+use Rattle.pocsag_decode.proofs.Prelude.{ℕ, ◌%◌, All, map, inr, sym, ap, subst, ◌∙◌, arith, kind_of, codewords_in, IsListable}
 use Rattle.pocsag_decode.proofs.Pieces.{short_end, no_batch_end, cut_end, ended_whole}
 use Rattle.pocsag_decode.proofs.Judgements.{whole_no_fault}
-use Rattle.pocsag_decode.proofs.Transmissions.{pages_end, whole_reads, whole_listable}
+use Rattle.pocsag_decode.proofs.Transmissions.{bytes_listable, pages_end, whole_reads}
 use Rattle.pocsag_decode.proofs.state.Decoder.finish.Goals as goal
 
 pub returns-then-self-lt-PREAMBLE-clause-finished : goal.returns-then-self-lt-PREAMBLE-clause-finished
@@ -21,8 +21,8 @@ returns-clause-finished c = λ X s.
 
 pub returns-clause-listable : goal.returns-clause-listable
 returns-clause-listable c = λ X s.
-    whole_listable X (ended_whole _ X s (omega arith) (omega arith) (omega arith)) _
-    (pages_end _ _ _ (map kind_of (codewords_in X)) s.words.read.pages _ c.in_ok-finish.ensures.same)
+    subst (All IsListable) (sym (pages_end _ _ _ (map kind_of (codewords_in X)) s.words.read.pages _ c.in_ok-finish.ensures.same))
+    (bytes_listable X s.bytes)
 
 pub returns-in_err-finish-clause-memory : goal.returns-in_err-finish-clause-memory
 returns-in_err-finish-clause-memory c = λ X s e.
