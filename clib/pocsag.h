@@ -51,7 +51,7 @@ extern "C" {
 
 /* The number of this interface, which pocsag_version answers, and the version of the package that it is part of. */
 #define POCSAG_VERSION 5u
-#define POCSAG_RELEASE "1.2.0"
+#define POCSAG_RELEASE "1.2.1"
 
 /* The end of a transmission: it ends the last message, or the last codeword is no message codeword, or an idle one. */
 #define POCSAG_END_OPEN 0u

@@ -20,7 +20,7 @@ import os
 import pathlib
 from typing import Any, Callable, Dict, List, Literal, NamedTuple, Optional, Sequence, Tuple, Type, Union
 
-__version__ = "1.2.0"
+__version__ = "1.2.1"
 __all__ = ["Pocsag", "Plan", "Front", "Report", "Frame", "Frames", "Shown", "Explanation"]
 __all__ += ["OPEN", "CLOSED", "IDLE", "IN_WORDS", "AS_JSON", "PLAIN", "REPAIRED", "CAPTURED", "SHOW_TEXT", "SHOW_LIST", "SHOW_DRAWING"]
 __all__ += ["KINDS", "HEADER", "ALL_BATCHES", "FAULTS", "Fault", "BadEnd", "OutOfMemory", "BadRate", "BadLimit", "SearchLimit", "BadForm"]

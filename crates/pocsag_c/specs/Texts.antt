@@ -73,4 +73,4 @@ status_text status =
 
 -- The version of the package.
 abbrev pub release_text : List ℕ
-release_text = codes "1.2.0"
+release_text = codes "1.2.1"

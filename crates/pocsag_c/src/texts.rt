@@ -101,5 +101,5 @@ pub extern "C" fn pocsag_text_of_version(text: &mut [u8], text_len: &mut usize) 
     ensures no_room { result ≡ 10 → IsTooSmall text.old text.new text_len.new release_text }
     ensures only { (result ≡ 0) ⊎ (result ≡ 10) }
 {
-    hand_out(b"1.2.0", 10, text, text_len)
+    hand_out(b"1.2.1", 10, text, text_len)
 }

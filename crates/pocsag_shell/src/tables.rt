@@ -6,7 +6,7 @@ use clap::{Arg, ArgAction, Command, value_parser};
 use std::alloc::{AllocError, Global};
 
 // The version of the program, and the line that `rt version` prints for the toolchain that proved it.
-const VERSION: &str = "1.2.0, proved by rattle-kit-13f logic dac8208d650f15bf";
+const VERSION: &str = "1.2.1, proved by rattle-kit-13f logic dac8208d650f15bf";
 
 fn argument<'a>(alloc: Global, word: &ArgSpec) -> Result<Arg<'a>, AllocError> {
     let argument = Arg::new(alloc, word.id);
